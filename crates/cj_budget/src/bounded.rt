@@ -1,0 +1,157 @@
+//! A list with a limit, which keeps its greatest length.
+ghost use Rattle.std.specs.Prelude.{◌≡◌, ◌+◌, ◌<◌, ◌≤◌, ◌↔◌, ◌⊎◌, ◌++◌, ◌∷◌, [], length, IsTrue, IsOk, OnOk, OnErr, IsErrOf};
+ghost use Rattle.cj_budget.specs.Bounded.{IsWithin, Becomes};
+
+use std::alloc::Global;
+use std::marker::Model;
+use thiserror::Error;
+
+/// Why an element was not taken. It is given back.
+#[derive(Clone, Copy, Debug, PartialEq, Eq)]
+pub enum Refused<T> {
+    /// The list has as many elements as its limit allows.
+    Full(T),
+    /// No memory was granted.
+    Memory(T),
+}
+
+/// Why a slice was not taken.
+#[derive(Clone, Copy, Debug, PartialEq, Eq, Error)]
+pub enum ExtendFault {
+    /// The slice does not fit under the limit.
+    #[error("the list is full")]
+    Full,
+    /// No memory was granted.
+    #[error("out of memory")]
+    Memory,
+}
+
+/// No memory was granted.
+#[derive(Clone, Copy, Debug, PartialEq, Eq, Error)]
+#[error("out of memory")]
+pub struct NoMemory;
+
+/// A list that never has more elements than its limit, and that keeps its peak, the greatest
+/// number of elements that it has had.
+#[derive(Drop)]
+pub struct Bounded<T: Copy> {
+    items: Vec<T>,
+    limit: usize,
+    peak: usize,
+}
+
+impl<T: Copy> Model for Bounded<T> {
+    ghost use Rattle.std.specs.Prelude.{◌≤◌, vec_len, vec_capacity, nat_le};
+    ghost use Rattle.cj_budget.specs.Bounded.{BoundedList, bounded_code};
+
+    ghost Value = { BoundedList T };
+
+    ghost coded = { bounded_code T.code };
+
+    ghost view = { λ b. record {
+      elements = b.items.items;
+      limit = b.limit;
+      peak = b.peak;
+      reserved = nat_le b.limit (vec_capacity b.items);
+    } };
+
+    ghost invariant = { λ b. (vec_len b.items ≤ b.peak) × (b.peak ≤ b.limit) };
+}
+
+impl<T: Copy> Bounded<T> {
+    /// An empty list. It takes no memory.
+    pub fn new(alloc: Global, limit: usize) -> Bounded<T>
+        ensures elements { result.elements ≡ [] }
+        ensures limit { result.limit ≡ limit }
+        ensures peak { result.peak ≡ 0 }
+    {
+        Bounded {
+            items: Vec::new(alloc),
+            limit,
+            peak: 0,
+        }
+    }
+
+    /// Adds an element at the end. A refusal changes nothing.
+    pub fn push(&mut self, x: T) -> Result<(), Refused<T>>
+        ensures ok { OnOk result (Becomes self.old (self.old.elements ++ x ∷ []) self.new) }
+        ensures full { IsErrOf result (Refused.Full x) ↔ (length self.old.elements ≡ self.old.limit) }
+        ensures err { OnErr result (self.new ≡ self.old) }
+        ensures refused { OnErr result (IsErrOf result (Refused.Full x) ⊎ IsErrOf result (Refused.Memory x)) }
+    {
+        if self.items.len() == self.limit {
+            return Err(Refused::Full(x));
+        }
+        if self.items.try_reserve(1).is_err() {
+            return Err(Refused::Memory(x));
+        }
+        let _ = self.items.push(x);
+        self.peak = self.peak.max(self.items.len());
+        Ok(())
+    }
+
+    /// Adds all elements of a slice at the end, or none. A refusal changes nothing.
+    pub fn extend_from_slice(&mut self, xs: &[T]) -> Result<(), ExtendFault>
+        ensures ok { OnOk result (Becomes self.old (self.old.elements ++ xs.now) self.new) }
+        ensures full { IsErrOf result ExtendFault.Full ↔ (self.old.limit < length self.old.elements + length xs.now) }
+        ensures err { OnErr result (self.new ≡ self.old) }
+    {
+        if self.limit - self.items.len() < xs.len() {
+            return Err(ExtendFault::Full);
+        }
+        if self.items.try_reserve(xs.len()).is_err() {
+            return Err(ExtendFault::Memory);
+        }
+        let _ = self.items.extend_from_slice(xs);
+        self.peak = self.peak.max(self.items.len());
+        Ok(())
+    }
+
+    /// Takes all elements away, and keeps the peak and the room.
+    pub fn clear(&mut self)
+        ensures cleared { Becomes self.old [] self.new }
+        ensures room { self.new.reserved ≡ self.old.reserved }
+    {
+        self.items.clear();
+    }
+
+    /// The elements, in order.
+    pub fn as_slice(&self) -> &[T]
+        ensures value { result.now ≡ self.now.elements }
+        ensures within { IsWithin self.now }
+    {
+        &self.items
+    }
+
+    /// How many elements there are.
+    pub fn len(&self) -> usize
+        ensures value { result ≡ length self.now.elements }
+        ensures within { IsWithin self.now }
+    {
+        self.items.len()
+    }
+
+    /// Whether there is no element.
+    pub fn is_empty(&self) -> bool
+        ensures value { IsTrue result ↔ (self.now.elements ≡ []) }
+        ensures within { IsWithin self.now }
+    {
+        self.items.is_empty()
+    }
+
+    /// The greatest number of elements so far.
+    pub fn peak(&self) -> usize
+        ensures value { result ≡ self.now.peak }
+        ensures within { IsWithin self.now }
+    {
+        self.peak // never below the length, by the invariant
+    }
+
+    /// The greatest number of elements that is allowed.
+    pub fn limit(&self) -> usize
+        ensures value { result ≡ self.now.limit }
+        ensures within { IsWithin self.now }
+    {
+        self.limit
+    }
+}

@@ -1,0 +1,22 @@
+//! Limits, and lists that never grow past one.
+//!
+//! A [`Limits`] holds the two numbers that a user sets: the most bytes of a line, and the most
+//! open containers. A [`Bounded`] is a list that refuses its next element once it is full, and that
+//! remembers its greatest length, its peak. The layers above hold nothing that grows in any other
+//! list, so what they hold is bounded by the limits.
+//!
+//! ```text
+//! let limits = Limits::new(8_388_608, 64)?;
+//! let mut line = Bounded::new(alloc, limits.line() as usize);
+//! line.extend_from_slice(b"{}")?; // Full past the limit, Memory where no more is granted
+//! line.clear(); // the peak stays 2
+//! ```
+#![tactic(auto)]
+
+mod bounded;
+mod limits;
+#[cfg(test)]
+mod tests;
+
+pub use bounded::{Bounded, ExtendFault, NoMemory, Refused};
+pub use limits::{LimitFault, Limits, Peaks};

@@ -1,0 +1,100 @@
+//! Rows on limits and lists.
+use crate::{Bounded, ExtendFault, LimitFault, Limits, NoMemory, Peaks, Refused};
+use std::test::Fail;
+
+#[derive(Drop)]
+struct LimitRow {
+    name: &'static str,
+    line: u64,
+    depth: u64,
+    fault: Option<LimitFault>,
+}
+
+#[test]
+fn limits_are_refused_in_order(rt: HostRuntime) -> Result<(), Fail> {
+    let rows = [
+        LimitRow {
+            name: "both too small or great",
+            line: 0,
+            depth: 1_025,
+            fault: Some(LimitFault::LineLimit),
+        },
+        LimitRow {
+            name: "depth too great",
+            line: 1,
+            depth: 1_025,
+            fault: Some(LimitFault::DepthLimit),
+        },
+        LimitRow {
+            name: "depth zero",
+            line: 1,
+            depth: 0,
+            fault: Some(LimitFault::DepthLimit),
+        },
+        LimitRow {
+            name: "line too great",
+            line: 1_073_741_825,
+            depth: 64,
+            fault: Some(LimitFault::LineLimit),
+        },
+        LimitRow {
+            name: "least",
+            line: 1,
+            depth: 1,
+            fault: None,
+        },
+        LimitRow {
+            name: "greatest",
+            line: 1_073_741_824,
+            depth: 1_024,
+            fault: None,
+        },
+    ];
+    for row in &rows {
+        match Limits::new(row.line, row.depth) {
+            Ok(limits) => {
+                assert_eq!(rt; row.fault, None, "{}", row.name);
+                assert_eq!(rt; limits.line(), row.line, "{}", row.name);
+                assert_eq!(rt; limits.depth(), row.depth, "{}", row.name);
+            }
+            Err(fault) => assert_eq!(rt; row.fault, Some(fault), "{}", row.name),
+        }
+    }
+    Ok(())
+}
+
+#[test]
+fn a_list_of_two(rt: HostRuntime) -> Result<(), Fail> {
+    let mut list: Bounded<u8> = Bounded::new(rt.alloc(), 2);
+    assert!(rt; list.is_empty());
+    assert_eq!(rt; list.push(1), Ok(()));
+    assert_eq!(rt; list.push(2), Ok(()));
+    assert_eq!(rt; list.push(3), Err(Refused::Full(3)));
+    assert_eq!(rt; list.len(), 2);
+    assert_eq!(rt; list.peak(), 2);
+    assert_eq!(rt; list.extend_from_slice(&[4]), Err(ExtendFault::Full));
+    assert_eq!(rt; list.as_slice(), [1u8, 2].as_slice());
+    list.clear();
+    assert_eq!(rt; list.len(), 0);
+    assert_eq!(rt; list.peak(), 2);
+    assert_eq!(rt; list.limit(), 2);
+    assert_eq!(rt; list.extend_from_slice(&[5, 6]), Ok(()));
+    assert_eq!(rt; list.as_slice(), [5u8, 6].as_slice());
+    assert!(rt; !list.is_empty());
+    Ok(())
+}
+
+#[test]
+fn plain_values(rt: HostRuntime) -> Result<(), Fail> {
+    let none = Peaks::default();
+    assert_eq!(rt;
+        none,
+        Peaks {
+            bytes: 0,
+            tokens: 0,
+            depth: 0
+        }
+    );
+    assert_eq!(rt; NoMemory, NoMemory);
+    Ok(())
+}
