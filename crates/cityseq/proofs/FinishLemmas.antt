@@ -1,0 +1,234 @@
+-- What the end of a text makes of an engine.
+use Rattle.std.proofs.Common.{◌≡◌, ℕ, ◌+◌, ◌<◌, ◌≤◌, ◌⊎◌, inl, inr, suc, max, List, [], ◌∷◌, ◌++◌, Bool, true, false, cond, eqb, length, take, map, Option, Some, None, Result, Ok, Err, arith, refl, sym, ap, ◌∙◌, length-append}
+use Rattle.std.specs.Prelude.{if◌then◌else◌, unwrap_or, slice_get}
+use Rattle.std.proofs.lemmas.List.{append-nil}
+use Rattle.std.proofs.lemmas.Bool.Decides.{nat_tests}
+use Rattle.cj_budget.specs.Limits.{LimitPair}
+use Rattle.cj_budget.specs.Bounded.{IsWithin}
+use Rattle.cityseq.specs.declared.reason.Reason.TheVariants.{NoHeader}
+use Rattle.cityseq.specs.declared.reason.Verdict.{Verdict}
+use Rattle.cityseq.specs.declared.reason.Verdict.TheVariants.{Refuse, Blank, Valid}
+use Rattle.cityseq.specs.declared.reason.End.{End}
+use Rattle.cityseq.specs.declared.reason.End.TheVariants.{Complete, Refused, ReadFault, ReadLimit, WriteFault, Memory}
+use Rattle.cityseq.specs.Lines.{Line, closed, begun, ended_line, last_line, later_of, lines}
+use Rattle.cityseq.specs.Verdict.{verdict, refusal_of, is_kept, refusal_from, kept_from, ending, ending_of, kept_first}
+use Rattle.cityseq.specs.Bound.{bytes_bound}
+use Rattle.cityseq.specs.Reading.{Reading, Deals, Reads, Finishes, FinishesWith, Passes}
+use Rattle.cityseq.specs.Engine.{State, StandsFor, Counts, held_bytes, peak_bytes, limits_of, Faults, Delivers, Concludes}
+use Rattle.cityseq.specs.Sink.{Took}
+use Rattle.cityseq.proofs.LineLemmas.{none-from_length}
+use Rattle.cityseq.proofs.VerdictLemmas.{refusal-append, kept-append}
+use Rattle.cityseq.proofs.ReadingLemmas.{length-map_lines, zero_or, kept-next}
+use Rattle.cityseq.proofs.GoodLemmas.{good-complete, good-refused}
+use Rattle.cityseq.proofs.EngineLemmas.{take-front, get-next, lines-front, Counts-front, some_not_none}
+
+-- the end that a result makes
+abbrev pub end_of : Result (Unit {0}) End → End
+end_of (Ok x) = Complete
+end_of (Err e) = e
+
+-- the end of a text, by the number of its lines
+abbrev pub Concluded : LimitPair → List ℕ → ℕ → End → Type 0
+Concluded limits p n Complete = (ending limits p ≡ Complete) × (n ≡ length (lines p))
+Concluded limits p n (Refused number place reason) = (ending limits p ≡ Refused number place reason) × (number ≡ n + 1)
+Concluded limits p n ReadFault = ⊥
+Concluded limits p n ReadLimit = ⊥
+Concluded limits p n WriteFault = Unit {0}
+Concluded limits p n Memory = ⊥
+
+pub Concludes-concluded : (limits : LimitPair) (p : List ℕ) (n : ℕ) (e : End) → Concluded limits p n e → Concludes limits p n e
+Concludes-concluded limits p n Complete h = (h.0, h.1 ∙ ap length (sym (good-complete limits p h.0)))
+Concludes-concluded limits p n (Refused number place reason) h = (h.0, omega (arith, h.1, good-refused limits p number place reason h.0))
+Concludes-concluded limits p n ReadFault h = h
+Concludes-concluded limits p n ReadLimit h = h
+Concludes-concluded limits p n WriteFault h = h
+Concludes-concluded limits p n Memory h = h
+
+ending-some : (limits : LimitPair) (xs ys : List Line) → 0 < length xs → ending_of limits (xs ++ ys) ≡ unwrap_or (refusal_from limits 1 (xs ++ ys)) Complete
+ending-some limits [] ys h = absurd (omega arith)
+ending-some limits (x ∷ xs) ys h = refl
+
+ending-last : (limits : LimitPair) (xs : List Line) (l : Line) → ending_of limits (xs ++ l ∷ []) ≡ unwrap_or (refusal_from limits 1 (xs ++ l ∷ [])) Complete
+ending-last limits [] l = refl
+ending-last limits (x ∷ xs) l = refl
+
+-- a last line of these bytes
+abbrev unended : ℕ → List ℕ → Line
+unended b c = record { content = b ∷ c; lf = false }
+
+module _ {S : Type 0} (takes leaves : S → Line → S → Type 0) (f g : Reading) (s t : S) (p : List ℕ) (reads : Reads f p) where
+  length-cs : length (map ended_line (closed p)) ≡ f.lines
+  length-cs = length-map_lines (closed p) ∙ sym reads.lines
+
+  lines-last : (b : ℕ) (c : List ℕ) → begun p ≡ b ∷ c → lines p ≡ map ended_line (closed p) ++ unended b c ∷ []
+  lines-last b c e = rw e refl
+
+  -- all lines, counted
+  take-last : (b : ℕ) (c : List ℕ) → begun p ≡ b ∷ c → take (f.lines + 1) (lines p) ≡ map ended_line (closed p) ++ unended b c ∷ []
+  take-last b c e =
+      let xs = map ended_line (closed p) in
+      let every = take-front (map ended_line (closed p) ++ unended b c ∷ []) [] (f.lines + 1) (omega (arith, length-cs, length-append xs (unended b c ∷ []))) in
+      rw (lines-last b c e) (rw (append-nil (map ended_line (closed p) ++ unended b c ∷ [])) at every)
+
+  -- the lines but the last, counted
+  take-closed : take f.lines (lines p) ≡ map ended_line (closed p)
+  take-closed = let k = lines-front f.lines p [] reads.lines in rw (append-nil p) at k
+
+  -- the end, where a last line has this verdict
+  ending-verdict : (b : ℕ) (c : List ℕ) → begun p ≡ b ∷ c → ending f.limits p ≡ unwrap_or (refusal_from f.limits (f.lines + 1) (unended b c ∷ [])) Complete
+  ending-verdict b c e =
+      let l : Line = unended b c in
+      let at : 1 + length (map ended_line (closed p)) ≡ f.lines + 1 = omega (arith, length-cs) in
+      rw (lines-last b c e, ending-last f.limits (map ended_line (closed p)) l, refusal-append f.limits 1 (map ended_line (closed p)) (l ∷ []) reads.good, at) refl
+
+  count-last : (b : ℕ) (c : List ℕ) → begun p ≡ b ∷ c → g.lines ≡ f.lines + 1 → g.lines ≡ length (lines p)
+  count-last b c e h = rw (lines-last b c e) (omega (arith, h, length-cs, length-append (map ended_line (closed p)) (unended b c ∷ [])))
+
+  concluded-last : (b : ℕ) (c : List ℕ) (v : Verdict) (r : Result (Unit {0}) End) → begun p ≡ b ∷ c → verdict f.limits (f.lines + 1) (b ∷ c) ≡ v
+      → Deals takes leaves v (unended b c) f s r g t → Concluded f.limits p g.lines (end_of r)
+  concluded-last b c (Refuse place reason) r e h d = rw d.0 (ending-verdict b c e ∙ rw h refl, ap (λ x. x.lines + 1) (sym d.1))
+  concluded-last b c Blank r e h d = rw d.0 (ending-verdict b c e ∙ rw h refl, count-last b c e d.1.lines)
+  concluded-last b c Valid (Ok x) e h d = (ending-verdict b c e ∙ rw h refl, count-last b c e d.0.lines)
+  concluded-last b c Valid (Err x) e h d = rw d.0 tt
+
+  concluded-none : (r : Result (Unit {0}) End) → begun p ≡ [] → FinishesWith takes leaves [] f s r g t → Concluded f.limits p g.lines (end_of r)
+  concluded-none r e d = go (zero_or f.lines)
+    where
+      go : (f.lines ≡ 0) ⊎ (0 < f.lines) → Concluded f.limits p g.lines (end_of r)
+      go (inl z) =
+          let none : closed p ≡ [] = none-from_length (closed p) (sym reads.lines ∙ z) in
+          rw (d.0, z, none, e) (refl, ap (λ x. x + 1) (sym (ap (λ x. x.lines) d.1 ∙ z)))
+      go (inr z) =
+          let no : eqb f.lines 0 ≡ false = grind (arith, nat_tests) in
+          let whole : lines p ≡ map ended_line (closed p) ++ [] = rw e refl in
+          let good : refusal_from f.limits 1 (map ended_line (closed p) ++ []) ≡ None = rw (append-nil (map ended_line (closed p))) reads.good in
+          rw (d.0, no, d.1, whole) (ending-some f.limits (map ended_line (closed p)) [] (omega (arith, length-cs)) ∙ rw good refl, rw (append-nil (map ended_line (closed p))) (sym length-cs))
+
+  pub Finishes-concludes : (r : Result (Unit {0}) End) → Finishes takes leaves f s p r g t → Concludes f.limits p g.lines (end_of r)
+  Finishes-concludes r d = Concludes-concluded f.limits p g.lines (end_of r) (go (begun p) refl d)
+    where
+      go : (x : List ℕ) → begun p ≡ x → FinishesWith takes leaves x f s r g t → Concluded f.limits p g.lines (end_of r)
+      go [] e d = concluded-none r e d
+      go (b ∷ c) e d = concluded-last b c _ r e refl d
+
+  -- the counts are those of f where nothing was dealt with
+  counts-same : g ≡ f → Counts f.limits p g.lines g.kept
+  counts-same e = let k = Counts-front f p [] reads in rw e (rw (append-nil p) at k)
+
+  counts-passed : (b : ℕ) (c : List ℕ) (put : Bool) → begun p ≡ b ∷ c → Passes put f g → refusal_of (f.lines + 1) (verdict f.limits (f.lines + 1) (b ∷ c)) ≡ None
+      → put ≡ is_kept (verdict f.limits (f.lines + 1) (b ∷ c)) → Counts f.limits p g.lines g.kept
+  counts-passed b c put e d fine k =
+      let xs = map ended_line (closed p) in
+      let at : 1 + length (map ended_line (closed p)) ≡ f.lines + 1 = omega (arith, length-cs) in
+      record {
+        few = omega (arith, count-last b c e d.lines);
+        good = rw (d.lines, take-last b c e, refusal-append f.limits 1 xs (unended b c ∷ []) reads.good, at, fine) refl;
+        kept = rw (d.lines, take-last b c e) (kept-next f g xs (unended b c) put (sym length-cs) reads.kept d k);
+      }
+
+  counts-last : (b : ℕ) (c : List ℕ) (v : Verdict) (r : Result (Unit {0}) End) → begun p ≡ b ∷ c → verdict f.limits (f.lines + 1) (b ∷ c) ≡ v
+      → Deals takes leaves v (unended b c) f s r g t → Counts f.limits p g.lines g.kept
+  counts-last b c (Refuse place reason) r e h d = counts-same d.1
+  counts-last b c Blank r e h d = counts-passed b c false e d.1 (rw h refl) (rw h refl)
+  counts-last b c Valid (Ok x) e h d = counts-passed b c true e d.0 (rw h refl) (rw h refl)
+  counts-last b c Valid (Err x) e h d = counts-same d.1
+
+  Counts-finished : (r : Result (Unit {0}) End) → Finishes takes leaves f s p r g t → Counts f.limits p g.lines g.kept
+  Counts-finished r d = go (begun p) refl d
+    where
+      go : (x : List ℕ) → begun p ≡ x → FinishesWith takes leaves x f s r g t → Counts f.limits p g.lines g.kept
+      go [] e d = counts-same d.1
+      go (b ∷ c) e d = counts-last b c _ r e refl d
+
+  -- the lists are within their peaks, and those have not changed
+  record Settled : Type 0 where
+    pub limits : g.limits ≡ f.limits
+    pub header : IsWithin g.header
+    pub line : IsWithin g.line
+    pub peaks : g.header.peak + g.line.peak ≡ f.header.peak + f.line.peak
+
+  settled-same : g ≡ f → Settled
+  settled-same e = rw e (record { limits = refl; header = reads.header_within; line = reads.line_within; peaks = refl })
+
+  settled-passed : (put : Bool) → Passes put f g → Settled
+  settled-passed put d = record {
+    limits = d.limits;
+    header = rw d.header reads.header_within;
+    line = d.line.within;
+    peaks = rw d.header (omega (arith, d.line.peak));
+  }
+
+  settled-dealt : (l : Line) (v : Verdict) (r : Result (Unit {0}) End) → Deals takes leaves v l f s r g t → Settled
+  settled-dealt l (Refuse place reason) r d = settled-same d.1
+  settled-dealt l Blank r d = settled-passed false d.1
+  settled-dealt l Valid (Ok x) d = settled-passed true d.0
+  settled-dealt l Valid (Err x) d = settled-same d.1
+
+  Settled-finished : (r : Result (Unit {0}) End) → Finishes takes leaves f s p r g t → Settled
+  Settled-finished r d = go (begun p) d
+    where
+      go : (x : List ℕ) → FinishesWith takes leaves x f s r g t → Settled
+      go [] d = settled-same d.1
+      go (b ∷ c) d = settled-dealt (unended b c) _ r d
+
+  pub StandsFor-finished : (r : Result (Unit {0}) End) (n : ℕ) (e : End) → f.header.peak + f.line.peak ≤ bytes_bound f.limits p → Finishes takes leaves f s p r g t
+      → StandsFor (record { reading = g; taken = n; ended = Some e }) p
+  StandsFor-finished r n e bounded d =
+      let k = Settled-finished r d in
+      let counts = Counts-finished r d in
+      record {
+        held = omega (arith, k.header.below_peak, k.line.below_peak);
+        bounded = rw k.limits (omega (arith, k.peaks, bounded));
+        counts = rw k.limits counts;
+        going = λ none. absurd (some_not_none e none);
+      }
+
+  kept-last : (b : ℕ) (c : List ℕ) → begun p ≡ b ∷ c
+      → kept_first f.limits (f.lines + 1) p ≡ kept_first f.limits f.lines p ++ kept_from f.limits (f.lines + 1) (unended b c ∷ [])
+  kept-last b c e =
+      let xs = map ended_line (closed p) in
+      let at : 1 + length (map ended_line (closed p)) ≡ f.lines + 1 = omega (arith, length-cs) in
+      rw (take-last b c e, take-closed, kept-append f.limits 1 xs (unended b c ∷ []), at) refl
+
+  quiet : (x : End) → g.lines ≡ f.lines → Faults leaves f.limits p g.lines s t (Some x) → Delivers takes leaves f.limits p f.lines g.lines s t (Some x)
+  quiet x same fault = record {
+    added = [];
+    middle = s;
+    kept = rw same (sym (append-nil (kept_first f.limits f.lines p)));
+    took = refl;
+    fault = fault;
+  }
+
+  delivers-last : (b : ℕ) (c : List ℕ) (v : Verdict) (r : Result (Unit {0}) End) → begun p ≡ b ∷ c → verdict f.limits (f.lines + 1) (b ∷ c) ≡ v
+      → Deals takes leaves v (unended b c) f s r g t → Delivers takes leaves f.limits p f.lines g.lines s t (Some (end_of r))
+  delivers-last b c (Refuse place reason) r e h d = rw d.0 (quiet (Refused (f.lines + 1) place reason) (ap (λ x. x.lines) d.1) d.2)
+  delivers-last b c Blank r e h d = rw d.0 (record {
+    added = [];
+    middle = s;
+    kept = rw d.1.lines (kept-last b c e ∙ rw h refl);
+    took = refl;
+    fault = d.2;
+  })
+  delivers-last b c Valid (Ok x) e h d = record {
+    added = unended b c ∷ [];
+    middle = t;
+    kept = rw d.0.lines (kept-last b c e ∙ rw h refl);
+    took = (t, d.1, refl);
+    fault = refl;
+  }
+  delivers-last b c Valid (Err x) e h d = rw d.0 (quiet WriteFault (ap (λ x. x.lines) d.1)
+      (unended b c, rw (d.1, lines-last b c e) (get-next (map ended_line (closed p)) [] (unended b c) f.lines (sym length-cs)), rw (d.1, h) refl, d.2))
+
+  delivers-none : (r : Result (Unit {0}) End) → FinishesWith takes leaves [] f s r g t → Delivers takes leaves f.limits p f.lines g.lines s t (Some (end_of r))
+  delivers-none r d = go (zero_or f.lines)
+    where
+      go : (f.lines ≡ 0) ⊎ (0 < f.lines) → Delivers takes leaves f.limits p f.lines g.lines s t (Some (end_of r))
+      go (inl z) = let yes_none : eqb f.lines 0 ≡ true = grind (arith, nat_tests) in rw (d.0, yes_none) (quiet (Refused 1 0 NoHeader) (ap (λ x. x.lines) d.1) d.2)
+      go (inr z) = let not_none : eqb f.lines 0 ≡ false = grind (arith, nat_tests) in rw (d.0, not_none) (quiet Complete (ap (λ x. x.lines) d.1) d.2)
+
+  pub Finishes-delivers : (r : Result (Unit {0}) End) → Finishes takes leaves f s p r g t → Delivers takes leaves f.limits p f.lines g.lines s t (Some (end_of r))
+  Finishes-delivers r d = go (begun p) refl d
+    where
+      go : (x : List ℕ) → begun p ≡ x → FinishesWith takes leaves x f s r g t → Delivers takes leaves f.limits p f.lines g.lines s t (Some (end_of r))
+      go [] e d = delivers-none r d
+      go (b ∷ c) e d = delivers-last b c _ r e refl d

@@ -1,0 +1,15 @@
+pub mod CutLemmas
+pub mod EngineLemmas
+pub mod FinishLemmas
+pub mod GoodLemmas
+pub mod IsLinesLemmas
+pub mod JoinedLemmas
+pub mod KnownLemmas
+pub mod LineLemmas
+pub mod OutputLemmas
+pub mod PieceLemmas
+pub mod PieceSlices
+pub mod ReadingLemmas
+pub mod RunLemmas
+pub mod StaysLemmas
+pub mod VerdictLemmas

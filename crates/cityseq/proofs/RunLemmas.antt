@@ -1,0 +1,113 @@
+-- How the calls of a run add up.
+use Rattle.std.proofs.Common.{◌≡◌, inl, inr, ℕ, ◌+◌, ◌-◌, ◌⊎◌, ◌<◌, ◌≤◌, List, [], ◌∷◌, ◌++◌, Bool, true, false, cond, length, take, map, Option, Some, None, refl, sym, ap, ◌∙◌, subst, append_assoc, arith}
+use Rattle.std.specs.Prelude.{unwrap_or, is_some, if◌then◌else◌}
+use Rattle.std.proofs.lemmas.List.{append-nil}
+use Rattle.std.specs.Io.KnownBytes.{Consumes, Keeps}
+use Rattle.cityseq.specs.declared.reason.End.{End}
+use Rattle.cityseq.specs.declared.reason.End.TheVariants.{Complete, Refused, ReadFault, ReadLimit, WriteFault, Memory}
+use Rattle.cj_budget.specs.Limits.{LimitPair}
+use Rattle.cityseq.specs.Lines.{Line, closed, ended_line, lines, whole}
+use Rattle.cityseq.specs.Verdict.{verdict, refusal_of, refusal_from, judged, ending, ending_of}
+use Rattle.cityseq.specs.Verdict.{good, kept_first}
+use Rattle.cityseq.specs.Engine.{State, StandsFor, Counts, Delivers, Faults, Concludes, Tells, limits_of, lines_of}
+use Rattle.cityseq.specs.Reading.{Reads}
+use Rattle.cityseq.specs.Run.{Ends}
+use Rattle.cityseq.specs.Sink.{HasRisen, Took}
+use Rattle.cityseq.proofs.PieceLemmas.{Took-append}
+use Rattle.cityseq.proofs.EngineLemmas.{judged-front, kept_first-front}
+use Rattle.cityseq.proofs.ReadingLemmas.{length-map_lines, zero_or}
+use Rattle.cityseq.proofs.IsLinesLemmas.{lines-whole}
+use Rattle.cityseq.proofs.GoodLemmas.{good-refused}
+
+pub Consumes-then : (a b c : Option (List ℕ)) (x y : List ℕ) → Consumes a b x → Consumes b c y → Consumes a c (x ++ y)
+Consumes-then None b c x y p q = tt
+Consumes-then (Some a) None c x y p q = absurd p
+Consumes-then (Some a) (Some b) None x y p q = absurd q
+Consumes-then (Some a) (Some b) (Some c) x y p q = p ∙ (ap (λ z. x ++ z) q ∙ sym (append_assoc x y c))
+
+pub Consumes-kept : (a b c : Option (List ℕ)) (x : List ℕ) → Consumes a b x → Keeps b c → Consumes a c x
+Consumes-kept None b c x p q = tt
+Consumes-kept (Some a) None c x p q = absurd p
+Consumes-kept (Some a) (Some b) None x p q = absurd q
+Consumes-kept (Some a) (Some b) (Some c) x p q = p ∙ ap (λ z. x ++ z) (sym q)
+
+pub Delivers-then : {S : Type 0} (takes leaves : S → Line → S → Type 0) (limits : LimitPair) (r q : List ℕ) (n m : ℕ) (s t u : S) (e : Option End)
+    → kept_first limits n q ≡ kept_first limits n r → Delivers takes leaves limits r 0 n s t None → Delivers takes leaves limits q n m t u e → Delivers takes leaves limits q 0 m s u e
+Delivers-then takes leaves limits r q n m s t u e same h k = record {
+  added = h.added ++ k.added;
+  middle = k.middle;
+  kept = k.kept ∙ ap (λ z. z ++ k.added) (same ∙ h.kept);
+  took = Took-append takes s t k.middle h.added k.added (subst (λ z. Took takes s h.added z) (sym h.fault) h.took) k.took;
+  fault = k.fault;
+}
+
+pub Ends-finished : (limits : LimitPair) (r : List ℕ) (n : ℕ) (at_end : Type 0) (e : End) → at_end → Concludes limits r n e → Ends limits r n at_end e
+Ends-finished limits r n at_end Complete h c = (c.0, c.1, h)
+Ends-finished limits r n at_end (Refused number place reason) h c = (c.0, c.1, inl h)
+Ends-finished limits r n at_end ReadFault h c = absurd c
+Ends-finished limits r n at_end ReadLimit h c = absurd c
+Ends-finished limits r n at_end WriteFault h c = tt
+Ends-finished limits r n at_end Memory h c = tt
+
+pub refusal-stays : (limits : LimitPair) (n : ℕ) (xs ys : List Line) (e : End) → refusal_from limits n xs ≡ Some e → refusal_from limits n (xs ++ ys) ≡ Some e
+refusal-stays limits n [] ys e h = absurd (clash h)
+  where
+    clash : ◌≡◌ {A = Option End} None (Some e) → ⊥
+    clash x = cc
+refusal-stays limits n (x ∷ xs) ys e h = step (refusal_of n (verdict limits n x.content)) _ _ (refusal-stays limits (n + 1) xs ys e) h
+  where
+    step : (first rest all : Option End) → (rest ≡ Some e → all ≡ Some e) → cond (is_some first) first rest ≡ Some e → cond (is_some first) first all ≡ Some e
+    step None rest all k h = k h
+    step (Some y) rest all k h = h
+
+pub ending-refused : (limits : LimitPair) (ls : List Line) (e : End) → refusal_from limits 1 ls ≡ Some e → ending_of limits ls ≡ e
+ending-refused limits [] e h = absurd (clash h)
+  where
+    clash : ◌≡◌ {A = Option End} None (Some e) → ⊥
+    clash x = cc
+ending-refused limits (l ∷ ls) e h = rw h refl
+
+pub ending-told : (limits : LimitPair) (q : List ℕ) (e : End) → refusal_from limits 1 (judged limits q) ≡ Some e → ending limits q ≡ e
+ending-told limits q e h =
+    let x = judged-front limits q in
+    ending-refused limits (lines q) e (rw x.1 (refusal-stays limits 1 (judged limits q) x.0 e h))
+
+pub Ends-fed : (limits : LimitPair) (r : List ℕ) (n : ℕ) (at_end : Type 0) (e : End) → Tells limits r n e → Ends limits r n at_end e
+Ends-fed limits r n at_end Complete c = absurd c
+Ends-fed limits r n at_end (Refused number place reason) c =
+    let told = ending-told limits r (Refused number place reason) c.0 in
+    (told, omega (arith, c.1, good-refused limits r number place reason told), inr c.0)
+Ends-fed limits r n at_end ReadFault c = absurd c
+Ends-fed limits r n at_end ReadLimit c = absurd c
+Ends-fed limits r n at_end WriteFault c = tt
+Ends-fed limits r n at_end Memory c = tt
+
+-- no more bytes came: no whole line was refused
+pub whole-good : (e : State) (r : List ℕ) → Reads e.reading r → (refusal_from (limits_of e) 1 (lines (whole r)) ≡ None) × (lines_of e ≡ length (lines (whole r)))
+whole-good e r h = (rw (lines-whole r) h.good, rw (lines-whole r) (h.lines ∙ sym (length-map_lines (closed r))))
+
+-- more bytes change none of the lines that LF ended
+pub kept_first-same : (limits : LimitPair) (n : ℕ) (r more : List ℕ) → n ≡ length (closed r) → kept_first limits n (r ++ more) ≡ kept_first limits n r
+kept_first-same limits n r more e =
+    let k = kept_first-front limits n r [] e in
+    kept_first-front limits n r more e ∙ sym (rw (append-nil r) at k)
+
+-- a step that keeps the sink as it is, with an end
+pub Delivers-ended : {S : Type 0} (takes leaves : S → Line → S → Type 0) (limits : LimitPair) (r : List ℕ) (n : ℕ) (s t : S) (e : End)
+    → ((m u : S) → u ≡ m → Faults leaves limits r n m u (Some e)) → Delivers takes leaves limits r 0 n s t None → Delivers takes leaves limits r 0 n s t (Some e)
+Delivers-ended takes leaves limits r n s t e still h = record {
+  added = h.added;
+  middle = h.middle;
+  kept = h.kept;
+  took = h.took;
+  fault = still h.middle t h.fault;
+}
+
+-- a count that rose in the last of some calls rose in all of them
+pub HasRisen-after : (a b c : ℕ) → a ≤ b → HasRisen b c → HasRisen a c
+HasRisen-after a b c le (inl lt) = inl (omega arith)
+HasRisen-after a b c le (inr h) = go (zero_or (c - a))
+  where
+    go : (c - a ≡ 0) ⊎ (0 < c - a) → HasRisen a c
+    go (inl z) = inr (omega (arith, h.0, h.1), h.1)
+    go (inr z) = inl (omega arith)

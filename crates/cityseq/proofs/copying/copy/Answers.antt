@@ -1,0 +1,8 @@
+use Rattle.cityseq.specs.WriteSink.{writer_of}
+use Rattle.cityseq.proofs.OutputLemmas.{Writes-runs}
+use Rattle.cityseq.proofs.copying.copy.Goals as goal
+
+pub returns : goal.returns
+returns g c =
+    let e = c.run.ensures.runs in
+    (e.0, e.1, Writes-runs (λ s. g.W.Write.contents (writer_of s)) c.args.limits e.0 _ c.args.sink.now c.run.new.sink _ _ _ c.run.result.ended e.2)

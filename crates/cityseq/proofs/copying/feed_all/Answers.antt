@@ -1,0 +1,79 @@
+use Rattle.std.proofs.Common.{◌≡◌, [], ◌+◌, ◌++◌, ◌∙◌, ◌<◌, ◌≤◌, length, take, map, get_or, refl, sym, ap, arith}
+use Rattle.std.proofs.lemmas.List.{length-map}
+use Rattle.cityseq.specs.Engine.{limits_of, lines_of}
+use Rattle.cityseq.specs.Cut.{joined}
+use Rattle.cityseq.proofs.JoinedLemmas.{joined-more, joined-short, joined-all}
+use Rattle.cityseq.proofs.CutLemmas.{unread-told, unread-concludes}
+use Rattle.cityseq.proofs.RunLemmas.{Delivers-then, kept_first-same, Ends-finished, Ends-fed}
+use Rattle.cityseq.proofs.copying.feed_all.Goals as goal
+
+pub feed-requires : goal.feed-requires
+feed-requires g c =
+    let i = c.loop-piece.invariant in
+    omega (arith, (i.2.going i.0).1, joined-short (λ piece. piece.now) c.args.pieces.now c.loop-piece.piece-index (record { ref_ptr = (0, 0); now = [] }) (omega arith), c.requires.short)
+
+pub returns-in-Err-clause-runs : goal.returns-in-Err-clause-runs
+returns-in-Err-clause-runs g c =
+    let i = c.loop-piece.invariant in
+    let k = c.loop-piece.piece-index in
+    let piece = get_or c.args.pieces.now c.loop-piece.piece-index (record { ref_ptr = (0, 0); now = [] }) in
+    let r = joined (take k (map (λ piece. piece.now) c.args.pieces.now)) in
+    let more = joined-more (λ piece. piece.now) c.args.pieces.now k (record { ref_ptr = (0, 0); now = [] }) (omega arith) in
+    let stands = c.feed.ensures.stands r i.2 in (
+      k + 1,
+      rw more (record {
+        bounded = let x = stands.bounded in rw (i.0, c.feed.ensures.limits, i.1) at x;
+        counts = let x = stands.counts in rw (i.0, c.feed.ensures.limits, i.1) at x;
+        sink =
+            let x = c.feed.ensures.sink r i.2 i.0 in
+            let y = rw (i.1, c.in-Err.ensures.ended) at x in
+            Delivers-then g.S.LineSink.takes g.S.LineSink.leaves _ r (r ++ piece.now) _ _ _ _ _ _ (kept_first-same _ (lines_of c.loop-piece.engine) r piece.now (i.2.going i.0).0.lines) i.3 y;
+        ends = Ends-fed _ (r ++ piece.now) _ _ c.in-Err.end (let x = c.in-Err.ensures.told r i.2 i.0 in rw i.1 at x);
+      }),
+    )
+
+pub returns-in-Err-clause-unread : goal.returns-in-Err-clause-unread
+returns-in-Err-clause-unread g c =
+    let i = c.loop-piece.invariant in
+    let r = joined (take c.loop-piece.piece-index (map (λ piece. piece.now) c.args.pieces.now)) in
+    let piece = get_or c.args.pieces.now c.loop-piece.piece-index (record { ref_ptr = (0, 0); now = [] }) in
+    unread-told (limits_of c.loop-piece.engine) (r ++ piece.now) (lines_of c.feed.new.self) c.in-Err.end (c.in-Err.ensures.told r i.2 i.0)
+
+pub loop-piece-preserved : goal.loop-piece-preserved
+loop-piece-preserved g c =
+    let i = c.loop-piece.invariant in
+    let k = c.loop-piece.piece-index in
+    let piece = get_or c.args.pieces.now c.loop-piece.piece-index (record { ref_ptr = (0, 0); now = [] }) in
+    let r = joined (take k (map (λ piece. piece.now) c.args.pieces.now)) in
+    let more = joined-more (λ piece. piece.now) c.args.pieces.now k (record { ref_ptr = (0, 0); now = [] }) (omega arith) in (
+      c.in_default.ensures.open,
+      c.feed.ensures.limits ∙ i.1,
+      let x = c.feed.ensures.stands r i.2 in rw more (rw i.0 at x),
+      let x = c.feed.ensures.sink r i.2 i.0 in
+          let y = rw (i.1, c.in_default.ensures.open) at x in
+          rw more (Delivers-then g.S.LineSink.takes g.S.LineSink.leaves _ r (r ++ piece.now) _ _ _ _ _ _ (kept_first-same _ (lines_of c.loop-piece.engine) r piece.now (i.2.going i.0).0.lines) i.3 y),
+    )
+
+pub returns-clause-runs : goal.returns-clause-runs
+returns-clause-runs g c =
+    let i = c.loop-piece.invariant in
+    let k = c.loop-piece.piece-index in
+    let r = joined (take k (map (λ piece. piece.now) c.args.pieces.now)) in
+    let stands = c.finish.ensures.stands r i.2 in (
+      k,
+      record {
+        bounded = let x = stands.bounded in rw (c.finish.ensures.limits, i.1) at x;
+        counts = let x = stands.counts in rw (c.finish.ensures.limits, i.1) at x;
+        sink =
+            let x = c.finish.ensures.sink r i.2 i.0 in
+            let y = rw (i.1, c.finish.ensures.ended) at x in
+            Delivers-then g.S.LineSink.takes g.S.LineSink.leaves _ r r _ _ _ _ _ _ refl i.3 y;
+        ends = Ends-finished _ r _ _ c.finish.result (joined-all k _ (omega (arith, length-map c.args.pieces.now (λ piece. piece.now)))) (let x = c.finish.ensures.answer r i.2 i.0 in rw i.1 at x);
+      },
+    )
+
+pub returns-clause-unread : goal.returns-clause-unread
+returns-clause-unread g c =
+    let i = c.loop-piece.invariant in
+    let r = joined (take c.loop-piece.piece-index (map (λ piece. piece.now) c.args.pieces.now)) in
+    unread-concludes (limits_of c.loop-piece.engine) r (lines_of c.finish.new.self) c.finish.result (c.finish.ensures.answer r i.2 i.0)

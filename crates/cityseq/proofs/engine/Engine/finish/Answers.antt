@@ -1,0 +1,29 @@
+use Rattle.std.proofs.Common.{◌≡◌, ◌++◌, ◌∙◌, refl, sym, ap, Some, None}
+use Rattle.cityseq.specs.Reading.{reading}
+use Rattle.cityseq.proofs.EngineLemmas.{none_from_not_some}
+use Rattle.cityseq.proofs.FinishLemmas.{end_of, Finishes-concludes, Finishes-delivers, StandsFor-finished}
+use Rattle.cityseq.proofs.engine.Engine.finish.Goals as goal
+use Rattle.cityseq.proofs.engine.Engine.finish.Goals.{in-Ok, in-Err}
+
+pub returns-clause-stands : goal.returns-clause-stands
+returns-clause-stands g c = λ p st.
+    let stands = rw (← c.self.view_is) at st in
+    let open_now : c.self.inside.ended ≡ None = none_from_not_some c.self.inside.ended c.in_default.not-Some in
+    let reads = (stands.going open_now).0 in
+    StandsFor-finished g.S.LineSink.takes g.S.LineSink.leaves (reading c.self.inside.framer) (reading c.finish.new.self) _ _ p reads c.finish.result _ _ stands.bounded (c.finish.ensures.finishes p reads)
+
+pub returns-clause-answer : goal.returns-clause-answer
+returns-clause-answer g c = λ p st going.
+    let stands = rw (← c.self.view_is) at st in
+    let open_now = rw (← c.self.view_is) at going in
+    let reads = (stands.going open_now).0 in
+    let same : c.match-finish.end ≡ end_of c.finish.result = elim c.match-finish.branch [ in-Ok w ↦ w.end-is ∙ sym (ap end_of w.in-Ok.is) | in-Err w ↦ w.end-is ∙ sym (ap end_of w.in-Err.is) ] in
+    rw (← c.self.view_is, same) (Finishes-concludes g.S.LineSink.takes g.S.LineSink.leaves (reading c.self.inside.framer) (reading c.finish.new.self) _ _ p reads c.finish.result (c.finish.ensures.finishes p reads))
+
+pub returns-clause-sink : goal.returns-clause-sink
+returns-clause-sink g c = λ p st going.
+    let stands = rw (← c.self.view_is) at st in
+    let open_now = rw (← c.self.view_is) at going in
+    let reads = (stands.going open_now).0 in
+    let same : c.match-finish.end ≡ end_of c.finish.result = elim c.match-finish.branch [ in-Ok w ↦ w.end-is ∙ sym (ap end_of w.in-Ok.is) | in-Err w ↦ w.end-is ∙ sym (ap end_of w.in-Err.is) ] in
+    rw (← c.self.view_is, same) (Finishes-delivers g.S.LineSink.takes g.S.LineSink.leaves (reading c.self.inside.framer) (reading c.finish.new.self) _ _ p reads c.finish.result (c.finish.ensures.finishes p reads))

@@ -1,0 +1,8 @@
+use Rattle.std.proofs.Common.{take, map}
+use Rattle.std.specs.Io.KnownBytes.{Appends}
+use Rattle.cityseq.specs.Cut.{joined}
+use Rattle.cityseq.proofs.report.write_parts.Given as goal
+
+abbrev pub invariant-loop-part : goal.invariant-loop-part
+invariant-loop-part g l =
+    Appends (g.W.Write.contents l.initial.writer) (g.W.Write.contents l.writer) (joined (take l.part-index (map (λ part. part.now) l.parts)))

@@ -1,0 +1,101 @@
+use Rattle.std.proofs.Common.{◌≡◌, ◌+◌, ◌*◌, ◌++◌, ◌∙◌, [], List, length, length-take, take, refl, sym, ap, arith, Some, None, Err}
+use Rattle.std.proofs.lemmas.List.{append-nil}
+use Rattle.cityseq.specs.declared.reason.End.TheVariants.{ReadFault, ReadLimit}
+use Rattle.cityseq.specs.Engine.{lines_of}
+use Rattle.cityseq.proofs.RunLemmas.{Consumes-then, Consumes-kept, Delivers-then, Delivers-ended, kept_first-same, Ends-finished, Ends-fed, whole-good, HasRisen-after}
+use Rattle.cityseq.proofs.running.drive.Goals as goal
+
+pub returns-in-Err-clause-runs : goal.returns-in-Err-clause-runs
+returns-in-Err-clause-runs g c =
+    let i = c.loop-i.invariant in
+    let r = i.5.0 in
+    let stands = i.5.2 in (
+      r,
+      Consumes-kept _ _ _ r i.5.1 c.in-Err.ensures.bytes,
+      rw (← i.3) (record {
+        bounded = stands.bounded;
+        counts = stands.counts;
+        sink = let k = rw (← i.3) at i.5.3 in Delivers-ended _ _ _ r _ _ _ ReadFault (λ m u e. e) k;
+        ends = whole-good c.loop-i.engine r (stands.going i.2).0;
+      }),
+    )
+
+pub returns-in-Ok-eq0-clause-runs : goal.returns-in-Ok-eq0-clause-runs
+returns-in-Ok-eq0-clause-runs g c =
+    let i = c.loop-i.invariant in
+    let r = i.5.0 in
+    let stands = c.finish.ensures.stands r i.5.2 in (
+      r,
+      let k = Consumes-then _ _ _ r (take c.in-Ok-eq0.field-0 c.read.new.buf) i.5.1 c.in-Ok-eq0.ensures.bytes.0 in rw (c.in-Ok-eq0.field-0-test, append-nil r) at k,
+      record {
+        bounded = let k = stands.bounded in rw (c.finish.ensures.limits, i.3) at k;
+        counts = let k = stands.counts in rw (c.finish.ensures.limits, i.3) at k;
+        sink =
+            let k = c.finish.ensures.sink r i.5.2 i.2 in
+            let j = rw (i.3, c.finish.ensures.ended) at k in
+            Delivers-then g.S.LineSink.takes g.S.LineSink.leaves _ r r _ _ _ _ _ _ refl i.5.3 j;
+        ends = Ends-finished _ r _ _ c.finish.result (c.in-Ok-eq0.ensures.bytes.1 c.in-Ok-eq0.field-0-test (omega (arith, c.read.auto.buf, i.0))) (let k = c.finish.ensures.answer r i.5.2 i.2 in rw i.3 at k);
+      },
+    )
+
+pub returns-in-Ok-eq0-clause-cause : goal.returns-in-Ok-eq0-clause-cause
+returns-in-Ok-eq0-clause-cause g c = λ e. HasRisen-after _ _ _ c.loop-i.invariant.4 (c.finish.ensures.cause c.loop-i.invariant.2 e)
+
+pub returns-in-Err-feed-clause-runs : goal.returns-in-Err-feed-clause-runs
+returns-in-Err-feed-clause-runs g c =
+    let i = c.loop-i.invariant in
+    let r = i.5.0 in
+    let piece = take c.in-Ok.n c.read.new.buf in
+    let e = c.loop-i.engine in
+    let stands = c.feed.ensures.stands r i.5.2 in (
+      r ++ piece,
+      Consumes-then _ _ _ r piece i.5.1 c.in-Ok.ensures.bytes.0,
+      record {
+        bounded = let k = stands.bounded in rw (i.2, c.feed.ensures.limits, i.3) at k;
+        counts = let k = stands.counts in rw (i.2, c.feed.ensures.limits, i.3) at k;
+        sink =
+            let k = c.feed.ensures.sink r i.5.2 i.2 in
+            let j = rw (i.3, c.in-Err-feed.ensures.ended) at k in
+            Delivers-then g.S.LineSink.takes g.S.LineSink.leaves _ r (r ++ piece) _ _ _ _ _ _ (kept_first-same _ (lines_of e) r piece (i.5.2.going i.2).0.lines) i.5.3 j;
+        ends = Ends-fed _ (r ++ piece) _ _ c.in-Err-feed.end (let k = c.in-Err-feed.ensures.told r i.5.2 i.2 in rw i.3 at k);
+      },
+    )
+
+pub returns-in-Err-feed-clause-cause : goal.returns-in-Err-feed-clause-cause
+returns-in-Err-feed-clause-cause g c = λ e. HasRisen-after _ _ _ c.loop-i.invariant.4 (c.feed.ensures.cause c.loop-i.invariant.2 (c.in-Err-feed.is ∙ ap Err e))
+
+pub loop-i-preserved : goal.loop-i-preserved
+loop-i-preserved g c =
+    let i = c.loop-i.invariant in
+    let r = i.5.0 in
+    let piece = take c.in-Ok.n c.read.new.buf in
+    let e = c.loop-i.engine in (
+      c.read.auto.buf ∙ i.0,
+      omega (arith, c.in_default.ensures.taken, length-take c.in-Ok.n c.read.new.buf, c.read.auto.buf, i.0, i.1),
+      c.in_default.ensures.open,
+      c.feed.ensures.limits ∙ i.3,
+      omega (arith, i.4, c.feed.ensures.counts),
+      (
+        r ++ piece,
+        Consumes-then _ _ _ r piece i.5.1 c.in-Ok.ensures.bytes.0,
+        let k = c.feed.ensures.stands r i.5.2 in rw i.2 at k,
+        let k = c.feed.ensures.sink r i.5.2 i.2 in
+            let j = rw (i.3, c.in_default.ensures.open) at k in
+            Delivers-then g.S.LineSink.takes g.S.LineSink.leaves _ r (r ++ piece) _ _ _ _ _ _ (kept_first-same _ (lines_of e) r piece (i.5.2.going i.2).0.lines) i.5.3 j,
+      ),
+    )
+
+pub returns-clause-runs : goal.returns-clause-runs
+returns-clause-runs g c =
+    let i = c.loop-i.invariant in
+    let r = i.5.0 in
+    let stands = i.5.2 in (
+      r,
+      i.5.1,
+      rw (← i.3) (record {
+        bounded = stands.bounded;
+        counts = stands.counts;
+        sink = let k = rw (← i.3) at i.5.3 in Delivers-ended _ _ _ r _ _ _ ReadLimit (λ m u e. e) k;
+        ends = whole-good c.loop-i.engine r (stands.going i.2).0;
+      }),
+    )

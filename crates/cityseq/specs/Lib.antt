@@ -1,0 +1,13 @@
+pub mod Bound
+pub mod Cut
+pub mod Engine
+pub mod IsLines
+pub mod LentSink
+pub mod Lines
+pub mod Reading
+pub mod Report
+pub mod Rows
+pub mod Run
+pub mod Sink
+pub mod Verdict
+pub mod WriteSink

@@ -1,0 +1,82 @@
+//! Copies of the kept lines to a writer.
+ghost use Rattle.std.specs.Prelude.{◌≡◌, ◌≤◌, ◌^◌, ℕ, List, [], None, length, map, take};
+ghost use Rattle.std.specs.Io.KnownBytes.{Consumes};
+ghost use Rattle.cityseq.specs.Cut.{joined, Copies, IsUnread};
+ghost use Rattle.cityseq.specs.Engine.{StandsFor, limits_of, lines_of, peak_bytes};
+ghost use Rattle.cityseq.specs.Run.{Runs, Writes};
+ghost use Rattle.cityseq.specs.WriteSink.{writer_of};
+
+use crate::engine::Engine;
+use crate::lent::LentSink;
+use crate::reason::End;
+use crate::running::{Outcome, run};
+use crate::sink::{LineSink, WriteSink};
+use cj_budget::{Limits, NoMemory};
+use std::alloc::Global;
+use std::io::{Read, Write};
+
+/// Copies the kept lines of what a reader gives to a writer.
+pub fn copy<R: Read, W: Write + Drop>(
+    alloc: Global,
+    reader: &mut R,
+    sink: &mut WriteSink<W>,
+    limits: Limits,
+) -> Outcome
+    ensures { (r : List ℕ) × Consumes (R.remaining reader.old) (R.remaining reader.new) r
+        × Writes limits r result.ended (W.contents (writer_of sink.old)) (W.contents (writer_of sink.new)) }
+{
+    run(alloc, reader, sink, limits)
+}
+
+/// Copies the kept lines of what a reader gives to a writer that is lent.
+pub fn copy_out<R: Read, W: Write>(
+    alloc: Global,
+    reader: &mut R,
+    writer: &mut W,
+    limits: Limits,
+) -> Outcome
+    ensures { (r : List ℕ) × Consumes (R.remaining reader.old) (R.remaining reader.new) r
+        × Writes limits r result.ended (W.contents writer.old) (W.contents writer.new) }
+{
+    let mut sink = LentSink::new(writer);
+    run(alloc, reader, &mut sink, limits)
+}
+
+// Feeds all pieces, and finishes, until an end.
+fn feed_all<S: LineSink>(engine: &mut Engine, pieces: &[&[u8]], sink: &mut S) -> End
+    requires start { engine.old.taken ≡ 0 }
+    requires open { engine.old.ended ≡ None }
+    requires stands { StandsFor engine.old [] }
+    requires short { length (joined (map (λ piece. piece.now) pieces.now)) ≤ 2 ^ 60 }
+    ensures runs { (n : ℕ) × Runs S.takes S.leaves (limits_of engine.old) (joined (take n (map (λ piece. piece.now) pieces.now)))
+        (joined (take n (map (λ piece. piece.now) pieces.now)) ≡ joined (map (λ piece. piece.now) pieces.now))
+        sink.old sink.new (lines_of engine.new) engine.new.reading.kept (peak_bytes engine.new) result }
+    ensures unread { IsUnread result }
+{
+    for piece in pieces {
+        if let Err(end) = engine.feed(piece, sink) {
+            return end;
+        }
+    }
+    engine.finish(sink)
+}
+
+/// Copies the kept lines of a text that comes in pieces to a writer. However the text is cut, the
+/// writer gets the output of the text, and the answer is its ending, unless a write fails or memory
+/// is refused.
+pub fn copy_pieces<W: Write + Drop>(
+    alloc: Global,
+    pieces: &[&[u8]],
+    sink: &mut WriteSink<W>,
+    limits: Limits,
+) -> End
+    requires { length (joined (map (λ piece. piece.now) pieces.now)) ≤ 2 ^ 60 }
+    ensures { Copies limits (map (λ piece. piece.now) pieces.now) result
+        (W.contents (writer_of sink.old)) (W.contents (writer_of sink.new)) }
+{
+    let mut engine = match Engine::open(alloc, limits) {
+        Ok(engine) => engine,
+        Err(NoMemory) => return End::Memory,
+    };
+    feed_all(&mut engine, pieces, sink)
+}

@@ -1,0 +1,222 @@
+//! Cuts pieces into lines, and deals with each.
+ghost use Rattle.std.specs.Prelude.{◌≡◌, ◌+◌, ◌^◌, ◌<◌, ◌≤◌, ◌⊎◌, ℕ, List, [], ◌∷◌, ◌++◌, length, OnOk, OnErr, IfErr, IsErrOf};
+ghost use Rattle.cityseq.specs.Lines.{NoLf};
+ghost use Rattle.cityseq.specs.Sink.{HasRisen};
+ghost use Rattle.cityseq.specs.Verdict.{verdict};
+
+use crate::judge::judge;
+use crate::reason::{End, Reason, Verdict};
+use crate::sink::LineSink;
+use cj_budget::{Bounded, ExtendFault, Limits};
+use memchr::memchr;
+use std::alloc::Global;
+
+/// The content of the first line, and of a later line that has begun.
+///
+/// Each line is put together in a list of the engine's own before it is judged, also where it
+/// stands whole in a piece, so that what is held does not depend on how the stream is cut.
+#[derive(Drop)]
+pub struct Framer {
+    limits: Limits,
+    header: Bounded<u8>,
+    line: Bounded<u8>,
+    lines: u64,
+    kept: u64,
+}
+
+impl Framer {
+    ghost use Rattle.cityseq.specs.Reading.{reading, begun_of, IsSound, Stays, Stores, Passes, Deals, Reads, Advances, Stops, Finishes};
+
+    /// A framer that has read nothing. It takes no memory.
+    pub fn new(alloc: Global, limits: Limits) -> Framer
+        ensures sound { IsSound (reading result) }
+        ensures limits { result.limits ≡ limits }
+        ensures empty { Reads (reading result) [] }
+    {
+        let limit = limits.line() as usize;
+        Framer {
+            limits,
+            header: Bounded::new(alloc, limit),
+            line: Bounded::new(alloc, limit),
+            lines: 0,
+            kept: 0,
+        }
+    }
+
+    fn begun(&self) -> &[u8]
+        requires { IsSound (reading self.now) }
+        ensures value { result.now ≡ begun_of (reading self.now) }
+        ensures short { length (begun_of (reading self.now)) ≤ self.now.limits.line }
+    {
+        if self.lines == 0 {
+            self.header.as_slice()
+        } else {
+            self.line.as_slice()
+        }
+    }
+
+    // Stores a part of the begun line.
+    fn store(&mut self, part: &[u8]) -> Result<(), End>
+        requires sound { IsSound (reading self.old) }
+        requires room { self.old.lines < 2 ^ 62 }
+        ensures ok { OnOk result (Stores (reading self.old) part.now (reading self.new)) }
+        ensures err { OnErr result (self.new ≡ self.old) }
+        ensures cause { IfErr result (λ e. (e ≡ End.Memory)
+            ⊎ ((e ≡ End.Refused (self.old.lines + 1) self.old.limits.line Reason.LineTooLong)
+            × (self.old.limits.line < length (begun_of (reading self.old)) + length part.now))) }
+    {
+        let stored = if self.lines == 0 {
+            self.header.extend_from_slice(part)
+        } else {
+            self.line.extend_from_slice(part)
+        };
+        match stored {
+            Ok(()) => Ok(()),
+            Err(ExtendFault::Full) => Err(End::Refused {
+                line: self.lines + 1,
+                place: self.limits.line(),
+                reason: Reason::LineTooLong,
+            }),
+            Err(ExtendFault::Memory) => Err(End::Memory),
+        }
+    }
+
+    // The begun line is done with.
+    fn pass(&mut self, put: bool)
+        requires sound { IsSound (reading self.old) }
+        requires room { self.old.lines < 2 ^ 62 }
+        ensures { Passes put (reading self.old) (reading self.new) }
+    {
+        if put && self.lines > 0 {
+            self.kept += 1;
+        }
+        self.lines += 1;
+        self.line.clear();
+    }
+
+    // Judges the begun line, and puts it to the sink if it is kept.
+    fn deal<S: LineSink>(&mut self, lf: bool, sink: &mut S) -> Result<(), End>
+        requires sound { IsSound (reading self.old) }
+        requires room { self.old.lines < 2 ^ 62 }
+        requires short { length (begun_of (reading self.old)) ≤ self.old.limits.line }
+        ensures counts { S.failures sink.old ≤ S.failures sink.new }
+        ensures cause { IsErrOf result End.WriteFault → HasRisen (S.failures sink.old) (S.failures sink.new) }
+        ensures deals { Deals S.takes S.leaves (verdict self.old.limits (self.old.lines + 1) (begun_of (reading self.old)))
+            (record { content = begun_of (reading self.old); lf = lf }) (reading self.old) sink.old result (reading self.new) sink.new }
+    {
+        let number = self.lines + 1;
+        match judge(number, self.begun()) {
+            Verdict::Refuse { place, reason } => Err(End::Refused {
+                line: number,
+                place,
+                reason,
+            }),
+            Verdict::Blank => {
+                self.pass(false);
+                Ok(())
+            }
+            Verdict::Valid => {
+                if sink.line(self.begun(), lf).is_err() {
+                    return Err(End::WriteFault);
+                }
+                self.pass(true);
+                Ok(())
+            }
+        }
+    }
+
+    // Takes the last part of a line that LF ends.
+    fn take_line<S: LineSink>(&mut self, part: &[u8], sink: &mut S) -> Result<(), End>
+        requires sound { IsSound (reading self.old) }
+        requires room { self.old.lines < 2 ^ 62 }
+        requires one { NoLf part.now }
+        ensures stays { Stays (reading self.old) (reading self.new) }
+        ensures few { self.new.lines ≤ self.old.lines + 1 }
+        ensures counts { S.failures sink.old ≤ S.failures sink.new }
+        ensures cause { IsErrOf result End.WriteFault → HasRisen (S.failures sink.old) (S.failures sink.new) }
+        ensures ok { OnOk result ((p : List ℕ) → Reads (reading self.old) p →
+            Advances S.takes (reading self.old) sink.old p (part.now ++ 10 ∷ []) (reading self.new) sink.new) }
+        ensures err { IfErr result (λ e. (p more : List ℕ) → Reads (reading self.old) p →
+            Stops S.takes S.leaves (reading self.old) sink.old p (part.now ++ 10 ∷ more) e (reading self.new) sink.new) }
+    {
+        self.store(part)?;
+        self.deal(true, sink)?;
+        Ok(())
+    }
+
+    /// Takes a piece of the stream, and deals with each line that it ends.
+    pub fn take_piece<S: LineSink>(&mut self, piece: &[u8], sink: &mut S) -> Result<(), End>
+        requires sound { IsSound (reading self.old) }
+        requires room { self.old.lines + length piece.now < 2 ^ 62 }
+        ensures stays { Stays (reading self.old) (reading self.new) }
+        ensures few { self.new.lines ≤ self.old.lines + length piece.now }
+        ensures counts { S.failures sink.old ≤ S.failures sink.new }
+        ensures cause { IsErrOf result End.WriteFault → HasRisen (S.failures sink.old) (S.failures sink.new) }
+        ensures ok { OnOk result ((p : List ℕ) → Reads (reading self.old) p →
+            Advances S.takes (reading self.old) sink.old p piece.now (reading self.new) sink.new) }
+        ensures err { IfErr result (λ e. (p : List ℕ) → Reads (reading self.old) p →
+            Stops S.takes S.leaves (reading self.old) sink.old p piece.now e (reading self.new) sink.new) }
+    {
+        let mut rest = piece;
+        while let Some(at) = memchr(b'\n', rest) {
+            self.take_line(&rest[..at], sink)?;
+            rest = &rest[at + 1..];
+        }
+        self.store(rest)?;
+        Ok(())
+    }
+
+    /// Deals with a last line that LF has not ended, and with a stream that has no line.
+    pub fn finish<S: LineSink>(&mut self, sink: &mut S) -> Result<(), End>
+        requires sound { IsSound (reading self.old) }
+        requires room { self.old.lines < 2 ^ 62 }
+        ensures stays { Stays (reading self.old) (reading self.new) }
+        ensures few { self.new.lines ≤ self.old.lines + 1 }
+        ensures counts { S.failures sink.old ≤ S.failures sink.new }
+        ensures cause { IsErrOf result End.WriteFault → HasRisen (S.failures sink.old) (S.failures sink.new) }
+        ensures finishes { (p : List ℕ) → Reads (reading self.old) p →
+            Finishes S.takes S.leaves (reading self.old) sink.old p result (reading self.new) sink.new }
+    {
+        if !self.begun().is_empty() {
+            return self.deal(false, sink);
+        }
+        if self.lines == 0 {
+            return Err(End::Refused {
+                line: 1,
+                place: 0,
+                reason: Reason::NoHeader,
+            });
+        }
+        Ok(())
+    }
+
+    /// How many lines were dealt with.
+    pub fn lines(&self) -> u64
+        ensures { result ≡ self.now.lines }
+    {
+        self.lines
+    }
+
+    /// How many features were kept.
+    pub fn kept(&self) -> u64
+        ensures { result ≡ self.now.kept }
+    {
+        self.kept
+    }
+
+    /// How many bytes are held.
+    pub fn held(&self) -> u64
+        requires { IsSound (reading self.now) }
+        ensures { result ≡ length self.now.header.elements + length self.now.line.elements }
+    {
+        self.header.len() as u64 + self.line.len() as u64
+    }
+
+    /// The most bytes that each list has held, added up.
+    pub fn peak(&self) -> u64
+        requires { IsSound (reading self.now) }
+        ensures { result ≡ self.now.header.peak + self.now.line.peak }
+    {
+        self.header.peak() as u64 + self.line.peak() as u64
+    }
+}

@@ -1,0 +1,74 @@
+//! The program `cityseq`: it reads a CityJSONSeq stream from standard input, once and within a
+//! bound, and writes the lines that are kept to standard output.
+//!
+//! A line takes this way: `main` reads standard input by the piece, the `running` module feeds
+//! each piece to the `engine`, its `framer` cuts the piece into lines, `judge` gives the verdict on
+//! each, and the `sink` writes what is kept. `report` says how the run ended.
+#![tactic(auto)]
+
+mod command;
+mod copying;
+mod engine;
+mod framer;
+mod judge;
+mod laws;
+mod lent;
+mod reason;
+mod report;
+mod running;
+mod sink;
+#[cfg(test)]
+mod tests;
+
+use crate::command::{WRONG_WORDS, command};
+use crate::reason::End;
+use crate::report::{status, write_fault_line};
+use std::alloc::{AllocError, Global};
+use std::env;
+use std::io::{BufWriter, ErrorKind};
+use std::process::ExitCode;
+
+/// The bytes that are gathered before standard output is written to.
+const OUTPUT_BUFFER: usize = 65_536;
+
+/// Why the words of the command line are not to be had.
+enum WordsFault {
+    /// An argument is not UTF-8, or there is none.
+    NoWords,
+    /// No memory was granted.
+    Memory,
+}
+
+// The arguments, the program's name first.
+fn read_words(rt: &HostRuntime) -> Result<Vec<String>, WordsFault> {
+    let arguments = match env::args(rt) {
+        Ok(arguments) => arguments,
+        Err(fault) if fault.kind() == ErrorKind::OutOfMemory => return Err(WordsFault::Memory),
+        Err(_) => return Err(WordsFault::NoWords),
+    };
+    arguments
+        .collect(rt.alloc())
+        .map_err(|_: AllocError| WordsFault::Memory)
+}
+
+// Says that memory was refused.
+fn out_of_memory(rt: &HostRuntime) -> u8 {
+    let _ = write_fault_line(&mut rt.stderr(), End::Memory);
+    status(End::Memory)
+}
+
+fn perform(rt: &HostRuntime, alloc: Global) -> u8 {
+    let words = match read_words(rt) {
+        Ok(words) => words,
+        Err(WordsFault::NoWords) => return WRONG_WORDS,
+        Err(WordsFault::Memory) => return out_of_memory(rt),
+    };
+    let Ok(mut out) = BufWriter::with_capacity(alloc, OUTPUT_BUFFER, rt.stdout()) else {
+        return out_of_memory(rt);
+    };
+    command(alloc, &words, &mut rt.stdin(), &mut out, &mut rt.stderr())
+}
+
+fn main(rt: HostRuntime) -> ExitCode {
+    ExitCode::from(perform(&rt, rt.alloc()))
+}

@@ -1,0 +1,305 @@
+//! Worked rows: inputs, what is written of them, and how they end.
+use super::devices::SlowReader;
+use crate::copying::{copy, copy_pieces};
+use crate::engine::Engine;
+use crate::laws;
+use crate::reason::{End, Reason};
+use crate::sink::WriteSink;
+use cj_budget::{Limits, Peaks};
+use std::alloc::Global;
+use std::process::Abort;
+use std::test::Fail;
+
+/// A header of 140 bytes.
+pub const HEADER: &[u8] =
+    b"{\"type\":\"CityJSON\",\"version\":\"2.0\",\"transform\":{\"scale\":[0.001,0.001,0.001],\"translate\":[1000.0,2000.0,0.0]},\"CityObjects\":{},\"vertices\":[]}";
+
+/// A feature of 210 bytes.
+pub const FEATURE: &[u8] =
+    b"{\"type\":\"CityJSONFeature\",\"id\":\"b1\",\"CityObjects\":{\"b1\":{\"type\":\"Building\",\"geometry\":[{\"type\":\"MultiSurface\",\"lod\":\"2.2\",\"boundaries\":[[[0,1,2,3]]]}]}},\"vertices\":[[0,0,0],[1000,0,0],[1000,1000,0],[0,1000,0]]}";
+
+/// The same feature, with a space after the first brace.
+const SPACED: &[u8] =
+    b"{ \"type\":\"CityJSONFeature\",\"id\":\"b1\",\"CityObjects\":{\"b1\":{\"type\":\"Building\",\"geometry\":[{\"type\":\"MultiSurface\",\"lod\":\"2.2\",\"boundaries\":[[[0,1,2,3]]]}]}},\"vertices\":[[0,0,0],[1000,0,0],[1000,1000,0],[0,1000,0]]}";
+
+/// The text, in one.
+pub fn joined(alloc: Global, parts: &[&[u8]]) -> Result<Vec<u8>, Fail> {
+    let mut text = Vec::new(alloc);
+    for part in parts {
+        text.extend_from_slice(part)?;
+    }
+    Ok(text)
+}
+
+/// What a run has to make of a text.
+#[derive(Clone, Copy)]
+struct Wanted<'a> {
+    name: &'a str,
+    written: &'a [u8],
+    ended: End,
+    lines: u64,
+    kept: u64,
+    peak: u64,
+}
+
+// Runs over a reader that gives `step` bytes a read.
+fn check_run(
+    rt: &impl Abort,
+    alloc: Global,
+    text: &[u8],
+    step: usize,
+    limits: Limits,
+    wanted: &Wanted,
+) {
+    let name = wanted.name;
+    let mut reader = SlowReader::new(text, step);
+    let mut sink = WriteSink::new(Vec::new(alloc));
+    let outcome = copy(alloc, &mut reader, &mut sink, limits);
+    assert_eq!(rt; outcome.ended, wanted.ended, "{name}, {step} a read");
+    assert_eq!(rt; outcome.lines, wanted.lines, "{name}, {step} a read");
+    assert_eq!(rt; outcome.kept, wanted.kept, "{name}, {step} a read");
+    assert_eq!(rt;
+        outcome.peaks,
+        Peaks {
+            bytes: wanted.peak,
+            tokens: 0,
+            depth: 0
+        },
+        "{name}, {step} a read"
+    );
+    assert_eq!(rt;
+        sink.into_inner().as_slice(),
+        wanted.written,
+        "{name}, {step} a read"
+    );
+}
+
+// Copies the text cut in two at each place.
+fn check_cuts(rt: &impl Abort, alloc: Global, text: &[u8], limits: Limits, wanted: &Wanted) {
+    assert!(rt; text.len() <= 1_000);
+    for at in 0..text.len() {
+        let mut sink = WriteSink::new(Vec::new(alloc));
+        let pieces = [&text[..at], &text[at..]];
+        let ended = copy_pieces(alloc, &pieces, &mut sink, limits);
+        let name = wanted.name;
+        assert_eq!(rt; ended, wanted.ended, "{name}, cut at {at}");
+        assert_eq!(rt;
+            sink.into_inner().as_slice(),
+            wanted.written,
+            "{name}, cut at {at}"
+        );
+    }
+}
+
+fn check_every_cut(rt: &impl Abort, alloc: Global, text: &[u8], limits: Limits, wanted: &Wanted) {
+    check_run(rt, alloc, text, 8_192, limits, wanted);
+    check_run(rt, alloc, text, 1, limits, wanted);
+    check_cuts(rt, alloc, text, limits, wanted);
+}
+
+#[test]
+fn no_line_at_all(rt: HostRuntime) -> Result<(), Fail> {
+    let limits = Limits::new(8_388_608, 64)?;
+    let wanted = Wanted {
+        name: "empty",
+        written: b"",
+        ended: End::Refused {
+            line: 1,
+            place: 0,
+            reason: Reason::NoHeader,
+        },
+        lines: 0,
+        kept: 0,
+        peak: 0,
+    };
+    check_every_cut(&rt, rt.alloc(), b"", limits, &wanted);
+    laws::lines_are_the_lines(b"");
+    laws::rows_compute();
+    Ok(())
+}
+
+#[test]
+fn a_header_and_a_feature(rt: HostRuntime) -> Result<(), Fail> {
+    let limits = Limits::new(8_388_608, 64)?;
+    let text = joined(rt.alloc(), &[HEADER, b"\n", FEATURE, b"\n"])?;
+    assert_eq!(rt; text.len(), 352);
+    let wanted = Wanted {
+        name: "header and feature",
+        written: &text,
+        ended: End::Complete,
+        lines: 2,
+        kept: 1,
+        peak: 350,
+    };
+    check_every_cut(&rt, rt.alloc(), &text, limits, &wanted);
+    Ok(())
+}
+
+#[test]
+fn a_blank_line_and_no_last_lf(rt: HostRuntime) -> Result<(), Fail> {
+    let limits = Limits::new(8_388_608, 64)?;
+    let text = joined(rt.alloc(), &[HEADER, b"\n\r\n", SPACED])?;
+    let written = joined(rt.alloc(), &[HEADER, b"\n", SPACED])?;
+    let wanted = Wanted {
+        name: "blank line",
+        written: &written,
+        ended: End::Complete,
+        lines: 3,
+        kept: 1,
+        peak: 351,
+    };
+    check_every_cut(&rt, rt.alloc(), &text, limits, &wanted);
+    Ok(())
+}
+
+#[test]
+fn a_line_one_byte_too_long(rt: HostRuntime) -> Result<(), Fail> {
+    let limits = Limits::new(210, 64)?;
+    let written = joined(rt.alloc(), &[HEADER, b"\n", FEATURE, b"\n"])?;
+    let wanted = Wanted {
+        name: "too long",
+        written: &written,
+        ended: End::Refused {
+            line: 3,
+            place: 210,
+            reason: Reason::LineTooLong,
+        },
+        lines: 2,
+        kept: 1,
+        peak: 350,
+    };
+    let with_lf = joined(rt.alloc(), &[&written, FEATURE, b" \n"])?;
+    check_run(&rt, rt.alloc(), &with_lf, 1, limits, &wanted);
+    check_cuts(&rt, rt.alloc(), &with_lf, limits, &wanted);
+    let without = joined(rt.alloc(), &[&written, FEATURE, b" "])?;
+    check_run(&rt, rt.alloc(), &without, 1, limits, &wanted);
+    check_cuts(&rt, rt.alloc(), &without, limits, &wanted);
+    Ok(())
+}
+
+#[test]
+fn an_end_stays_the_end(rt: HostRuntime) -> Result<(), Fail> {
+    let limits = Limits::new(210, 64)?;
+    let text = joined(
+        rt.alloc(),
+        &[HEADER, b"\n", FEATURE, b"\n", FEATURE, b" \n"],
+    )?;
+    let end = End::Refused {
+        line: 3,
+        place: 210,
+        reason: Reason::LineTooLong,
+    };
+    assert_eq!(rt; text.len(), 564);
+    let mut engine = Engine::open(rt.alloc(), limits)?;
+    let mut sink = WriteSink::new(Vec::new(rt.alloc()));
+    assert_eq!(rt; engine.taken(), 0);
+    assert_eq!(rt; engine.feed(&text, &mut sink), Err(end));
+    let held = engine.held();
+    let peaks = engine.peaks();
+    assert_eq!(rt; engine.feed(FEATURE, &mut sink), Err(end));
+    assert_eq!(rt; engine.finish(&mut sink), end);
+    assert_eq!(rt; engine.held(), held);
+    assert_eq!(rt; engine.peaks(), peaks);
+    assert_eq!(rt; peaks.bytes, 350);
+    assert_eq!(rt; engine.taken(), 0);
+    assert_eq!(rt; engine.lines(), 2);
+    assert_eq!(rt; engine.kept(), 1);
+    let written = joined(rt.alloc(), &[HEADER, b"\n", FEATURE, b"\n"])?;
+    assert_eq!(rt; sink.into_inner().as_slice(), written.as_slice());
+    Ok(())
+}
+
+#[test]
+fn what_is_held_is_told(rt: HostRuntime) -> Result<(), Fail> {
+    let mut engine = Engine::open(rt.alloc(), Limits::new(8_388_608, 64)?)?;
+    let mut sink = WriteSink::new(Vec::new(rt.alloc()));
+    assert_eq!(rt; engine.feed(HEADER, &mut sink), Ok(()));
+    assert_eq!(rt; engine.held().bytes, 140);
+    assert_eq!(rt; engine.feed(b"\n", &mut sink), Ok(()));
+    assert_eq!(rt; engine.held().bytes, 140);
+    assert_eq!(rt; engine.feed(&FEATURE[..100], &mut sink), Ok(()));
+    assert_eq!(rt; engine.held().bytes, 240);
+    assert_eq!(rt; engine.taken(), 241);
+    assert_eq!(rt; engine.lines(), 1);
+    assert_eq!(rt; engine.finish(&mut sink), End::Complete);
+    assert_eq!(rt; engine.held().bytes, 140);
+    assert_eq!(rt; engine.peaks().bytes, 240);
+    assert_eq!(rt; engine.lines(), 2);
+    assert_eq!(rt; engine.kept(), 1);
+    Ok(())
+}
+
+// The feature with an attribute whose text is `character`, put in at byte 150.
+fn attributed(alloc: Global, character: &[u8]) -> Result<Vec<u8>, Fail> {
+    joined(
+        alloc,
+        &[
+            HEADER,
+            b"\n",
+            &FEATURE[..150],
+            b",\"attributes\":{\"a\":\"",
+            character,
+            b"\"}",
+            &FEATURE[150..],
+            b"\n",
+        ],
+    )
+}
+
+#[test]
+fn a_character_of_three_bytes(rt: HostRuntime) -> Result<(), Fail> {
+    let limits = Limits::new(8_388_608, 64)?;
+    let text = attributed(rt.alloc(), b"\xe2\x82\xac")?;
+    let whole = Wanted {
+        name: "three bytes",
+        written: &text,
+        ended: End::Complete,
+        lines: 2,
+        kept: 1,
+        peak: 375,
+    };
+    check_every_cut(&rt, rt.alloc(), &text, limits, &whole);
+    let broken = attributed(rt.alloc(), b"\xe2\x82")?;
+    let header = joined(rt.alloc(), &[HEADER, b"\n"])?;
+    let refused = Wanted {
+        name: "two of three bytes",
+        written: &header,
+        ended: End::Refused {
+            line: 2,
+            place: 170,
+            reason: Reason::NotUtf8,
+        },
+        lines: 1,
+        kept: 0,
+        peak: 374,
+    };
+    check_every_cut(&rt, rt.alloc(), &broken, limits, &refused);
+    let ended = joined(
+        rt.alloc(),
+        &[
+            HEADER,
+            b"\n",
+            &FEATURE[..150],
+            b",\"attributes\":{\"a\":\"\xe2\x82\n",
+        ],
+    )?;
+    let short = Wanted {
+        peak: 312,
+        ..refused
+    };
+    check_every_cut(&rt, rt.alloc(), &ended, limits, &short);
+    Ok(())
+}
+
+#[test]
+fn reasons_have_a_code_and_a_text(rt: HostRuntime) {
+    let rows = [
+        (Reason::NoHeader, 1, "no header line"),
+        (Reason::LineTooLong, 2, "line too long"),
+        (Reason::NotUtf8, 3, "not UTF-8"),
+    ];
+    for (reason, code, text) in rows {
+        assert_eq!(rt; reason.code(), code, "{text}");
+        assert_eq!(rt; reason.text(), text, "{text}");
+    }
+}
