@@ -1,4 +1,5 @@
 pub mod Bound
+pub mod Command
 pub mod Cut
 pub mod Engine
 pub mod IsLines

@@ -1,6 +1,8 @@
 //! The command line.
-ghost use Rattle.std.specs.Prelude.{◌≡◌, ℕ, List};
+ghost use Rattle.std.specs.Prelude.{◌≡◌, ℕ, List, map, string_bytes};
+ghost use Rattle.cityseq.specs.Command.{AsksFilter};
 ghost use Rattle.std.specs.Io.KnownBytes.{Consumes};
+ghost use Rattle.cityseq.specs.Rows.{usual_limits};
 ghost use Rattle.cityseq.specs.declared.reason.End.{End};
 ghost use Rattle.cityseq.specs.Report.{Reports};
 ghost use Rattle.cityseq.specs.Run.{Writes};
@@ -50,7 +52,13 @@ pub fn command<R: Read, W: Write, E: Write>(
     reader: &mut R,
     out: &mut W,
     err: &mut E,
-) -> u8 {
+) -> u8
+    ensures filter { AsksFilter (map string_bytes words.now) → (r : List ℕ) × (e : End) × Consumes (R.remaining reader.old) (R.remaining reader.new) r
+        × Writes usual_limits r e (W.contents out.old) (W.contents out.new)
+        × Reports e result (E.contents err.old) (E.contents err.new) }
+    ensures other { (AsksFilter (map string_bytes words.now) → ⊥) → (result ≡ 2)
+        × (reader.new ≡ reader.old) × (out.new ≡ out.old) × (err.new ≡ err.old) }
+{
     match words {
         [_, word] if word.as_str() == "filter" => match Limits::new(USUAL_LINE, USUAL_DEPTH) {
             Ok(limits) => filter(alloc, limits, reader, out, err),

@@ -1,0 +1,62 @@
+#!/usr/bin/env python3
+"""Writes a CityJSONSeq stream of a given shape and size to standard output.
+
+    make_stream.py usual|tiny|huge MEGABYTES
+
+usual: features of 5 to 125 KB, about 4 bytes a JSON token, as city models have them;
+tiny: features of about 300 bytes; huge: features of about 6 MB. The same arguments give the same
+bytes."""
+import random
+import sys
+
+HEADER = ('{"type":"CityJSON","version":"2.0","transform":{"scale":[0.001,0.001,0.001],'
+          '"translate":[84616.468,447422.999,-0.452]},"CityObjects":{},"vertices":[]}\n')
+
+
+def feature(rng, number, vertices):
+    """A building with one solid over this many vertices."""
+    surfaces = ",".join(
+        "[[{},{},{}]]".format(*(rng.randrange(vertices) for _ in range(3))) for _ in range(vertices * 2))
+    values = ",".join(str(rng.randrange(3)) for _ in range(vertices * 2))
+    points = ",".join(
+        f"[{rng.randrange(1000000)},{rng.randrange(1000000)},{rng.randrange(30000)}]" for _ in range(vertices))
+    return (f'{{"type":"CityJSONFeature","id":"b{number}","CityObjects":{{"b{number}":{{"type":"Building",'
+            f'"attributes":{{"year":{rng.randrange(1500, 2024)},"street":"Grachtenstraße {number}"}},'
+            f'"geometry":[{{"type":"Solid","lod":"2.2","boundaries":[[{surfaces}]],"semantics":{{"surfaces":'
+            f'[{{"type":"GroundSurface"}},{{"type":"RoofSurface"}},{{"type":"WallSurface"}}],"values":[[{values}]]}}}}]}}}},'
+            f'"vertices":[{points}]}}\n')
+
+
+def tiny(rng, number):
+    return (f'{{"type":"CityJSONFeature","id":"b{number}","CityObjects":{{"b{number}":{{"type":"Building",'
+            f'"attributes":{{"street":"Grachtenstraße {number}"}},"geometry":[{{"type":"MultiSurface","lod":"2.2",'
+            f'"boundaries":[[[0,1,2,3]]]}}]}}}},"vertices":[[0,0,0],[{rng.randrange(1000, 10000)},0,0],'
+            f'[1000,1000,0],[0,{rng.randrange(1000, 10000)},0]]}}\n')
+
+
+# about how many bytes one vertex adds to a line
+VERTEX = 72
+
+
+def main():
+    shape, size = sys.argv[1], int(sys.argv[2]) * 1000000
+    rng = random.Random(shape)
+    out = sys.stdout.buffer
+    written = out.write(HEADER.encode())
+    # a few lines, written over and over: making each line anew would take longer than reading it
+    if shape == "tiny":
+        lines = [tiny(rng, i).encode() for i in range(2000)]
+    elif shape == "usual":
+        lines = [feature(rng, i, rng.randrange(5000, 125000) // VERTEX).encode() for i in range(60)]
+    elif shape == "huge":
+        lines = [feature(rng, i, 6000000 // VERTEX).encode() for i in range(2)]
+    else:
+        sys.exit(__doc__)
+    number = 0
+    while written < size:
+        written += out.write(lines[number % len(lines)])
+        number += 1
+
+
+if __name__ == "__main__":
+    main()

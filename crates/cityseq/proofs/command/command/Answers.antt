@@ -1,0 +1,16 @@
+use Rattle.std.proofs.Common.{◌≡◌, ℕ, ◌<◌, ◌≤◌, List, [], ◌∷◌, length, get_or, map, ap, sym, ◌∙◌, arith, rules}
+use Rattle.std.specs.Prelude.{codes, string_bytes}
+use Rattle.cityseq.specs.Command.{AsksFilter}
+use Rattle.cityseq.proofs.command.command.Goals as goal
+
+-- two words, of which the second is `filter`
+asks : {A : Type 0} (bytes : A → List ℕ) (words : List A) (word : A) → 2 ≤ length words → length words < 3 → word ≡ get_or words 1 word → bytes word ≡ codes "filter" → AsksFilter (map bytes words)
+asks bytes [] word low high is e = absurd (omega arith)
+asks bytes (a ∷ []) word low high is e = absurd (omega arith)
+asks bytes (a ∷ b ∷ []) word low high is e = ap bytes (sym is) ∙ e
+asks bytes (a ∷ b ∷ d ∷ words) word low high is e = absurd (omega arith)
+
+pub returns-in-Ok-clause-other : goal.returns-in-Ok-clause-other
+returns-in-Ok-clause-other g c =
+    let text : string_bytes c.word-item.result ≡ codes "filter" = search rules in
+    λ unasked. absurd (unasked (asks string_bytes c.args.words.now c.word-item.result (omega arith) (omega arith) c.word-item.is text))
