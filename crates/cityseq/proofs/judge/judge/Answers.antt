@@ -7,16 +7,16 @@ use Rattle.cityseq.proofs.judge.judge.Goals.{else-number-gt1-via-then-number-gt1
 
 pub returns-in-Err : goal.returns-in-Err
 returns-in-Err c = λ limits le.
-    rw (verdict-bytes limits c.args.number c.args.content.now le c.in-Err.ensures.cases.0, c.valid_up_to.ensures, c.in-Err.ensures.valid_len) refl
+    rw (verdict-bytes limits c.args.number c.args.content.now le c.in-Err.ensures, c.valid_prefix.ensures) refl
 
 pub returns-then-is_blank : goal.returns-then-is_blank
 returns-then-is_blank c = λ limits le.
     let more : nat_lt 1 c.args.number ≡ true = grind (arith, nat_tests) in
-    rw (verdict-text limits c.args.number c.args.content.now le c.in-Ok.ensures.cases.1, more, ← c.is_blank.ensures, c.if-is_blank.true) refl
+    rw (verdict-text limits c.args.number c.args.content.now le c.in-Ok.ensures.1, more, ← c.is_blank.ensures, c.if-is_blank.true) refl
 
 pub returns-else-number-gt1 : goal.returns-else-number-gt1
 returns-else-number-gt1 c = λ limits le.
-    rw (verdict-text limits c.args.number c.args.content.now le c.in-Ok.ensures.cases.1)
+    rw (verdict-text limits c.args.number c.args.content.now le c.in-Ok.ensures.1)
     (elim c.else-number-gt1.branch [
       | else-number-gt1-via-then-number-gt1+else-is_blank w ↦ let more : nat_lt 1 c.args.number ≡ true = grind (arith, nat_tests) in rw (more, ← w.is_blank.ensures, w.if-is_blank.false) refl
       | else-number-gt1-via-else-number-gt1 w ↦ let few : nat_lt 1 c.args.number ≡ false = grind (arith, nat_tests) in rw few refl
