@@ -10,15 +10,15 @@ use Rattle.cityseq.specs.declared.reason.Verdict.{Verdict}
 use Rattle.cityseq.specs.declared.reason.Verdict.TheVariants.{Refuse, Blank, Valid}
 use Rattle.cityseq.specs.declared.reason.End.{End}
 use Rattle.cityseq.specs.declared.reason.End.TheVariants.{Complete, Refused, ReadFault, ReadLimit, WriteFault, Memory}
-use Rattle.cityseq.specs.Lines.{Line, closed, begun, ended_line, last_line, later_of, lines}
+use Rattle.cityseq.specs.Lines.{Line, closed, begun, begun_after, first_content, ended_line, last_line, later_of, lines}
 use Rattle.cityseq.specs.Verdict.{verdict, refusal_of, is_kept, refusal_from, kept_from, ending, ending_of, kept_first}
-use Rattle.cityseq.specs.Bound.{bytes_bound}
+use Rattle.cityseq.specs.Bound.{bytes_bound, longest, exact_bytes}
 use Rattle.cityseq.specs.Reading.{Reading, Deals, Reads, Finishes, FinishesWith, Passes}
 use Rattle.cityseq.specs.Engine.{State, StandsFor, Counts, held_bytes, peak_bytes, limits_of, Faults, Delivers, Concludes}
 use Rattle.cityseq.specs.Sink.{Took}
-use Rattle.cityseq.proofs.LineLemmas.{none-from_length}
+use Rattle.cityseq.proofs.LineLemmas.{none-from_length, begun_after-empty}
 use Rattle.cityseq.proofs.VerdictLemmas.{refusal-append, kept-append}
-use Rattle.cityseq.proofs.ReadingLemmas.{length-map_lines, zero_or, kept-next}
+use Rattle.cityseq.proofs.ReadingLemmas.{length-map_lines, zero_or, kept-next, longest-later}
 use Rattle.cityseq.proofs.GoodLemmas.{good-complete, good-refused}
 use Rattle.cityseq.proofs.EngineLemmas.{take-front, get-next, lines-front, Counts-front, some_not_none}
 
@@ -51,6 +51,18 @@ ending-some limits (x ∷ xs) ys h = refl
 ending-last : (limits : LimitPair) (xs : List Line) (l : Line) → ending_of limits (xs ++ l ∷ []) ≡ unwrap_or (refusal_from limits 1 (xs ++ l ∷ [])) Complete
 ending-last limits [] l = refl
 ending-last limits (x ∷ xs) l = refl
+
+-- the contents of lines
+contents-closed : (cs : List (List ℕ)) → map (λ l. l.content) (map ended_line cs ++ []) ≡ cs
+contents-closed [] = refl
+contents-closed (c ∷ cs) = ap (λ z. c ∷ z) (contents-closed cs)
+
+contents-last : (cs : List (List ℕ)) (c : List ℕ) → map (λ l. l.content) (map ended_line cs ++ record { content = c; lf = false } ∷ []) ≡ cs ++ c ∷ []
+contents-last [] c = refl
+contents-last (d ∷ cs) c = ap (λ z. d ∷ z) (contents-last cs c)
+
+max-zero : (n : ℕ) → max n 0 ≡ n
+max-zero n = omega arith
 
 -- a last line of these bytes
 abbrev unended : ℕ → List ℕ → Line
@@ -182,6 +194,41 @@ module _ {S : Type 0} (takes leaves : S → Line → S → Type 0) (f g : Readin
         counts = rw k.limits counts;
         going = λ none. absurd (some_not_none e none);
       }
+
+  -- what was held at most, of all lines
+  peak-all : (put : Bool) (b : ℕ) (c : List ℕ) → begun p ≡ b ∷ c → Passes put f g → g.header.peak + g.line.peak ≡ exact_bytes p
+  peak-all put b c e d =
+      let later : longest (later_of (map (λ l. l.content) (lines p))) ≡ max (longest (later_of (closed p))) (length (begun_after (closed p) (begun p))) =
+      rw (lines-last b c e, contents-last (closed p) (b ∷ c), ← e) (sym (max-zero _) ∙ longest-later (closed p) (begun p)) in
+      let first : g.header.peak ≡ length (first_content p) = ap (λ x. x.peak) d.header ∙ (reads.peak ∙ ap length reads.header) in
+      omega (arith, later, first, d.line.peak, reads.line_peak)
+
+  peak-closed : g ≡ f → begun p ≡ [] → g.header.peak + g.line.peak ≡ exact_bytes p
+  peak-closed same e =
+      let later : longest (later_of (map (λ l. l.content) (lines p))) ≡ longest (later_of (closed p)) = rw (e, contents-closed (closed p)) refl in
+      let first : f.header.peak ≡ length (first_content p) = reads.peak ∙ ap length reads.header in
+      let line = rw (e, begun_after-empty (closed p)) at reads.line_peak in
+      rw same (omega (arith, later, first, line))
+
+  peak-dealt : (b : ℕ) (c : List ℕ) (v : Verdict) (r : Result (Unit {0}) End) → begun p ≡ b ∷ c → Deals takes leaves v (unended b c) f s r g t → end_of r ≡ Complete
+      → g.header.peak + g.line.peak ≡ exact_bytes p
+  peak-dealt b c (Refuse place reason) r e d done = absurd (clash (sym (ap end_of d.0) ∙ done))
+    where
+      clash : Refused (f.lines + 1) place reason ≡ Complete → ⊥
+      clash x = cc
+  peak-dealt b c Blank r e d done = peak-all false b c e d.1
+  peak-dealt b c Valid (Ok x) e d done = peak-all true b c e d.0
+  peak-dealt b c Valid (Err x) e d done = absurd (clash (sym d.0 ∙ done))
+    where
+      clash : WriteFault ≡ Complete → ⊥
+      clash x = cc
+
+  pub peak-finished : (r : Result (Unit {0}) End) → Finishes takes leaves f s p r g t → end_of r ≡ Complete → g.header.peak + g.line.peak ≡ exact_bytes p
+  peak-finished r d done = go (begun p) refl d
+    where
+      go : (x : List ℕ) → begun p ≡ x → FinishesWith takes leaves x f s r g t → g.header.peak + g.line.peak ≡ exact_bytes p
+      go [] e d = peak-closed d.1 e
+      go (b ∷ c) e d = peak-dealt b c _ r e d done
 
   kept-last : (b : ℕ) (c : List ℕ) → begun p ≡ b ∷ c
       → kept_first f.limits (f.lines + 1) p ≡ kept_first f.limits f.lines p ++ kept_from f.limits (f.lines + 1) (unended b c ∷ [])

@@ -74,6 +74,7 @@ module _ {S N : Type 0} (name : S → N) (takes leaves : S → Line → S → Ty
   pub Runs-less : (at_end : Type 0) (s t : S) (n features bytes : ℕ) (e : End) → Runs named_takes named_leaves limits r at_end s t n features bytes e → Runs takes leaves limits r at_end s t n features bytes e
   Runs-less at_end s t n features bytes e h = record {
     bounded = h.bounded;
+    exact = h.exact;
     counts = h.counts;
     sink = record {
       added = h.sink.added;

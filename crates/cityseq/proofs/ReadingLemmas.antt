@@ -9,6 +9,7 @@ use Rattle.cityseq.specs.declared.reason.Verdict.{Verdict}
 use Rattle.cityseq.specs.declared.reason.End.{End}
 use Rattle.cityseq.specs.Lines.{Line, closed, begun, begun_after, begun_later, ended_line, first_of, first_content, later_of, NoLf}
 use Rattle.cityseq.specs.Verdict.{verdict, refusal_of, is_kept, refusal_from, kept_from}
+use Rattle.cityseq.specs.Bound.{longest}
 use Rattle.cityseq.specs.Reading.{Reading, begun_of, Stores, Passes, Reads, kept_closed}
 use Rattle.cityseq.proofs.LineLemmas.{closed-more, begun-more, closed-lf, begun-lf, first_of-some, first_of-lf, begun_after-some, begun_after-empty, none-from_length}
 use Rattle.cityseq.proofs.VerdictLemmas.{refusal-append, kept-append}
@@ -39,6 +40,7 @@ Reads-stored f g p part h n s = record {
   good = rw (more, s.limits) h.good;
   kept = rw (more, s.limits, s.kept) h.kept;
   peak = peak (zero_or f.lines);
+  line_peak = line_peak (zero_or f.lines);
   header_within = header_within (zero_or f.lines);
   line_within = line_within (zero_or f.lines);
 }
@@ -65,6 +67,19 @@ Reads-stored f g p part h n s = record {
     peak : (f.lines ≡ 0) ⊎ (0 < f.lines) → g.header.peak ≡ length g.header.elements
     peak (inl z) = let b = (s.first z).0 in rw (b.peak, b.elements, h.peak) (omega (arith, length-append f.header.elements part))
     peak (inr z) = rw (s.later z).1 h.peak
+
+    line_peak : (f.lines ≡ 0) ⊎ (0 < f.lines) → g.line.peak ≡ max (longest (later_of (closed (p ++ part)))) (length (begun_later (p ++ part)))
+    line_peak (inl z) =
+        let none : closed p ≡ [] = none-from_length (closed p) (sym h.lines ∙ z) in
+        let before = rw none at h.line_peak in
+        rw (more, none) (ap (λ x. x.peak) (s.first z).1 ∙ before)
+    line_peak (inr z) =
+        let some : 0 < length (closed p) = omega (arith, h.lines) in
+        let before = rw (begun_after-some (closed p) (begun p) some) at h.line_peak in
+        let grown = (s.later z).0.peak in
+        let held : length f.line.elements ≡ length (begun p) = ap length (h.line ∙ begun_after-some (closed p) (begun p) some) in
+        rw (more, begun-more p part n, begun_after-some (closed p) (begun p ++ part) some)
+        (omega (arith, grown, before, held, length-append f.line.elements part, length-append (begun p) part))
 
     header_within : (f.lines ≡ 0) ⊎ (0 < f.lines) → IsWithin g.header
     header_within (inl z) = (s.first z).0.within
@@ -122,6 +137,18 @@ kept-next f g xs l put n k s e = go (zero_or f.lines)
         rw (s.kept, more, later_of-later xs l (omega (arith, n)), kept-append f.limits 2 (later_of xs) (l ∷ []), there, ← e)
         (count_more put f.kept (kept_from f.limits 2 (later_of xs)) l k)
 
+max-zero : (n : ℕ) → max n 0 ≡ n
+max-zero n = omega arith
+
+longest-append : (cs : List (List ℕ)) (c : List ℕ) → longest (cs ++ c ∷ []) ≡ max (longest cs) (length c)
+longest-append [] c = omega arith
+longest-append (d ∷ cs) c = omega (arith, longest-append cs c)
+
+-- the longest later content, after one line more
+pub longest-later : (cs : List (List ℕ)) (b : List ℕ) → max (longest (later_of (cs ++ b ∷ []))) 0 ≡ max (longest (later_of cs)) (length (begun_after cs b))
+longest-later [] b = refl
+longest-later (c ∷ cs) b = omega (arith, longest-append cs b)
+
 pub Reads-passed : (f g : Reading) (p : List ℕ) (put : Bool) → Reads f p → Passes put f g
     → refusal_of (f.lines + 1) (verdict f.limits (f.lines + 1) (begun_of f)) ≡ None → put ≡ is_kept (verdict f.limits (f.lines + 1) (begun_of f))
     → Reads g (p ++ 10 ∷ [])
@@ -136,6 +163,7 @@ Reads-passed f g p put h s fine k = record {
       rw (closed-lf p [], map_lines-append (closed p) (begun p ∷ []), s.limits)
       (kept-next f g (map ended_line (closed p)) (ended_line (begun p)) put (h.lines ∙ sym (length-map_lines (closed p))) h.kept s e);
   peak = rw s.header h.peak;
+  line_peak = rw (closed-lf p [], begun-lf p [], begun_after-empty (closed p ++ begun p ∷ [])) (s.line.peak ∙ (ap (λ n. max n 0) h.line_peak ∙ (max-zero _ ∙ sym (longest-later (closed p) (begun p)))));
   header_within = rw s.header h.header_within;
   line_within = s.line.within;
 }

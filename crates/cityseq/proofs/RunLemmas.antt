@@ -111,3 +111,18 @@ HasRisen-after a b c le (inr h) = go (zero_or (c - a))
     go : (c - a ≡ 0) ⊎ (0 < c - a) → HasRisen a c
     go (inl z) = inr (omega (arith, h.0, h.1), h.1)
     go (inr z) = inl (omega arith)
+
+-- an end by a piece, a fault or the read limit is no completion
+pub told-not_complete : (limits : LimitPair) (q : List ℕ) (n : ℕ) (e : End) → Tells limits q n e → e ≡ Complete → ⊥
+told-not_complete limits q n Complete c h = c
+told-not_complete limits q n (Refused number place reason) c h = cc
+told-not_complete limits q n ReadFault c h = c
+told-not_complete limits q n ReadLimit c h = c
+told-not_complete limits q n WriteFault c h = cc
+told-not_complete limits q n Memory c h = cc
+
+pub fault-not_complete : ReadFault ≡ Complete → ⊥
+fault-not_complete h = cc
+
+pub limit-not_complete : ReadLimit ≡ Complete → ⊥
+limit-not_complete h = cc

@@ -1,5 +1,5 @@
 -- What is held of a stream while its lines are read, and which bytes it stands for.
-use Rattle.std.specs.Prelude.{◌≡◌, ℕ, ◌+◌, ◌<◌, ◌≤◌, ◌⊎◌, List, [], ◌∷◌, ◌++◌, Bool, true, false, ◌&&◌, ◌==◌, nat_lt, if◌then◌else◌, Option, Some, None, Result, Ok, Err, length, map, MatchResult}
+use Rattle.std.specs.Prelude.{◌≡◌, ℕ, ◌+◌, ◌<◌, ◌≤◌, ◌⊎◌, List, [], ◌∷◌, ◌++◌, Bool, true, false, ◌&&◌, ◌==◌, nat_lt, if◌then◌else◌, Option, Some, None, Result, Ok, Err, length, map, max, MatchResult}
 use Rattle.cj_budget.specs.Bounded.{BoundedList, IsWithin, Becomes}
 use Rattle.cj_budget.specs.Limits.{LimitPair, InLine}
 use Rattle.cityseq.specs.declared.framer.Framer.{Framer}
@@ -10,6 +10,7 @@ use Rattle.cityseq.specs.declared.reason.End.{End}
 use Rattle.cityseq.specs.declared.reason.End.TheVariants.{Complete, Refused, ReadFault, ReadLimit, WriteFault, Memory}
 use Rattle.cityseq.specs.Lines.{Line, closed, begun, begun_later, ended_line, first_content, later_of}
 use Rattle.cityseq.specs.Verdict.{verdict, is_kept, refusal_from, kept_from, judged}
+use Rattle.cityseq.specs.Bound.{longest}
 use Rattle.cityseq.specs.Sink.{Took}
 
 -- the limits, the content of the first line, the content of a later line that has begun, and how many lines
@@ -67,6 +68,7 @@ pub record Reads (f : Reading) (p : List ℕ) : Type 0 where
   pub good : refusal_from f.limits 1 (map ended_line (closed p)) ≡ None
   pub kept : f.kept ≡ length (kept_from f.limits 2 (later_of (map ended_line (closed p))))
   pub peak : f.header.peak ≡ length f.header.elements
+  pub line_peak : f.line.peak ≡ max (longest (later_of (closed p))) (length (begun_later p))
   pub header_within : IsWithin f.header
   pub line_within : IsWithin f.line
 

@@ -6,7 +6,7 @@ use Rattle.cityseq.specs.declared.reason.End.{End}
 use Rattle.cityseq.specs.declared.reason.End.TheVariants.{Complete, Refused, ReadFault, ReadLimit, WriteFault, Memory}
 use Rattle.cityseq.specs.Lines.{Line, lines, whole}
 use Rattle.cityseq.specs.Verdict.{refusal_from, judged, good, ending, output}
-use Rattle.cityseq.specs.Bound.{bytes_bound}
+use Rattle.cityseq.specs.Bound.{bytes_bound, exact_bytes}
 use Rattle.cityseq.specs.Engine.{Counts, Delivers}
 use Rattle.cityseq.specs.Sink.{AppendsPart}
 
@@ -21,9 +21,11 @@ Ends limits r n at_end ReadLimit = (refusal_from limits 1 (lines (whole r)) ≡ 
 Ends limits r n at_end WriteFault = Unit {0}
 Ends limits r n at_end Memory = Unit {0}
 
--- a run read these bytes, dealt with n lines, kept some features, held at most so many bytes, and ended so
+-- a run read these bytes, dealt with n lines, kept some features, held at most so many bytes, and ended so; what it
+-- held at most is exact where it is complete
 pub record Runs {S : Type 0} (takes leaves : S → Line → S → Type 0) (limits : LimitPair) (r : List ℕ) (at_end : Type 0) (s t : S) (n features bytes : ℕ) (e : End) : Type 0 where
   pub bounded : bytes ≤ bytes_bound limits r
+  pub exact : e ≡ Complete → bytes ≡ exact_bytes r
   pub counts : Counts limits r n features
   pub sink : Delivers takes leaves limits r 0 n s t (Some e)
   pub ends : Ends limits r n at_end e

@@ -1,5 +1,6 @@
 //! The engine: it takes a stream in pieces, and puts each kept line to a sink.
 ghost use Rattle.std.specs.Prelude.{◌≡◌, ◌+◌, ◌^◌, ◌≤◌, ℕ, List, [], ◌∷◌, ◌++◌, length, OnOk, OnErr, IfOk, IfErr, IsErrOf, IsOk, Some, None, Err};
+ghost use Rattle.cityseq.specs.Bound.{exact_bytes};
 ghost use Rattle.cityseq.specs.Sink.{HasRisen};
 ghost use Rattle.cityseq.specs.Engine.{StandsFor, given, limits_of, lines_of, held_bytes, peak_bytes, Delivers, Going, Tells, Concludes};
 
@@ -107,6 +108,8 @@ impl Engine {
 
         ensures answer { (p : List ℕ) → StandsFor self.old p → self.old.ended ≡ None →
             Concludes (limits_of self.old) p (lines_of self.new) result }
+        ensures exact { (p : List ℕ) → StandsFor self.old p → self.old.ended ≡ None →
+            result ≡ End.Complete → peak_bytes self.new ≡ exact_bytes p }
         ensures sink { (p : List ℕ) → StandsFor self.old p → self.old.ended ≡ None →
             Delivers S.takes S.leaves (limits_of self.old) p
             (lines_of self.old) (lines_of self.new) sink.old sink.new self.new.ended }

@@ -4,7 +4,7 @@ use Rattle.cityseq.specs.Engine.{limits_of, lines_of}
 use Rattle.cityseq.specs.Cut.{joined}
 use Rattle.cityseq.proofs.JoinedLemmas.{joined-more, joined-short, joined-all}
 use Rattle.cityseq.proofs.CutLemmas.{unread-told, unread-concludes}
-use Rattle.cityseq.proofs.RunLemmas.{Delivers-then, kept_first-same, Ends-finished, Ends-fed}
+use Rattle.cityseq.proofs.RunLemmas.{Delivers-then, kept_first-same, Ends-finished, Ends-fed, told-not_complete}
 use Rattle.cityseq.proofs.copying.feed_all.Goals as goal
 
 pub feed-requires : goal.feed-requires
@@ -23,6 +23,7 @@ returns-in-Err-clause-runs g c =
       k + 1,
       rw more (record {
         bounded = let x = stands.bounded in rw (i.0, c.feed.ensures.limits, i.1) at x;
+        exact = λ h. absurd (told-not_complete (limits_of c.loop-piece.engine) (r ++ piece.now) (lines_of c.feed.new.self) c.in-Err.end (c.in-Err.ensures.told r i.2 i.0) h);
         counts = let x = stands.counts in rw (i.0, c.feed.ensures.limits, i.1) at x;
         sink =
             let x = c.feed.ensures.sink r i.2 i.0 in
@@ -63,6 +64,7 @@ returns-clause-runs g c =
       k,
       record {
         bounded = let x = stands.bounded in rw (c.finish.ensures.limits, i.1) at x;
+        exact = λ h. c.finish.ensures.exact r i.2 i.0 h;
         counts = let x = stands.counts in rw (c.finish.ensures.limits, i.1) at x;
         sink =
             let x = c.finish.ensures.sink r i.2 i.0 in

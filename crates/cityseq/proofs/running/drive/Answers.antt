@@ -1,8 +1,8 @@
 use Rattle.std.proofs.Common.{◌≡◌, ◌+◌, ◌*◌, ◌++◌, ◌∙◌, [], List, length, length-take, take, refl, sym, ap, arith, Some, None, Err}
 use Rattle.std.proofs.lemmas.List.{append-nil}
 use Rattle.cityseq.specs.declared.reason.End.TheVariants.{ReadFault, ReadLimit}
-use Rattle.cityseq.specs.Engine.{lines_of}
-use Rattle.cityseq.proofs.RunLemmas.{Consumes-then, Consumes-kept, Delivers-then, Delivers-ended, kept_first-same, Ends-finished, Ends-fed, whole-good, HasRisen-after}
+use Rattle.cityseq.specs.Engine.{limits_of, lines_of}
+use Rattle.cityseq.proofs.RunLemmas.{Consumes-then, Consumes-kept, Delivers-then, Delivers-ended, kept_first-same, Ends-finished, Ends-fed, whole-good, HasRisen-after, told-not_complete, fault-not_complete, limit-not_complete}
 use Rattle.cityseq.proofs.running.drive.Goals as goal
 
 pub returns-in-Err-clause-runs : goal.returns-in-Err-clause-runs
@@ -14,6 +14,7 @@ returns-in-Err-clause-runs g c =
       Consumes-kept _ _ _ r i.5.1 c.in-Err.ensures.bytes,
       rw (← i.3) (record {
         bounded = stands.bounded;
+        exact = λ h. absurd (fault-not_complete h);
         counts = stands.counts;
         sink = let k = rw (← i.3) at i.5.3 in Delivers-ended _ _ _ r _ _ _ ReadFault (λ m u e. e) k;
         ends = whole-good c.loop-i.engine r (stands.going i.2).0;
@@ -29,6 +30,7 @@ returns-in-Ok-eq0-clause-runs g c =
       let k = Consumes-then _ _ _ r (take c.in-Ok-eq0.field-0 c.read.new.buf) i.5.1 c.in-Ok-eq0.ensures.bytes.0 in rw (c.in-Ok-eq0.field-0-test, append-nil r) at k,
       record {
         bounded = let k = stands.bounded in rw (c.finish.ensures.limits, i.3) at k;
+        exact = λ h. c.finish.ensures.exact r i.5.2 i.2 h;
         counts = let k = stands.counts in rw (c.finish.ensures.limits, i.3) at k;
         sink =
             let k = c.finish.ensures.sink r i.5.2 i.2 in
@@ -52,6 +54,7 @@ returns-in-Err-feed-clause-runs g c =
       Consumes-then _ _ _ r piece i.5.1 c.in-Ok.ensures.bytes.0,
       record {
         bounded = let k = stands.bounded in rw (i.2, c.feed.ensures.limits, i.3) at k;
+        exact = λ h. absurd (told-not_complete (limits_of e) (r ++ piece) (lines_of c.feed.new.self) c.in-Err-feed.end (c.in-Err-feed.ensures.told r i.5.2 i.2) h);
         counts = let k = stands.counts in rw (i.2, c.feed.ensures.limits, i.3) at k;
         sink =
             let k = c.feed.ensures.sink r i.5.2 i.2 in
@@ -94,6 +97,7 @@ returns-clause-runs g c =
       i.5.1,
       rw (← i.3) (record {
         bounded = stands.bounded;
+        exact = λ h. absurd (limit-not_complete h);
         counts = stands.counts;
         sink = let k = rw (← i.3) at i.5.3 in Delivers-ended _ _ _ r _ _ _ ReadLimit (λ m u e. e) k;
         ends = whole-good c.loop-i.engine r (stands.going i.2).0;

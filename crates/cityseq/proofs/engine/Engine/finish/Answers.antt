@@ -1,7 +1,7 @@
 use Rattle.std.proofs.Common.{◌≡◌, ◌++◌, ◌∙◌, refl, sym, ap, Some, None}
 use Rattle.cityseq.specs.Reading.{reading}
 use Rattle.cityseq.proofs.EngineLemmas.{none_from_not_some}
-use Rattle.cityseq.proofs.FinishLemmas.{end_of, Finishes-concludes, Finishes-delivers, StandsFor-finished}
+use Rattle.cityseq.proofs.FinishLemmas.{end_of, Finishes-concludes, Finishes-delivers, StandsFor-finished, peak-finished}
 use Rattle.cityseq.proofs.engine.Engine.finish.Goals as goal
 use Rattle.cityseq.proofs.engine.Engine.finish.Goals.{in-Ok, in-Err}
 
@@ -27,3 +27,11 @@ returns-clause-sink g c = λ p st going.
     let reads = (stands.going open_now).0 in
     let same : c.match-finish.end ≡ end_of c.finish.result = elim c.match-finish.branch [ in-Ok w ↦ w.end-is ∙ sym (ap end_of w.in-Ok.is) | in-Err w ↦ w.end-is ∙ sym (ap end_of w.in-Err.is) ] in
     rw (← c.self.view_is, same) (Finishes-delivers g.S.LineSink.takes g.S.LineSink.leaves (reading c.self.inside.framer) (reading c.finish.new.self) _ _ p reads c.finish.result (c.finish.ensures.finishes p reads))
+
+pub returns-clause-exact : goal.returns-clause-exact
+returns-clause-exact g c = λ p st going done.
+    let stands = rw (← c.self.view_is) at st in
+    let open_now = rw (← c.self.view_is) at going in
+    let reads = (stands.going open_now).0 in
+    let same : c.match-finish.end ≡ end_of c.finish.result = elim c.match-finish.branch [ in-Ok w ↦ w.end-is ∙ sym (ap end_of w.in-Ok.is) | in-Err w ↦ w.end-is ∙ sym (ap end_of w.in-Err.is) ] in
+    peak-finished g.S.LineSink.takes g.S.LineSink.leaves (reading c.self.inside.framer) (reading c.finish.new.self) _ _ p reads c.finish.result (c.finish.ensures.finishes p reads) (sym same ∙ done)
