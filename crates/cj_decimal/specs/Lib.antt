@@ -1,0 +1,4 @@
+pub mod Digits
+pub mod Number
+pub mod Reading
+pub mod Spelling

@@ -1,0 +1,9 @@
+//! Decimals of whole-number parts, compared exactly.
+#![tactic(auto)]
+
+mod decimal;
+mod digits;
+mod fixed;
+
+pub use decimal::{Decimal, DecimalFault};
+pub use fixed::Fixed18;
