@@ -2,3 +2,4 @@ pub mod Powers
 pub mod Values
 pub mod Pushes
 pub mod Ways
+pub mod Grammar

@@ -50,3 +50,12 @@ push_lost lead extra false n d full p h s = record { whole = λ e. absurd (cc e)
   where
     big : (l x n : ℕ) → 10 ^ 35 ≤ l → n ≡ l * 10 ^ x → 10 ^ 35 ≤ n
     big l x n full e = let pos : 0 < 10 ^ x = ten_pow_pos x in grind (arith, e, pos)
+
+-- digits of which less than 36 are there are kept whole
+pub stands_short : (lead extra : ℕ) (lost : Bool) (n : ℕ) → lead < 10 ^ 35 → (0 < extra → 10 ^ 35 ≤ lead) → (IsTrue lost → 10 ^ 35 ≤ lead) → StandsFor lead extra lost n → n ≡ lead
+stands_short lead extra true n small full cut s = absurd (omega (arith, cut refl))
+stands_short lead extra false n small full cut s =
+    s.whole refl ∙ ap (λ k. lead * 10 ^ k) (no_extra lead extra small full) ∙ sym (no_gap lead)
+
+pub short_stands : (lead : ℕ) → StandsFor lead 0 false lead
+short_stands lead = record { whole = λ _. no_gap lead; cut = λ e. absurd (cc e) }

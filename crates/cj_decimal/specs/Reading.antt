@@ -38,3 +38,59 @@ pub record HasRead (s : List ℕ) (from n stop m : ℕ) : Type 0 where
   pub rest : drop stop s ≡ digits_rest (drop from s)
   pub count : stop ≡ from + length (digits_front (drop from s))
   pub value : m ≡ value_after n (digits_front (drop from s))
+
+-- the first byte is a digit
+unfoldable pub begins_digit : List ℕ → Bool
+begins_digit [] = false
+begins_digit (b ∷ s) = is_ascii_digit b
+
+-- what follows a minus sign, if there is one
+unfoldable pub body : List ℕ → List ℕ
+body s = cond (begins 45 s) (drop 1 s) s
+
+-- digits are an int part
+unfoldable pub is_int : List ℕ → Bool
+is_int [] = false
+is_int (b ∷ s) = not (nat_eq b 48) || is_empty s
+
+-- what follows the int part begins with a right fraction, or with none
+unfoldable pub is_frac : List ℕ → Bool
+is_frac r = not (begins 46 r) || begins_digit (drop 1 r)
+
+-- that fraction's digits, and what follows them
+unfoldable pub frac_digits : List ℕ → List ℕ
+frac_digits r = cond (begins 46 r) (digits_front (drop 1 r)) []
+
+unfoldable pub after_frac : List ℕ → List ℕ
+after_frac r = cond (begins 46 r) (digits_rest (drop 1 r)) r
+
+-- what follows the sign of an exponent, after its mark
+unfoldable pub exp_digits : List ℕ → List ℕ
+exp_digits t = cond (begins 45 t || begins 43 t) (drop 1 t) t
+
+-- one digit or more, and nothing else
+unfoldable pub is_whole_digits : List ℕ → Bool
+is_whole_digits t = begins_digit t && is_empty (digits_rest t)
+
+-- the rest of a spelling is a right exponent, or empty
+unfoldable pub is_exp : List ℕ → Bool
+is_exp [] = true
+is_exp (b ∷ t) = (nat_eq b 101 || nat_eq b 69) && is_whole_digits (exp_digits t)
+
+-- and stands for this number
+unfoldable pub exp_value : List ℕ → ℤ
+exp_value [] = pos 0
+exp_value (b ∷ t) = signed (begins 45 t) (digits_value (exp_digits t))
+
+-- the whole test of a spelling
+abbrev pub is_number : List ℕ → Bool
+is_number s = is_int (digits_front (body s)) && (is_frac (digits_rest (body s)) && is_exp (after_frac (digits_rest (body s))))
+
+-- and what it says where the test holds
+abbrev pub written_of : List ℕ → Written
+written_of s = record {
+  negative = begins 45 s;
+  int = digits_front (body s);
+  frac = frac_digits (digits_rest (body s));
+  exponent = exp_value (after_frac (digits_rest (body s)));
+}

@@ -107,3 +107,25 @@ fn read_long(spelling: &[u8], from: usize, start: Digits) -> Run
     }
     Run { digits, stop: at }
 }
+
+/// Reads all digits from a place on, after digits that were read before.
+pub fn read_digits(spelling: &[u8], from: usize, start: Digits) -> Run
+    requires within { from ≤ length spelling.now }
+    requires bounded { start.extra ≤ from }
+    ensures reads { (n : ℕ) → StandsFor start.lead start.extra start.lost n
+        → (m : ℕ) × HasRead spelling.now from n result.stop m
+            × StandsFor result.digits.lead result.digits.extra result.digits.lost m }
+    ensures bounded { result.digits.extra ≤ result.stop }
+    ensures within { result.stop ≤ length spelling.now }
+{
+    if start.lead >= SHORT as u128 {
+        return read_long(spelling, from, start);
+    }
+    let (lead, at) = read_short(spelling, from, start.lead as u64);
+    let digits = Digits {
+        lead: lead as u128,
+        extra: 0,
+        lost: false,
+    };
+    read_long(spelling, at, digits)
+}
