@@ -36,7 +36,7 @@ pub rest_append : (ds t : List ℕ) → AllDigits ds → begins_digit t ≡ fals
 rest_append [] t d h = (front_of_stop t h).1
 rest_append (b ∷ ds) t d h = rest_digit b (ds ++ t) (digit_test b d.0) ∙ rest_append ds t d.1 h
 
-append_nil : (s : List ℕ) → s ++ [] ≡ s
+pub append_nil : (s : List ℕ) → s ++ [] ≡ s
 append_nil [] = refl
 append_nil (b ∷ s) = ap (λ r. b ∷ r) (append_nil s)
 
@@ -90,16 +90,16 @@ int_is_digits : (s : List ℕ) → IsInt s → IsDigits s
 int_is_digits [] h = absurd h
 int_is_digits (b ∷ s) h = int_digits (b ∷ s) h
 
-both : (a b : Bool) → a ≡ true → b ≡ true → (a && b) ≡ true
+pub both : (a b : Bool) → a ≡ true → b ≡ true → (a && b) ≡ true
 both true true e f = refl
 both true false e f = f
 both false b e f = e
 
-both_left : (a b : Bool) → (a && b) ≡ true → a ≡ true
+pub both_left : (a b : Bool) → (a && b) ≡ true → a ≡ true
 both_left true b e = refl
 both_left false b e = e
 
-both_right : (a b : Bool) → (a && b) ≡ true → b ≡ true
+pub both_right : (a b : Bool) → (a && b) ≡ true → b ≡ true
 both_right true b e = e
 both_right false b e = absurd (cc e)
 

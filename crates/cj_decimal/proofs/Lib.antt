@@ -3,3 +3,4 @@ pub mod Values
 pub mod Pushes
 pub mod Ways
 pub mod Grammar
+pub mod Parts

@@ -3,7 +3,7 @@ use Rattle.std.proofs.Common.{◌≡◌, ℕ, zero, suc, ◌+◌, ◌-◌, ◌*�
 use Rattle.std.specs.Prelude.{nat_le, ◌&&◌, ◌⊎◌}
 use Rattle.std.proofs.lemmas.Bool.Decides.{nat_tests}
 use Rattle.std.specs.Char.{is_ascii_digit}
-use Rattle.cj_decimal.specs.Reading.{digits_front, digits_rest, Continues, HasRead}
+use Rattle.cj_decimal.specs.Reading.{digits_front, digits_rest, Passes, Carries, Stops}
 use Rattle.cj_decimal.specs.Spelling.{value_after}
 
 pub front_digit : (b : ℕ) (s : List ℕ) → is_ascii_digit b ≡ true → digits_front (b ∷ s) ≡ b ∷ digits_front s
@@ -39,60 +39,69 @@ drop_at s at h =
     let next : suc at ≡ at + 1 = omega arith in
     drop-cons s at 0 h ∙ ap (λ k. get_or s at 0 ∷ drop k s) next
 
-pub continues_refl : (s : List ℕ) (from n : ℕ) → from ≤ length s → Continues s from n from n
-continues_refl s from n h = record { order = omega arith; within = h; rest = refl; count = refl; value = refl }
+front_step : (s : List ℕ) (at : ℕ) → at < length s → is_ascii_digit (get_or s at 0) ≡ true → digits_front (drop at s) ≡ get_or s at 0 ∷ digits_front (drop (at + 1) s)
+front_step s at h d = ap digits_front (drop_at s at h) ∙ front_digit (get_or s at 0) (drop (at + 1) s) d
 
-pub continues_step : (s : List ℕ) (from n at m : ℕ) → Continues s from n at m → at < length s → is_ascii_digit (get_or s at 0) ≡ true → Continues s from n (at + 1) (10 * m + (get_or s at 0 - 48))
-continues_step s from n at m c h d =
-    let front : digits_front (drop at s) ≡ get_or s at 0 ∷ digits_front (drop (at + 1) s) = ap digits_front (drop_at s at h) ∙ front_digit (get_or s at 0) (drop (at + 1) s) d in
-    let rest : digits_rest (drop at s) ≡ digits_rest (drop (at + 1) s) = ap digits_rest (drop_at s at h) ∙ rest_digit (get_or s at 0) (drop (at + 1) s) d in
-    record {
-      order = omega (arith, c.order);
-      within = omega arith;
-      rest = sym rest ∙ c.rest;
-      count = omega (arith, c.count, ap length front);
-      value = sym (ap (λ ds. value_after m ds) front) ∙ c.value;
-    }
+pub passes_refl : (s : List ℕ) (from : ℕ) → from ≤ length s → Passes s from from
+passes_refl s from h = record { order = omega arith; within = h; rest = refl; count = refl }
 
-pub continues_trans : (s : List ℕ) (from n at m to k : ℕ) → Continues s from n at m → Continues s at m to k → Continues s from n to k
-continues_trans s from n at m to k c d = record {
-  order = omega (arith, c.order, d.order);
-  within = d.within;
-  rest = d.rest ∙ c.rest;
-  count = d.count ∙ c.count;
-  value = d.value ∙ c.value;
+pub passes_step : (s : List ℕ) (from at : ℕ) → Passes s from at → at < length s → is_ascii_digit (get_or s at 0) ≡ true → Passes s from (at + 1)
+passes_step s from at c h d = record {
+  order = omega (arith, c.order);
+  within = omega arith;
+  rest = sym (ap digits_rest (drop_at s at h) ∙ rest_digit (get_or s at 0) (drop (at + 1) s) d) ∙ c.rest;
+  count = omega (arith, c.count, ap length (front_step s at h d));
 }
 
-read_when : (s : List ℕ) (from n at m : ℕ) → Continues s from n at m → digits_front (drop at s) ≡ [] → digits_rest (drop at s) ≡ drop at s → HasRead s from n at m
-read_when s from n at m c none rest = record {
-  order = c.order;
-  within = c.within;
-  rest = sym rest ∙ c.rest;
-  count = omega (arith, c.count, ap length none);
-  value = sym (ap (λ ds. value_after m ds) none) ∙ c.value;
-}
+pub carries_refl : (s : List ℕ) (from n : ℕ) → Carries s from n from n
+carries_refl s from n = record { value = refl }
 
-pub read_at_other : (s : List ℕ) (from n at m : ℕ) → Continues s from n at m → at < length s → is_ascii_digit (get_or s at 0) ≡ false → HasRead s from n at m
-read_at_other s from n at m c h d =
-    read_when s from n at m c (ap digits_front (drop_at s at h) ∙ front_other _ _ d) (ap digits_rest (drop_at s at h) ∙ rest_other _ _ d ∙ sym (drop_at s at h))
+pub carries_step : (s : List ℕ) (from n at m : ℕ) → Carries s from n at m → at < length s → is_ascii_digit (get_or s at 0) ≡ true → Carries s from n (at + 1) (10 * m + (get_or s at 0 - 48))
+carries_step s from n at m c h d = record { value = sym (ap (λ ds. value_after m ds) (front_step s at h d)) ∙ c.value }
 
-drop_all : (s : List ℕ) (at : ℕ) → length s ≤ at → drop at s ≡ []
+no_front : (s : List ℕ) (at : ℕ) → at < length s → is_ascii_digit (get_or s at 0) ≡ false → digits_front (drop at s) ≡ []
+no_front s at h d = ap digits_front (drop_at s at h) ∙ front_other _ _ d
+
+pub drop_all : (s : List ℕ) (at : ℕ) → length s ≤ at → drop at s ≡ []
 drop_all s at h = length-zero (drop at s) (omega (arith, length-drop at s))
   where
     length-zero : (t : List ℕ) → length t ≡ 0 → t ≡ []
     length-zero [] e = refl
     length-zero (x ∷ t) e = absurd (omega (arith, e))
 
-pub read_at_end : (s : List ℕ) (from n at m : ℕ) → Continues s from n at m → length s ≤ at → HasRead s from n at m
-read_at_end s from n at m c h =
-    let gone = drop_all s at h in
-    read_when s from n at m c (ap digits_front gone ∙ front_end) (ap digits_rest gone ∙ rest_end ∙ sym gone)
+no_front_past : (s : List ℕ) (at : ℕ) → length s ≤ at → digits_front (drop at s) ≡ []
+no_front_past s at h = ap digits_front (drop_all s at h) ∙ front_end
 
-pub read_after : (s : List ℕ) (from n at m stop k : ℕ) → Continues s from n at m → HasRead s at m stop k → HasRead s from n stop k
-read_after s from n at m stop k c r = record {
+-- where no digit follows, the digits stop
+stops_when : (s : List ℕ) (from at : ℕ) → Passes s from at → digits_front (drop at s) ≡ [] → digits_rest (drop at s) ≡ drop at s → Stops s from at
+stops_when s from at c none rest = record {
+  order = c.order;
+  within = c.within;
+  rest = sym rest ∙ c.rest;
+  count = omega (arith, c.count, ap length none);
+}
+
+pub stops_at_other : (s : List ℕ) (from at : ℕ) → Passes s from at → at < length s → is_ascii_digit (get_or s at 0) ≡ false → Stops s from at
+stops_at_other s from at c h d =
+    stops_when s from at c (no_front s at h d) (ap digits_rest (drop_at s at h) ∙ rest_other _ _ d ∙ sym (drop_at s at h))
+
+pub stops_at_end : (s : List ℕ) (from at : ℕ) → Passes s from at → length s ≤ at → Stops s from at
+stops_at_end s from at c h = stops_when s from at c (no_front_past s at h) (ap digits_rest (drop_all s at h) ∙ rest_end ∙ sym (drop_all s at h))
+
+-- and the number that was carried is the number of all of them
+carried : (s : List ℕ) (from n at m : ℕ) → Carries s from n at m → digits_front (drop at s) ≡ [] → m ≡ value_after n (digits_front (drop from s))
+carried s from n at m c none = sym (ap (λ ds. value_after m ds) none) ∙ c.value
+
+pub carried_at_other : (s : List ℕ) (from n at m : ℕ) → Carries s from n at m → at < length s → is_ascii_digit (get_or s at 0) ≡ false → m ≡ value_after n (digits_front (drop from s))
+carried_at_other s from n at m c h d = carried s from n at m c (no_front s at h d)
+
+pub carried_at_end : (s : List ℕ) (from n at m : ℕ) → Carries s from n at m → length s ≤ at → m ≡ value_after n (digits_front (drop from s))
+carried_at_end s from n at m c h = carried s from n at m c (no_front_past s at h)
+
+pub stops_after : (s : List ℕ) (from at stop : ℕ) → Passes s from at → Stops s at stop → Stops s from stop
+stops_after s from at stop c r = record {
   order = omega (arith, c.order, r.order);
   within = r.within;
   rest = r.rest ∙ c.rest;
   count = r.count ∙ c.count;
-  value = r.value ∙ c.value;
 }

@@ -1,8 +1,9 @@
 -- What private functions say of the way through a spelling: what its parts are, seen from the front.
-use Rattle.std.specs.Prelude.{◌≡◌, ℕ, ◌+◌, ◌-◌, ◌≤◌, ◌<◌, ◌*◌, List, [], ◌∷◌, ◌++◌, length, drop, Bool, true, false, cond, ◌&&◌, ◌||◌, not, nat_eq, nat_le, ℤ, pos}
+use Rattle.std.specs.Prelude.{◌≡◌, ℕ, ◌+◌, ◌-◌, ◌≤◌, ◌<◌, ◌*◌, List, [], ◌∷◌, ◌++◌, length, drop, Bool, true, false, cond, ◌&&◌, ◌||◌, not, nat_eq, ◌^◌, ℤ, pos, neg_ℤ, ◌≤ℤ◌, unsigned_abs}
 use Rattle.std.specs.Char.{is_ascii_digit}
 use Rattle.cj_decimal.specs.Number.{signed}
-use Rattle.cj_decimal.specs.Spelling.{value_after, digits_value, Written}
+use Rattle.cj_decimal.specs.Digits.{StandsFor}
+use Rattle.cj_decimal.specs.Spelling.{value_after, digits_value, Written, Spells}
 
 -- the digits at the front of a list
 unfoldable pub digits_front : List ℕ → List ℕ
@@ -23,21 +24,23 @@ unfoldable pub is_empty : List ℕ → Bool
 is_empty [] = true
 is_empty (b ∷ s) = false
 
--- reading goes on at `at` with the number m, as it would have from `from` with n
-pub record Continues (s : List ℕ) (from n at m : ℕ) : Type 0 where
+-- only digits stand from `from` to `at`, so that reading goes on there
+pub record Passes (s : List ℕ) (from at : ℕ) : Type 0 where
   pub order : from ≤ at
   pub within : at ≤ length s
   pub rest : digits_rest (drop at s) ≡ digits_rest (drop from s)
   pub count : at + length (digits_front (drop at s)) ≡ from + length (digits_front (drop from s))
+
+-- with the number m at `at` the digits that follow give what they give with n at `from`
+pub record Carries (s : List ℕ) (from n at m : ℕ) : Type 0 where
   pub value : value_after m (digits_front (drop at s)) ≡ value_after n (digits_front (drop from s))
 
--- the digits from `from` on end at `stop`, and after those that spell n they spell m
-pub record HasRead (s : List ℕ) (from n stop m : ℕ) : Type 0 where
+-- the digits from `from` on end at `stop`
+pub record Stops (s : List ℕ) (from stop : ℕ) : Type 0 where
   pub order : from ≤ stop
   pub within : stop ≤ length s
   pub rest : drop stop s ≡ digits_rest (drop from s)
   pub count : stop ≡ from + length (digits_front (drop from s))
-  pub value : m ≡ value_after n (digits_front (drop from s))
 
 -- the first byte is a digit
 unfoldable pub begins_digit : List ℕ → Bool
@@ -94,3 +97,23 @@ written_of s = record {
   frac = frac_digits (digits_rest (body s));
   exponent = exp_value (after_frac (digits_rest (body s)));
 }
+
+-- what was read of an exponent: its value, but only that it is 10^35 or more in size where it is
+pub record Saturates (e r : ℤ) : Type 0 where
+  pub same : unsigned_abs r < 10 ^ 35 → e ≡ r
+  pub high : pos (10 ^ 35) ≤ℤ r → pos (10 ^ 35) ≤ℤ e
+  pub low : r ≤ℤ neg_ℤ (pos (10 ^ 35)) → e ≤ℤ neg_ℤ (pos (10 ^ 35))
+
+-- the same of the digits of an exponent, which spell n
+pub record SaturatesSize (n r : ℕ) : Type 0 where
+  pub same : r < 10 ^ 35 → n ≡ r
+  pub high : 10 ^ 35 ≤ r → 10 ^ 35 ≤ n
+
+-- the parts that were read stand for what the spelling s says
+pub record IsReadOf (s : List ℕ) (negative : Bool) (lead extra : ℕ) (lost : Bool) (places : ℕ) (exponent : ℤ) : Type 0 where
+  pub written : Written
+  pub spells : Spells s written
+  pub sign : written.negative ≡ negative
+  pub digits : StandsFor lead extra lost (digits_value (written.int ++ written.frac))
+  pub places_are : length written.frac ≡ places
+  pub exponent_is : Saturates written.exponent exponent

@@ -1,7 +1,8 @@
 //! The digits of a spelling, kept in few numbers however many they are.
 ghost use Rattle.std.specs.Prelude.{◌≡◌, ℕ, ◌+◌, ◌*◌, ◌^◌, ◌<◌, ◌≤◌, length, drop, [], IsTrue, ◌-◌, slice_index};
 ghost use Rattle.cj_decimal.specs.Digits.{StandsFor};
-ghost use Rattle.cj_decimal.specs.Reading.{Continues, HasRead};
+ghost use Rattle.cj_decimal.specs.Spelling.{value_after};
+ghost use Rattle.cj_decimal.specs.Reading.{Carries, Passes, Stops, digits_front};
 
 /// The least number of 36 digits: up to here one more digit fits.
 const FULL: u128 = 100_000_000_000_000_000_000_000_000_000_000_000;
@@ -69,7 +70,8 @@ pub struct Run {
 fn read_short(spelling: &[u8], from: usize, start: u64) -> (u64, usize)
     requires within { from ≤ length spelling.now }
     requires short { start < 10 ^ 18 }
-    ensures continues { Continues spelling.now from start result.1 result.0 }
+    ensures passes { Passes spelling.now from result.1 }
+    ensures carries { Carries spelling.now from start result.1 result.0 }
     ensures short { result.0 < 10 ^ 18 }
 {
     let mut value = start;
@@ -89,11 +91,11 @@ fn read_short(spelling: &[u8], from: usize, start: u64) -> (u64, usize)
 fn read_long(spelling: &[u8], from: usize, start: Digits) -> Run
     requires within { from ≤ length spelling.now }
     requires bounded { start.extra ≤ from }
-    ensures reads { (n : ℕ) → StandsFor start.lead start.extra start.lost n
-        → (m : ℕ) × HasRead spelling.now from n result.stop m
-            × StandsFor result.digits.lead result.digits.extra result.digits.lost m }
+    ensures stops { Stops spelling.now from result.stop }
+    ensures stands { (n : ℕ) → StandsFor start.lead start.extra start.lost n
+        → StandsFor result.digits.lead result.digits.extra result.digits.lost
+            (value_after n (digits_front (drop from spelling.now))) }
     ensures bounded { result.digits.extra ≤ result.stop }
-    ensures within { result.stop ≤ length spelling.now }
 {
     let mut digits = start;
     let mut at = from;
@@ -112,11 +114,11 @@ fn read_long(spelling: &[u8], from: usize, start: Digits) -> Run
 pub fn read_digits(spelling: &[u8], from: usize, start: Digits) -> Run
     requires within { from ≤ length spelling.now }
     requires bounded { start.extra ≤ from }
-    ensures reads { (n : ℕ) → StandsFor start.lead start.extra start.lost n
-        → (m : ℕ) × HasRead spelling.now from n result.stop m
-            × StandsFor result.digits.lead result.digits.extra result.digits.lost m }
+    ensures stops { Stops spelling.now from result.stop }
+    ensures stands { (n : ℕ) → StandsFor start.lead start.extra start.lost n
+        → StandsFor result.digits.lead result.digits.extra result.digits.lost
+            (value_after n (digits_front (drop from spelling.now))) }
     ensures bounded { result.digits.extra ≤ result.stop }
-    ensures within { result.stop ≤ length spelling.now }
 {
     if start.lead >= SHORT as u128 {
         return read_long(spelling, from, start);

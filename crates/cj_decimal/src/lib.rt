@@ -4,6 +4,7 @@
 mod decimal;
 mod digits;
 mod fixed;
+mod spelling;
 
 pub use decimal::{Decimal, DecimalFault};
 pub use fixed::Fixed18;
