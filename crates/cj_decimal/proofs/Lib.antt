@@ -4,3 +4,5 @@ pub mod Pushes
 pub mod Ways
 pub mod Grammar
 pub mod Parts
+pub mod Trims
+pub mod Normal

@@ -44,6 +44,13 @@ pub record IsInRange (n : Number) : Type 0 where
   pub power_low : neg_ℤ (pos 1000000) ≤ℤ n.power
   pub power_high : n.power ≤ℤ pos 1000000
 
+-- the number's normal form is out of range
+pub record IsOutOfRange (n : Number) : Type 0 where
+  pub normal_form : Number
+  pub same : SameValue n normal_form
+  pub normal : IsNormal normal_form
+  pub out : ¬ IsInRange normal_form
+
 -- the number is the whole number w, which is below 10^18 in size
 pub record IsWhole (n : Number) (w : ℤ) : Type 0 where
   pub same : SameValue n (number w (pos 0))

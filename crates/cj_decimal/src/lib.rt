@@ -5,6 +5,7 @@ mod decimal;
 mod digits;
 mod fixed;
 mod spelling;
+mod trimming;
 
 pub use decimal::{Decimal, DecimalFault};
 pub use fixed::Fixed18;
