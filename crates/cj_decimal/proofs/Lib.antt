@@ -1,4 +1,4 @@
-pub mod Powers
+pub mod TenPowers
 pub mod Values
 pub mod Pushes
 pub mod Ways
@@ -6,3 +6,4 @@ pub mod Grammar
 pub mod Parts
 pub mod Trims
 pub mod Normal
+pub mod Law

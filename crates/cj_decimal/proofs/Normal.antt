@@ -7,7 +7,7 @@ use Rattle.std.proofs.lemmas.Int.{ints, clamps, by_lt_z, to_z-of_z, fits_signed_
 use Rattle.cj_decimal.specs.Number.{Number, number, signed, SameValue, IsNormal, IsInRange, IsOutOfRange}
 use Rattle.cj_decimal.specs.Digits.{IsTooLong, StandsFor, IsTrimmed}
 use Rattle.cj_decimal.specs.Reading.{Saturates}
-use Rattle.cj_decimal.proofs.Powers.{ten_pow_suc, ten_pow_pos, neg_times}
+use Rattle.cj_decimal.proofs.TenPowers.{ten_pow_suc, ten_pow_pos, neg_times}
 use Rattle.cj_decimal.proofs.Trims.{trim_more, trim_left}
 use Rattle.cj_decimal.proofs.Values.{same_scaled, at_same, smaller_left, smaller_right, normal_same, same_refl}
 
@@ -68,12 +68,12 @@ trim_within (suc fuel) n h p = trim_by_last n (n % 10) refl p (λ q e. trim_with
 pub trim : (n : ℕ) → 0 < n → (c : ℕ) × (k : ℕ) × IsTrimmed n c k
 trim n p = trim_within n n (omega arith) p
 
-abbrev NormalOf : Number → Type 0
+abbrev pub NormalOf : Number → Type 0
 NormalOf m = (v : Number) × SameValue m v × IsNormal v
 
-normal_of_signed : (s : Bool) (n : ℕ) (q : ℤ) → NormalOf (number (signed s n) q)
-normal_of_signed s zero q = (number (pos 0) (pos 0), zero_same s 0 q refl, zero_normal)
-normal_of_signed s (suc n) q =
+pub normal_form : (s : Bool) (n : ℕ) (q : ℤ) → NormalOf (number (signed s n) q)
+normal_form s zero q = (number (pos 0) (pos 0), zero_same s 0 q refl, zero_normal)
+normal_form s (suc n) q =
     let t = trim (suc n) (omega arith) in
     (number (signed s t.0) (q +ℤ pos t.1), trimmed_same s (suc n) t.0 t.1 q _ t.2.whole refl, trimmed_normal s t.0 _ t.2.last)
 
@@ -137,8 +137,8 @@ pub sign_cast : (s : Bool) (c : ℕ) (x : ℤ) → x ≡ signed s c → c < 10 ^
 sign_cast s c x e small = to_z-of_z w128 x (fits_signed_from_abs w128 x (omega (arith, ap unsigned_abs e, signed_size s c))) ∙ e
 
 -- the power as the code computes it
-pub power_cast : (r : ℤ) (places extra zeros : ℕ) → unsigned_abs r < 10 ^ 36 → places < 2 ^ 64 → extra < 2 ^ 64 → zeros < 39
-  → neg_ℤ (pos 1000000) ≤ℤ (r -ℤ pos places +ℤ pos (extra + zeros)) → (r -ℤ pos places +ℤ pos (extra + zeros)) ≤ℤ pos 1000000
-  → cast_signed w32 (cast_unsigned w32 (cast_signed w128 (cast_unsigned w128 (cast_signed w128 (cast_unsigned w128 (cast_signed w128 (cast_unsigned w128 r) -ℤ cast_signed w128 places)) +ℤ cast_signed w128 (cast_unsigned w128 (cast_signed w128 extra +ℤ cast_signed w128 zeros))))))
-    ≡ r -ℤ pos places +ℤ pos (extra + zeros)
-power_cast r places extra zeros a b c d low high = omega (arith, ints)
+pub power_cast : (r : ℤ) (places extra more : ℕ) → unsigned_abs r < 10 ^ 36 → places < 2 ^ 64 → extra < 2 ^ 64 → more < 39
+  → neg_ℤ (pos 1000000) ≤ℤ (r -ℤ pos places +ℤ pos (extra + more)) → (r -ℤ pos places +ℤ pos (extra + more)) ≤ℤ pos 1000000
+  → cast_signed w32 (cast_unsigned w32 (cast_signed w128 (cast_unsigned w128 (cast_signed w128 (cast_unsigned w128 (cast_signed w128 (cast_unsigned w128 r) -ℤ cast_signed w128 places)) +ℤ cast_signed w128 (cast_unsigned w128 (cast_signed w128 extra +ℤ cast_signed w128 more))))))
+    ≡ r -ℤ pos places +ℤ pos (extra + more)
+power_cast r places extra more a b c d low high = omega (arith, ints)

@@ -10,7 +10,7 @@ use Rattle.std.specs.Char.{is_ascii_digit}
 use Rattle.cj_decimal.specs.Digits.{StandsFor, IsTooLong}
 use Rattle.cj_decimal.specs.Spelling.{value_after, digits_value, IsNumber, Spells}
 use Rattle.cj_decimal.specs.Reading.{body, written_of, is_number, digits_front, digits_rest, begins, is_empty, begins_digit, is_int, is_frac, frac_digits, after_frac, exp_digits, is_whole_digits, is_exp, exp_value, Stops, Saturates, SaturatesSize}
-use Rattle.cj_decimal.proofs.Powers.{ten_pow_pos}
+use Rattle.cj_decimal.proofs.TenPowers.{ten_pow_pos}
 use Rattle.cj_decimal.proofs.Pushes.{stands_short}
 use Rattle.cj_decimal.proofs.Grammar.{append_nil, front_rest, both, both_left, both_right, spells_test, test_spells}
 use Rattle.cj_decimal.proofs.Ways.{front_digit, front_other, front_end, drop_at, drop_all}

@@ -2,11 +2,14 @@
 use Rattle.std.proofs.Common.{◌≡◌, ℕ, zero, suc, ◌+◌, ◌-◌, ◌*◌, ◌%◌, ◌^◌, ◌<◌, ◌≤◌, ◌≢◌, ℤ, pos, negsuc, neg_ℤ, ◌+ℤ◌, ◌-ℤ◌, ◌*ℤ◌, ◌≤ℤ◌, ◌<ℤ◌, Bool, true, false, refl, sym, ap, ◌∙◌, arith, rules}
 use Rattle.std.specs.Prelude.{unsigned_abs, ◌⊎◌}
 use Rattle.std.proofs.Common.{inl, inr, ⊎_elim}
-use Rattle.std.specs.Int.{int_gap, int_min}
-use Rattle.std.proofs.lemmas.Int.{ints, clamps, unsigned_abs-mul, by_lt_z}
+use Rattle.std.specs.Int.{int_gap, int_min, Width, w32, w128, cast_signed, cast_unsigned}
+use Rattle.std.specs.Prelude.{nat_eq, FitsSigned, ◌↔◌}
+use Rattle.std.proofs.Common.{subst}
+use Rattle.std.proofs.lemmas.Bool.Decides.{nat_tests}
+use Rattle.std.proofs.lemmas.Int.{ints, clamps, unsigned_abs-mul, by_lt_z, to_z-of_z, fits_signed_from_abs}
 use Rattle.std.proofs.Math.Nat.{mul-mod_right}
 use Rattle.cj_decimal.specs.Number.{Number, number, signed, smaller_power, brought, SameValue, IsNormal, IsInRange}
-use Rattle.cj_decimal.proofs.Powers.{ten_pow_pos, ten_pow_add, ten_pow_suc, times_cancel, times_times, times_one, mul_right_cancel}
+use Rattle.cj_decimal.proofs.TenPowers.{ten_pow_pos, ten_pow_add, ten_pow_suc, times_cancel, times_times, times_one, mul_right_cancel}
 
 -- the gap between two numbers in order
 pub gap_is : (t u : ℤ) → t ≤ℤ u → t +ℤ pos (int_gap t u) ≡ u
@@ -110,3 +113,36 @@ normal_below v w same a b low = normal_gap v w a b low (int_gap v.power w.power)
 -- equal numbers in normal form are one
 pub normal_same : (v w : Number) → SameValue v w → IsNormal v → IsNormal w → v ≡ w
 normal_same v w same a b = ⊎_elim (normal_below v w same a b) (λ h. sym (normal_below w v (same_sym v w same) b a h)) (le_total v.power w.power)
+
+-- ---- equality as the code tests it
+bits_apart : (w : Width) (p q : ℤ) → FitsSigned w p → FitsSigned w q → nat_eq (cast_unsigned w p) (cast_unsigned w q) ≡ true → p ≡ q
+bits_apart w p q a b e =
+    let bits : cast_unsigned w p ≡ cast_unsigned w q = grind (arith, nat_tests) in
+    sym (to_z-of_z w p a) ∙ ap (cast_signed w) bits ∙ to_z-of_z w q b
+
+bits_same : (w : Width) (p q : ℤ) → p ≡ q → nat_eq (cast_unsigned w p) (cast_unsigned w q) ≡ true
+bits_same w p q e = rw e (own (cast_unsigned w q))
+  where
+    own : (n : ℕ) → nat_eq n n ≡ true
+    own n = grind (arith, nat_tests)
+
+coefficient_fits : (v : Number) → IsInRange v → FitsSigned w128 v.coefficient
+coefficient_fits v r = let small : unsigned_abs v.coefficient < 10 ^ 36 = r.digits in fits_signed_from_abs w128 v.coefficient (omega arith)
+
+power_fits : (v : Number) → IsInRange v → FitsSigned w32 v.power
+power_fits v r = omega (arith, ints, r.power_low, r.power_high)
+
+-- with one coefficient: equal exactly where the powers are
+pub same_by_power : (v w : Number) → IsNormal v × IsInRange v → IsNormal w × IsInRange w → cast_unsigned w128 v.coefficient ≡ cast_unsigned w128 w.coefficient
+  → (nat_eq (cast_unsigned w32 v.power) (cast_unsigned w32 w.power) ≡ true) ↔ SameValue v w
+same_by_power v w a b e =
+    let c : v.coefficient ≡ w.coefficient = sym (to_z-of_z w128 v.coefficient (coefficient_fits v a.1)) ∙ ap (cast_signed w128) e ∙ to_z-of_z w128 w.coefficient (coefficient_fits w b.1) in
+    (λ h. let P : Number → Type 0 = SameValue v in subst P (number_eq v w c (bits_apart w32 v.power w.power (power_fits v a.1) (power_fits w b.1) h)) (same_refl v),
+      λ same. bits_same w32 v.power w.power (ap (λ (n : Number). n.power) (normal_same v w same a.0 b.0)))
+
+-- with two coefficients: never equal
+pub apart_by_coefficient : (v w : Number) → IsNormal v × IsInRange v → IsNormal w × IsInRange w → (cast_unsigned w128 v.coefficient ≡ cast_unsigned w128 w.coefficient → ⊥)
+  → (nat_eq (cast_unsigned w128 v.coefficient) (cast_unsigned w128 w.coefficient) ≡ true) ↔ SameValue v w
+apart_by_coefficient v w a b apart =
+    (λ h. absurd (apart (grind (arith, nat_tests))),
+      λ same. absurd (apart (ap (λ (n : Number). cast_unsigned w128 n.coefficient) (normal_same v w same a.0 b.0))))

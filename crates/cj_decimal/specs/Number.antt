@@ -1,7 +1,7 @@
 -- Numbers c * 10^p, over whole numbers of any size.
 use Rattle.std.specs.Prelude.{◌≡◌, ◌≢◌, ℕ, ◌-◌, ◌*◌, ◌%◌, ◌^◌, ◌<◌, ◌≤◌, Bool, true, false, ℤ, pos, negsuc, neg_ℤ, ◌*ℤ◌, ◌+ℤ◌, ◌≤ℤ◌, ◌<ℤ◌, unsigned_abs}
 use Rattle.std.specs.Int.{int_gap, int_min}
-use Rattle.std.specs.Ordering.{int_cmp}
+use Rattle.std.specs.Ordering.{int_cmp, int_eq, on, eq_of_both}
 use Rattle.std.specs.declared.cmp.Ordering.{Ordering}
 
 -- the number `coefficient * 10^power`
@@ -29,6 +29,10 @@ brought n power = n.coefficient *ℤ pos (10 ^ int_gap power n.power)
 -- the two numbers are equal: brought to the smaller power they have one coefficient
 pub record SameValue (m n : Number) : Type 0 where
   pub coefficients : brought m (smaller_power m n) ≡ brought n (smaller_power m n)
+
+-- the two have one coefficient and one power
+abbrev pub same_parts : Number → Number → Bool
+same_parts = eq_of_both (on (λ n. n.coefficient) int_eq) (on (λ n. n.power) int_eq)
 
 -- how two numbers compare, both brought to the smaller power
 abbrev pub value_order : Number → Number → Ordering

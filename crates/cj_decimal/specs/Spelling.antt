@@ -1,6 +1,6 @@
 -- The numbers of RFC 8259, section 6, and what their spellings stand for.
 use Rattle.std.specs.Prelude.{◌≡◌, ℕ, ◌+◌, ◌-◌, ◌*◌, ◌≤◌, List, [], ◌∷◌, ◌++◌, length, Bool, true, false, ◌⊎◌, ℤ, pos, ◌-ℤ◌}
-use Rattle.cj_decimal.specs.Number.{Number, number, signed, SameValue, IsNormal}
+use Rattle.cj_decimal.specs.Number.{Number, number, signed, SameValue, IsNormal, IsInRange}
 
 -- one of the bytes `0` to `9`
 abbrev pub IsDigit : ℕ → Type 0
@@ -97,3 +97,11 @@ pub record IsValue (s : List ℕ) (v : Number) : Type 0 where
 pub record HasOneValue (s : List ℕ) : Type 0 where
   pub has : IsNumber s → (v : Number) × IsValue s v
   pub one : (v w : Number) → IsValue s v → IsValue s w → v ≡ w
+
+-- s has a value in range
+abbrev pub IsNumberInRange : List ℕ → Type 0
+IsNumberInRange s = (v : Number) × IsValue s v × IsInRange v
+
+-- s has a value, and it is out of range
+abbrev pub IsNumberOutOfRange : List ℕ → Type 0
+IsNumberOutOfRange s = (v : Number) × IsValue s v × (¬ IsInRange v)

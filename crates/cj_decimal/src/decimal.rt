@@ -1,14 +1,14 @@
 //! A number c * 10^p in normal form.
 ghost use Rattle.std.specs.Prelude.{◌≡◌, ◌↔◌, ℕ, ◌+◌, ◌^◌, ◌<◌, IsTrue};
-ghost use Rattle.std.specs.Ordering.{int_eq, on, eq_of_both};
 ghost use Rattle.std.proofs.Common.{rules};
 ghost use Rattle.std.specs.Cmp.Rules.{comparing};
-ghost use Rattle.std.specs.Prelude.{ℤ, pos, ◌-ℤ◌, IfSome, IfNone};
-ghost use Rattle.cj_decimal.specs.Number.{number, signed, SameValue, IsNormal, IsInRange, IsOutOfRange};
+ghost use Rattle.std.specs.Prelude.{ℤ, pos, ◌-ℤ◌, IfSome, IfNone, IfOk, IsOk, IsErrOf};
+ghost use Rattle.cj_decimal.specs.Spelling.{IsNumber, IsValue, IsNumberInRange, IsNumberOutOfRange, HasOneValue};
+ghost use Rattle.cj_decimal.specs.Number.{number, signed, same_parts, SameValue, IsNormal, IsInRange, IsOutOfRange};
 ghost use Rattle.cj_decimal.specs.Digits.{StandsFor};
 ghost use Rattle.cj_decimal.specs.Reading.{Saturates};
 
-use crate::spelling::Parts;
+use crate::spelling::{Parts, read_parts};
 use crate::trimming::without_zeros;
 use std::marker::Model;
 use thiserror::Error;
@@ -56,11 +56,13 @@ fn with_sign(negative: bool, size: u128) -> i128
 }
 
 impl PartialEq for Decimal {
-    ghost eq = { eq_of_both (on (λ n. n.coefficient) int_eq) (on (λ n. n.power) int_eq) };
+    ghost eq = { same_parts };
 
     ghost laws = { Prim.search (comparing, rules) };
 
     fn eq(&self, other: &Decimal) -> bool
+        ensures parts { result ≡ same_parts self.now other.now }
+        ensures same_value { IsTrue result ↔ SameValue self.now other.now }
     {
         self.coefficient == other.coefficient && self.power == other.power
     }
@@ -103,6 +105,32 @@ impl Decimal {
             coefficient: with_sign(parts.negative, lead),
             power: power as i32,
         })
+    }
+
+    /// Reads the spelling of a number of JSON (RFC 8259, section 6), whatever its length, in one pass.
+    ///
+    /// # Errors
+    ///
+    /// `NotANumber` where the spelling is no number of JSON, `NumberRange` where its value has more
+    /// than 36 digits in normal form, or a power of ten past 1,000,000 in size.
+    pub fn read(spelling: &[u8]) -> Result<Decimal, DecimalFault>
+        ensures value { IfOk result (IsValue spelling.now) }
+        ensures in_range { IfOk result IsInRange }
+        ensures ok { IsOk result ↔ IsNumberInRange spelling.now }
+        ensures not_a_number { IsErrOf result DecimalFault.NotANumber ↔ (¬ IsNumber spelling.now) }
+        ensures number_range { IsErrOf result DecimalFault.NumberRange
+            ↔ IsNumberOutOfRange spelling.now }
+
+        // A law of the definitions: the value is determined.
+        ensures one_value { HasOneValue spelling.now }
+    {
+        let Some(parts) = read_parts(spelling) else {
+            return Err(DecimalFault::NotANumber);
+        };
+        let Some(decimal) = Decimal::from_parts(parts) else {
+            return Err(DecimalFault::NumberRange);
+        };
+        Ok(decimal)
     }
 
     /// The coefficient of the normal form.

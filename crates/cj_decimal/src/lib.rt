@@ -4,6 +4,7 @@
 mod decimal;
 mod digits;
 mod fixed;
+mod powers;
 mod spelling;
 mod trimming;
 
