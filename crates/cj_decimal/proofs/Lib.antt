@@ -7,3 +7,4 @@ pub mod Parts
 pub mod Trims
 pub mod Normal
 pub mod Law
+pub mod Scales

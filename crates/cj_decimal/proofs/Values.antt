@@ -129,6 +129,13 @@ bits_same w p q e = rw e (own (cast_unsigned w q))
 coefficient_fits : (v : Number) → IsInRange v → FitsSigned w128 v.coefficient
 coefficient_fits v r = let small : unsigned_abs v.coefficient < 10 ^ 36 = r.digits in fits_signed_from_abs w128 v.coefficient (omega arith)
 
+-- a coefficient in range that went to bits and back
+pub coefficient_same : (v : Number) → IsInRange v → cast_signed w128 (cast_unsigned w128 v.coefficient) ≡ v.coefficient
+coefficient_same v r = to_z-of_z w128 v.coefficient (coefficient_fits v r)
+
+pub coefficient_cast : (v : Number) → IsInRange v → unsigned_abs (cast_signed w128 (cast_unsigned w128 v.coefficient)) < 10 ^ 36
+coefficient_cast v r = rw (coefficient_same v r) r.digits
+
 power_fits : (v : Number) → IsInRange v → FitsSigned w32 v.power
 power_fits v r = omega (arith, ints, r.power_low, r.power_high)
 

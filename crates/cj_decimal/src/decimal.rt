@@ -2,12 +2,13 @@
 ghost use Rattle.std.specs.Prelude.{◌≡◌, ◌↔◌, ℕ, ◌+◌, ◌^◌, ◌<◌, IsTrue};
 ghost use Rattle.std.proofs.Common.{rules};
 ghost use Rattle.std.specs.Cmp.Rules.{comparing};
-ghost use Rattle.std.specs.Prelude.{ℤ, pos, ◌-ℤ◌, IfSome, IfNone, IfOk, IsOk, IsErrOf};
+ghost use Rattle.std.specs.Prelude.{ℤ, pos, neg_ℤ, ◌-ℤ◌, ◌*ℤ◌, ◌*◌, ◌≤◌, unsigned_abs, IfSome, IfNone, IfOk, IsOk, IsErrOf};
 ghost use Rattle.cj_decimal.specs.Spelling.{IsNumber, IsValue, IsNumberInRange, IsNumberOutOfRange, HasOneValue};
 ghost use Rattle.cj_decimal.specs.Number.{number, signed, same_parts, SameValue, IsNormal, IsInRange, IsOutOfRange};
 ghost use Rattle.cj_decimal.specs.Digits.{StandsFor};
 ghost use Rattle.cj_decimal.specs.Reading.{Saturates};
 
+use crate::powers::wide_ten_to;
 use crate::spelling::{Parts, read_parts};
 use crate::trimming::without_zeros;
 use std::marker::Model;
@@ -53,6 +54,21 @@ fn with_sign(negative: bool, size: u128) -> i128
     } else {
         size as i128
     }
+}
+
+/// The number with zeros at its end, where it then has no more than so many digits.
+fn with_zeros(number: i128, zeros: u32, digits: u32) -> Option<i128>
+    requires fits { unsigned_abs number < 10 ^ 36 }
+    requires bounded { digits ≤ 36 }
+    requires within { zeros ≤ digits }
+    ensures value { IfSome result
+        (λ u. (u ≡ number *ℤ pos (10 ^ zeros)) × (unsigned_abs u < 10 ^ digits)) }
+    ensures none { IfNone result (10 ^ digits ≤ unsigned_abs number * 10 ^ zeros) }
+{
+    if number.unsigned_abs() >= wide_ten_to(digits - zeros) {
+        return None;
+    }
+    Some(number * wide_ten_to(zeros) as i128)
 }
 
 impl PartialEq for Decimal {
@@ -131,6 +147,25 @@ impl Decimal {
             return Err(DecimalFault::NumberRange);
         };
         Ok(decimal)
+    }
+
+    /// The number as a number of units of 10^-places, where it is a whole number of them, below 10^digits in size.
+    fn in_units(self, places: u32, digits: u32) -> Option<i128>
+        requires bounded { digits ≤ 36 }
+        requires apart { places < digits }
+        ensures value { IfSome result
+            (λ u. SameValue self (number u (neg_ℤ (pos places))) × (unsigned_abs u < 10 ^ digits)) }
+        ensures none { IfNone result ((u : ℤ) → SameValue self (number u (neg_ℤ (pos places)))
+            → 10 ^ digits ≤ unsigned_abs u) }
+    {
+        let power = self.power + places as i32;
+        if power < 0 {
+            return None;
+        }
+        if power >= digits as i32 {
+            return None;
+        }
+        with_zeros(self.coefficient, power as u32, digits)
     }
 
     /// The coefficient of the normal form.

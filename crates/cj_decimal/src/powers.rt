@@ -28,3 +28,15 @@ pub fn ten_to(power: u32) -> u64
         _ => 1_000_000_000_000_000_000,
     }
 }
+
+/// Ten to a power from 0 to 36.
+pub fn wide_ten_to(power: u32) -> u128
+    requires { power ≤ 36 }
+    ensures { result ≡ 10 ^ power }
+{
+    if power <= 18 {
+        ten_to(power) as u128
+    } else {
+        ten_to(power - 18) as u128 * 1_000_000_000_000_000_000
+    }
+}
