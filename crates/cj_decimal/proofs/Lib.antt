@@ -8,3 +8,4 @@ pub mod Trims
 pub mod Normal
 pub mod Law
 pub mod Scales
+pub mod Splits

@@ -1,3 +1,4 @@
+pub mod Affine
 pub mod Digits
 pub mod Number
 pub mod Reading

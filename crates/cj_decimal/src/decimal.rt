@@ -2,12 +2,13 @@
 ghost use Rattle.std.specs.Prelude.{◌≡◌, ◌↔◌, ℕ, ◌+◌, ◌^◌, ◌<◌, IsTrue};
 ghost use Rattle.std.proofs.Common.{rules};
 ghost use Rattle.std.specs.Cmp.Rules.{comparing};
-ghost use Rattle.std.specs.Prelude.{ℤ, pos, neg_ℤ, ◌-ℤ◌, ◌*ℤ◌, ◌*◌, ◌≤◌, unsigned_abs, IfSome, IfNone, IfOk, IsOk, IsErrOf};
+ghost use Rattle.std.specs.Prelude.{ℤ, pos, neg_ℤ, ◌-ℤ◌, ◌*ℤ◌, ◌*◌, ◌≤◌, unsigned_abs, IfSome, IfNone, IsSome, IfOk, IsOk, IsErrOf};
 ghost use Rattle.cj_decimal.specs.Spelling.{IsNumber, IsValue, IsNumberInRange, IsNumberOutOfRange, HasOneValue};
-ghost use Rattle.cj_decimal.specs.Number.{number, signed, same_parts, SameValue, IsNormal, IsInRange, IsOutOfRange};
+ghost use Rattle.cj_decimal.specs.Number.{number, signed, same_parts, SameValue, IsNormal, IsInRange, IsOutOfRange, IsWhole, IsFixed};
 ghost use Rattle.cj_decimal.specs.Digits.{StandsFor};
 ghost use Rattle.cj_decimal.specs.Reading.{Saturates};
 
+use crate::fixed::Fixed18;
 use crate::powers::wide_ten_to;
 use crate::spelling::{Parts, read_parts};
 use crate::trimming::without_zeros;
@@ -166,6 +167,28 @@ impl Decimal {
             return None;
         }
         with_zeros(self.coefficient, power as u32, digits)
+    }
+
+    /// The value, where it is whole and below 10^18 in size.
+    pub fn whole(self) -> Option<i64>
+        ensures value { IfSome result (IsWhole self) }
+        ensures whole { IsSome result ↔ ((w : ℤ) × IsWhole self w) }
+    {
+        match self.in_units(0, 18) {
+            Some(whole) => Some(whole as i64),
+            None => None,
+        }
+    }
+
+    /// The value in units of 10^-18, where it is a multiple of 10^-18 and below 10^18 in size.
+    pub fn fixed18(self) -> Option<Fixed18>
+        ensures value { IfSome result (IsFixed self) }
+        ensures fixed { IsSome result ↔ ((u : ℤ) × IsFixed self u) }
+    {
+        match self.in_units(18, 36) {
+            Some(units) => Some(Fixed18::from_units(units)),
+            None => None,
+        }
     }
 
     /// The coefficient of the normal form.

@@ -22,6 +22,14 @@ impl Model for Fixed18 {
 }
 
 impl Fixed18 {
+    /// So many units of 10^-18.
+    pub(crate) fn from_units(units: i128) -> Fixed18
+        requires { unsigned_abs units < 10 ^ 36 }
+        ensures { result ≡ units }
+    {
+        Fixed18 { units }
+    }
+
     /// The number of units of 10^-18.
     pub fn units(self) -> i128
         ensures value { result ≡ self }

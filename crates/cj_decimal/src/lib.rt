@@ -1,6 +1,7 @@
 //! Decimals of whole-number parts, compared exactly.
 #![tactic(auto)]
 
+mod affine;
 mod decimal;
 mod digits;
 mod fixed;
@@ -8,5 +9,6 @@ mod powers;
 mod spelling;
 mod trimming;
 
+pub use affine::Affine;
 pub use decimal::{Decimal, DecimalFault};
 pub use fixed::Fixed18;
