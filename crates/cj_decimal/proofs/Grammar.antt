@@ -1,10 +1,10 @@
 -- The test of a spelling from its front, and the grammar.
-use Rattle.std.proofs.Common.{◌≡◌, ℕ, zero, suc, ◌+◌, ◌-◌, ◌*◌, ◌<◌, ◌≤◌, ◌≢◌, List, [], ◌∷◌, ◌++◌, length, drop, Bool, true, false, cond, refl, sym, ap, ◌∙◌, subst, arith, rules, inl, inr, ⊎_elim, ℤ, pos}
-use Rattle.std.specs.Prelude.{nat_le, nat_eq, ◌&&◌, ◌||◌, not, ◌⊎◌}
+use Rattle.std.proofs.Common.{◌≡◌, ℕ, ◌<◌, ◌≤◌, ◌≢◌, List, [], ◌∷◌, ◌++◌, drop, Bool, true, false, cond, refl, sym, ap, ◌∙◌, subst, arith, inl, inr, ⊎_elim, ℤ}
+use Rattle.std.specs.Prelude.{nat_eq, ◌&&◌, ◌||◌, not, ◌⊎◌}
 use Rattle.std.proofs.lemmas.Bool.Decides.{nat_tests}
 use Rattle.std.specs.Char.{is_ascii_digit}
 use Rattle.cj_decimal.specs.Number.{signed}
-use Rattle.cj_decimal.specs.Spelling.{IsDigit, AllDigits, IsDigits, IsInt, IsMinus, IsFrac, IsExpSign, ExpParts, IsExp, Written, Spells, value_after, digits_value}
+use Rattle.cj_decimal.specs.Spelling.{IsDigit, AllDigits, IsDigits, IsInt, IsMinus, IsFrac, IsExpSign, ExpParts, IsExp, Written, Spells, digits_value}
 use Rattle.cj_decimal.specs.Reading.{digits_front, digits_rest, begins, is_empty, begins_digit, body, is_int, is_frac, frac_digits, after_frac, exp_digits, is_whole_digits, is_exp, exp_value, is_number, written_of}
 use Rattle.cj_decimal.proofs.Ways.{front_digit, front_other, front_end, rest_digit, rest_other, rest_end, digit_bounds}
 
@@ -136,8 +136,8 @@ sign_split : (negative : Bool) (sign digits : List ℕ) → IsExpSign negative s
 unfolding exp_digits
 sign_split true sign digits s d = rw s (begins_own 45 digits, ap (λ t. cond (t || begins 43 (45 ∷ digits)) digits (45 ∷ digits)) (begins_own 45 digits))
 sign_split false sign digits s d = ⊎_elim
-  (λ none. rw none (digit_begins_alone 45 digits d (omega arith), ap (λ t. cond (t || begins 43 digits) (drop 1 digits) digits) (digit_begins_alone 45 digits d (omega arith)) ∙ ap (λ t. cond t (drop 1 digits) digits) (digit_begins_alone 43 digits d (omega arith))))
-  (λ plus. rw plus (begins_other 45 43 digits (λ e. omega (arith, e)), ap (λ t. cond (t || begins 43 (43 ∷ digits)) digits (43 ∷ digits)) (begins_other 45 43 digits (λ e. omega (arith, e))) ∙ ap (λ t. cond t digits (43 ∷ digits)) (begins_own 43 digits))) s
+    (λ none. rw none (digit_begins_alone 45 digits d (omega arith), ap (λ t. cond (t || begins 43 digits) (drop 1 digits) digits) (digit_begins_alone 45 digits d (omega arith)) ∙ ap (λ t. cond t (drop 1 digits) digits) (digit_begins_alone 43 digits d (omega arith))))
+    (λ plus. rw plus (begins_other 45 43 digits (λ e. omega (arith, e)), ap (λ t. cond (t || begins 43 (43 ∷ digits)) digits (43 ∷ digits)) (begins_other 45 43 digits (λ e. omega (arith, e))) ∙ ap (λ t. cond t digits (43 ∷ digits)) (begins_own 43 digits))) s
 
 mark_test : (b : ℕ) → (b ≡ 101) ⊎ (b ≡ 69) → (nat_eq b 101 || nat_eq b 69) ≡ true
 mark_test b h = ⊎_elim (λ e. rw e refl) (λ e. rw e refl) h
@@ -152,15 +152,16 @@ mark_no_digit b h = ⊎_elim (λ e. rw e refl) (λ e. rw e refl) h
 exp_test : (e : ℤ) (t : List ℕ) → IsExp e t → (is_exp t ≡ true) × (exp_value t ≡ e) × (begins_digit t ≡ false) × (begins 46 t ≡ false)
 unfolding is_exp exp_value begins_digit
 exp_test e t h = ⊎_elim
-  (λ none. rw none.1 (refl, sym none.0, refl, begins_none 46))
-  (λ p.
+    (λ none. rw none.1 (refl, sym none.0, refl, begins_none 46))
+    (λ p.
     let split = sign_split p.negative p.sign p.digits p.sign_is p.digits_are in
     rw p.joined (
       both _ _ (mark_test p.mark p.mark_is) (ap is_whole_digits split.1 ∙ whole_test p.digits p.digits_are),
       ap (λ n. signed n (digits_value (exp_digits (p.sign ++ p.digits)))) split.0 ∙ ap (λ ds. signed p.negative (digits_value ds)) split.1 ∙ sym p.value,
       mark_no_digit p.mark p.mark_is,
-      begins_other 46 p.mark (p.sign ++ p.digits) (λ e. ⊎_elim (λ f. omega (arith, e, f)) (λ f. omega (arith, e, f)) p.mark_is)))
-  h
+      begins_other 46 p.mark (p.sign ++ p.digits) (λ e. ⊎_elim (λ f. omega (arith, e, f)) (λ f. omega (arith, e, f)) p.mark_is),
+    ))
+    h
 
 same_digits : (s t : List ℕ) → s ≡ t → IsDigits s → IsDigits t
 same_digits s t e d = let P : List ℕ → Type 0 = IsDigits in subst P e d
@@ -235,11 +236,12 @@ FracTest r digits exp = (is_frac r ≡ true) × (frac_digits r ≡ digits) × (a
 with_point : (digits exp : List ℕ) → IsDigits digits → begins_digit exp ≡ false → FracTest (46 ∷ (digits ++ exp)) digits exp
 unfolding is_frac frac_digits after_frac
 with_point digits exp d stop =
-    let point = begins_own 46 (digits ++ exp) in
-    (ap (λ t. not t || begins_digit (digits ++ exp)) point ∙ first_digit digits exp d,
+    let point = begins_own 46 (digits ++ exp) in (
+      ap (λ t. not t || begins_digit (digits ++ exp)) point ∙ first_digit digits exp d,
       ap (λ t. cond t (digits_front (digits ++ exp)) []) point ∙ front_append digits exp (all_of digits d) stop,
       ap (λ t. cond t (digits_rest (digits ++ exp)) (46 ∷ (digits ++ exp))) point ∙ rest_append digits exp (all_of digits d) stop,
-      point_no_digit (digits ++ exp))
+      point_no_digit (digits ++ exp),
+    )
 
 without_point : (exp : List ℕ) → begins_digit exp ≡ false → begins 46 exp ≡ false → FracTest exp [] exp
 unfolding is_frac frac_digits after_frac
@@ -255,7 +257,7 @@ front_digits [] h = absurd (cc h)
 front_digits (b ∷ s) h = same_digits _ _ (sym (front_digit b s h)) (digit_bounds b h, front_all s)
 
 frac_by_point : (r : List ℕ) (point : Bool) → begins 46 r ≡ point → (not point || begins_digit (drop 1 r)) ≡ true
-  → (fraction : List ℕ) × IsFrac (cond point (digits_front (drop 1 r)) []) fraction × (r ≡ fraction ++ cond point (digits_rest (drop 1 r)) r)
+    → (fraction : List ℕ) × IsFrac (cond point (digits_front (drop 1 r)) []) fraction × (r ≡ fraction ++ cond point (digits_rest (drop 1 r)) r)
 frac_by_point r false e h = ([], inl (refl, refl), refl)
 frac_by_point r true e h = (46 ∷ digits_front (drop 1 r), inr (front_digits (drop 1 r) h, refl), begins_is 46 r e ∙ ap (λ s. 46 ∷ s) (front_rest (drop 1 r)))
 
@@ -287,10 +289,11 @@ spells_test s n h =
     let rest = rest_append n.int tail (int_digits n.int h.int_is) frac.3 in
     rw h.joined (
       both _ _ (ap (λ b. is_int (digits_front b)) sign.1 ∙ ap is_int front ∙ int_test n.int h.int_is)
-        (both _ _ (ap (λ b. is_frac (digits_rest b)) sign.1 ∙ ap is_frac rest ∙ frac.0)
+          (both _ _ (ap (λ b. is_frac (digits_rest b)) sign.1 ∙ ap is_frac rest ∙ frac.0)
           (ap (λ b. is_exp (after_frac (digits_rest b))) sign.1 ∙ ap (λ r. is_exp (after_frac r)) rest ∙ ap is_exp frac.2 ∙ exp.0)),
       written_eq n _ _ _ _ sign.0 (ap digits_front sign.1 ∙ front) (ap (λ b. frac_digits (digits_rest b)) sign.1 ∙ ap frac_digits rest ∙ frac.1)
-        (ap (λ b. exp_value (after_frac (digits_rest b))) sign.1 ∙ ap (λ r. exp_value (after_frac r)) rest ∙ ap exp_value frac.2 ∙ exp.1))
+          (ap (λ b. exp_value (after_frac (digits_rest b))) sign.1 ∙ ap (λ r. exp_value (after_frac r)) rest ∙ ap exp_value frac.2 ∙ exp.1),
+    )
 
 -- and what passes the test is a number of the grammar
 pub test_spells : (s : List ℕ) → is_number s ≡ true → Spells s (written_of s)

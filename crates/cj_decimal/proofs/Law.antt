@@ -1,8 +1,8 @@
 -- What a spelling that was read stands for, and that its value is one.
-use Rattle.std.proofs.Common.{◌≡◌, ℕ, ◌++◌, List, length, Bool, ℤ, pos, ◌-ℤ◌, refl, sym, ap, ◌∙◌, subst}
+use Rattle.std.proofs.Common.{◌≡◌, ℕ, ◌++◌, List, length, Bool, ℤ, pos, ◌-ℤ◌, sym, ap, ◌∙◌, subst}
 use Rattle.cj_decimal.specs.Number.{Number, number, signed, SameValue, IsNormal, IsInRange, IsOutOfRange}
 use Rattle.cj_decimal.specs.Spelling.{Written, Spells, IsNumber, digits_value, number_of, IsValue, HasOneValue, IsNumberInRange, IsNumberOutOfRange}
-use Rattle.cj_decimal.specs.Reading.{IsReadOf, written_of}
+use Rattle.cj_decimal.specs.Reading.{IsReadOf}
 use Rattle.cj_decimal.proofs.Values.{same_sym, same_trans, normal_same}
 use Rattle.cj_decimal.proofs.Normal.{normal_form}
 use Rattle.cj_decimal.proofs.Grammar.{spells_test}
@@ -19,8 +19,8 @@ one_value s v w a b =
 pub has_one_value : (s : List ℕ) → HasOneValue s
 has_one_value s = record {
   has = λ n.
-    let form = normal_form n.0.negative (digits_value (n.0.int ++ n.0.frac)) (n.0.exponent -ℤ pos (length n.0.frac)) in
-    (form.0, record { written = n.0; spells = n.1; same = form.1; normal = form.2 });
+      let form = normal_form n.0.negative (digits_value (n.0.int ++ n.0.frac)) (n.0.exponent -ℤ pos (length n.0.frac)) in
+      (form.0, record { written = n.0; spells = n.1; same = form.1; normal = form.2 });
   one = one_value s;
 }
 
@@ -34,7 +34,7 @@ is_number_of s negative lead extra lost places exponent r =
     ap (λ b. number (signed b n) (r.written.exponent -ℤ pos places)) (sym r.sign) ∙ ap (λ k. number (signed r.written.negative n) (r.written.exponent -ℤ pos k)) (sym r.places_are)
 
 pub value_of_read : (s : List ℕ) (negative : Bool) (lead extra : ℕ) (lost : Bool) (places : ℕ) (exponent : ℤ) (r : IsReadOf s negative lead extra lost places exponent) (v : Number)
-  → SameValue (read_number s negative lead extra lost places exponent r) v → IsNormal v → IsValue s v
+    → SameValue (read_number s negative lead extra lost places exponent r) v → IsNormal v → IsValue s v
 value_of_read s negative lead extra lost places exponent r v same normal = record {
   written = r.written;
   spells = r.spells;
@@ -43,7 +43,7 @@ value_of_read s negative lead extra lost places exponent r v same normal = recor
 }
 
 pub out_of_read : (s : List ℕ) (negative : Bool) (lead extra : ℕ) (lost : Bool) (places : ℕ) (exponent : ℤ) (r : IsReadOf s negative lead extra lost places exponent)
-  → IsOutOfRange (read_number s negative lead extra lost places exponent r) → IsNumberOutOfRange s
+    → IsOutOfRange (read_number s negative lead extra lost places exponent r) → IsNumberOutOfRange s
 out_of_read s negative lead extra lost places exponent r o =
     (o.normal_form, value_of_read s negative lead extra lost places exponent r o.normal_form o.same o.normal, o.out)
 

@@ -1,15 +1,15 @@
 -- The normal form of the number that was read.
-use Rattle.std.proofs.Common.{◌≡◌, ℕ, zero, suc, ◌+◌, ◌-◌, ◌*◌, ◌/◌, ◌%◌, ◌^◌, ◌<◌, ◌≤◌, ◌≢◌, Bool, true, false, ℤ, pos, negsuc, neg_ℤ, ◌+ℤ◌, ◌-ℤ◌, ◌*ℤ◌, ◌≤ℤ◌, ◌<ℤ◌, refl, sym, ap, ◌∙◌, subst, arith, inl, inr, ⊎_elim}
+use Rattle.std.proofs.Common.{◌≡◌, ℕ, zero, suc, ◌+◌, ◌*◌, ◌/◌, ◌%◌, ◌^◌, ◌<◌, ◌≤◌, Bool, true, false, ℤ, pos, neg_ℤ, ◌+ℤ◌, ◌-ℤ◌, ◌*ℤ◌, ◌≤ℤ◌, ◌<ℤ◌, refl, sym, ap, ◌∙◌, arith, ⊎_elim}
 use Rattle.std.specs.Prelude.{◌⊎◌, unsigned_abs}
 use Rattle.std.specs.Int.{int_gap, int_min, w32, w128, cast_signed, cast_unsigned}
 use Rattle.std.proofs.lemmas.Nat.{pow-add}
-use Rattle.std.proofs.lemmas.Int.{ints, clamps, by_lt_z, to_z-of_z, fits_signed_from_abs}
+use Rattle.std.proofs.lemmas.Int.{ints, by_lt_z, to_z-of_z, fits_signed_from_abs}
 use Rattle.cj_decimal.specs.Number.{Number, number, signed, SameValue, IsNormal, IsInRange, IsOutOfRange}
 use Rattle.cj_decimal.specs.Digits.{IsTooLong, StandsFor, IsTrimmed}
 use Rattle.cj_decimal.specs.Reading.{Saturates}
-use Rattle.cj_decimal.proofs.TenPowers.{ten_pow_suc, ten_pow_pos, neg_times}
+use Rattle.cj_decimal.proofs.TenPowers.{ten_pow_suc, neg_times}
 use Rattle.cj_decimal.proofs.Trims.{trim_more, trim_left}
-use Rattle.cj_decimal.proofs.Values.{same_scaled, at_same, smaller_left, smaller_right, normal_same, same_refl}
+use Rattle.cj_decimal.proofs.Values.{same_scaled}
 
 pub signed_size : (s : Bool) (n : ℕ) → unsigned_abs (signed s n) ≡ n
 signed_size false n = refl
@@ -100,18 +100,18 @@ stands_trimmed lead extra lost n c k s e t = s.whole e ∙ ap (λ l. l * 10 ^ ex
 
 -- the power that is computed of what was read is the number's power where it is in range, and out of range where that is
 pub power_in : (e r : ℤ) (places up : ℕ) → Saturates e r → places < 2 ^ 64 → up < 2 ^ 65 → neg_ℤ (pos 1000000) ≤ℤ (r -ℤ pos places +ℤ pos up) → (r -ℤ pos places +ℤ pos up) ≤ℤ pos 1000000
-  → e -ℤ pos places +ℤ pos up ≡ r -ℤ pos places +ℤ pos up
+    → e -ℤ pos places +ℤ pos up ≡ r -ℤ pos places +ℤ pos up
 power_in e r places up s a b low high = let same : e ≡ r = s.same (omega (arith, ints)) in omega (arith, ints)
 
 pub power_low_out : (e r : ℤ) (places up : ℕ) → Saturates e r → places < 2 ^ 64 → up < 2 ^ 65 → (r -ℤ pos places +ℤ pos up) <ℤ neg_ℤ (pos 1000000) → (e -ℤ pos places +ℤ pos up) <ℤ neg_ℤ (pos 1000000)
 power_low_out e r places up s a b h = by_lt_z (neg_ℤ (pos (10 ^ 35))) r
-  (λ k. let same : e ≡ r = s.same (omega (arith, ints)) in omega (arith, ints))
-  (λ k. let far : e ≤ℤ neg_ℤ (pos (10 ^ 35)) = s.low k in omega (arith, ints))
+    (λ k. let same : e ≡ r = s.same (omega (arith, ints)) in omega (arith, ints))
+    (λ k. let far : e ≤ℤ neg_ℤ (pos (10 ^ 35)) = s.low k in omega (arith, ints))
 
 pub power_high_out : (e r : ℤ) (places up : ℕ) → Saturates e r → places < 2 ^ 64 → up < 2 ^ 65 → pos 1000000 <ℤ (r -ℤ pos places +ℤ pos up) → pos 1000000 <ℤ (e -ℤ pos places +ℤ pos up)
 power_high_out e r places up s a b h = by_lt_z r (pos (10 ^ 35))
-  (λ k. let same : e ≡ r = s.same (omega (arith, ints)) in omega (arith, ints))
-  (λ k. let far : pos (10 ^ 35) ≤ℤ e = s.high k in omega (arith, ints))
+    (λ k. let same : e ≡ r = s.same (omega (arith, ints)) in omega (arith, ints))
+    (λ k. let far : pos (10 ^ 35) ≤ℤ e = s.high k in omega (arith, ints))
 
 -- where the power is out of range, the normal form is
 pub power_out : (s : Bool) (n c up : ℕ) (q : ℤ) → n ≡ c * 10 ^ up → 0 < c % 10 → ((q +ℤ pos up) <ℤ neg_ℤ (pos 1000000)) ⊎ (pos 1000000 <ℤ (q +ℤ pos up)) → IsOutOfRange (number (signed s n) q)
@@ -138,7 +138,7 @@ sign_cast s c x e small = to_z-of_z w128 x (fits_signed_from_abs w128 x (omega (
 
 -- the power as the code computes it
 pub power_cast : (r : ℤ) (places extra more : ℕ) → unsigned_abs r < 10 ^ 36 → places < 2 ^ 64 → extra < 2 ^ 64 → more < 39
-  → neg_ℤ (pos 1000000) ≤ℤ (r -ℤ pos places +ℤ pos (extra + more)) → (r -ℤ pos places +ℤ pos (extra + more)) ≤ℤ pos 1000000
-  → cast_signed w32 (cast_unsigned w32 (cast_signed w128 (cast_unsigned w128 (cast_signed w128 (cast_unsigned w128 (cast_signed w128 (cast_unsigned w128 r) -ℤ cast_signed w128 places)) +ℤ cast_signed w128 (cast_unsigned w128 (cast_signed w128 extra +ℤ cast_signed w128 more))))))
+    → neg_ℤ (pos 1000000) ≤ℤ (r -ℤ pos places +ℤ pos (extra + more)) → (r -ℤ pos places +ℤ pos (extra + more)) ≤ℤ pos 1000000
+    → cast_signed w32 (cast_unsigned w32 (cast_signed w128 (cast_unsigned w128 (cast_signed w128 (cast_unsigned w128 (cast_signed w128 (cast_unsigned w128 r) -ℤ cast_signed w128 places)) +ℤ cast_signed w128 (cast_unsigned w128 (cast_signed w128 extra +ℤ cast_signed w128 more))))))
     ≡ r -ℤ pos places +ℤ pos (extra + more)
 power_cast r places extra more a b c d low high = omega (arith, ints)

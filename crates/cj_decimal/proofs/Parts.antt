@@ -1,15 +1,14 @@
 -- The parts of a spelling at their places.
-use Rattle.std.proofs.Common.{◌≡◌, ℕ, zero, suc, ◌+◌, ◌-◌, ◌*◌, ◌^◌, ◌<◌, ◌≤◌, ◌≢◌, List, [], ◌∷◌, ◌++◌, length, drop, get_or, Bool, true, false, cond, refl, sym, ap, ◌∙◌, subst, arith, rules, inl, inr, ⊎_elim, ℤ, pos, length-drop}
-use Rattle.std.specs.Prelude.{nat_eq, ◌&&◌, ◌||◌, not, ◌⊎◌}
+use Rattle.std.proofs.Common.{◌≡◌, ℕ, ◌+◌, ◌-◌, ◌*◌, ◌^◌, ◌<◌, ◌≤◌, List, [], ◌∷◌, ◌++◌, length, drop, get_or, Bool, true, false, cond, refl, sym, ap, ◌∙◌, arith, ℤ, pos, length-drop}
+use Rattle.std.specs.Prelude.{nat_eq, ◌&&◌, ◌||◌, not}
 use Rattle.std.specs.Prelude.{neg_ℤ, Option, None, Some, IsSome}
-use Rattle.std.proofs.lemmas.Bool.Decides.{nat_tests}
 use Rattle.std.proofs.lemmas.Int.{ints}
 use Rattle.std.proofs.Math.Nat.{le-mul_of_pos_right}
 use Rattle.cj_decimal.specs.Number.{signed}
 use Rattle.std.specs.Char.{is_ascii_digit}
-use Rattle.cj_decimal.specs.Digits.{StandsFor, IsTooLong}
+use Rattle.cj_decimal.specs.Digits.{StandsFor}
 use Rattle.cj_decimal.specs.Spelling.{value_after, digits_value, IsNumber, Spells}
-use Rattle.cj_decimal.specs.Reading.{body, written_of, is_number, digits_front, digits_rest, begins, is_empty, begins_digit, is_int, is_frac, frac_digits, after_frac, exp_digits, is_whole_digits, is_exp, exp_value, Stops, Saturates, SaturatesSize}
+use Rattle.cj_decimal.specs.Reading.{body, written_of, digits_front, digits_rest, begins, is_empty, begins_digit, is_int, is_frac, frac_digits, after_frac, exp_digits, is_whole_digits, is_exp, exp_value, Saturates, SaturatesSize}
 use Rattle.cj_decimal.proofs.TenPowers.{ten_pow_pos}
 use Rattle.cj_decimal.proofs.Pushes.{stands_short}
 use Rattle.cj_decimal.proofs.Grammar.{append_nil, front_rest, both, both_left, both_right, spells_test, test_spells}
@@ -124,6 +123,7 @@ saturates_size lead extra lost n full cut s = record {
   where
     times_more : (l p : ℕ) → 0 < p → l ≤ l * p
     times_more l p h = le-mul_of_pos_right {m = p} l h
+
     at_least : (lead extra : ℕ) (lost : Bool) (n : ℕ) → 10 ^ 35 ≤ lead → StandsFor lead extra lost n → 10 ^ 35 ≤ n
     at_least lead extra true n big s = let long : 10 ^ 36 ≤ n = (s.cut refl).too_long n 0 (omega arith) in omega arith
     at_least lead extra false n big s = omega (arith, s.whole refl, times_more lead (10 ^ extra) (ten_pow_pos extra))
@@ -168,13 +168,14 @@ one_of_within a b s at h = elim (begins a (drop at s)) as (λ t. begins a (drop 
 
 -- an exponent's mark at a place, and its digits at another
 pub marked_at : (s : List ℕ) (from first : ℕ) → (begins 101 (drop from s) || begins 69 (drop from s)) ≡ true → drop first s ≡ exp_digits (drop (from + 1) s)
-  → (is_exp (drop from s) ≡ is_whole_digits (drop first s)) × (exp_value (drop from s) ≡ signed (begins 45 (drop (from + 1) s)) (digits_value (drop first s)))
+    → (is_exp (drop from s) ≡ is_whole_digits (drop first s)) × (exp_value (drop from s) ≡ signed (begins 45 (drop (from + 1) s)) (digits_value (drop first s)))
 marked_at s from first mark digits =
     let marked = exp_marked (drop from s) mark in
     let next = drop_one s from (one_of_within 101 69 s from mark) in
-    let same : exp_digits (drop 1 (drop from s)) ≡ drop first s = ap exp_digits next ∙ sym digits in
-    (marked.0 ∙ ap is_whole_digits same,
-      marked.1 ∙ ap (λ t. signed (begins 45 t) (digits_value (exp_digits (drop 1 (drop from s))))) next ∙ ap (λ t. signed (begins 45 (drop (from + 1) s)) (digits_value t)) same)
+    let same : exp_digits (drop 1 (drop from s)) ≡ drop first s = ap exp_digits next ∙ sym digits in (
+      marked.0 ∙ ap is_whole_digits same,
+      marked.1 ∙ ap (λ t. signed (begins 45 t) (digits_value (exp_digits (drop 1 (drop from s))))) next ∙ ap (λ t. signed (begins 45 (drop (from + 1) s)) (digits_value t)) same,
+    )
 
 -- what was read of the digits, with the sign that was read
 pub saturates_read : (negative sign : Bool) (n size : ℕ) (e r : ℤ) → e ≡ signed sign n → sign ≡ negative → r ≡ signed negative size → SaturatesSize n size → Saturates e r

@@ -1,6 +1,6 @@
 -- A number as a whole number of units.
-use Rattle.std.proofs.Common.{◌≡◌, ℕ, zero, suc, ◌+◌, ◌-◌, ◌*◌, ◌%◌, ◌^◌, ◌<◌, ◌≤◌, ◌≢◌, ℤ, pos, negsuc, neg_ℤ, ◌+ℤ◌, ◌-ℤ◌, ◌*ℤ◌, ◌≤ℤ◌, ◌<ℤ◌, refl, sym, ap, ◌∙◌, subst, arith, inl, inr, ⊎_elim}
-use Rattle.std.specs.Prelude.{◌⊎◌, unsigned_abs}
+use Rattle.std.proofs.Common.{◌≡◌, ℕ, zero, suc, ◌+◌, ◌-◌, ◌*◌, ◌%◌, ◌^◌, ◌<◌, ◌≤◌, ℤ, pos, neg_ℤ, ◌+ℤ◌, ◌*ℤ◌, ◌≤ℤ◌, ◌<ℤ◌, refl, ap, ◌∙◌, arith}
+use Rattle.std.specs.Prelude.{unsigned_abs}
 use Rattle.std.specs.Prelude.{FitsSigned, Option, Some, None, IfSome, IfNone}
 use Rattle.std.proofs.Common.{rules}
 use Rattle.std.specs.Int.{int_gap, w128, cast_signed, cast_unsigned}
@@ -8,7 +8,7 @@ use Rattle.std.proofs.lemmas.Int.{ints, to_z-of_z, fits_signed_from_abs}
 use Rattle.std.proofs.Math.Nat.{mul-le-mul_right, mul-lt-mul_of_pos_right}
 use Rattle.cj_decimal.specs.Number.{Number, number, SameValue, IsNormal}
 use Rattle.cj_decimal.proofs.TenPowers.{ten_pow_pos, ten_pow_add, ten_pow_le}
-use Rattle.cj_decimal.proofs.Values.{scaled_same, same_scaled, same_sym, gap_is, gap_up, abs_times, ends_in_zero}
+use Rattle.cj_decimal.proofs.Values.{scaled_same, same_scaled, same_sym, gap_is, abs_times, ends_in_zero}
 
 -- a number whose power is below that of the units is no whole number of them
 pub units_below : (v : Number) (u t : ℤ) → IsNormal v → SameValue v (number u t) → v.power <ℤ t → t ≤ℤ pos 0 → ⊥
@@ -80,7 +80,7 @@ power_fits k h = ten_pow_le k 36 h
 
 -- the product as the code computes it
 pub product_cast : (c : ℤ) (k digits power : ℕ) → k ≤ digits → digits ≤ 36 → unsigned_abs c < 10 ^ 36 → unsigned_abs c < 10 ^ (digits - k) → power ≡ 10 ^ k
-  → cast_signed w128 (cast_unsigned w128 (cast_signed w128 (cast_unsigned w128 c) *ℤ cast_signed w128 power)) ≡ c *ℤ pos (10 ^ k)
+    → cast_signed w128 (cast_unsigned w128 (cast_signed w128 (cast_unsigned w128 c) *ℤ cast_signed w128 power)) ≡ c *ℤ pos (10 ^ k)
 product_cast c k digits power h most fits small e =
     let low : power ≤ 10 ^ 36 = omega (arith, e, power_fits k (omega arith)) in
     let first : cast_signed w128 (cast_unsigned w128 c) ≡ c = to_z-of_z w128 c (fits_signed_from_abs w128 c (omega arith)) in
@@ -89,7 +89,7 @@ product_cast c k digits power h most fits small e =
     ap (λ x. cast_signed w128 (cast_unsigned w128 x)) product ∙ to_z-of_z w128 (c *ℤ pos (10 ^ k)) (fits_signed_from_abs w128 _ (omega (arith, product_fits c k digits h most small)))
 
 pub product_in_bits : (c : ℤ) (k digits power : ℕ) → k ≤ digits → digits ≤ 36 → unsigned_abs c < 10 ^ 36 → unsigned_abs c < 10 ^ (digits - k) → power ≡ 10 ^ k
-  → FitsSigned w128 (cast_signed w128 (cast_unsigned w128 c) *ℤ cast_signed w128 power)
+    → FitsSigned w128 (cast_signed w128 (cast_unsigned w128 c) *ℤ cast_signed w128 power)
 product_in_bits c k digits power h most fits small e =
     let low : power ≤ 10 ^ 36 = omega (arith, e, power_fits k (omega arith)) in
     let first : cast_signed w128 (cast_unsigned w128 c) ≡ c = to_z-of_z w128 c (fits_signed_from_abs w128 c (omega arith)) in
@@ -99,11 +99,11 @@ product_in_bits c k digits power h most fits small e =
 
 -- what the product with its zeros answers is the number of units
 pub value_in_units : (r : Option ℤ) (v w : Number) (t x : ℤ) (digits k : ℕ) → IfSome r (λ u. (u ≡ x *ℤ pos (10 ^ k)) × (unsigned_abs u < 10 ^ digits)) → v ≡ w → x ≡ v.coefficient → v.power ≡ t +ℤ pos k
-  → IfSome r (λ u. SameValue w (number u t) × (unsigned_abs u < 10 ^ digits))
+    → IfSome r (λ u. SameValue w (number u t) × (unsigned_abs u < 10 ^ digits))
 value_in_units None v w t x digits k h same e f = search rules
 value_in_units (Some u) v w t x digits k h same e f = rw (← same) (units_same v u t k f (h.0 ∙ ap (λ c. c *ℤ pos (10 ^ k)) e), h.1)
 
 pub none_in_units : (r : Option ℤ) (v w : Number) (t x : ℤ) (digits k : ℕ) → IfNone r (10 ^ digits ≤ unsigned_abs x * 10 ^ k) → v ≡ w → x ≡ v.coefficient → v.power ≡ t +ℤ pos k
-  → IfNone r ((u : ℤ) → SameValue w (number u t) → 10 ^ digits ≤ unsigned_abs u)
+    → IfNone r ((u : ℤ) → SameValue w (number u t) → 10 ^ digits ≤ unsigned_abs u)
 none_in_units None v w t x digits k h same e f = λ u s. large_units v u t digits k f (rw e at h) (rw same s)
 none_in_units (Some u) v w t x digits k h same e f = search rules

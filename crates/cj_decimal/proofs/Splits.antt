@@ -1,5 +1,5 @@
 -- Whole numbers of units, and what is left of them.
-use Rattle.std.proofs.Common.{◌≡◌, ℕ, zero, suc, ◌+◌, ◌-◌, ◌*◌, ◌/◌, ◌%◌, ◌^◌, ◌<◌, ◌≤◌, ℤ, pos, negsuc, neg_ℤ, ◌+ℤ◌, ◌-ℤ◌, ◌*ℤ◌, ◌≤ℤ◌, ◌<ℤ◌, refl, sym, ap, ◌∙◌, arith}
+use Rattle.std.proofs.Common.{◌≡◌, ℕ, ◌*◌, ◌^◌, ◌<◌, ◌≤◌, ℤ, pos, negsuc, ◌+ℤ◌, ◌-ℤ◌, ◌*ℤ◌, ◌≤ℤ◌, ◌<ℤ◌, refl, sym, ap, ◌∙◌, arith}
 use Rattle.std.specs.Prelude.{unsigned_abs}
 use Rattle.std.specs.Ordering.{int_cmp, MatchOrdering}
 use Rattle.std.specs.declared.cmp.Ordering.{Ordering}
@@ -76,7 +76,7 @@ difference v whole part shift q =
 
 -- the same with what the split of the rest gives
 pub difference_by_parts : (v whole part shift q carry left : ℤ) → carry *ℤ pos (10 ^ 18) +ℤ left ≡ v *ℤ part +ℤ shift -ℤ q
-  → v *ℤ (whole *ℤ pos (10 ^ 18) +ℤ part) +ℤ shift -ℤ q ≡ (v *ℤ whole +ℤ carry) *ℤ pos (10 ^ 18) +ℤ left
+    → v *ℤ (whole *ℤ pos (10 ^ 18) +ℤ part) +ℤ shift -ℤ q ≡ (v *ℤ whole +ℤ carry) *ℤ pos (10 ^ 18) +ℤ left
 difference_by_parts v whole part shift q carry left e = joined (v *ℤ whole) (v *ℤ part +ℤ shift -ℤ q) _ (difference v whole part shift q) e
   where
     joined : (w r d : ℤ) → d ≡ w *ℤ pos (10 ^ 18) +ℤ r → carry *ℤ pos (10 ^ 18) +ℤ left ≡ r → d ≡ (w +ℤ carry) *ℤ pos (10 ^ 18) +ℤ left
@@ -99,8 +99,8 @@ whole_small scale whole part e f small =
 
 -- what the steps of the comparison amount to
 pub compare_law : (v scale whole part shift q first rest carry left second sum last : ℤ) (r : Ordering) → r ≡ int_cmp (sum *ℤ pos (10 ^ 18) +ℤ last) (pos 0) → carry *ℤ pos (10 ^ 18) +ℤ left ≡ rest
-  → scale ≡ whole *ℤ pos (10 ^ 18) +ℤ part → first ≡ v *ℤ part → second ≡ v *ℤ whole
-  → rest ≡ first +ℤ shift -ℤ q → sum ≡ second +ℤ carry → last ≡ left → r ≡ int_cmp (v *ℤ scale +ℤ shift) q
+    → scale ≡ whole *ℤ pos (10 ^ 18) +ℤ part → first ≡ v *ℤ part → second ≡ v *ℤ whole
+    → rest ≡ first +ℤ shift -ℤ q → sum ≡ second +ℤ carry → last ≡ left → r ≡ int_cmp (v *ℤ scale +ℤ shift) q
 compare_law v scale whole part shift q first rest carry left second sum last r e b joined a d f g h =
     let at = b ∙ f ∙ ap (λ x. x +ℤ shift -ℤ q) a in
     let parts = difference_by_parts v whole part shift q carry left at in
@@ -120,17 +120,17 @@ part_small scale part f =
     omega (arith, ints)
 
 pub split_cast : (z w : ℤ) → FitsSigned w128 z → w ≡ int_div_euclid (cast_signed w128 (cast_unsigned w128 z)) (pos (10 ^ 18))
-  → (w *ℤ pos (10 ^ 18) +ℤ int_rem_euclid z (pos (10 ^ 18)) ≡ z) × (pos 0 ≤ℤ int_rem_euclid z (pos (10 ^ 18))) × (int_rem_euclid z (pos (10 ^ 18)) <ℤ pos (10 ^ 18))
+    → (w *ℤ pos (10 ^ 18) +ℤ int_rem_euclid z (pos (10 ^ 18)) ≡ z) × (pos 0 ≤ℤ int_rem_euclid z (pos (10 ^ 18))) × (int_rem_euclid z (pos (10 ^ 18)) <ℤ pos (10 ^ 18))
 split_cast z w fits e =
     let same : w ≡ int_div_euclid z (pos (10 ^ 18)) = e ∙ ap (λ x. int_div_euclid x (pos (10 ^ 18))) (to_z-of_z w128 z fits) in
     (ap (λ x. x *ℤ pos (10 ^ 18) +ℤ int_rem_euclid z (pos (10 ^ 18))) same ∙ euclid z, euclid_low z, euclid_high z)
 
 pub rest_cast : (p s u q : ℤ) → unsigned_abs p ≤ 10 ^ 36 → unsigned_abs s < 10 ^ 36 → unsigned_abs u < 10 ^ 36 → u ≡ q
-  → cast_signed w128 (cast_unsigned w128 (cast_signed w128 (cast_unsigned w128 (cast_signed w128 (cast_unsigned w128 p) +ℤ cast_signed w128 (cast_unsigned w128 s))) -ℤ cast_signed w128 (cast_unsigned w128 u))) ≡ p +ℤ s -ℤ q
+    → cast_signed w128 (cast_unsigned w128 (cast_signed w128 (cast_unsigned w128 (cast_signed w128 (cast_unsigned w128 p) +ℤ cast_signed w128 (cast_unsigned w128 s))) -ℤ cast_signed w128 (cast_unsigned w128 u))) ≡ p +ℤ s -ℤ q
 rest_cast p s u q a b d e = omega (arith, ints)
 
 pub sum_cast : (p e : ℤ) → unsigned_abs p ≤ 10 ^ 36 → unsigned_abs e ≤ 4 * 10 ^ 18
-  → cast_signed w128 (cast_unsigned w128 (cast_signed w128 (cast_unsigned w128 p) +ℤ cast_signed w128 (cast_unsigned w128 e))) ≡ p +ℤ e
+    → cast_signed w128 (cast_unsigned w128 (cast_signed w128 (cast_unsigned w128 p) +ℤ cast_signed w128 (cast_unsigned w128 e))) ≡ p +ℤ e
 sum_cast p e a b = omega (arith, ints)
 
 pub left_cast : (l : ℤ) → pos 0 ≤ℤ l → l <ℤ pos (10 ^ 18) → cast_signed w128 (cast_unsigned w128 l) ≡ l

@@ -1,9 +1,8 @@
 -- Numbers without the zeros at their end.
-use Rattle.std.proofs.Common.{◌≡◌, ℕ, zero, suc, ◌+◌, ◌-◌, ◌*◌, ◌/◌, ◌%◌, ◌^◌, ◌<◌, ◌≤◌, refl, sym, ap, ◌∙◌, arith, inl, inr, ⊎_elim}
-use Rattle.std.specs.Prelude.{◌⊎◌}
+use Rattle.std.proofs.Common.{◌≡◌, ℕ, ◌+◌, ◌*◌, ◌/◌, ◌%◌, ◌^◌, ◌<◌, ◌≤◌, sym, ap, ◌∙◌, arith}
 use Rattle.std.proofs.Math.Nat.{le-mul_of_pos_right}
 use Rattle.cj_decimal.specs.Digits.{IsTrimmed}
-use Rattle.cj_decimal.proofs.TenPowers.{ten_pow_suc, ten_pow_pos, ten_pow_below, ten_pow_le}
+use Rattle.cj_decimal.proofs.TenPowers.{ten_pow_suc, ten_pow_pos, ten_pow_below}
 
 ten_more : (r p : ℕ) → r % 10 ≡ 0 → r * p ≡ r / 10 * (10 * p)
 ten_more r p h = let whole : r ≡ 10 * (r / 10) = omega arith in ap (λ x. x * p) whole ∙ regroup (r / 10) p

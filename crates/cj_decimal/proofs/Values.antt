@@ -1,5 +1,5 @@
 -- Equality of numbers, and its laws.
-use Rattle.std.proofs.Common.{◌≡◌, ℕ, zero, suc, ◌+◌, ◌-◌, ◌*◌, ◌%◌, ◌^◌, ◌<◌, ◌≤◌, ◌≢◌, ℤ, pos, negsuc, neg_ℤ, ◌+ℤ◌, ◌-ℤ◌, ◌*ℤ◌, ◌≤ℤ◌, ◌<ℤ◌, Bool, true, false, refl, sym, ap, ◌∙◌, arith, rules}
+use Rattle.std.proofs.Common.{◌≡◌, ℕ, zero, suc, ◌+◌, ◌*◌, ◌%◌, ◌^◌, ◌<◌, ℤ, pos, negsuc, ◌+ℤ◌, ◌*ℤ◌, ◌≤ℤ◌, true, refl, sym, ap, ◌∙◌, arith}
 use Rattle.std.specs.Prelude.{unsigned_abs, ◌⊎◌}
 use Rattle.std.proofs.Common.{inl, inr, ⊎_elim}
 use Rattle.std.specs.Int.{int_gap, int_min, Width, w32, w128, cast_signed, cast_unsigned}
@@ -8,7 +8,7 @@ use Rattle.std.proofs.Common.{subst}
 use Rattle.std.proofs.lemmas.Bool.Decides.{nat_tests}
 use Rattle.std.proofs.lemmas.Int.{ints, clamps, unsigned_abs-mul, by_lt_z, to_z-of_z, fits_signed_from_abs}
 use Rattle.std.proofs.Math.Nat.{mul-mod_right}
-use Rattle.cj_decimal.specs.Number.{Number, number, signed, smaller_power, brought, SameValue, IsNormal, IsInRange}
+use Rattle.cj_decimal.specs.Number.{Number, number, smaller_power, brought, SameValue, IsNormal, IsInRange}
 use Rattle.cj_decimal.proofs.TenPowers.{ten_pow_pos, ten_pow_add, ten_pow_suc, times_cancel, times_times, times_one, mul_right_cancel}
 
 -- the gap between two numbers in order
@@ -72,7 +72,7 @@ same_scaled c d p q k e f =
     let none : int_gap p p ≡ 0 = omega (arith, ints, gap_is p p here) in
     let up_k : int_gap p q ≡ k = omega (arith, ints, gap_is p q low, f) in
     at_same (number c p) (number d q) p here low
-      (ap (λ g. c *ℤ pos (10 ^ g)) none ∙ times_one c ∙ e ∙ ap (λ g. d *ℤ pos (10 ^ g)) (sym up_k))
+    (ap (λ g. c *ℤ pos (10 ^ g)) none ∙ times_one c ∙ e ∙ ap (λ g. d *ℤ pos (10 ^ g)) (sym up_k))
 
 -- and the other way round
 pub scaled_same : (c d : ℤ) (p q : ℤ) → SameValue (number c p) (number d q) → p ≤ℤ q → c ≡ d *ℤ pos (10 ^ int_gap p q)
@@ -141,15 +141,17 @@ power_fits v r = omega (arith, ints, r.power_low, r.power_high)
 
 -- with one coefficient: equal exactly where the powers are
 pub same_by_power : (v w : Number) → IsNormal v × IsInRange v → IsNormal w × IsInRange w → cast_unsigned w128 v.coefficient ≡ cast_unsigned w128 w.coefficient
-  → (nat_eq (cast_unsigned w32 v.power) (cast_unsigned w32 w.power) ≡ true) ↔ SameValue v w
+    → (nat_eq (cast_unsigned w32 v.power) (cast_unsigned w32 w.power) ≡ true) ↔ SameValue v w
 same_by_power v w a b e =
-    let c : v.coefficient ≡ w.coefficient = sym (to_z-of_z w128 v.coefficient (coefficient_fits v a.1)) ∙ ap (cast_signed w128) e ∙ to_z-of_z w128 w.coefficient (coefficient_fits w b.1) in
-    (λ h. let P : Number → Type 0 = SameValue v in subst P (number_eq v w c (bits_apart w32 v.power w.power (power_fits v a.1) (power_fits w b.1) h)) (same_refl v),
-      λ same. bits_same w32 v.power w.power (ap (λ (n : Number). n.power) (normal_same v w same a.0 b.0)))
+    let c : v.coefficient ≡ w.coefficient = sym (to_z-of_z w128 v.coefficient (coefficient_fits v a.1)) ∙ ap (cast_signed w128) e ∙ to_z-of_z w128 w.coefficient (coefficient_fits w b.1) in (
+      λ h. let P : Number → Type 0 = SameValue v in subst P (number_eq v w c (bits_apart w32 v.power w.power (power_fits v a.1) (power_fits w b.1) h)) (same_refl v),
+      λ same. bits_same w32 v.power w.power (ap (λ (n : Number). n.power) (normal_same v w same a.0 b.0)),
+    )
 
 -- with two coefficients: never equal
 pub apart_by_coefficient : (v w : Number) → IsNormal v × IsInRange v → IsNormal w × IsInRange w → (cast_unsigned w128 v.coefficient ≡ cast_unsigned w128 w.coefficient → ⊥)
-  → (nat_eq (cast_unsigned w128 v.coefficient) (cast_unsigned w128 w.coefficient) ≡ true) ↔ SameValue v w
-apart_by_coefficient v w a b apart =
-    (λ h. absurd (apart (grind (arith, nat_tests))),
-      λ same. absurd (apart (ap (λ (n : Number). cast_unsigned w128 n.coefficient) (normal_same v w same a.0 b.0))))
+    → (nat_eq (cast_unsigned w128 v.coefficient) (cast_unsigned w128 w.coefficient) ≡ true) ↔ SameValue v w
+apart_by_coefficient v w a b apart = (
+  λ h. absurd (apart (grind (arith, nat_tests))),
+  λ same. absurd (apart (ap (λ (n : Number). cast_unsigned w128 n.coefficient) (normal_same v w same a.0 b.0))),
+)

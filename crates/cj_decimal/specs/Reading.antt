@@ -1,5 +1,5 @@
 -- What private functions say of the way through a spelling: what its parts are, seen from the front.
-use Rattle.std.specs.Prelude.{◌≡◌, ℕ, ◌+◌, ◌-◌, ◌≤◌, ◌<◌, ◌*◌, List, [], ◌∷◌, ◌++◌, length, drop, Bool, true, false, cond, ◌&&◌, ◌||◌, not, nat_eq, ◌^◌, ℤ, pos, neg_ℤ, ◌≤ℤ◌, unsigned_abs}
+use Rattle.std.specs.Prelude.{◌≡◌, ℕ, ◌+◌, ◌≤◌, ◌<◌, List, [], ◌∷◌, ◌++◌, length, drop, Bool, true, false, cond, ◌&&◌, ◌||◌, not, nat_eq, ◌^◌, ℤ, pos, neg_ℤ, ◌≤ℤ◌, unsigned_abs}
 use Rattle.std.specs.Char.{is_ascii_digit}
 use Rattle.cj_decimal.specs.Number.{signed}
 use Rattle.cj_decimal.specs.Digits.{StandsFor}

@@ -94,7 +94,7 @@ fn read_long(spelling: &[u8], from: usize, start: Digits) -> Run
     ensures stops { Stops spelling.now from result.stop }
     ensures stands { (n : ℕ) → StandsFor start.lead start.extra start.lost n
         → StandsFor result.digits.lead result.digits.extra result.digits.lost
-            (value_after n (digits_front (drop from spelling.now))) }
+        (value_after n (digits_front (drop from spelling.now))) }
     ensures bounded { result.digits.extra ≤ result.stop }
 {
     let mut digits = start;
@@ -117,7 +117,7 @@ pub fn read_digits(spelling: &[u8], from: usize, start: Digits) -> Run
     ensures stops { Stops spelling.now from result.stop }
     ensures stands { (n : ℕ) → StandsFor start.lead start.extra start.lost n
         → StandsFor result.digits.lead result.digits.extra result.digits.lost
-            (value_after n (digits_front (drop from spelling.now))) }
+        (value_after n (digits_front (drop from spelling.now))) }
     ensures bounded { result.digits.extra ≤ result.stop }
 {
     if start.lead >= SHORT as u128 {

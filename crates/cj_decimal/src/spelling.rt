@@ -33,9 +33,9 @@ fn read_int(spelling: &[u8], from: usize) -> Option<Run>
     requires { from ≤ length spelling.now }
     ensures reads { MatchOption result (is_int (digits_front (drop from spelling.now)) ≡ false)
         (λ run. (is_int (digits_front (drop from spelling.now)) ≡ true)
-            × (drop run.stop spelling.now ≡ digits_rest (drop from spelling.now))
-            × StandsFor run.digits.lead run.digits.extra run.digits.lost
-                (digits_value (digits_front (drop from spelling.now)))) }
+        × (drop run.stop spelling.now ≡ digits_rest (drop from spelling.now))
+        × StandsFor run.digits.lead run.digits.extra run.digits.lost
+        (digits_value (digits_front (drop from spelling.now)))) }
     ensures bounds { IfSome result
         (λ run. (run.digits.extra ≤ run.stop) × (run.stop ≤ length spelling.now)) }
 {
@@ -59,11 +59,11 @@ fn read_frac(spelling: &[u8], from: usize, start: Digits) -> Option<Fraction>
     requires bounded { start.extra ≤ from }
     ensures reads { MatchOption result (is_frac (drop from spelling.now) ≡ false)
         (λ frac. (is_frac (drop from spelling.now) ≡ true)
-            × (drop frac.stop spelling.now ≡ after_frac (drop from spelling.now))
-            × (length (frac_digits (drop from spelling.now)) ≡ frac.places)
-            × ((n : ℕ) → StandsFor start.lead start.extra start.lost n
-                → StandsFor frac.digits.lead frac.digits.extra frac.digits.lost
-                    (value_after n (frac_digits (drop from spelling.now))))) }
+        × (drop frac.stop spelling.now ≡ after_frac (drop from spelling.now))
+        × (length (frac_digits (drop from spelling.now)) ≡ frac.places)
+        × ((n : ℕ) → StandsFor start.lead start.extra start.lost n
+        → StandsFor frac.digits.lead frac.digits.extra frac.digits.lost
+        (value_after n (frac_digits (drop from spelling.now))))) }
     ensures bounds { IfSome result
         (λ frac. (frac.digits.extra ≤ frac.stop) × (frac.stop ≤ length spelling.now)) }
 {
@@ -103,7 +103,7 @@ fn read_size(spelling: &[u8], from: usize) -> Option<u128>
     requires { from ≤ length spelling.now }
     ensures reads { MatchOption result (is_whole_digits (drop from spelling.now) ≡ false)
         (λ size. (is_whole_digits (drop from spelling.now) ≡ true)
-            × SaturatesSize (digits_value (drop from spelling.now)) size) }
+        × SaturatesSize (digits_value (drop from spelling.now)) size) }
     ensures bound { IfSome result (λ size. size < 10 ^ 36) }
 {
     let run = read_digits(spelling, from, Digits::NONE);
@@ -121,7 +121,7 @@ fn read_exponent(spelling: &[u8], from: usize) -> Option<i128>
     requires { from ≤ length spelling.now }
     ensures reads { MatchOption result (is_exp (drop from spelling.now) ≡ false)
         (λ e. (is_exp (drop from spelling.now) ≡ true)
-            × Saturates (exp_value (drop from spelling.now)) e) }
+        × Saturates (exp_value (drop from spelling.now)) e) }
     ensures bound { IfSome result (λ e. unsigned_abs e < 10 ^ 36) }
 {
     if from == spelling.len() {
@@ -169,7 +169,7 @@ pub fn read_parts(spelling: &[u8]) -> Option<Parts>
     ensures number { IsSome result ↔ IsNumber spelling.now }
     ensures reads { IfSome result
         (λ parts. IsReadOf spelling.now parts.negative parts.digits.lead parts.digits.extra
-            parts.digits.lost parts.places parts.exponent) }
+        parts.digits.lost parts.places parts.exponent) }
 {
     let negative = has_byte(spelling, 0, b'-');
     let from = after_minus(spelling, negative);

@@ -1,4 +1,4 @@
-use Rattle.std.proofs.Common.{arith, sym, ◌∙◌, ap}
+use Rattle.std.proofs.Common.{arith}
 use Rattle.cj_decimal.proofs.Ways.{stops_after}
 use Rattle.cj_decimal.proofs.Pushes.{stands_short, short_stands}
 use Rattle.cj_decimal.proofs.digits.read_digits.Goals as goal

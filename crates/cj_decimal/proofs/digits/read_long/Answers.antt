@@ -8,8 +8,8 @@ loop-at-preserved c =
     record {
       passes = passes_step _ _ _ c.loop-at.invariant.passes c.loop-at-test.true digit;
       stands = λ n s.
-        let so_far = c.loop-at.invariant.stands n s in
-        (_, carries_step _ _ _ _ _ so_far.1 c.loop-at-test.true digit, c.push-digits.ensures.stands so_far.0 so_far.2);
+          let so_far = c.loop-at.invariant.stands n s in
+          (_, carries_step _ _ _ _ _ so_far.1 c.loop-at-test.true digit, c.push-digits.ensures.stands so_far.0 so_far.2);
       bounded = omega arith;
     }
 

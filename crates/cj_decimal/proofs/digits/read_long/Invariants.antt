@@ -1,4 +1,4 @@
-use Rattle.std.proofs.Common.{ℕ, ◌<◌, ◌-◌, ◌≤◌, length}
+use Rattle.std.proofs.Common.{ℕ, ◌-◌, ◌≤◌, length}
 use Rattle.cj_decimal.specs.Digits.{StandsFor}
 use Rattle.cj_decimal.specs.Reading.{Carries, Passes}
 use Rattle.cj_decimal.proofs.digits.read_long.Given as goal

@@ -1,4 +1,4 @@
-use Rattle.std.proofs.Common.{arith, sym, ◌∙◌, drop, ap, length, length-drop, true, false}
+use Rattle.std.proofs.Common.{arith, sym, ◌∙◌, drop, length-drop, true, false}
 use Rattle.cj_decimal.specs.Spelling.{digits_value}
 use Rattle.std.proofs.lemmas.Int.{ints}
 use Rattle.cj_decimal.proofs.Ways.{drop_all}

@@ -1,7 +1,5 @@
-use Rattle.std.proofs.Common.{arith, sym, ◌∙◌, drop, ap, length, ℕ, ◌+◌}
-use Rattle.cj_decimal.specs.Digits.{StandsFor}
+use Rattle.std.proofs.Common.{arith, sym, ◌∙◌, drop, ap, length, ◌+◌}
 use Rattle.cj_decimal.specs.Reading.{begins_digit, digits_front, digits_rest}
-use Rattle.cj_decimal.specs.Spelling.{value_after}
 use Rattle.cj_decimal.proofs.Parts.{begins_within, drop_one, frac_bare, frac_pointed, no_first_digit, first_digit_there}
 use Rattle.cj_decimal.proofs.spelling.read_frac.Goals as goal
 
@@ -30,8 +28,9 @@ returns-clause-reads c =
     let pointed = frac_pointed (drop c.args.from s) point in
     let next = drop_one s c.args.from (begins_within 46 s c.args.from point) in
     let stops = c.read_digits-run.ensures.stops in
-    let digits = pointed.1 ∙ ap digits_front next in
-    (pointed.0 ∙ ap begins_digit next ∙ first_digit_there (drop (c.args.from + 1) s) (omega (arith, stops.count, stops.order)),
+    let digits = pointed.1 ∙ ap digits_front next in (
+      pointed.0 ∙ ap begins_digit next ∙ first_digit_there (drop (c.args.from + 1) s) (omega (arith, stops.count, stops.order)),
       stops.rest ∙ sym (pointed.2 ∙ ap digits_rest next),
       ap length digits ∙ omega (arith, stops.count),
-      λ n t. rw digits (c.read_digits-run.ensures.stands n t))
+      λ n t. rw digits (c.read_digits-run.ensures.stands n t),
+    )

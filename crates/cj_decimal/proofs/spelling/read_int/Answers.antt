@@ -1,4 +1,4 @@
-use Rattle.std.proofs.Common.{arith, sym, ◌∙◌, drop, ap, length}
+use Rattle.std.proofs.Common.{arith, sym, ◌∙◌}
 use Rattle.cj_decimal.proofs.Pushes.{short_stands}
 use Rattle.cj_decimal.proofs.Parts.{int_none, int_alone, int_led_by_zero, int_led_by_other}
 use Rattle.cj_decimal.proofs.spelling.read_int.Goals as goal

@@ -30,10 +30,10 @@ returns-clause-order c =
     let first = product_of_casts c.args.v inside.part c.product.result v_fits (part_small inside.scale inside.part split.part_is) c.product.ensures.value in
     let second = product_of_casts c.args.v inside.whole c.product-2.result v_fits whole_fits c.product-2.ensures.value in
     rw (← c.self.view_is) (compare_law c.args.v inside.scale inside.whole inside.part inside.shift c.args.q c.product.result _ c.split-carry.result.0 c.split-carry.result.1 c.product-2.result _ _ c.sign_of.result c.sign_of.ensures c.split-carry.ensures.joined
-      (scale_joined inside.scale inside.whole inside.part split.whole_is split.part_is) first second
-      (rest_cast c.product.result inside.shift c.units.result c.args.q c.product.ensures.bound units.shift_fits c.units.ensures.bound c.units.ensures.value)
-      (sum_cast c.product-2.result c.split-carry.result.0 c.product-2.ensures.bound c.split-carry.ensures.bound)
-      (left_cast c.split-carry.result.1 c.split-carry.ensures.low c.split-carry.ensures.high))
+    (scale_joined inside.scale inside.whole inside.part split.whole_is split.part_is) first second
+    (rest_cast c.product.result inside.shift c.units.result c.args.q c.product.ensures.bound units.shift_fits c.units.ensures.bound c.units.ensures.value)
+    (sum_cast c.product-2.result c.split-carry.result.0 c.product-2.ensures.bound c.split-carry.ensures.bound)
+    (left_cast c.split-carry.result.1 c.split-carry.ensures.low c.split-carry.ensures.high))
 
 pub returns-clause-value : goal.returns-clause-value
 returns-clause-value c = returns-clause-order c ∙ sym (units_order (image c.args.self.now c.args.v) c.args.q)

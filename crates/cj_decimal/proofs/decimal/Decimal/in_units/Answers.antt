@@ -1,7 +1,7 @@
-use Rattle.std.proofs.Common.{arith, ◌≡◌, ◌<◌, ◌≤◌, ◌+◌, ◌-◌, ◌^◌, ℕ, ℤ, pos, neg_ℤ, ◌+ℤ◌, ◌<ℤ◌, ◌≤ℤ◌, sym, ◌∙◌}
+use Rattle.std.proofs.Common.{arith, ℕ, pos, neg_ℤ, ◌+ℤ◌, ◌<ℤ◌, ◌≤ℤ◌, sym}
 use Rattle.std.proofs.lemmas.Int.{ints}
 use Rattle.std.specs.Int.{int_gap}
-use Rattle.cj_decimal.specs.Number.{number, SameValue}
+use Rattle.cj_decimal.specs.Number.{number}
 use Rattle.cj_decimal.proofs.Scales.{units_below, far_units, value_in_units, none_in_units}
 use Rattle.cj_decimal.proofs.Values.{gap_is, coefficient_same, coefficient_cast}
 use Rattle.cj_decimal.proofs.decimal.Decimal.in_units.Goals as goal
@@ -32,11 +32,11 @@ returns-clause-value c =
     let inside = c.self.inside in
     let range = c.self.invariant.1 in
     value_in_units c.with_zeros.result (number inside.coefficient inside.power) c.args.self (neg_ℤ (pos c.args.places)) _ c.args.digits _ c.with_zeros.ensures.value c.self.view_is
-      (coefficient_same (number inside.coefficient inside.power) range) (omega (arith, ints, range.power_low, range.power_high, c.requires.bounded, c.requires.apart))
+    (coefficient_same (number inside.coefficient inside.power) range) (omega (arith, ints, range.power_low, range.power_high, c.requires.bounded, c.requires.apart))
 
 pub returns-clause-none : goal.returns-clause-none
 returns-clause-none c =
     let inside = c.self.inside in
     let range = c.self.invariant.1 in
     none_in_units c.with_zeros.result (number inside.coefficient inside.power) c.args.self (neg_ℤ (pos c.args.places)) _ c.args.digits _ c.with_zeros.ensures.none c.self.view_is
-      (coefficient_same (number inside.coefficient inside.power) range) (omega (arith, ints, range.power_low, range.power_high, c.requires.bounded, c.requires.apart))
+    (coefficient_same (number inside.coefficient inside.power) range) (omega (arith, ints, range.power_low, range.power_high, c.requires.bounded, c.requires.apart))

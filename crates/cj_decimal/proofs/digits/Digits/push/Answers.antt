@@ -1,6 +1,5 @@
-use Rattle.std.proofs.Common.{arith, ap, ◌+◌, ◌*◌, sym, rules}
+use Rattle.std.proofs.Common.{arith}
 use Rattle.cj_decimal.proofs.Pushes.{push_short, push_zero, push_lost}
-use Rattle.cj_decimal.specs.Digits.{StandsFor}
 use Rattle.cj_decimal.proofs.digits.Digits.push.Goals as goal
 
 pub returns-then-self-lt-FULL-clause-stands : goal.returns-then-self-lt-FULL-clause-stands
