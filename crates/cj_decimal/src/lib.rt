@@ -7,6 +7,8 @@ mod digits;
 mod fixed;
 mod powers;
 mod spelling;
+#[cfg(test)]
+mod tests;
 mod trimming;
 
 pub use affine::Affine;
