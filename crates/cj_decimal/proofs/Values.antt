@@ -155,3 +155,6 @@ apart_by_coefficient v w a b apart = (
   λ h. absurd (apart (grind (arith, nat_tests))),
   λ same. absurd (apart (ap (λ (n : Number). cast_unsigned w128 n.coefficient) (normal_same v w same a.0 b.0))),
 )
+
+pub turned : (P : Type 0) (v w : Number) → P ↔ SameValue w v → P ↔ SameValue v w
+turned P v w h = (λ p. same_sym w v (h.0 p), λ s. h.1 (same_sym v w s))

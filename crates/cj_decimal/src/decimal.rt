@@ -15,6 +15,11 @@ use crate::trimming::without_zeros;
 use std::marker::Model;
 use thiserror::Error;
 
+/// The least and the greatest power of ten of a decimal.
+const LEAST_POWER: i128 = -1_000_000;
+
+const GREATEST_POWER: i128 = 1_000_000;
+
 /// Why a spelling is no decimal.
 #[derive(Clone, Copy, Debug, PartialEq, Eq, Error)]
 pub enum DecimalFault {
@@ -81,7 +86,7 @@ impl PartialEq for Decimal {
         ensures parts { result ≡ same_parts self.now other.now }
         ensures same_value { IsTrue result ↔ SameValue self.now other.now }
     {
-        self.coefficient == other.coefficient && self.power == other.power
+        other.coefficient == self.coefficient && other.power == self.power
     }
 }
 
@@ -112,10 +117,10 @@ impl Decimal {
         let (lead, zeros) = without_zeros(parts.digits.lead);
         let shift = parts.digits.extra as i128 + zeros as i128;
         let power = parts.exponent - parts.places as i128 + shift;
-        if power < -1_000_000 {
+        if power < LEAST_POWER {
             return None;
         }
-        if power > 1_000_000 {
+        if power > GREATEST_POWER {
             return None;
         }
         Some(Decimal {

@@ -7,9 +7,9 @@ use Rattle.cj_decimal.proofs.decimal.Decimal.from_parts.Goals as goal
 pub returns-then-parts-clause-none : goal.returns-then-parts-clause-none
 returns-then-parts-clause-none c = λ n e s r. too_long_out _ n _ (s.cut c.if-parts.true)
 
-pub returns-then-power-ltminus1000000-clause-none :
-    goal.returns-then-power-ltminus1000000-clause-none
-returns-then-power-ltminus1000000-clause-none c = λ n e s r.
+pub returns-then-power-lt-LEAST_POWER-clause-none :
+    goal.returns-then-power-lt-LEAST_POWER-clause-none
+returns-then-power-lt-LEAST_POWER-clause-none c = λ n e s r.
     let parts = c.args.parts in
     let t = c.without_zeros-lead.ensures.trimmed in
     let up : ℕ = parts.digits.extra + c.without_zeros-lead.result.1 in
@@ -17,8 +17,8 @@ returns-then-power-ltminus1000000-clause-none c = λ n e s r.
     let low : (parts.exponent -ℤ pos parts.places +ℤ pos up) <ℤ neg_ℤ (pos 1000000) = omega (arith, ints, c.without_zeros-lead.ensures.few, parts.exponent_fits) in
     power_out parts.negative n _ up (e -ℤ pos parts.places) whole t.last (inl (power_low_out e parts.exponent parts.places up r (omega arith) (omega (arith, c.without_zeros-lead.ensures.few)) low))
 
-pub returns-then-power-gt1000000-clause-none : goal.returns-then-power-gt1000000-clause-none
-returns-then-power-gt1000000-clause-none c = λ n e s r.
+pub returns-then-power-gt-GREATEST_POWER-clause-none : goal.returns-then-power-gt-GREATEST_POWER-clause-none
+returns-then-power-gt-GREATEST_POWER-clause-none c = λ n e s r.
     let parts = c.args.parts in
     let t = c.without_zeros-lead.ensures.trimmed in
     let up : ℕ = parts.digits.extra + c.without_zeros-lead.result.1 in
