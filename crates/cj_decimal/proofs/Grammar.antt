@@ -6,7 +6,7 @@ use Rattle.std.specs.Char.{is_ascii_digit}
 use Rattle.cj_decimal.specs.Number.{signed}
 use Rattle.cj_decimal.specs.Spelling.{IsDigit, AllDigits, IsDigits, IsInt, IsMinus, IsFrac, IsExpSign, ExpParts, IsExp, Written, Spells, digits_value}
 use Rattle.cj_decimal.specs.Reading.{digits_front, digits_rest, begins, is_empty, begins_digit, body, is_int, is_frac, frac_digits, after_frac, exp_digits, is_whole_digits, is_exp, exp_value, is_number, written_of}
-use Rattle.cj_decimal.proofs.Ways.{front_digit, front_other, front_end, rest_digit, rest_other, rest_end, digit_bounds}
+use Rattle.cj_decimal.proofs.Ways.{front_digit, front_other, front_end, rest_digit, rest_other, rest_end, digit_bounds, front_of_stop}
 
 digit_test : (b : ℕ) → IsDigit b → is_ascii_digit b ≡ true
 digit_test b h = let low : 48 ≤ b = h.0 in let high : b ≤ 57 = h.1 in grind (arith, nat_tests)
@@ -21,11 +21,6 @@ pub front_rest : (s : List ℕ) → s ≡ digits_front s ++ digits_rest s
 unfolding digits_front digits_rest
 front_rest [] = refl
 front_rest (b ∷ s) = elim (is_ascii_digit b) as (λ t. b ∷ s ≡ cond t (b ∷ digits_front s) [] ++ cond t (digits_rest s) (b ∷ s)) [ true ↦ ap (λ r. b ∷ r) (front_rest s) | false ↦ refl ]
-
-front_of_stop : (t : List ℕ) → begins_digit t ≡ false → (digits_front t ≡ []) × (digits_rest t ≡ t)
-unfolding begins_digit
-front_of_stop [] h = (front_end, rest_end)
-front_of_stop (b ∷ t) h = (front_other b t h, rest_other b t h)
 
 -- digits, and then no digit: the front is those digits
 pub front_append : (ds t : List ℕ) → AllDigits ds → begins_digit t ≡ false → digits_front (ds ++ t) ≡ ds

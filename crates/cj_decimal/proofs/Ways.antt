@@ -2,7 +2,7 @@
 use Rattle.std.proofs.Common.{◌≡◌, ℕ, suc, ◌+◌, ◌-◌, ◌*◌, ◌<◌, ◌≤◌, List, [], ◌∷◌, length, drop, get_or, true, false, cond, refl, sym, ap, ◌∙◌, arith, drop-cons, length-drop}
 use Rattle.std.proofs.lemmas.Bool.Decides.{nat_tests}
 use Rattle.std.specs.Char.{is_ascii_digit}
-use Rattle.cj_decimal.specs.Reading.{digits_front, digits_rest, Passes, Carries, Stops}
+use Rattle.cj_decimal.specs.Reading.{begins_digit, digits_front, digits_rest, Passes, Carries, Stops}
 use Rattle.cj_decimal.specs.Spelling.{value_after}
 
 pub front_digit : (b : ℕ) (s : List ℕ) → is_ascii_digit b ≡ true → digits_front (b ∷ s) ≡ b ∷ digits_front s
@@ -104,3 +104,23 @@ stops_after s from at stop c r = record {
   rest = r.rest ∙ c.rest;
   count = r.count ∙ c.count;
 }
+
+-- the first byte there, if there is one, is a digit
+pub digit_at : (s : List ℕ) (at : ℕ) → at < length s → begins_digit (drop at s) ≡ is_ascii_digit (get_or s at 0)
+unfolding begins_digit
+digit_at s at h = rw (drop_at s at h) refl
+
+pub no_digit_past : (s : List ℕ) (at : ℕ) → length s ≤ at → begins_digit (drop at s) ≡ false
+unfolding begins_digit
+no_digit_past s at h = rw (drop_all s at h) refl
+
+pub front_of_stop : (t : List ℕ) → begins_digit t ≡ false → (digits_front t ≡ []) × (digits_rest t ≡ t)
+unfolding begins_digit
+front_of_stop [] h = (front_end, rest_end)
+front_of_stop (b ∷ t) h = (front_other b t h, rest_other b t h)
+
+pub stops_here : (s : List ℕ) (from at : ℕ) → Passes s from at → begins_digit (drop at s) ≡ false → Stops s from at
+stops_here s from at c h = let stop = front_of_stop (drop at s) h in stops_when s from at c stop.0 stop.1
+
+pub carried_here : (s : List ℕ) (from n at m : ℕ) → Carries s from n at m → begins_digit (drop at s) ≡ false → m ≡ value_after n (digits_front (drop from s))
+carried_here s from n at m c h = carried s from n at m c (front_of_stop (drop at s) h).0

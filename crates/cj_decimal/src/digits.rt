@@ -2,7 +2,7 @@
 ghost use Rattle.std.specs.Prelude.{◌≡◌, ℕ, ◌+◌, ◌*◌, ◌^◌, ◌<◌, ◌≤◌, length, drop, [], IsTrue, ◌-◌, slice_index};
 ghost use Rattle.cj_decimal.specs.Digits.{StandsFor};
 ghost use Rattle.cj_decimal.specs.Spelling.{value_after};
-ghost use Rattle.cj_decimal.specs.Reading.{Carries, Passes, Stops, digits_front};
+ghost use Rattle.cj_decimal.specs.Reading.{Carries, Passes, Stops, begins_digit, digits_front};
 
 /// The least number of 36 digits: up to here one more digit fits.
 const FULL: u128 = 100_000_000_000_000_000_000_000_000_000_000_000;
@@ -67,6 +67,7 @@ pub struct Run {
 }
 
 /// Reads digits while the number stays below 10^18, the usual case: from a number and a place to a number and a place.
+#[inline(always)]
 fn read_short(spelling: &[u8], from: usize, start: u64) -> (u64, usize)
     requires within { from ≤ length spelling.now }
     requires short { start < 10 ^ 18 }
@@ -88,7 +89,10 @@ fn read_short(spelling: &[u8], from: usize, start: u64) -> (u64, usize)
 }
 
 /// Reads all digits from a place on, whatever their number.
-fn read_long(spelling: &[u8], from: usize, start: Digits) -> Run
+///
+/// It is kept apart from the usual case, which then needs no memory for its numbers.
+#[inline(never)]
+pub fn read_long(spelling: &[u8], from: usize, start: Digits) -> Run
     requires within { from ≤ length spelling.now }
     requires bounded { start.extra ≤ from }
     ensures stops { Stops spelling.now from result.stop }
@@ -111,6 +115,7 @@ fn read_long(spelling: &[u8], from: usize, start: Digits) -> Run
 }
 
 /// Reads all digits from a place on, after digits that were read before.
+#[inline(always)]
 pub fn read_digits(spelling: &[u8], from: usize, start: Digits) -> Run
     requires within { from ≤ length spelling.now }
     requires bounded { start.extra ≤ from }
@@ -129,5 +134,15 @@ pub fn read_digits(spelling: &[u8], from: usize, start: Digits) -> Run
         extra: 0,
         lost: false,
     };
+    if !has_digit(spelling, at) {
+        return Run { digits, stop: at };
+    }
     read_long(spelling, at, digits)
+}
+
+/// Whether a digit stands at a place.
+fn has_digit(spelling: &[u8], at: usize) -> bool
+    ensures { result ≡ begins_digit (drop at spelling.now) }
+{
+    at < spelling.len() && spelling[at].is_ascii_digit()
 }

@@ -4,7 +4,7 @@ ghost use Rattle.cj_decimal.specs.Digits.{StandsFor};
 ghost use Rattle.cj_decimal.specs.Spelling.{IsNumber, digits_value, value_after};
 ghost use Rattle.cj_decimal.specs.Reading.{begins, body, digits_front, digits_rest, is_int, is_frac, frac_digits, after_frac, exp_digits, is_whole_digits, is_exp, exp_value, Saturates, SaturatesSize, IsReadOf};
 
-use crate::digits::{Digits, Run, read_digits};
+use crate::digits::{Digits, Run, read_digits, read_long};
 
 /// The fraction of a spelling: the digits up to its end, where it stops, and how many digits stand after the point.
 #[derive(Clone, Copy)]
@@ -106,7 +106,7 @@ fn read_size(spelling: &[u8], from: usize) -> Option<u128>
         × SaturatesSize (digits_value (drop from spelling.now)) size) }
     ensures bound { IfSome result (λ size. size < 10 ^ 36) }
 {
-    let run = read_digits(spelling, from, Digits::NONE);
+    let run = read_long(spelling, from, Digits::NONE);
     if run.stop == from {
         return None;
     }
