@@ -37,14 +37,14 @@ fn main() {
     let start = Instant::now();
     let mut sum = 0i64;
     for _ in 0..ROUNDS {
-        sum = sum.wrapping_add(add_integers(&lines));
+        sum = sum.wrapping_add(add_integers(std::hint::black_box(&lines)));
     }
     report("i64", start.elapsed().as_nanos(), lines.len(), sum.unsigned_abs());
 
     let start = Instant::now();
     let mut sum = 0.0;
     for _ in 0..ROUNDS {
-        sum += add_floats(&lines);
+        sum += add_floats(std::hint::black_box(&lines));
     }
     report("f64", start.elapsed().as_nanos(), lines.len(), sum.abs() as u64);
 }
