@@ -9,3 +9,4 @@ pub mod Normal
 pub mod Law
 pub mod Scales
 pub mod Splits
+pub mod Worked

@@ -1,5 +1,5 @@
 -- The parts of a spelling at their places.
-use Rattle.std.proofs.Common.{◌≡◌, ℕ, ◌+◌, ◌-◌, ◌*◌, ◌^◌, ◌<◌, ◌≤◌, List, [], ◌∷◌, ◌++◌, length, drop, get_or, Bool, true, false, cond, refl, sym, ap, ◌∙◌, arith, ℤ, pos, length-drop}
+use Rattle.std.proofs.Common.{subst, ◌≡◌, ℕ, ◌+◌, ◌-◌, ◌*◌, ◌^◌, ◌<◌, ◌≤◌, List, [], ◌∷◌, ◌++◌, length, drop, get_or, Bool, true, false, cond, refl, sym, ap, ◌∙◌, arith, ℤ, pos, length-drop}
 use Rattle.std.specs.Prelude.{nat_eq, ◌&&◌, ◌||◌, not}
 use Rattle.std.specs.Prelude.{neg_ℤ, Option, None, Some, IsSome}
 use Rattle.std.proofs.lemmas.Int.{ints}
@@ -8,11 +8,11 @@ use Rattle.cj_decimal.specs.Number.{signed}
 use Rattle.std.specs.Char.{is_ascii_digit}
 use Rattle.cj_decimal.specs.Digits.{StandsFor}
 use Rattle.cj_decimal.specs.Spelling.{value_after, digits_value, IsNumber, Spells}
-use Rattle.cj_decimal.specs.Reading.{body, written_of, digits_front, digits_rest, begins, is_empty, begins_digit, is_int, is_frac, frac_digits, after_frac, exp_digits, is_whole_digits, is_exp, exp_value, Saturates, SaturatesSize}
+use Rattle.cj_decimal.specs.Reading.{IsReadOf, Passes, Stops, body, written_of, digits_front, digits_rest, begins, is_empty, begins_digit, is_int, is_frac, frac_digits, after_frac, exp_digits, is_whole_digits, is_exp, exp_value, Saturates, SaturatesSize}
 use Rattle.cj_decimal.proofs.TenPowers.{ten_pow_pos}
-use Rattle.cj_decimal.proofs.Pushes.{stands_short}
+use Rattle.cj_decimal.proofs.Pushes.{stands_short, short_stands}
 use Rattle.cj_decimal.proofs.Grammar.{append_nil, front_rest, both, both_left, both_right, spells_test, test_spells}
-use Rattle.cj_decimal.proofs.Ways.{front_digit, front_other, front_end, drop_at, drop_all}
+use Rattle.cj_decimal.proofs.Ways.{stops_at_end, front_digit, front_other, front_end, drop_at, drop_all}
 
 pub begins_at : (c : ℕ) (s : List ℕ) (at : ℕ) → at < length s → begins c (drop at s) ≡ nat_eq (get_or s at 0) c
 unfolding begins
@@ -222,3 +222,39 @@ both_digits lead extra lost f i j k s e g = rw (value_append 0 j k, ← e, ← g
 
 pub saturates_at : (e f r q : ℤ) → Saturates e r → e ≡ f → r ≡ q → Saturates f q
 saturates_at e f r q s a b = rw (← a, ← b) s
+
+-- ---- a spelling that ends with its first digits
+pub nothing_follows : (s : List ℕ) → drop (length s) s ≡ []
+nothing_follows s = drop_all s (length s) (omega arith)
+
+-- after them there is no fraction and no exponent
+pub no_frac : (r : List ℕ) → r ≡ [] → (is_frac r ≡ true) × (frac_digits r ≡ []) × (after_frac r ≡ [])
+no_frac r e = let bare = frac_bare r (rw e (empty_begins 46)) in (bare.0, bare.1, bare.2 ∙ e)
+  where
+    empty_begins : (c : ℕ) → begins c [] ≡ false
+    empty_begins c = begins_past c [] 0 (omega arith)
+
+pub integer_spells : (s : List ℕ) → is_int (digits_front (body s)) ≡ true → digits_rest (body s) ≡ [] → Spells s (written_of s)
+integer_spells s int none =
+    let frac = no_frac (digits_rest (body s)) none in
+    passed s int frac.0 (exp_none _ frac.2).0
+
+pub integer_read : (s : List ℕ) (negative : Bool) (short : ℕ) → negative ≡ begins 45 s → is_int (digits_front (body s)) ≡ true → digits_rest (body s) ≡ [] → short ≡ digits_value (digits_front (body s))
+    → IsReadOf s negative short 0 false 0 (pos 0)
+integer_read s negative short sign int none value =
+    let frac = no_frac (digits_rest (body s)) none in
+    record {
+      written = written_of s;
+      spells = integer_spells s int none;
+      sign = sym sign;
+      digits = rw (frac.1, append_nil (digits_front (body s)), ← value) (short_stands short);
+      places_are = ap length frac.1;
+      exponent_is = (exp_none _ frac.2).1;
+    }
+
+-- the rule on a first 0, for two digits or more
+pub int_longer : (t : List ℕ) → 1 < length (digits_front t) → is_int (digits_front t) ≡ not (begins 48 t)
+int_longer t h = elim (begins 48 t) as (λ b. begins 48 t ≡ b → is_int (digits_front t) ≡ not b) [ true ↦ λ e. int_led_by_zero t e h | false ↦ λ e. int_led_by_other t e (omega arith) ] refl
+
+pub stops_whole : (s : List ℕ) (from at : ℕ) → Passes s from at → at ≡ length s → Stops s from (length s)
+stops_whole s from at p e = let P : ℕ → Type 0 = Stops s from in subst P e (stops_at_end s from at p (omega arith))

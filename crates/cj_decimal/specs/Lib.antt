@@ -3,3 +3,4 @@ pub mod Digits
 pub mod Number
 pub mod Reading
 pub mod Spelling
+pub mod Rows

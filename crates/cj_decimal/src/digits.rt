@@ -68,7 +68,7 @@ pub struct Run {
 
 /// Reads digits while the number stays below 10^18, the usual case: from a number and a place to a number and a place.
 #[inline(always)]
-fn read_short(spelling: &[u8], from: usize, start: u64) -> (u64, usize)
+pub fn read_short(spelling: &[u8], from: usize, start: u64) -> (u64, usize)
     requires within { from ≤ length spelling.now }
     requires short { start < 10 ^ 18 }
     ensures passes { Passes spelling.now from result.1 }
@@ -114,6 +114,27 @@ pub fn read_long(spelling: &[u8], from: usize, start: Digits) -> Run
     Run { digits, stop: at }
 }
 
+/// Reads the digits that go on from a short number, which are none in the usual case.
+#[inline(always)]
+pub fn read_on(spelling: &[u8], from: usize, short: u64) -> Run
+    requires within { from ≤ length spelling.now }
+    requires short { short < 10 ^ 18 }
+    ensures stops { Stops spelling.now from result.stop }
+    ensures stands { StandsFor result.digits.lead result.digits.extra result.digits.lost
+        (value_after short (digits_front (drop from spelling.now))) }
+    ensures bounded { result.digits.extra ≤ result.stop }
+{
+    let digits = Digits {
+        lead: short as u128,
+        extra: 0,
+        lost: false,
+    };
+    if !has_digit(spelling, from) {
+        return Run { digits, stop: from };
+    }
+    read_long(spelling, from, digits)
+}
+
 /// Reads all digits from a place on, after digits that were read before.
 #[inline(always)]
 pub fn read_digits(spelling: &[u8], from: usize, start: Digits) -> Run
@@ -128,16 +149,8 @@ pub fn read_digits(spelling: &[u8], from: usize, start: Digits) -> Run
     if start.lead >= SHORT as u128 {
         return read_long(spelling, from, start);
     }
-    let (lead, at) = read_short(spelling, from, start.lead as u64);
-    let digits = Digits {
-        lead: lead as u128,
-        extra: 0,
-        lost: false,
-    };
-    if !has_digit(spelling, at) {
-        return Run { digits, stop: at };
-    }
-    read_long(spelling, at, digits)
+    let (short, at) = read_short(spelling, from, start.lead as u64);
+    read_on(spelling, at, short)
 }
 
 /// Whether a digit stands at a place.

@@ -2,9 +2,9 @@
 ghost use Rattle.std.specs.Prelude.{◌≡◌, ℕ, ◌+◌, ◌*◌, ◌^◌, ◌<◌, ◌≤◌, ◌||◌, length, drop, true, false, MatchOption, ◌-◌, unsigned_abs, IsSome, IsNone, ◌↔◌, IfSome};
 ghost use Rattle.cj_decimal.specs.Digits.{StandsFor};
 ghost use Rattle.cj_decimal.specs.Spelling.{IsNumber, digits_value, value_after};
-ghost use Rattle.cj_decimal.specs.Reading.{begins, body, digits_front, digits_rest, is_int, is_frac, frac_digits, after_frac, exp_digits, is_whole_digits, is_exp, exp_value, Saturates, SaturatesSize, IsReadOf};
+ghost use Rattle.cj_decimal.specs.Reading.{begins, body, digits_front, digits_rest, is_int, is_frac, frac_digits, after_frac, exp_digits, is_whole_digits, is_exp, exp_value, Saturates, SaturatesSize, IsReadOf, Passes, Carries, Stops};
 
-use crate::digits::{Digits, Run, read_digits, read_long};
+use crate::digits::{Digits, Run, read_digits, read_long, read_on, read_short};
 
 /// The fraction of a spelling: the digits up to its end, where it stops, and how many digits stand after the point.
 #[derive(Clone, Copy)]
@@ -28,9 +28,23 @@ fn has_one_of(spelling: &[u8], at: usize, first: u8, second: u8) -> bool
     has_byte(spelling, at, first) || has_byte(spelling, at, second)
 }
 
-/// Reads the int part: `0` alone, or digits of which the first is not `0`.
-fn read_int(spelling: &[u8], from: usize) -> Option<Run>
-    requires { from ≤ length spelling.now }
+/// Whether digits are an int part: `0` alone, or digits of which the first is not `0`.
+fn is_int_part(spelling: &[u8], from: usize, stop: usize) -> bool
+    requires { Stops spelling.now from stop }
+    ensures { result ≡ is_int (digits_front (drop from spelling.now)) }
+{
+    match stop - from {
+        0 => false,
+        1 => true,
+        _ => !has_byte(spelling, from, b'0'),
+    }
+}
+
+/// Reads the int part, whose first digits were read already.
+fn read_int(spelling: &[u8], from: usize, at: usize, short: u64) -> Option<Run>
+    requires passes { Passes spelling.now from at }
+    requires carries { Carries spelling.now from 0 at short }
+    requires short { short < 10 ^ 18 }
     ensures reads { MatchOption result (is_int (digits_front (drop from spelling.now)) ≡ false)
         (λ run. (is_int (digits_front (drop from spelling.now)) ≡ true)
         × (drop run.stop spelling.now ≡ digits_rest (drop from spelling.now))
@@ -39,17 +53,11 @@ fn read_int(spelling: &[u8], from: usize) -> Option<Run>
     ensures bounds { IfSome result
         (λ run. (run.digits.extra ≤ run.stop) × (run.stop ≤ length spelling.now)) }
 {
-    let run = read_digits(spelling, from, Digits::NONE);
-    match run.stop - from {
-        0 => None,
-        1 => Some(run),
-        _ => {
-            if has_byte(spelling, from, b'0') {
-                None
-            } else {
-                Some(run)
-            }
-        }
+    let run = read_on(spelling, at, short);
+    if is_int_part(spelling, from, run.stop) {
+        Some(run)
+    } else {
+        None
     }
 }
 
@@ -164,6 +172,33 @@ pub struct Parts {
     ghost exponent_fits: { unsigned_abs exponent < 10 ^ 36 },
 }
 
+/// The parts of a spelling that ends with its first digits, which are few: the usual case.
+fn integer_parts(spelling: &[u8], negative: bool, from: usize, short: u64) -> Option<Parts>
+    requires sign { negative ≡ begins 45 spelling.now }
+    requires body { drop from spelling.now ≡ body spelling.now }
+    requires stops { Stops spelling.now from (length spelling.now) }
+    requires value { short ≡ digits_value (digits_front (drop from spelling.now)) }
+    requires short { short < 10 ^ 18 }
+    ensures number { IsSome result ↔ IsNumber spelling.now }
+    ensures reads { IfSome result
+        (λ parts. IsReadOf spelling.now parts.negative parts.digits.lead parts.digits.extra
+        parts.digits.lost parts.places parts.exponent) }
+{
+    if !is_int_part(spelling, from, spelling.len()) {
+        return None;
+    }
+    Some(Parts {
+        negative,
+        digits: Digits {
+            lead: short as u128,
+            extra: 0,
+            lost: false,
+        },
+        places: 0,
+        exponent: 0,
+    })
+}
+
 /// Reads a spelling whole, in one pass: its parts, or `None` where it is not a number of JSON.
 pub fn read_parts(spelling: &[u8]) -> Option<Parts>
     ensures number { IsSome result ↔ IsNumber spelling.now }
@@ -173,7 +208,11 @@ pub fn read_parts(spelling: &[u8]) -> Option<Parts>
 {
     let negative = has_byte(spelling, 0, b'-');
     let from = after_minus(spelling, negative);
-    let int = read_int(spelling, from)?;
+    let (short, at) = read_short(spelling, from, 0);
+    if at == spelling.len() {
+        return integer_parts(spelling, negative, from, short);
+    }
+    let int = read_int(spelling, from, at, short)?;
     let frac = read_frac(spelling, int.stop, int.digits)?;
     let exponent = read_exponent(spelling, frac.stop)?;
     Some(Parts {

@@ -1,4 +1,6 @@
 //! Rows of spellings and comparisons, with answers of exact arithmetic outside the program.
+ghost use Rattle.cj_decimal.specs.Rows.{WorkedRows};
+
 mod vectors;
 
 use crate::{Affine, Decimal, DecimalFault, Fixed18};
@@ -7,6 +9,16 @@ use std::fmt::Display;
 use std::process::Abort;
 use std::test::Fail;
 use vectors::{COMPARISONS, SPELLINGS};
+
+/// The worked rows hold of the definitions: a theorem, in which nothing runs.
+fn worked_rows()
+    ensures { WorkedRows }
+{}
+
+#[test]
+fn worked_rows_hold() {
+    worked_rows();
+}
 
 /// What reading a spelling answers, as a pair of numbers.
 fn parts(spelling: &[u8]) -> Result<(i128, i32), DecimalFault> {

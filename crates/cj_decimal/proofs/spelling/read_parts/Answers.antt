@@ -1,7 +1,8 @@
 use Rattle.std.proofs.Common.{arith, ap, sym, ◌∙◌, refl, length}
 use Rattle.std.proofs.lemmas.Int.{ints}
 use Rattle.cj_decimal.specs.Reading.{is_int, is_frac, is_exp, digits_front, digits_rest, after_frac, written_of, frac_digits, exp_value}
-use Rattle.cj_decimal.proofs.Parts.{not_int, not_frac, not_exp, passed, both_digits, nothing, saturates_at}
+use Rattle.cj_decimal.proofs.Ways.{carried_at_end}
+use Rattle.cj_decimal.proofs.Parts.{stops_whole, not_int, not_frac, not_exp, passed, both_digits, nothing, saturates_at}
 use Rattle.cj_decimal.proofs.spelling.read_parts.Goals as goal
 
 pub returns-in_err-int-clause-number : goal.returns-in_err-int-clause-number
@@ -51,3 +52,9 @@ returns-clause-reads c =
       places_are = sym (ap (λ r. length (frac_digits r)) at) ∙ c.in_ok-frac.ensures.reads.2;
       exponent_is = saturates_at _ _ c.in_ok-exponent.exponent _ c.in_ok-exponent.ensures.reads.1 (ap exp_value end) (omega (arith, ints, c.in_ok-exponent.ensures.bound));
     }
+
+pub integer_parts-requires-clause-stops : goal.integer_parts-requires-clause-stops
+integer_parts-requires-clause-stops c = stops_whole _ _ _ c.read_short-short.ensures.passes c.if-at-spelling.true
+
+pub integer_parts-requires-clause-value : goal.integer_parts-requires-clause-value
+integer_parts-requires-clause-value c = carried_at_end _ _ _ _ _ c.read_short-short.ensures.carries (omega arith)
