@@ -6,7 +6,7 @@ use Rattle.std.specs.Char.{is_ascii_digit}
 use Rattle.cj_decimal.specs.Number.{signed}
 use Rattle.cj_decimal.specs.Spelling.{IsDigit, AllDigits, IsDigits, IsInt, IsMinus, IsFrac, IsExpSign, ExpParts, IsExp, Written, Spells, digits_value}
 use Rattle.cj_decimal.specs.Reading.{digits_front, digits_rest, begins, is_empty, begins_digit, body, is_int, is_frac, frac_digits, after_frac, exp_digits, is_whole_digits, is_exp, exp_value, is_number, written_of}
-use Rattle.cj_decimal.proofs.Ways.{front_digit, front_other, front_end, rest_digit, rest_other, rest_end, digit_bounds, front_of_stop}
+use Rattle.cj_decimal.proofs.Ways.{front_digit, rest_digit, digit_bounds, front_of_stop}
 
 digit_test : (b : ℕ) → IsDigit b → is_ascii_digit b ≡ true
 digit_test b h = let low : 48 ≤ b = h.0 in let high : b ≤ 57 = h.1 in grind (arith, nat_tests)

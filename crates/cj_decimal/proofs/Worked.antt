@@ -1,8 +1,8 @@
 -- The worked rows, computed.
-use Rattle.std.proofs.Common.{◌≡◌, ◌^◌, ◌-◌, ◌≤◌, ℤ, pos, neg_ℤ, Bool, true, false, refl, arith, List, ℕ, []}
+use Rattle.std.proofs.Common.{◌≡◌, pos, neg_ℤ, true, false, refl, arith, List, ℕ, []}
 use Rattle.std.specs.Prelude.{codes}
 use Rattle.std.proofs.lemmas.Int.{ints}
-use Rattle.cj_decimal.specs.Number.{Number, number, SameValue, IsNormal, IsInRange, IsWhole, IsFixed}
+use Rattle.cj_decimal.specs.Number.{Number, number, SameValue, IsNormal, IsInRange}
 use Rattle.cj_decimal.specs.Spelling.{IsNumber, IsValue, IsNumberInRange, IsNumberOutOfRange, number_of}
 use Rattle.cj_decimal.specs.Reading.{is_number, written_of, digits_front, digits_rest, begins, is_empty, begins_digit, body, is_int, is_frac, frac_digits, after_frac, exp_digits, is_whole_digits, is_exp, exp_value}
 use Rattle.cj_decimal.specs.Rows.{ReadRows, NoNumberRows, UnitRows, WorkedRows}

@@ -1,6 +1,6 @@
 -- Worked rows: what the definitions say of some spellings and numbers.
-use Rattle.std.specs.Prelude.{◌≡◌, ◌++◌, ◌-◌, ◌^◌, ℤ, pos, neg_ℤ, codes, replicate, List, ℕ, []}
-use Rattle.cj_decimal.specs.Number.{number, IsWhole, IsFixed, SameValue}
+use Rattle.std.specs.Prelude.{◌-◌, ◌^◌, pos, neg_ℤ, codes, []}
+use Rattle.cj_decimal.specs.Number.{number, IsWhole, IsFixed}
 use Rattle.cj_decimal.specs.Spelling.{IsNumber, IsValue, IsNumberInRange, IsNumberOutOfRange}
 
 -- spellings that have these values
