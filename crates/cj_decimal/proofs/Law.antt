@@ -1,0 +1,56 @@
+-- What a spelling that was read stands for, and that its value is one.
+use Rattle.std.proofs.Common.{◌≡◌, ℕ, ◌++◌, List, length, Bool, ℤ, pos, ◌-ℤ◌, sym, ap, ◌∙◌, subst}
+use Rattle.cj_decimal.specs.Number.{Number, number, signed, SameValue, IsNormal, IsInRange, IsOutOfRange}
+use Rattle.cj_decimal.specs.Spelling.{Written, Spells, IsNumber, digits_value, number_of, IsValue, HasOneValue, IsNumberInRange, IsNumberOutOfRange}
+use Rattle.cj_decimal.specs.Reading.{IsReadOf}
+use Rattle.cj_decimal.proofs.Values.{same_sym, same_trans, normal_same}
+use Rattle.cj_decimal.proofs.Normal.{normal_form}
+use Rattle.cj_decimal.proofs.Grammar.{spells_test}
+
+one_written : (s : List ℕ) (m n : Written) → Spells s m → Spells s n → m ≡ n
+one_written s m n a b = sym (spells_test s m a).1 ∙ (spells_test s n b).1
+
+one_value : (s : List ℕ) (v w : Number) → IsValue s v → IsValue s w → v ≡ w
+one_value s v w a b =
+    let written = one_written s a.written b.written a.spells b.spells in
+    let other : SameValue (number_of a.written) w = rw written b.same in
+    normal_same v w (same_trans v (number_of a.written) w (same_sym (number_of a.written) v a.same) other) a.normal b.normal
+
+pub has_one_value : (s : List ℕ) → HasOneValue s
+has_one_value s = record {
+  has = λ n.
+      let form = normal_form n.0.negative (digits_value (n.0.int ++ n.0.frac)) (n.0.exponent -ℤ pos (length n.0.frac)) in
+      (form.0, record { written = n.0; spells = n.1; same = form.1; normal = form.2 });
+  one = one_value s;
+}
+
+-- the number of the parts that were read
+abbrev pub read_number : (s : List ℕ) (negative : Bool) (lead extra : ℕ) (lost : Bool) (places : ℕ) (exponent : ℤ) → IsReadOf s negative lead extra lost places exponent → Number
+read_number s negative lead extra lost places exponent r = number (signed negative (digits_value (r.written.int ++ r.written.frac))) (r.written.exponent -ℤ pos places)
+
+is_number_of : (s : List ℕ) (negative : Bool) (lead extra : ℕ) (lost : Bool) (places : ℕ) (exponent : ℤ) (r : IsReadOf s negative lead extra lost places exponent) → read_number s negative lead extra lost places exponent r ≡ number_of r.written
+is_number_of s negative lead extra lost places exponent r =
+    let n : ℕ = digits_value (r.written.int ++ r.written.frac) in
+    ap (λ b. number (signed b n) (r.written.exponent -ℤ pos places)) (sym r.sign) ∙ ap (λ k. number (signed r.written.negative n) (r.written.exponent -ℤ pos k)) (sym r.places_are)
+
+pub value_of_read : (s : List ℕ) (negative : Bool) (lead extra : ℕ) (lost : Bool) (places : ℕ) (exponent : ℤ) (r : IsReadOf s negative lead extra lost places exponent) (v : Number)
+    → SameValue (read_number s negative lead extra lost places exponent r) v → IsNormal v → IsValue s v
+value_of_read s negative lead extra lost places exponent r v same normal = record {
+  written = r.written;
+  spells = r.spells;
+  same = rw (is_number_of s negative lead extra lost places exponent r) at same;
+  normal = normal;
+}
+
+pub out_of_read : (s : List ℕ) (negative : Bool) (lead extra : ℕ) (lost : Bool) (places : ℕ) (exponent : ℤ) (r : IsReadOf s negative lead extra lost places exponent)
+    → IsOutOfRange (read_number s negative lead extra lost places exponent r) → IsNumberOutOfRange s
+out_of_read s negative lead extra lost places exponent r o =
+    (o.normal_form, value_of_read s negative lead extra lost places exponent r o.normal_form o.same o.normal, o.out)
+
+pub not_both : (s : List ℕ) → IsNumberInRange s → ¬ IsNumberOutOfRange s
+not_both s a b =
+    let same = one_value s a.0 b.0 a.1 b.1 in
+    b.2 (let P : Number → Type 0 = IsInRange in subst P same a.2)
+
+pub value_is_number : (s : List ℕ) (v : Number) → IsValue s v → IsNumber s
+value_is_number s v a = (a.written, a.spells)

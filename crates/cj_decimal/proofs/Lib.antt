@@ -1,0 +1,12 @@
+pub mod TenPowers
+pub mod Values
+pub mod Pushes
+pub mod Ways
+pub mod Grammar
+pub mod Parts
+pub mod Trims
+pub mod Normal
+pub mod Law
+pub mod Scales
+pub mod Splits
+pub mod Worked

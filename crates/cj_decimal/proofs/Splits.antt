@@ -1,0 +1,137 @@
+-- Whole numbers of units, and what is left of them.
+use Rattle.std.proofs.Common.{◌≡◌, ℕ, ◌*◌, ◌^◌, ◌<◌, ◌≤◌, ℤ, pos, negsuc, ◌+ℤ◌, ◌-ℤ◌, ◌*ℤ◌, ◌≤ℤ◌, ◌<ℤ◌, refl, sym, ap, ◌∙◌, arith}
+use Rattle.std.specs.Prelude.{unsigned_abs}
+use Rattle.std.specs.Ordering.{int_cmp, MatchOrdering}
+use Rattle.std.specs.declared.cmp.Ordering.{Ordering}
+use Rattle.std.specs.declared.cmp.Ordering.TheVariants.{Less, Equal, Greater}
+use Rattle.std.specs.Cmp.{int_cmp_is, int_ranked}
+use Rattle.std.specs.Int.{int_div_euclid, int_rem_euclid, w64, w128, cast_signed, cast_unsigned}
+use Rattle.std.specs.Prelude.{FitsSigned}
+use Rattle.std.proofs.lemmas.Int.{ints, unsigned_abs-mul, to_z-of_z, fits_signed_from_abs}
+use Rattle.std.proofs.lemmas.Nat.{mul-le}
+use Rattle.cj_decimal.specs.Number.{value_order}
+use Rattle.cj_decimal.specs.Affine.{units}
+use Rattle.cj_decimal.proofs.TenPowers.{times_one}
+use borrow.Author.Differences.{up, down, same_in, product_is, sum_is_lem}
+
+-- a number is its quotient by 10^18 times that, and its remainder
+pub euclid : (z : ℤ) → int_div_euclid z (pos (10 ^ 18)) *ℤ pos (10 ^ 18) +ℤ int_rem_euclid z (pos (10 ^ 18)) ≡ z
+euclid (pos a) = omega (arith, ints)
+euclid (negsuc a) = omega (arith, ints)
+
+pub euclid_low : (z : ℤ) → pos 0 ≤ℤ int_rem_euclid z (pos (10 ^ 18))
+euclid_low (pos a) = omega (arith, ints)
+euclid_low (negsuc a) = omega (arith, ints)
+
+pub euclid_high : (z : ℤ) → int_rem_euclid z (pos (10 ^ 18)) <ℤ pos (10 ^ 18)
+euclid_high (pos a) = omega (arith, ints)
+euclid_high (negsuc a) = omega (arith, ints)
+
+-- the split is the only one
+pub split_quotient : (w p : ℤ) → pos 0 ≤ℤ p → p <ℤ pos (10 ^ 18) → int_div_euclid (w *ℤ pos (10 ^ 18) +ℤ p) (pos (10 ^ 18)) ≡ w
+split_quotient w p low high = quotient (w *ℤ pos (10 ^ 18) +ℤ p) (int_div_euclid (w *ℤ pos (10 ^ 18) +ℤ p) (pos (10 ^ 18))) (int_rem_euclid (w *ℤ pos (10 ^ 18) +ℤ p) (pos (10 ^ 18))) (euclid (w *ℤ pos (10 ^ 18) +ℤ p)) (euclid_low _) (euclid_high _) refl
+  where
+    quotient : (z d r : ℤ) → d *ℤ pos (10 ^ 18) +ℤ r ≡ z → pos 0 ≤ℤ r → r <ℤ pos (10 ^ 18) → z ≡ w *ℤ pos (10 ^ 18) +ℤ p → d ≡ w
+    quotient z d r e a b f = omega (arith, ints)
+
+pub split_remainder : (w p : ℤ) → pos 0 ≤ℤ p → p <ℤ pos (10 ^ 18) → int_rem_euclid (w *ℤ pos (10 ^ 18) +ℤ p) (pos (10 ^ 18)) ≡ p
+split_remainder w p low high = remainder (w *ℤ pos (10 ^ 18) +ℤ p) (int_div_euclid (w *ℤ pos (10 ^ 18) +ℤ p) (pos (10 ^ 18))) (int_rem_euclid (w *ℤ pos (10 ^ 18) +ℤ p) (pos (10 ^ 18))) (euclid (w *ℤ pos (10 ^ 18) +ℤ p)) (split_quotient w p low high) refl
+  where
+    remainder : (z d r : ℤ) → d *ℤ pos (10 ^ 18) +ℤ r ≡ z → d ≡ w → z ≡ w *ℤ pos (10 ^ 18) +ℤ p → r ≡ p
+    remainder z d r e f g = omega (arith, ints)
+
+-- products go over sums
+pub times_sum : (v x y : ℤ) → v *ℤ (x +ℤ y) ≡ v *ℤ x +ℤ v *ℤ y
+times_sum v x y =
+    let sum = sum_is_lem x y in
+    same_in _ _ (omega (arith, product_is v (x +ℤ y), product_is v x, product_is v y, sum_is_lem (v *ℤ x) (v *ℤ y), ap (λ n. up v * n) sum, ap (λ n. down v * n) sum))
+
+pub times_scaled : (v a : ℤ) (u : ℕ) → v *ℤ (a *ℤ pos u) ≡ (v *ℤ a) *ℤ pos u
+times_scaled v a u =
+    let scaled = product_is a (pos u) in
+    let first = product_is v a in
+    same_in _ _ (omega (arith, product_is v (a *ℤ pos u), product_is (v *ℤ a) (pos u), ap (λ n. up v * n) scaled.0, ap (λ n. up v * n) scaled.1, ap (λ n. down v * n) scaled.0, ap (λ n. down v * n) scaled.1, ap (λ n. n * u) first.0, ap (λ n. n * u) first.1))
+
+pub product_size : (a b : ℤ) (m n : ℕ) → unsigned_abs a ≤ m → unsigned_abs b ≤ n → unsigned_abs (a *ℤ b) ≤ m * n
+product_size a b m n h k = omega (arith, unsigned_abs-mul a b, mul-le (unsigned_abs a) (unsigned_abs b) m n h k)
+
+-- ---- how a number compares with another, by the parts of their difference
+pub order_from_difference : (x q d : ℤ) (r : Ordering) → x -ℤ q ≡ d → r ≡ int_cmp d (pos 0) → r ≡ int_cmp x q
+order_from_difference x q d r e f = int_cmp_is x q r (ranked r (int_ranked d (pos 0) r f))
+  where
+    ranked : (r : Ordering) → MatchOrdering r (d <ℤ pos 0) (d ≡ pos 0) (pos 0 <ℤ d) → MatchOrdering r (x <ℤ q) (x ≡ q) (q <ℤ x)
+    ranked Less h = omega (arith, ints, h)
+    ranked Equal h = omega (arith, ints, h)
+    ranked Greater h = omega (arith, ints, h)
+
+-- the difference of the image and q, by the parts of the scale
+pub difference : (v whole part shift q : ℤ) → v *ℤ (whole *ℤ pos (10 ^ 18) +ℤ part) +ℤ shift -ℤ q ≡ (v *ℤ whole) *ℤ pos (10 ^ 18) +ℤ (v *ℤ part +ℤ shift -ℤ q)
+difference v whole part shift q =
+    let sum = times_sum v (whole *ℤ pos (10 ^ 18)) part in
+    let scaled = times_scaled v whole (10 ^ 18) in
+    joined (v *ℤ (whole *ℤ pos (10 ^ 18) +ℤ part)) (v *ℤ (whole *ℤ pos (10 ^ 18))) ((v *ℤ whole) *ℤ pos (10 ^ 18)) (v *ℤ part) sum scaled
+  where
+    joined : (a b c d : ℤ) → a ≡ b +ℤ d → b ≡ c → a +ℤ shift -ℤ q ≡ c +ℤ (d +ℤ shift -ℤ q)
+    joined a b c d e f = omega (arith, ints)
+
+-- the same with what the split of the rest gives
+pub difference_by_parts : (v whole part shift q carry left : ℤ) → carry *ℤ pos (10 ^ 18) +ℤ left ≡ v *ℤ part +ℤ shift -ℤ q
+    → v *ℤ (whole *ℤ pos (10 ^ 18) +ℤ part) +ℤ shift -ℤ q ≡ (v *ℤ whole +ℤ carry) *ℤ pos (10 ^ 18) +ℤ left
+difference_by_parts v whole part shift q carry left e = joined (v *ℤ whole) (v *ℤ part +ℤ shift -ℤ q) _ (difference v whole part shift q) e
+  where
+    joined : (w r d : ℤ) → d ≡ w *ℤ pos (10 ^ 18) +ℤ r → carry *ℤ pos (10 ^ 18) +ℤ left ≡ r → d ≡ (w +ℤ carry) *ℤ pos (10 ^ 18) +ℤ left
+    joined w r d a b = omega (arith, ints)
+
+-- at one power the order of numbers is that of their coefficients
+pub units_order : (x q : ℤ) → value_order (units x) (units q) ≡ int_cmp x q
+units_order x q = ap (λ a. int_cmp a (q *ℤ pos 1)) (times_one x) ∙ ap (λ b. int_cmp x b) (times_one q)
+
+pub scale_joined : (scale whole part : ℤ) → int_div_euclid scale (pos (10 ^ 18)) ≡ whole → int_rem_euclid scale (pos (10 ^ 18)) ≡ part → scale ≡ whole *ℤ pos (10 ^ 18) +ℤ part
+scale_joined scale whole part e f = sym (euclid scale) ∙ ap (λ w. w *ℤ pos (10 ^ 18) +ℤ int_rem_euclid scale (pos (10 ^ 18))) e ∙ ap (λ p. whole *ℤ pos (10 ^ 18) +ℤ p) f
+
+-- a scale below 10^18 in size has a whole part of at most that size
+pub whole_small : (scale whole part : ℤ) → int_div_euclid scale (pos (10 ^ 18)) ≡ whole → int_rem_euclid scale (pos (10 ^ 18)) ≡ part → unsigned_abs scale < 10 ^ 36 → unsigned_abs whole ≤ 10 ^ 18
+whole_small scale whole part e f small =
+    let joined = scale_joined scale whole part e f in
+    let low : pos 0 ≤ℤ part = rw f at (euclid_low scale) in
+    let high : part <ℤ pos (10 ^ 18) = rw f at (euclid_high scale) in
+    omega (arith, ints)
+
+-- what the steps of the comparison amount to
+pub compare_law : (v scale whole part shift q first rest carry left second sum last : ℤ) (r : Ordering) → r ≡ int_cmp (sum *ℤ pos (10 ^ 18) +ℤ last) (pos 0) → carry *ℤ pos (10 ^ 18) +ℤ left ≡ rest
+    → scale ≡ whole *ℤ pos (10 ^ 18) +ℤ part → first ≡ v *ℤ part → second ≡ v *ℤ whole
+    → rest ≡ first +ℤ shift -ℤ q → sum ≡ second +ℤ carry → last ≡ left → r ≡ int_cmp (v *ℤ scale +ℤ shift) q
+compare_law v scale whole part shift q first rest carry left second sum last r e b joined a d f g h =
+    let at = b ∙ f ∙ ap (λ x. x +ℤ shift -ℤ q) a in
+    let parts = difference_by_parts v whole part shift q carry left at in
+    let at_scale = ap (λ x. v *ℤ x +ℤ shift -ℤ q) joined in
+    let all : (sum *ℤ pos (10 ^ 18) +ℤ last) ≡ (v *ℤ whole +ℤ carry) *ℤ pos (10 ^ 18) +ℤ left = ap (λ x. x *ℤ pos (10 ^ 18) +ℤ last) (g ∙ ap (λ x. x +ℤ carry) d) ∙ ap (λ x. (v *ℤ whole +ℤ carry) *ℤ pos (10 ^ 18) +ℤ x) h in
+    order_from_difference (v *ℤ scale +ℤ shift) q _ r (at_scale ∙ parts) (e ∙ ap (λ x. int_cmp x (pos 0)) all)
+
+-- ---- numbers that went to bits and back
+pub product_of_casts : (v p r : ℤ) → unsigned_abs v ≤ 10 ^ 18 → unsigned_abs p ≤ 10 ^ 18 → r ≡ cast_signed w64 (cast_unsigned w64 v) *ℤ cast_signed w64 (cast_unsigned w64 p) → r ≡ v *ℤ p
+product_of_casts v p r a b e =
+    e ∙ ap (λ x. x *ℤ cast_signed w64 (cast_unsigned w64 p)) (to_z-of_z w64 v (fits_signed_from_abs w64 v (omega arith))) ∙ ap (λ y. v *ℤ y) (to_z-of_z w64 p (fits_signed_from_abs w64 p (omega arith)))
+
+pub part_small : (scale part : ℤ) → int_rem_euclid scale (pos (10 ^ 18)) ≡ part → unsigned_abs part ≤ 10 ^ 18
+part_small scale part f =
+    let low : pos 0 ≤ℤ part = rw f at (euclid_low scale) in
+    let high : part <ℤ pos (10 ^ 18) = rw f at (euclid_high scale) in
+    omega (arith, ints)
+
+pub split_cast : (z w : ℤ) → FitsSigned w128 z → w ≡ int_div_euclid (cast_signed w128 (cast_unsigned w128 z)) (pos (10 ^ 18))
+    → (w *ℤ pos (10 ^ 18) +ℤ int_rem_euclid z (pos (10 ^ 18)) ≡ z) × (pos 0 ≤ℤ int_rem_euclid z (pos (10 ^ 18))) × (int_rem_euclid z (pos (10 ^ 18)) <ℤ pos (10 ^ 18))
+split_cast z w fits e =
+    let same : w ≡ int_div_euclid z (pos (10 ^ 18)) = e ∙ ap (λ x. int_div_euclid x (pos (10 ^ 18))) (to_z-of_z w128 z fits) in
+    (ap (λ x. x *ℤ pos (10 ^ 18) +ℤ int_rem_euclid z (pos (10 ^ 18))) same ∙ euclid z, euclid_low z, euclid_high z)
+
+pub rest_cast : (p s u q : ℤ) → unsigned_abs p ≤ 10 ^ 36 → unsigned_abs s < 10 ^ 36 → unsigned_abs u < 10 ^ 36 → u ≡ q
+    → cast_signed w128 (cast_unsigned w128 (cast_signed w128 (cast_unsigned w128 (cast_signed w128 (cast_unsigned w128 p) +ℤ cast_signed w128 (cast_unsigned w128 s))) -ℤ cast_signed w128 (cast_unsigned w128 u))) ≡ p +ℤ s -ℤ q
+rest_cast p s u q a b d e = omega (arith, ints)
+
+pub sum_cast : (p e : ℤ) → unsigned_abs p ≤ 10 ^ 36 → unsigned_abs e ≤ 4 * 10 ^ 18
+    → cast_signed w128 (cast_unsigned w128 (cast_signed w128 (cast_unsigned w128 p) +ℤ cast_signed w128 (cast_unsigned w128 e))) ≡ p +ℤ e
+sum_cast p e a b = omega (arith, ints)
+
+pub left_cast : (l : ℤ) → pos 0 ≤ℤ l → l <ℤ pos (10 ^ 18) → cast_signed w128 (cast_unsigned w128 l) ≡ l
+left_cast l a b = omega (arith, ints)

@@ -1,0 +1,45 @@
+-- Powers of ten, and products with them.
+use Rattle.std.proofs.Common.{◌≡◌, ℕ, zero, suc, ◌+◌, ◌*◌, ◌^◌, ◌<◌, ◌≤◌, ℤ, pos, negsuc, neg_ℤ, ◌*ℤ◌, refl, sym, ap, ◌∙◌, arith}
+use Rattle.std.proofs.Math.Nat.{one-le-pow, pow-le-pow_right, le_of_mul-le-mul_right}
+use Rattle.std.proofs.lemmas.Nat.{pow-add}
+use Rattle.std.proofs.lemmas.Int.{ints}
+use borrow.Author.Differences.{up, down, same_in, same_out, product_is}
+
+pub ten_pow_pos : (k : ℕ) → 0 < 10 ^ k
+ten_pow_pos k = let h : 1 ≤ 10 ^ k = one-le-pow k 10 (omega arith) in omega (arith, h)
+
+-- 10^(k + 1) is ten times 10^k
+pub ten_pow_suc : (k : ℕ) → 10 ^ (k + 1) ≡ 10 * 10 ^ k
+ten_pow_suc k = omega (arith, pow-add 10 k 1)
+
+pub ten_pow_le : (i j : ℕ) → i ≤ j → 10 ^ i ≤ 10 ^ j
+ten_pow_le i j h = let p : 0 < 10 = omega arith in pow-le-pow_right {n = 10} p {i = i} {j = j} h
+
+pub ten_pow_add : (i j : ℕ) → 10 ^ (i + j) ≡ 10 ^ i * 10 ^ j
+ten_pow_add i j = pow-add 10 i j
+
+-- a power below another has a smaller exponent
+pub ten_pow_below : (i j : ℕ) → 10 ^ i < 10 ^ j → i < j
+ten_pow_below i j h = grind (arith, ten_pow_le j i)
+
+pub mul_right_cancel : (a b k : ℕ) → 0 < k → a * k ≡ b * k → a ≡ b
+mul_right_cancel a b k p e =
+    let le : a * k ≤ b * k = omega (arith, e) in
+    let ge : b * k ≤ a * k = omega (arith, e) in
+    omega (arith, le_of_mul-le-mul_right {m = a} {n = b} {k = k} le p, le_of_mul-le-mul_right {m = b} {n = a} {k = k} ge p)
+
+-- a whole number times a positive one can be divided by it again
+pub times_cancel : (x y : ℤ) (k : ℕ) → 0 < k → x *ℤ pos k ≡ y *ℤ pos k → x ≡ y
+times_cancel x y k p e =
+    same_in x y (mul_right_cancel (up x + down y) (up y + down x) k p (omega (arith, same_out (x *ℤ pos k) (y *ℤ pos k) e, product_is x (pos k), product_is y (pos k))))
+
+pub neg_times : (m b : ℕ) → neg_ℤ (pos m) *ℤ pos b ≡ neg_ℤ (pos (m * b))
+neg_times zero b = let none : zero * b ≡ zero = omega arith in ap (λ n. pos n) none ∙ sym (ap (λ n. neg_ℤ (pos n)) none)
+neg_times (suc m) b = refl
+
+pub times_times : (x : ℤ) (a b : ℕ) → (x *ℤ pos a) *ℤ pos b ≡ x *ℤ pos (a * b)
+times_times (pos n) a b = ap pos (omega arith)
+times_times (negsuc n) a b = neg_times (suc n * a) b ∙ ap (λ m. neg_ℤ (pos m)) (omega arith)
+
+pub times_one : (x : ℤ) → x *ℤ pos 1 ≡ x
+times_one x = omega (arith, ints)

@@ -1,0 +1,14 @@
+use Rattle.std.proofs.Common.{ℕ, ◌-◌, ◌≤◌, length}
+use Rattle.cj_decimal.specs.Digits.{StandsFor}
+use Rattle.cj_decimal.specs.Reading.{Carries, Passes}
+use Rattle.cj_decimal.proofs.digits.read_long.Given as goal
+
+abbrev pub invariant-loop-at : goal.invariant-loop-at
+invariant-loop-at l = record {
+  passes : Passes l.spelling l.fn.from l.at;
+  stands : (n : ℕ) → StandsFor l.fn.start.lead l.fn.start.extra l.fn.start.lost n → (m : ℕ) × Carries l.spelling l.fn.from n l.at m × StandsFor l.digits.lead l.digits.extra l.digits.lost m;
+  bounded : l.digits.extra ≤ l.at;
+}
+
+abbrev pub decreases-loop-at : goal.decreases-loop-at
+decreases-loop-at l = length l.spelling - l.at

@@ -1,0 +1,6 @@
+pub mod Affine
+pub mod Digits
+pub mod Number
+pub mod Reading
+pub mod Spelling
+pub mod Rows

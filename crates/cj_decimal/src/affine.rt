@@ -1,0 +1,109 @@
+//! Whole numbers scaled and shifted, compared exactly.
+ghost use Rattle.std.specs.Prelude.{◌≡◌, ◌<◌, ◌≤◌, ◌^◌, ◌+ℤ◌, ◌*ℤ◌, ◌*◌, ◌≤ℤ◌, ◌<ℤ◌, pos, unsigned_abs};
+ghost use Rattle.std.specs.Int.{int_div_euclid, int_rem_euclid};
+ghost use Rattle.std.specs.Ordering.{int_cmp};
+ghost use Rattle.cj_decimal.specs.Number.{value_order};
+ghost use Rattle.cj_decimal.specs.Affine.{image, units};
+
+use crate::fixed::Fixed18;
+use std::cmp::Ordering;
+use std::marker::Model;
+
+/// How many units of 10^-18 make one.
+const ONE: i128 = 1_000_000_000_000_000_000;
+
+/// The map of whole numbers v to `v * scale + shift`. Contracts see both in units of 10^-18.
+#[derive(Clone, Copy, Debug, PartialEq, Eq)]
+pub struct Affine {
+    scale: i128,
+    /// The scale rounded down to a whole number, kept so that no comparison divides it again.
+    whole: i64,
+    /// What is then left of the scale, in units.
+    part: i64,
+    shift: i128,
+}
+
+impl Model for Affine {
+    ghost use Rattle.std.specs.Prelude.{pos, ◌^◌};
+    ghost use Rattle.std.specs.Int.{int_div_euclid, int_rem_euclid};
+    ghost use Rattle.cj_decimal.specs.Affine.{AffineMap, IsSplit, IsInUnits};
+
+    ghost Value = { AffineMap };
+
+    ghost view = { λ a. record { scale = a.scale; shift = a.shift } };
+
+    ghost invariant = { λ a. IsSplit a.scale a.whole a.part × IsInUnits a.scale a.shift };
+
+    ghost inverse = { λ m. record { scale = m.scale; whole = int_div_euclid m.scale (pos (10 ^ 18)); part = int_rem_euclid m.scale (pos (10 ^ 18)); shift = m.shift } };
+
+    ghost inverse_ok = { λ a h i. record { scale = a.scale; whole = h.0.whole_is i; part = h.0.part_is i; shift = a.shift } };
+}
+
+impl Affine {
+    /// The map of this scale and shift.
+    pub fn new(scale: Fixed18, shift: Fixed18) -> Affine
+        ensures { result ≡ record { scale = scale; shift = shift } }
+    {
+        let scale = scale.units();
+        let (whole, part) = split(scale);
+        Affine {
+            scale,
+            whole: whole as i64,
+            part: part as i64,
+            shift: shift.units(),
+        }
+    }
+
+    /// How `v * scale + shift` compares with a number, exactly.
+    pub fn compare(&self, v: i64, q: Fixed18) -> Ordering
+        requires { unsigned_abs v < 10 ^ 18 }
+        ensures order { result ≡ int_cmp (image self.now v) q }
+        ensures value { result ≡ value_order (units (image self.now v)) (units q) }
+    {
+        let rest = product(v, self.part) + self.shift - q.units();
+        let (carry, left) = split(rest);
+        sign_of(product(v, self.whole) + carry, left)
+    }
+}
+
+/// The product of two numbers of at most 10^18 in size.
+fn product(left: i64, right: i64) -> i128
+    requires left_fits { unsigned_abs left < 10 ^ 18 }
+    requires right_fits { unsigned_abs right ≤ 10 ^ 18 }
+    ensures value { result ≡ left *ℤ right }
+    ensures bound { unsigned_abs result ≤ 10 ^ 36 }
+{
+    left as i128 * right as i128
+}
+
+/// How many whole ones there are in so many units, rounded down, and how many units are left.
+fn split(units: i128) -> (i128, i128)
+    requires { unsigned_abs units < 4 * 10 ^ 36 }
+    ensures whole { result.0 ≡ int_div_euclid units (pos (10 ^ 18)) }
+    ensures left { result.1 ≡ int_rem_euclid units (pos (10 ^ 18)) }
+    ensures joined { result.0 *ℤ pos (10 ^ 18) +ℤ result.1 ≡ units }
+    ensures low { pos 0 ≤ℤ result.1 }
+    ensures high { result.1 <ℤ pos (10 ^ 18) }
+    ensures bound { unsigned_abs result.0 ≤ 4 * 10 ^ 18 }
+{
+    let whole = units.div_euclid(ONE);
+    (whole, units - whole * ONE)
+}
+
+/// How so many whole ones and units, less than one, compare with 0.
+fn sign_of(whole: i128, left: i128) -> Ordering
+    requires low { pos 0 ≤ℤ left }
+    requires high { left <ℤ pos (10 ^ 18) }
+    ensures { result ≡ int_cmp (whole *ℤ pos (10 ^ 18) +ℤ left) (pos 0) }
+{
+    if whole < 0 {
+        return Ordering::Less;
+    }
+    if whole > 0 {
+        return Ordering::Greater;
+    }
+    if left > 0 {
+        return Ordering::Greater;
+    }
+    Ordering::Equal
+}

@@ -1,0 +1,215 @@
+//! A number c * 10^p in normal form.
+ghost use Rattle.std.specs.Prelude.{◌≡◌, ◌↔◌, ℕ, ◌*◌, ◌^◌, ◌<◌, ◌≤◌, ℤ, pos, neg_ℤ, ◌-ℤ◌, ◌*ℤ◌, unsigned_abs, IsTrue, IfSome, IfNone, IsSome, IfOk, IsOk, IsErrOf};
+ghost use Rattle.std.proofs.Common.{rules};
+ghost use Rattle.std.specs.Cmp.Rules.{comparing};
+ghost use Rattle.cj_decimal.specs.Spelling.{IsNumber, IsValue, IsNumberInRange, IsNumberOutOfRange, HasOneValue};
+ghost use Rattle.cj_decimal.specs.Number.{number, signed, same_parts, SameValue, IsNormal, IsInRange, IsOutOfRange, IsWhole, IsFixed};
+ghost use Rattle.cj_decimal.specs.Digits.{StandsFor};
+ghost use Rattle.cj_decimal.specs.Reading.{Saturates};
+
+use crate::fixed::Fixed18;
+use crate::powers::wide_ten_to;
+use crate::spelling::{Parts, read_parts};
+use crate::trimming::without_zeros;
+use std::marker::Model;
+use thiserror::Error;
+
+/// The least and the greatest power of ten of a decimal.
+const LEAST_POWER: i128 = -1_000_000;
+
+const GREATEST_POWER: i128 = 1_000_000;
+
+/// Why a spelling is no decimal.
+#[derive(Clone, Copy, Debug, PartialEq, Eq, Error)]
+pub enum DecimalFault {
+    /// The spelling is not a number of JSON.
+    #[error("not a number")]
+    NotANumber,
+    /// The number has more than 36 digits, or a power of ten past 1,000,000 in size.
+    #[error("number out of range")]
+    NumberRange,
+}
+
+/// A number `coefficient * 10^power` in normal form: the coefficient is no multiple of 10, or both are 0.
+#[derive(Clone, Copy, Debug)]
+pub struct Decimal {
+    coefficient: i128,
+    power: i32,
+}
+
+impl Model for Decimal {
+    ghost use Rattle.cj_decimal.specs.Number.{Number, number, IsNormal, IsInRange};
+
+    ghost Value = { Number };
+
+    ghost view = { λ d. number d.coefficient d.power };
+
+    ghost invariant = { λ d. IsNormal (number d.coefficient d.power) × IsInRange (number d.coefficient d.power) };
+
+    ghost inverse = { λ n. record { coefficient = n.coefficient; power = n.power } };
+}
+
+/// The number of this size, below 0 where the flag is set.
+fn with_sign(negative: bool, size: u128) -> i128
+    requires { size < 10 ^ 36 }
+    ensures { result ≡ signed negative size }
+{
+    if negative {
+        -(size as i128)
+    } else {
+        size as i128
+    }
+}
+
+/// The number with zeros at its end, where it then has no more than so many digits.
+fn with_zeros(number: i128, zeros: u32, digits: u32) -> Option<i128>
+    requires fits { unsigned_abs number < 10 ^ 36 }
+    requires bounded { digits ≤ 36 }
+    requires within { zeros ≤ digits }
+    ensures value { IfSome result
+        (λ u. (u ≡ number *ℤ pos (10 ^ zeros)) × (unsigned_abs u < 10 ^ digits)) }
+    ensures none { IfNone result (10 ^ digits ≤ unsigned_abs number * 10 ^ zeros) }
+{
+    if number.unsigned_abs() >= wide_ten_to(digits - zeros) {
+        return None;
+    }
+    Some(number * wide_ten_to(zeros) as i128)
+}
+
+impl PartialEq for Decimal {
+    ghost eq = { same_parts };
+
+    ghost laws = { Prim.search (comparing, rules) };
+
+    fn eq(&self, other: &Decimal) -> bool
+        ensures parts { result ≡ same_parts self.now other.now }
+        ensures same_value { IsTrue result ↔ SameValue self.now other.now }
+    {
+        other.coefficient == self.coefficient && other.power == self.power
+    }
+}
+
+impl Eq for Decimal {
+    ghost laws = { Prim.search (comparing, rules) };
+}
+
+impl Decimal {
+    /// The number of a spelling's parts, or `None` where it is out of range.
+    fn from_parts(parts: Parts) -> Option<Decimal>
+        ensures some { (n : ℕ) (e : ℤ) → StandsFor parts.digits.lead parts.digits.extra parts.digits.lost n
+            → Saturates e parts.exponent
+            → IfSome result (SameValue (number (signed parts.negative n) (e -ℤ pos parts.places))) }
+        ensures none { (n : ℕ) (e : ℤ) → StandsFor parts.digits.lead parts.digits.extra parts.digits.lost n
+            → Saturates e parts.exponent
+            → IfNone result (IsOutOfRange (number (signed parts.negative n) (e -ℤ pos parts.places))) }
+        ensures form { IfSome result (λ d. IsNormal d × IsInRange d) }
+    {
+        if parts.digits.lost {
+            return None;
+        }
+        if parts.digits.lead == 0 {
+            return Some(Decimal {
+                coefficient: 0,
+                power: 0,
+            });
+        }
+        let (lead, zeros) = without_zeros(parts.digits.lead);
+        let shift = parts.digits.extra as i128 + zeros as i128;
+        let power = parts.exponent - parts.places as i128 + shift;
+        if power < LEAST_POWER {
+            return None;
+        }
+        if power > GREATEST_POWER {
+            return None;
+        }
+        Some(Decimal {
+            coefficient: with_sign(parts.negative, lead),
+            power: power as i32,
+        })
+    }
+
+    /// Reads the spelling of a number of JSON (RFC 8259, section 6), whatever its length, in one pass.
+    ///
+    /// # Errors
+    ///
+    /// `NotANumber` where the spelling is no number of JSON, `NumberRange` where its value has more
+    /// than 36 digits in normal form, or a power of ten past 1,000,000 in size.
+    pub fn read(spelling: &[u8]) -> Result<Decimal, DecimalFault>
+        ensures value { IfOk result (IsValue spelling.now) }
+        ensures in_range { IfOk result IsInRange }
+        ensures ok { IsOk result ↔ IsNumberInRange spelling.now }
+        ensures not_a_number { IsErrOf result DecimalFault.NotANumber ↔ (¬ IsNumber spelling.now) }
+        ensures number_range { IsErrOf result DecimalFault.NumberRange
+            ↔ IsNumberOutOfRange spelling.now }
+
+        // A law of the definitions: the value is determined.
+        ensures one_value { HasOneValue spelling.now }
+    {
+        let Some(parts) = read_parts(spelling) else {
+            return Err(DecimalFault::NotANumber);
+        };
+        let Some(decimal) = Decimal::from_parts(parts) else {
+            return Err(DecimalFault::NumberRange);
+        };
+        Ok(decimal)
+    }
+
+    /// The number as a number of units of 10^-places, where it is a whole number of them, below 10^digits in size.
+    fn in_units(self, places: u32, digits: u32) -> Option<i128>
+        requires bounded { digits ≤ 36 }
+        requires apart { places < digits }
+        ensures value { IfSome result
+            (λ u. SameValue self (number u (neg_ℤ (pos places))) × (unsigned_abs u < 10 ^ digits)) }
+        ensures none { IfNone result ((u : ℤ) → SameValue self (number u (neg_ℤ (pos places)))
+            → 10 ^ digits ≤ unsigned_abs u) }
+    {
+        let power = self.power + places as i32;
+        if power < 0 {
+            return None;
+        }
+        if power >= digits as i32 {
+            return None;
+        }
+        with_zeros(self.coefficient, power as u32, digits)
+    }
+
+    /// The value, where it is whole and below 10^18 in size.
+    pub fn whole(self) -> Option<i64>
+        ensures value { IfSome result (IsWhole self) }
+        ensures whole { IsSome result ↔ ((w : ℤ) × IsWhole self w) }
+    {
+        match self.in_units(0, 18) {
+            Some(whole) => Some(whole as i64),
+            None => None,
+        }
+    }
+
+    /// The value in units of 10^-18, where it is a multiple of 10^-18 and below 10^18 in size.
+    pub fn fixed18(self) -> Option<Fixed18>
+        ensures value { IfSome result (IsFixed self) }
+        ensures fixed { IsSome result ↔ ((u : ℤ) × IsFixed self u) }
+    {
+        match self.in_units(18, 36) {
+            Some(units) => Some(Fixed18::from_units(units)),
+            None => None,
+        }
+    }
+
+    /// The coefficient of the normal form.
+    pub fn coefficient(self) -> i128
+        ensures value { result ≡ self.coefficient }
+        ensures normal { IsNormal self }
+        ensures range { IsInRange self }
+    {
+        self.coefficient
+    }
+
+    /// The power of ten of the normal form.
+    pub fn power(self) -> i32
+        ensures value { result ≡ self.power }
+        ensures normal { IsNormal self }
+        ensures range { IsInRange self }
+    {
+        self.power
+    }
+}

@@ -1,0 +1,161 @@
+//! The digits of a spelling, kept in few numbers however many they are.
+ghost use Rattle.std.specs.Prelude.{◌≡◌, ℕ, ◌+◌, ◌*◌, ◌^◌, ◌<◌, ◌≤◌, length, drop, [], IsTrue, ◌-◌, slice_index};
+ghost use Rattle.cj_decimal.specs.Digits.{StandsFor};
+ghost use Rattle.cj_decimal.specs.Spelling.{value_after};
+ghost use Rattle.cj_decimal.specs.Reading.{Carries, Passes, Stops, begins_digit, digits_front};
+
+/// The least number of 36 digits: up to here one more digit fits.
+const FULL: u128 = 100_000_000_000_000_000_000_000_000_000_000_000;
+
+/// The least number of 18 digits: up to here one more digit fits in the short loop.
+const SHORT: u64 = 100_000_000_000_000_000;
+
+/// The digits read so far: the first 36 from the first that is not 0, and the zeros after them.
+#[derive(Clone, Copy)]
+pub struct Digits {
+    pub lead: u128,
+    pub extra: usize,
+    pub lost: bool,
+    ghost lead_fits: { lead < 10 ^ 36 },
+    ghost extra_after_full: { 0 < extra → 10 ^ 35 ≤ lead },
+    ghost lost_after_full: { IsTrue lost → 10 ^ 35 ≤ lead },
+}
+
+impl Digits {
+    /// No digit.
+    pub const NONE: Digits = Digits {
+        lead: 0,
+        extra: 0,
+        lost: false,
+    };
+
+    /// These digits and one more.
+    fn push(self, digit: u8) -> Digits
+        requires digit { digit < 10 }
+        requires room { self.extra + 1 < 2 ^ 64 }
+        ensures stands { (n : ℕ) → StandsFor self.lead self.extra self.lost n
+            → StandsFor result.lead result.extra result.lost (10 * n + digit) }
+        ensures extra { result.extra ≤ self.extra + 1 }
+    {
+        if self.lead < FULL {
+            return Digits {
+                lead: self.lead * 10 + digit as u128,
+                extra: self.extra,
+                lost: self.lost,
+            };
+        }
+        if digit == 0 {
+            return Digits {
+                lead: self.lead,
+                extra: self.extra + 1,
+                lost: self.lost,
+            };
+        }
+        Digits {
+            lead: self.lead,
+            extra: self.extra,
+            lost: true,
+        }
+    }
+}
+
+/// Digits that were read, and where they stop.
+#[derive(Clone, Copy)]
+pub struct Run {
+    pub digits: Digits,
+    pub stop: usize,
+}
+
+/// Reads digits while the number stays below 10^18, the usual case: from a number and a place to a number and a place.
+#[inline(always)]
+pub fn read_short(spelling: &[u8], from: usize, start: u64) -> (u64, usize)
+    requires within { from ≤ length spelling.now }
+    requires short { start < 10 ^ 18 }
+    ensures passes { Passes spelling.now from result.1 }
+    ensures carries { Carries spelling.now from start result.1 result.0 }
+    ensures short { result.0 < 10 ^ 18 }
+{
+    let mut value = start;
+    let mut at = from;
+    while at < spelling.len() && value < SHORT {
+        let byte = spelling[at];
+        if !byte.is_ascii_digit() {
+            break;
+        }
+        value = 10 * value + (byte - b'0') as u64;
+        at += 1;
+    }
+    (value, at)
+}
+
+/// Reads all digits from a place on, whatever their number.
+///
+/// It is kept apart from the usual case, which then needs no memory for its numbers.
+#[inline(never)]
+pub fn read_long(spelling: &[u8], from: usize, start: Digits) -> Run
+    requires within { from ≤ length spelling.now }
+    requires bounded { start.extra ≤ from }
+    ensures stops { Stops spelling.now from result.stop }
+    ensures stands { (n : ℕ) → StandsFor start.lead start.extra start.lost n
+        → StandsFor result.digits.lead result.digits.extra result.digits.lost
+        (value_after n (digits_front (drop from spelling.now))) }
+    ensures bounded { result.digits.extra ≤ result.stop }
+{
+    let mut digits = start;
+    let mut at = from;
+    while at < spelling.len() {
+        let byte = spelling[at];
+        if !byte.is_ascii_digit() {
+            return Run { digits, stop: at };
+        }
+        digits = digits.push(byte - b'0');
+        at += 1;
+    }
+    Run { digits, stop: at }
+}
+
+/// Reads the digits that go on from a short number, which are none in the usual case.
+#[inline(always)]
+pub fn read_on(spelling: &[u8], from: usize, short: u64) -> Run
+    requires within { from ≤ length spelling.now }
+    requires short { short < 10 ^ 18 }
+    ensures stops { Stops spelling.now from result.stop }
+    ensures stands { StandsFor result.digits.lead result.digits.extra result.digits.lost
+        (value_after short (digits_front (drop from spelling.now))) }
+    ensures bounded { result.digits.extra ≤ result.stop }
+{
+    let digits = Digits {
+        lead: short as u128,
+        extra: 0,
+        lost: false,
+    };
+    if !has_digit(spelling, from) {
+        return Run { digits, stop: from };
+    }
+    read_long(spelling, from, digits)
+}
+
+/// Reads all digits from a place on, after digits that were read before.
+#[inline(always)]
+pub fn read_digits(spelling: &[u8], from: usize, start: Digits) -> Run
+    requires within { from ≤ length spelling.now }
+    requires bounded { start.extra ≤ from }
+    ensures stops { Stops spelling.now from result.stop }
+    ensures stands { (n : ℕ) → StandsFor start.lead start.extra start.lost n
+        → StandsFor result.digits.lead result.digits.extra result.digits.lost
+        (value_after n (digits_front (drop from spelling.now))) }
+    ensures bounded { result.digits.extra ≤ result.stop }
+{
+    if start.lead >= SHORT as u128 {
+        return read_long(spelling, from, start);
+    }
+    let (short, at) = read_short(spelling, from, start.lead as u64);
+    read_on(spelling, at, short)
+}
+
+/// Whether a digit stands at a place.
+fn has_digit(spelling: &[u8], at: usize) -> bool
+    ensures { result ≡ begins_digit (drop at spelling.now) }
+{
+    at < spelling.len() && spelling[at].is_ascii_digit()
+}

@@ -1,0 +1,30 @@
+//! The numbers of JSON as decimals of whole-number parts, compared exactly: no float, no rounding, and no memory taken.
+//!
+//! [`Decimal::read`] reads a spelling of any length into a coefficient of at most 36 digits and a power of ten, in normal
+//! form. `==` is equality of values. [`Decimal::whole`] answers the value of an index or a coordinate,
+//! [`Decimal::fixed18`] that of a scale, a shift or the edge of a box, in units of 10^-18. [`Affine::compare`] tells how
+//! `v * scale + shift` compares with such an edge, exactly:
+//!
+//! ```text
+//! let map = Affine::new(scale, shift);        // 0.001 and 1000, say
+//! let edge = Decimal::read(b"1001")?.fixed18();
+//! map.compare(1000, edge)                     // Ordering::Equal
+//! ```
+//!
+//! A line's number goes `spelling` (its parts, by `digits`) → `trimming` (no zeros at its end) → `decimal` → `fixed` and
+//! `affine`. What a spelling is and what it stands for is in specs/Spelling and specs/Number.
+#![tactic(auto)]
+
+mod affine;
+mod decimal;
+mod digits;
+mod fixed;
+mod powers;
+mod spelling;
+#[cfg(test)]
+mod tests;
+mod trimming;
+
+pub use affine::Affine;
+pub use decimal::{Decimal, DecimalFault};
+pub use fixed::Fixed18;

@@ -1,0 +1,144 @@
+//! Rows of spellings and comparisons, with answers of exact arithmetic outside the program.
+ghost use Rattle.cj_decimal.specs.Rows.{WorkedRows};
+
+mod vectors;
+
+use crate::{Affine, Decimal, DecimalFault, Fixed18};
+use std::alloc::{AllocError, Global};
+use std::fmt::Display;
+use std::process::Abort;
+use std::test::Fail;
+use vectors::{COMPARISONS, SPELLINGS};
+
+/// The worked rows hold of the definitions: a theorem, in which nothing runs.
+fn worked_rows()
+    ensures { WorkedRows }
+{}
+
+#[test]
+fn worked_rows_hold() {
+    worked_rows();
+}
+
+/// What reading a spelling answers, as a pair of numbers.
+fn parts(spelling: &[u8]) -> Result<(i128, i32), DecimalFault> {
+    match Decimal::read(spelling) {
+        Ok(decimal) => Ok((decimal.coefficient(), decimal.power())),
+        Err(fault) => Err(fault),
+    }
+}
+
+/// The fixed number of a spelling that has one.
+fn fixed(rt: &impl Abort, spelling: &str) -> Fixed18 {
+    let decimal = Decimal::read(spelling.as_bytes()).expect(rt, "a number in range");
+    decimal.fixed18().expect(rt, "a fixed number")
+}
+
+/// A front, so many zeros and a back.
+fn padded(alloc: Global, front: &[u8], zeros: usize, back: &[u8]) -> Result<Vec<u8>, AllocError> {
+    let mut text = Vec::new(alloc);
+    text.extend_from_slice(front)?;
+    for _ in 0..zeros {
+        text.push(b'0')?;
+    }
+    text.extend_from_slice(back)?;
+    Ok(text)
+}
+
+/// A number, or `none`.
+fn shown<T: Display + Drop>(alloc: Global, number: Option<T>) -> Result<String, AllocError> {
+    match number {
+        Some(number) => format!(in alloc; "{number}"),
+        None => String::from_str(alloc, "none"),
+    }
+}
+
+/// The line of the table for a spelling, as the program answers it.
+fn line_of(alloc: Global, text: &str) -> Result<String, AllocError> {
+    let decimal = match Decimal::read(text.as_bytes()) {
+        Ok(decimal) => decimal,
+        Err(fault) => return format!(in alloc; "{text}|{fault:?}"),
+    };
+    let whole = shown(alloc, decimal.whole())?;
+    let units = match decimal.fixed18() {
+        Some(fixed) => shown(alloc, Some(fixed.units()))?,
+        None => shown::<i128>(alloc, None)?,
+    };
+    format!(in alloc;
+        "{text}|{}|{}|{whole}|{units}",
+        decimal.coefficient(),
+        decimal.power()
+    )
+}
+
+#[test]
+fn spellings_have_their_values(rt: HostRuntime) -> Result<(), Fail> {
+    for line in SPELLINGS.lines() {
+        let text = match line.split_once('|') {
+            Some((text, _)) => text,
+            None => line,
+        };
+        let answer = line_of(rt.alloc(), text)?;
+        assert_eq!(rt; answer.as_str(), line);
+    }
+    Ok(())
+}
+
+#[test]
+fn images_compare_exactly(rt: HostRuntime) -> Result<(), Fail> {
+    for line in COMPARISONS.lines() {
+        let mut fields = line.split('|');
+        let scale = fixed(&rt, fields.next().expect(&rt, "a scale"));
+        let shift = fixed(&rt, fields.next().expect(&rt, "a shift"));
+        let v: i64 = fields.next().expect(&rt, "a number").parse()?;
+        let q = fixed(&rt, fields.next().expect(&rt, "another"));
+        assert!(rt; v > -1_000_000_000_000_000_000);
+        assert!(rt; v < 1_000_000_000_000_000_000);
+        let order = Affine::new(scale, shift).compare(v, q);
+        let shown = format!(in rt.alloc(); "{order:?}")?;
+        assert_eq!(rt; Some(shown.as_str()), fields.next(), "{line}");
+    }
+    Ok(())
+}
+
+#[test]
+fn equality_is_that_of_values(rt: HostRuntime) -> Result<(), Fail> {
+    let rows: [(&str, &str, bool); 8] = [
+        ("1.0", "1", true),
+        ("1e2", "100", true),
+        ("-0", "0e5", true),
+        ("0.1e1000001", "1e1000000", true),
+        ("1", "-1", false),
+        ("1", "10", false),
+        ("1.000000000000000001", "1", false),
+        ("1e1000000", "1e-1000000", false),
+    ];
+    for (left, right, equal) in rows.iter() {
+        let same = Decimal::read(left.as_bytes())? == Decimal::read(right.as_bytes())?;
+        assert_eq!(rt; same, *equal, "{left} and {right}");
+    }
+    Ok(())
+}
+
+#[test]
+fn long_spellings_are_read_in_one_pass(rt: HostRuntime) -> Result<(), Fail> {
+    let fraction = padded(rt.alloc(), b"0.", 2_000_000, b"1e2000001")?;
+    assert_eq!(rt; parts(&fraction), Ok((1, 0)), "zeros after the point");
+    let whole = padded(rt.alloc(), b"1", 2_000_000, b"e-2000000")?;
+    assert_eq!(rt; parts(&whole), Ok((1, 0)), "zeros at the end");
+    let exponent = padded(rt.alloc(), b"-2.5e-", 2_000_000, b"3")?;
+    assert_eq!(rt; parts(&exponent), Ok((-25, -4)), "zeros in the exponent");
+    let large = padded(rt.alloc(), b"1", 2_000_000, b"")?;
+    assert_eq!(rt;
+        parts(&large),
+        Err(DecimalFault::NumberRange),
+        "a large number"
+    );
+    let open = padded(rt.alloc(), b"1", 2_000_000, b".")?;
+    assert_eq!(rt;
+        parts(&open),
+        Err(DecimalFault::NotANumber),
+        "no digit after the point"
+    );
+    Ok(())
+}
