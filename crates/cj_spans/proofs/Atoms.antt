@@ -35,7 +35,7 @@ continues_reaches {b} (further k y z c h) s m a ks ts p r =
     on (state (in_atom m a y) ks ts k p) (state (in_atom m a z) ks ts (suc k) p) (continues_reaches c s m a ks ts p r) (atom_goes b ks ts m a k p y z h)
 
 halted : (b ks : List ℕ) (ts : List Token) (m : Mode) (a k p : ℕ) (x : Lex) (r : Option Kind) → lex_step x (byte b k) ≡ None → lex_kind x ≡ r
-  → step (byte b k) (state (in_atom m a x) ks ts k p) ≡ option_and_then (read m (byte b k)) (end_atom m a r (state (in_atom m a x) ks ts k p))
+    → step (byte b k) (state (in_atom m a x) ks ts k p) ≡ option_and_then (read m (byte b k)) (end_atom m a r (state (in_atom m a x) ks ts k p))
 halted b ks ts m a k p x r none kind =
     let s = state (in_atom m a x) ks ts k p in
     ap (λ o. go_on (λ y. in_atom m a y) o s (option_and_then (read m (byte b k)) (end_atom m a (lex_kind x) s))) none
@@ -43,7 +43,7 @@ halted b ks ts m a k p x r none kind =
 
 -- a scalar that may end where it halts has ended there
 pub ends_ok : (b : List ℕ) (i k d p : ℕ) (x y : Lex) (kd : Kind) (m : Mode) (ks : List ℕ) (ts us : List Token) → Continues b (suc i) x k y → Halts b k y → lex_kind y ≡ Some kd → length ks ≡ d → us ≡ ts ++ token_at i k d kd ∷ []
-  → Settles b (state (in_atom m i x) ks ts (suc i) p) (state (between m) ks us k p)
+    → Settles b (state (in_atom m i x) ks ts (suc i) p) (state (between m) ks us k p)
 ends_ok b i k d p x y kd m ks ts us c h kind depth is =
     let last = state (in_atom m i y) ks ts k p in
     let e : ts ++ token_at i k (length ks) kd ∷ [] ≡ us = ap (λ n. ts ++ token_at i k n kd ∷ []) depth ∙ sym is in
@@ -52,14 +52,14 @@ ends_ok b i k d p x y kd m ks ts us c h kind depth is =
       reached = continues_reaches c (state (in_atom m i x) ks ts (suc i) p) m i ks ts p here;
       settles = ap (λ r. end_atom m i r last) kind ∙ ap (λ zs. Some (state (between m) ks zs k p)) e;
       same = λ l. elim h [
-        inl g ↦ absurd (omega arith)
-      | inr none ↦ halted b ks ts m i k p y (Some kd) none kind ∙ ap (λ zs. read m (byte b k) (state (between m) ks zs k p)) e
-      ]
+        | inl g ↦ absurd (omega arith)
+        | inr none ↦ halted b ks ts m i k p y (Some kd) none kind ∙ ap (λ zs. read m (byte b k) (state (between m) ks zs k p)) e
+      ];
     }
 
 -- one that may not end there is a fault there
 pub ends_err : (b : List ℕ) (i k p : ℕ) (x y : Lex) (m : Mode) (ks : List ℕ) (ts : List Token) → Continues b (suc i) x k y → Halts b k y → k ≤ length b → lex_kind y ≡ None
-  → SticksFlat b (state (in_atom m i x) ks ts (suc i) p) k
+    → SticksFlat b (state (in_atom m i x) ks ts (suc i) p) k
 ends_err b i k p x y m ks ts c h l kind =
     let last = state (in_atom m i y) ks ts k p in
     record {
@@ -68,13 +68,14 @@ ends_err b i k p x y m ks ts c h l kind =
         reached = continues_reaches c (state (in_atom m i x) ks ts (suc i) p) m i ks ts p here;
         at = refl;
         within = l;
-        stuck = stuck_at (split k (length b))
+        stuck = stuck_at (split k (length b));
       };
-      flat = refl
+      flat = refl;
     }
   where
     split : (a b : ℕ) → (a < b) ⊎ (b ≤ a)
     split a b = grind arith
+
     stuck_at : (k < length b) ⊎ (length b ≤ k) → ((k < length b) × (step (byte b k) (state (in_atom m i y) ks ts k p) ≡ None)) ⊎ ((k ≡ length b) × ((us : List Token) (q : ℕ) → settle (state (in_atom m i y) ks ts k p) ≡ Some (state (between After) [] us (length b) q) → ⊥))
     stuck_at (inl g) = elim h [ inl n ↦ absurd (omega arith) | inr none ↦ inl (g, halted b ks ts m i k p y None none kind) ]
     stuck_at (inr g) = inr (omega arith, λ us q e. none_some _ (sym (ap (λ r. end_atom m i r (state (in_atom m i y) ks ts k p)) kind) ∙ e))

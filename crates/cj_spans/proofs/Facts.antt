@@ -75,7 +75,7 @@ module _ (i p : ℕ) (ts : List Token) where
 
   -- into a container
   goes_open : (m : Mode) (k : Kind) (ks : List ℕ) → length ks ≤ i → 2 * length ts ≤ i + length ks → 2 * suc (length ts) ≤ reach_in m (suc i) + suc (length ks)
-    → Goes i p (idle m (length ts ∷ ks) (ts ++ token_at i 0 (length ks) k ∷ []) (suc i) (max p (suc (length ks))))
+      → Goes i p (idle m (length ts ∷ ks) (ts ++ token_at i 0 (length ks) k ∷ []) (suc i) (max p (suc (length ks))))
   goes_open m k ks o c g =
       let e : length (ts ++ token_at i 0 (length ks) k ∷ []) ≡ length ts + 1 = length-append ts (token_at i 0 (length ks) k ∷ []) in
       record { place = refl; deepest = refl; lawful = record { open_count = omega arith; deep = omega arith; token_count = omega arith; began = tt } }
@@ -93,7 +93,7 @@ module _ (i p : ℕ) (ts : List Token) where
 
   -- out of a container
   goes_closed : (m : Mode) (k : ℕ) (ks : List ℕ) (t : Token) → suc (length ks) ≤ i → suc (length ks) ≤ p → 2 * length ts ≤ suc i + suc (length ks)
-    → Goes i p (idle After ks (slice_set ts k t) (suc i) p)
+      → Goes i p (idle After ks (slice_set ts k t) (suc i) p)
   goes_closed m k ks t o d n =
       let e : length (slice_set ts k t) ≡ length ts = length-set ts k t in
       record { place = refl; deepest = omega arith; lawful = record { open_count = omega arith; deep = omega arith; token_count = omega arith; began = tt } }
@@ -140,12 +140,12 @@ ends_count AfterName a i d k ks ts e l n = let f : length (ts ++ token_at a i d 
 ends_count _ a i d k ks ts e l n = absurd e
 
 goes_ended : (m : Mode) (a : ℕ) (f : Phase) (r : Option Kind) (c : ℕ) (ks : List ℕ) (ts : List Token) (i p : ℕ) → EndsAtom m → a < i → length ks ≤ i → length ks ≤ p → 2 * length ts ≤ a + length ks
-  → GoesIf i p (option_and_then (read m c) (end_atom m a r (state f ks ts i p)))
+    → GoesIf i p (option_and_then (read m c) (end_atom m a r (state f ks ts i p)))
 goes_ended m a f None c ks ts i p e l o d n = tt
 goes_ended m a f (Some k) c ks ts i p e l o d n = goes_read i p (ts ++ token_at a i (length ks) k ∷ []) m c ks o d (ends_count m a i (length ks) k ks ts e l n)
 
 goes_on : (m : Mode) (a : ℕ) (x : Lex) (z : Option Lex) (c : ℕ) (ks : List ℕ) (ts : List Token) (i p : ℕ) → EndsAtom m → a < i → length ks ≤ i → length ks ≤ p → 2 * length ts ≤ a + length ks
-  → GoesIf i p (go_on (λ y. in_atom m a y) z (state (in_atom m a x) ks ts i p) (option_and_then (read m c) (end_atom m a (lex_kind x) (state (in_atom m a x) ks ts i p))))
+    → GoesIf i p (go_on (λ y. in_atom m a y) z (state (in_atom m a x) ks ts i p) (option_and_then (read m c) (end_atom m a (lex_kind x) (state (in_atom m a x) ks ts i p))))
 goes_on m a x None c ks ts i p e l o d n = goes_ended m a (in_atom m a x) (lex_kind x) c ks ts i p e l o d n
 goes_on m a x (Some y) c ks ts i p e l o d n = record { place = refl; deepest = omega arith; lawful = record { open_count = omega arith; deep = d; token_count = n; began = (omega arith, e) } }
 
@@ -204,8 +204,8 @@ before b s k (on t v r e) h =
     let g = goes t v (byte b t.place) (lawful_reaches t r) e in
     let p = g.place in let d = g.deepest in
     elim (last_or k v.place h) [
-      inl l ↦ let z = before b t k r (omega arith) in let y = z.below in record { at = z.at; reached = z.reached; place = z.place; below = omega arith }
-    | inr q ↦ record { at = v; reached = on t v r e; place = sym q; below = omega arith }
+      | inl l ↦ let z = before b t k r (omega arith) in let y = z.below in record { at = z.at; reached = z.reached; place = z.place; below = omega arith }
+      | inr q ↦ record { at = v; reached = on t v r e; place = sym q; below = omega arith }
     ]
   where
     last_or : (k n : ℕ) → k ≤ n → (k < n) ⊎ (k ≡ n)

@@ -56,7 +56,7 @@ module _ (k : ℕ) (ks : List ℕ) (ts : List Token) (j p a d c : ℕ) where
 -- ---- names and values
 
 pub run_named : {b : List ℕ} {i l : ℕ} {a : Atom} → Named b i l a → (s : State) (m : Mode) (ks : List ℕ) (ts : List Token) (p : ℕ) → NameBegins m → Reaches b s (idle m ks ts i p)
-  → Reaches b s (idle Ready ks (ts ++ token_at a.start a.stop (length ks) Text ∷ []) l p)
+    → Reaches b s (idle Ready ks (ts ++ token_at a.start a.stop (length ks) Text ∷ []) l p)
 run_named {b} (named i j k l before n after c) s m ks ts p h r =
     let us = ts ++ token_at j k (length ks) Text ∷ [] in
     let named_at = skip_after after s AfterName ks us p (run_name n s m ks ts p h (skip before s m ks ts p r)) in
@@ -76,7 +76,7 @@ pub record ReadMembers (b : List ℕ) (s : State) (ks : List ℕ) (ts : List Tok
 
 mutual
   pub run_value : {b : List ℕ} {i j : ℕ} {t : Tree} → Value b i j t → (s : State) (m : Mode) (ks : List ℕ) (ts : List Token) (p : ℕ) → Begins m → Reaches b s (idle m ks ts i p)
-    → Arrives b s (idle After ks (ts ++ flatten (length ks) t) j (rise (length ks) p t))
+      → Arrives b s (idle After ks (ts ++ flatten (length ks) t) j (rise (length ks) p t))
   run_value {b} (atom k i j w) s m ks ts p h r = run_atom w s m ks ts p h r
   run_value {b} (empty_array i j o w c) s m ks ts p h r =
       let d = length ks in let t = token_at i 0 d Array in let us = ts ++ t ∷ [] in let f = token_at i (suc j) d Array in let q = max p (suc d) in
@@ -117,17 +117,17 @@ mutual
       let r4 = arrive_on b s (idle After (length ts ∷ ks) (xs ++ ys) l z) (idle After ks (slice_set (xs ++ ys) (length ts) f) (suc l) z) (is_end 125 brace c) a e1 in
       let e2 : xs ++ ys ≡ vs ++ (v ∷ ys) = simp append_assoc in
       let e : slice_set (xs ++ ys) (length ts) f ≡ ts ++ f ∷ flatten_members (suc d) (add_member us n u) =
-        ap (λ zs. slice_set zs (length ts) f) e2 ∙ set_closed ts t f fs (v ∷ ys) ∙ ap (λ zs. ts ++ f ∷ zs) (sym (flatten_members-add (suc d) us n u)) in
+      ap (λ zs. slice_set zs (length ts) f) e2 ∙ set_closed ts t f fs (v ∷ ys) ∙ ap (λ zs. ts ++ f ∷ zs) (sym (flatten_members-add (suc d) us n u)) in
       subst (λ x. Arrives b s (idle After ks (ts ++ f ∷ flatten_members (suc d) (add_member us n u)) (suc l) x)) (sym (rise_members-add (suc d) q us n u))
       (subst (λ zs. Arrives b s (idle After ks zs (suc l) z)) e (arrived b s After ks (slice_set (xs ++ ys) (length ts) f) (suc l) z r4))
 
   pub run_padded : {b : List ℕ} {i j : ℕ} {t : Tree} → Padded b i j t → (s : State) (m : Mode) (ks : List ℕ) (ts : List Token) (p : ℕ) → Begins m → Reaches b s (idle m ks ts i p)
-    → Arrives b s (idle After ks (ts ++ flatten (length ks) t) j (rise (length ks) p t))
+      → Arrives b s (idle After ks (ts ++ flatten (length ks) t) j (rise (length ks) p t))
   run_padded {b} (padded i j k l t before v after) s m ks ts p h r =
       skip_after after s After ks (ts ++ flatten (length ks) t) (rise (length ks) p t) (run_value v s m ks ts p h (skip before s m ks ts p r))
 
   pub run_led : {b : List ℕ} {i j : ℕ} {us : Items} → LedItems b i j us → (s : State) (m : Mode) (k : ℕ) (ks : List ℕ) (ts : List Token) (p a d : ℕ) → slice_get ts k ≡ Some (token_at a 0 d Array) → Begins m
-    → Reaches b s (idle m (k ∷ ks) ts i p) → ReadItems b s (k ∷ ks) (ts ++ flatten_items (suc (length ks)) us) j (rise_items (suc (length ks)) p us)
+      → Reaches b s (idle m (k ∷ ks) ts i p) → ReadItems b s (k ∷ ks) (ts ++ flatten_items (suc (length ks)) us) j (rise_items (suc (length ks)) p us)
   run_led {b} (no_led i) s m k ks ts p a d g h r = record { mode = m; begins = h; reached = subst (λ zs. Reaches b s (idle m (k ∷ ks) zs i p)) (sym (append-nil ts)) r }
   run_led {b} (led i j l us u before w c) s m k ks ts p a d g h r =
       let e = suc (length ks) in let fs = flatten_items e us in let ys = flatten e u in let t = token_at a 0 d Array in let n = rise_items e p us in let z = rise e n u in
@@ -139,11 +139,11 @@ mutual
       record {
         mode = Ready;
         begins = tt;
-        reached = subst (λ x. Reaches b s (idle Ready (k ∷ ks) (ts ++ flatten_items e (add_item us u)) (suc l) x)) (sym (rise_items-add e p us u)) (subst (λ zs. Reaches b s (idle Ready (k ∷ ks) zs (suc l) z)) eq r2)
+        reached = subst (λ x. Reaches b s (idle Ready (k ∷ ks) (ts ++ flatten_items e (add_item us u)) (suc l) x)) (sym (rise_items-add e p us u)) (subst (λ zs. Reaches b s (idle Ready (k ∷ ks) zs (suc l) z)) eq r2);
       }
 
   pub run_led_members : {b : List ℕ} {i j : ℕ} {us : Members} → LedMembers b i j us → (s : State) (m : Mode) (k : ℕ) (ks : List ℕ) (ts : List Token) (p a d : ℕ) → slice_get ts k ≡ Some (token_at a 0 d Object) → NameBegins m
-    → Reaches b s (idle m (k ∷ ks) ts i p) → ReadMembers b s (k ∷ ks) (ts ++ flatten_members (suc (length ks)) us) j (rise_members (suc (length ks)) p us)
+      → Reaches b s (idle m (k ∷ ks) ts i p) → ReadMembers b s (k ∷ ks) (ts ++ flatten_members (suc (length ks)) us) j (rise_members (suc (length ks)) p us)
   run_led_members {b} (no_led_members i) s m k ks ts p a d g h r = record { mode = m; begins = h; reached = subst (λ zs. Reaches b s (idle m (k ∷ ks) zs i p)) (sym (append-nil ts)) r }
   run_led_members {b} (led_member i j l o us n u before nm w c) s m k ks ts p a d g h r =
       let e = suc (length ks) in let v = token_at n.start n.stop e Text in let fs = flatten_members e us in let ys = flatten e u in let xs = (ts ++ fs) ++ v ∷ [] in
@@ -158,7 +158,7 @@ mutual
       record {
         mode = NextName;
         begins = tt;
-        reached = subst (λ x. Reaches b s (idle NextName (k ∷ ks) (ts ++ flatten_members e (add_member us n u)) (suc o) x)) (sym (rise_members-add e p us n u)) (subst (λ zs. Reaches b s (idle NextName (k ∷ ks) zs (suc o) z)) eq r3)
+        reached = subst (λ x. Reaches b s (idle NextName (k ∷ ks) (ts ++ flatten_members e (add_member us n u)) (suc o) x)) (sym (rise_members-add e p us n u)) (subst (λ zs. Reaches b s (idle NextName (k ∷ ks) zs (suc o) z)) eq r3);
       }
 
 pub run_json : (b : List ℕ) (t : Tree) → Json b t → Arrives b start (idle After [] (flatten 0 t) (length b) (rise 0 0 t))

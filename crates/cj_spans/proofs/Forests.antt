@@ -28,8 +28,8 @@ kind_first Number s h =
     let r = h.frac ++ h.exp in
     ap (λ z. kind_by (get_or z 0 0)) h.joined ∙
     elim h.minus_is [
-      inl e ↦ ap (λ z. kind_by (get_or (z ++ (h.int ++ r)) 0 0)) e ∙ int_kind h.int r h.int_is
-    | inr e ↦ ap (λ z. kind_by (get_or (z ++ (h.int ++ r)) 0 0)) e
+      | inl e ↦ ap (λ z. kind_by (get_or (z ++ (h.int ++ r)) 0 0)) e ∙ int_kind h.int r h.int_is
+      | inr e ↦ ap (λ z. kind_by (get_or (z ++ (h.int ++ r)) 0 0)) e
     ]
 kind_first Text s h = ap (λ z. kind_by (get_or z 0 0)) h.joined
 kind_first Array s h = absurd h
@@ -165,14 +165,14 @@ shows_both : (b : List ℕ) (i j : ℕ) (ts us : List Span) (xs : List Tree) (y 
 shows_both b i j ts us xs y ys o l a c = record {
   all = all_append j xs (y ∷ ys) (all_more i j xs o a.all) c.all;
   shows = λ rest h.
-    let e = c.shows rest h in
-    ap (forest b) (append_assoc ts us rest) ∙ a.shows (us ++ rest) (subst (Beyond i) (sym e) l) ∙ ap (λ z. xs ++ z) e ∙ sym (append_assoc xs (y ∷ ys) (forest b rest))
+      let e = c.shows rest h in
+      ap (forest b) (append_assoc ts us rest) ∙ a.shows (us ++ rest) (subst (Beyond i) (sym e) l) ∙ ap (λ z. xs ++ z) e ∙ sym (append_assoc xs (y ∷ ys) (forest b rest));
 }
 
 shows_atom : (b : List ℕ) (k : Kind) (i j : ℕ) → IsAtom b k i j → Shows b j (span_at i j ∷ []) (scalar k (atom_at b i j) ∷ [])
 shows_atom b k i j w = record {
   all = (w.order, tt);
-  shows = λ rest h. shown b i j k rest [] (forest b rest) (atom_kind b k i j w) refl tt h ∙ ap (λ z. z ∷ forest b rest) (scalar_node b k i j w)
+  shows = λ rest h. shown b i j k rest [] (forest b rest) (atom_kind b k i j w) refl tt h ∙ ap (λ z. z ∷ forest b rest) (scalar_node b k i j w);
 }
 
 shows_named : {b : List ℕ} {i j : ℕ} {n : Atom} → Named b i j n → Shows b n.stop (span_at n.start n.stop ∷ []) (scalar Text n ∷ [])
@@ -182,7 +182,7 @@ shows_named {b} (named i j k l w x y c) = shows_atom b Text j k x
 shows_container : (b : List ℕ) (i j : ℕ) (k : Kind) (ss : List Span) (xs : List Tree) (t : Tree) → i < j → kind_by (byte b i) ≡ k → Shows b j ss xs → node b k i j xs ≡ t → start_of t ≡ i → Shows b j (span_at i j ∷ ss) (t ∷ [])
 shows_container b i j k ss xs t o kd a e s = record {
   all = (omega arith, tt);
-  shows = λ rest h. shown b i j k (ss ++ rest) xs (forest b rest) kd (a.shows rest h) a.all h ∙ ap (λ z. z ∷ forest b rest) e
+  shows = λ rest h. shown b i j k (ss ++ rest) xs (forest b rest) kd (a.shows rest h) a.all h ∙ ap (λ z. z ∷ forest b rest) e;
 }
 
 shows_more : (b : List ℕ) (i j : ℕ) (ss : List Span) (xs : List Tree) → i ≤ j → Shows b i ss xs → Shows b j ss xs
@@ -195,7 +195,7 @@ shows_add {b} {i} {j} {k} {us} {u} l p f g =
     subst (λ ss. Shows b k ss (list_of_items (add_item us u))) (sym (items_preorder-add us u)) (subst (Shows b k (items_preorder us ++ preorder u)) (sym (list-add us u)) h)
 
 shows_add_member : {b : List ℕ} {i j k l : ℕ} {us : Members} {n : Atom} {u : Tree} → LedMembers b i j us → Named b j k n → Padded b k l u → Shows b j (members_preorder us) (names_and_values us) → Shows b l (preorder u) (u ∷ [])
-  → Shows b l (members_preorder (add_member us n u)) (names_and_values (add_member us n u))
+    → Shows b l (members_preorder (add_member us n u)) (names_and_values (add_member us n u))
 shows_add_member {b} {i} {j} {k} {l} {us} {n} {u} ld nm p f g =
     let q = padded_order p in let r = named_order nm in
     let w = scalar Text n in

@@ -44,7 +44,7 @@ record InObject (b : List ℕ) (s : State) (ks : List ℕ) (k : ℕ) : Type 0 wh
   reached : Reaches b s (idle mode ks tokens k deepest)
 
 object_at : {b : List ℕ} (i j k : ℕ) (us : Members) → White b i j → byte b j ≡ 123 → LedMembers b (suc j) k us → (s : State) (m : Mode) (ks : List ℕ) (ts : List Token) (p : ℕ) → Begins m → Reaches b s (idle m ks ts i p)
-  → InObject b s (length ts ∷ ks) k
+    → InObject b s (length ts ∷ ks) k
 object_at {b} i j k us w o ld s m ks ts p h r =
     let t = token_at j 0 (length ks) Object in let q = max p (suc (length ks)) in
     let r1 = on (idle m ks ts j p) (idle FirstName (length ts ∷ ks) (ts ++ t ∷ []) (suc j) q) (skip w s m ks ts p r) (open_object m ks ts j p (byte b j) h o) in
@@ -69,7 +69,7 @@ front_runs {b} (front_name i j k l m2 us w o ld w2 g) s m ks ts p h r =
     let q = object_at {b = b} i j k us w o ld s m ks ts p h r in
     let z = begun_reading g in
     live_n _ _ (omega arith) (lives s (state (in_atom AfterName l z.last) (length ts ∷ ks) q.tokens m2 q.deepest)
-      (run_begun_name z.inside (quote_first b l m2 g.rest g.order g.within g.spelled) s q.mode (length ts ∷ ks) q.tokens q.deepest q.begins (skip w2 s q.mode (length ts ∷ ks) q.tokens q.deepest q.reached)))
+    (run_begun_name z.inside (quote_first b l m2 g.rest g.order g.within g.spelled) s q.mode (length ts ∷ ks) q.tokens q.deepest q.begins (skip w2 s q.mode (length ts ∷ ks) q.tokens q.deepest q.reached)))
 front_runs {b} (front_after_name i j k l m2 n us w o ld w2 g w3) s m ks ts p h r =
     let q = object_at {b = b} i j k us w o ld s m ks ts p h r in
     let z = run_name g s q.mode (length ts ∷ ks) q.tokens q.deepest q.begins (skip w2 s q.mode (length ts ∷ ks) q.tokens q.deepest q.reached) in

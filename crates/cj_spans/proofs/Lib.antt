@@ -10,3 +10,4 @@ pub mod Facts
 pub mod Fronts
 pub mod Forests
 pub mod Standing
+pub mod Verdicts

@@ -218,6 +218,7 @@ started b i k y r = by_list (slice_range b i k) (slice-length b i k (omega (arit
   where
     shift : (k n : ℕ) → suc k + n ≡ k + suc n
     shift k n = omega arith
+
     by_list : (s : List ℕ) → i + length s ≡ k → ((n : ℕ) → n < length s → byte b (i + n) ≡ get_or s n 0) → reading s ≡ Some y → Started b i k y
     by_list [] l e h = none_some y h
     by_list (c ∷ s) l e h =
@@ -227,7 +228,7 @@ started b i k y r = by_list (slice_range b i k) (slice-length b i k (omega (arit
         record {
           first = z.0;
           starts = ap lex_start f ∙ z.1;
-          goes = subst (λ n. Continues b (suc i) z.0 n y) a (continues_run s b (suc i) (suc i) z.0 z.0 y still z.2 (λ n q. ap (byte b) (shift i n) ∙ e (suc n) (omega arith)))
+          goes = subst (λ n. Continues b (suc i) z.0 n y) a (continues_run s b (suc i) (suc i) z.0 z.0 y still z.2 (λ n q. ap (byte b) (shift i n) ∙ e (suc n) (omega arith)));
         }
 
 pub run_begun : {b : List ℕ} {i k : ℕ} {y : Lex} → InAtom b i k y → (s : State) (m : Mode) (ks : List ℕ) (ts : List Token) (p : ℕ) → Begins m → Reaches b s (idle m ks ts i p) → Reaches b s (state (in_atom After i y) ks ts k p)
@@ -282,21 +283,21 @@ pub name_quote : {b : List ℕ} {i j : ℕ} → IsAtom b Text i j → byte b i �
 name_quote {b} {i} {j} w = quote_first b i j [] w.order w.within (subst (IsScalar Text) (sym (append-nil (slice_range b i j))) w.spelled)
 
 pub run_atom : {b : List ℕ} {kd : Kind} {i j : ℕ} → IsAtom b kd i j → (s : State) (m : Mode) (ks : List ℕ) (ts : List Token) (p : ℕ) → Begins m → Reaches b s (idle m ks ts i p)
-  → Arrives b s (idle After ks (ts ++ token_at i j (length ks) kd ∷ []) j p)
+    → Arrives b s (idle After ks (ts ++ token_at i j (length ks) kd ∷ []) j p)
 run_atom {b} {kd} {i} {j} w s m ks ts p g r =
     let a = atom_reading w in
     record {
       at = state (in_atom After i a.last) ks ts j p;
       reached = run_begun a.inside s m ks ts p g r;
-      settles = ap (λ q. end_atom After i q (state (in_atom After i a.last) ks ts j p)) a.kind
+      settles = ap (λ q. end_atom After i q (state (in_atom After i a.last) ks ts j p)) a.kind;
     }
 
 pub run_name : {b : List ℕ} {i j : ℕ} → IsAtom b Text i j → (s : State) (m : Mode) (ks : List ℕ) (ts : List Token) (p : ℕ) → NameBegins m → Reaches b s (idle m ks ts i p)
-  → Arrives b s (idle AfterName ks (ts ++ token_at i j (length ks) Text ∷ []) j p)
+    → Arrives b s (idle AfterName ks (ts ++ token_at i j (length ks) Text ∷ []) j p)
 run_name {b} {i} {j} w s m ks ts p g r =
     let a = atom_reading w in
     record {
       at = state (in_atom AfterName i a.last) ks ts j p;
       reached = run_begun_name a.inside (name_quote w) s m ks ts p g r;
-      settles = ap (λ q. end_atom AfterName i q (state (in_atom AfterName i a.last) ks ts j p)) a.kind
+      settles = ap (λ q. end_atom AfterName i q (state (in_atom AfterName i a.last) ks ts j p)) a.kind;
     }

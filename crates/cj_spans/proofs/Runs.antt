@@ -108,17 +108,17 @@ end_at c d e h = subst IsEnd (sym (eqb-true c d h)) e
 pub blank_end : (c : ℕ) → is_blank c ≡ true → IsEnd c
 blank_end c h =
     elim (or_cases (nat_eq c 32 || nat_eq c 9 || nat_eq c 10) (nat_eq c 13) h) [
-      inr q ↦ end_at c 13 «return» q
-    | inl p ↦ elim (or_cases (nat_eq c 32 || nat_eq c 9) (nat_eq c 10) p) [
-        inr q ↦ end_at c 10 feed q
-      | inl o ↦ elim (or_cases (nat_eq c 32) (nat_eq c 9) o) [ inl q ↦ end_at c 32 space q | inr q ↦ end_at c 9 tab q ]
+      | inr q ↦ end_at c 13 «return» q
+      | inl p ↦ elim (or_cases (nat_eq c 32 || nat_eq c 9) (nat_eq c 10) p) [
+        | inr q ↦ end_at c 10 feed q
+        | inl o ↦ elim (or_cases (nat_eq c 32) (nat_eq c 9) o) [ inl q ↦ end_at c 32 space q | inr q ↦ end_at c 9 tab q ]
       ]
     ]
 
 -- ---- a state and the one that it settles to
 
 settled_atom : (m : Mode) (a : ℕ) (x : Lex) (k : Option Kind) (ks : List ℕ) (ts : List Token) (i p : ℕ) (t : State) (c : ℕ) → lex_kind x ≡ k → IsEnd c → end_atom m a k (state (in_atom m a x) ks ts i p) ≡ Some t
-  → go_on (λ y. in_atom m a y) (lex_step x c) (state (in_atom m a x) ks ts i p) (option_and_then (read m c) (end_atom m a k (state (in_atom m a x) ks ts i p))) ≡ step c t
+    → go_on (λ y. in_atom m a y) (lex_step x c) (state (in_atom m a x) ks ts i p) (option_and_then (read m c) (end_atom m a k (state (in_atom m a x) ks ts i p))) ≡ step c t
 settled_atom m a x None ks ts i p t c kind e h = none_some t h
 settled_atom m a x (Some k) ks ts i p t c kind e h =
     let s = state (in_atom m a x) ks ts i p in
@@ -169,7 +169,7 @@ pub arrived : (b : List ℕ) (s : State) (m : Mode) (ks : List ℕ) (ts : List T
 arrived b s m ks ts i p r = record { at = idle m ks ts i p; reached = r; settles = refl }
 
 skip_some : (n : ℕ) (b : List ℕ) (s : State) (m : Mode) (ks : List ℕ) (ts : List Token) (i p : ℕ) → ((k : ℕ) → i ≤ k → k < i + n → is_blank (byte b k) ≡ true)
-  → Reaches b s (idle m ks ts i p) → Reaches b s (idle m ks ts (i + n) p)
+    → Reaches b s (idle m ks ts i p) → Reaches b s (idle m ks ts (i + n) p)
 skip_some zero b s m ks ts i p each r = let e : i ≡ i + 0 = omega arith in subst (λ k. Reaches b s (idle m ks ts k p)) e r
 skip_some (suc n) b s m ks ts i p each r =
     let white = each i (omega arith) (omega arith) in
@@ -190,11 +190,11 @@ white_rest b i j w h = record { order = omega arith; each = λ k l u. w.each k (
 pub skip_after : {b : List ℕ} {i j : ℕ} → White b i j → (s : State) (m : Mode) (ks : List ℕ) (ts : List Token) (p : ℕ) → Arrives b s (idle m ks ts i p) → Arrives b s (idle m ks ts j p)
 skip_after {b} {i} {j} w s m ks ts p a =
     elim (same_or i j w.order) [
-      inl e ↦ subst (λ k. Arrives b s (idle m ks ts k p)) e a
-    | inr l ↦
-        let white = w.each i (omega arith) l in
-        let r = arrive_on b s (idle m ks ts i p) (idle m ks ts (suc i) p) (blank_end (byte b i) white) a (cond_true (is_blank (byte b i)) _ _ white) in
-        arrived b s m ks ts j p (skip (white_rest b i j w l) s m ks ts p r)
+      | inl e ↦ subst (λ k. Arrives b s (idle m ks ts k p)) e a
+      | inr l ↦
+          let white = w.each i (omega arith) l in
+          let r = arrive_on b s (idle m ks ts i p) (idle m ks ts (suc i) p) (blank_end (byte b i) white) a (cond_true (is_blank (byte b i)) _ _ white) in
+          arrived b s m ks ts j p (skip (white_rest b i j w l) s m ks ts p r)
     ]
   where
     same_or : (i j : ℕ) → i ≤ j → (i ≡ j) ⊎ (i < j)

@@ -129,10 +129,10 @@ s_mark : (r : List ℕ) (y : Lex) (k : Kind) → lex_run r Mark ≡ Some y → D
 s_mark [] y k h d = not_done Mark y k refl h d
 s_mark (c ∷ r) y k h d =
     elim (test_two (lex_run r) (is_digit c) Exponent (sign_mark c) y h) [
-      inl p ↦ let q = s_exponent r y k p.1 d in (record { sign = []; digits = c ∷ r; sign_is = inl refl; digits_are = (digit_is c p.0, q.0); joined = refl }, q.1)
-    | inr p ↦
-        let u = test_one (lex_run r) (nat_eq c 43 || nat_eq c 45) MarkSign y p.1 in let q = s_mark_sign r y k u.1 d in
-        (record { sign = c ∷ []; digits = r; sign_is = signs c (or_two c 43 45 u.0); digits_are = q.0; joined = refl }, q.1)
+      | inl p ↦ let q = s_exponent r y k p.1 d in (record { sign = []; digits = c ∷ r; sign_is = inl refl; digits_are = (digit_is c p.0, q.0); joined = refl }, q.1)
+      | inr p ↦
+          let u = test_one (lex_run r) (nat_eq c 43 || nat_eq c 45) MarkSign y p.1 in let q = s_mark_sign r y k u.1 d in
+          (record { sign = c ∷ []; digits = r; sign_is = signs c (or_two c 43 45 u.0); digits_are = q.0; joined = refl }, q.1)
     ]
   where
     signs : (c : ℕ) → (c ≡ 43) ⊎ (c ≡ 45) → IsExpSign (c ∷ [])
@@ -155,8 +155,8 @@ s_fraction : (r : List ℕ) (y : Lex) (k : Kind) → lex_run r Fraction ≡ Some
 s_fraction [] y k h d = (record { digits = []; exp = []; digits_are = tt; exp_is = tt; joined = refl }, kind_is Fraction y Number k refl h d)
 s_fraction (c ∷ r) y k h d =
     elim (test_two (lex_run r) (is_digit c) Fraction (mark c) y h) [
-      inl p ↦ let q = s_fraction r y k p.1 d in let t = q.0 in (record { digits = c ∷ t.digits; exp = t.exp; digits_are = (digit_is c p.0, t.digits_are); exp_is = t.exp_is; joined = ap (λ z. c ∷ z) t.joined }, q.1)
-    | inr p ↦ let q = s_mark_at c r y k p.1 d in (record { digits = []; exp = c ∷ r; digits_are = tt; exp_is = q.0; joined = refl }, q.1)
+      | inl p ↦ let q = s_fraction r y k p.1 d in let t = q.0 in (record { digits = c ∷ t.digits; exp = t.exp; digits_are = (digit_is c p.0, t.digits_are); exp_is = t.exp_is; joined = ap (λ z. c ∷ z) t.joined }, q.1)
+      | inr p ↦ let q = s_mark_at c r y k p.1 d in (record { digits = []; exp = c ∷ r; digits_are = tt; exp_is = q.0; joined = refl }, q.1)
     ]
 
 -- a fraction, if there is one, and then an exponent
@@ -176,8 +176,8 @@ s_point b (c ∷ r) y k e h d =
 s_tail : (c : ℕ) (r : List ℕ) (y : Lex) (k : Kind) → option_and_then (lex_run r) (point_or_mark c) ≡ Some y → Done y k → Tail (c ∷ r) × (k ≡ Number)
 s_tail c r y k h d =
     elim (test_two (lex_run r) (nat_eq c 46) Point (mark c) y h) [
-      inl p ↦ s_point c r y k (eqb-true c 46 p.0) p.1 d
-    | inr p ↦ let q = s_mark_at c r y k p.1 d in (record { frac = []; exp = c ∷ r; frac_is = tt; exp_is = q.0; joined = refl }, q.1)
+      | inl p ↦ s_point c r y k (eqb-true c 46 p.0) p.1 d
+      | inr p ↦ let q = s_mark_at c r y k p.1 d in (record { frac = []; exp = c ∷ r; frac_is = tt; exp_is = q.0; joined = refl }, q.1)
     ]
 
 no_tail : Tail []
@@ -199,8 +199,8 @@ s_whole : (r : List ℕ) (y : Lex) (k : Kind) → lex_run r Whole ≡ Some y →
 s_whole [] y k h d = (record { digits = []; rest = []; digits_are = tt; tail = no_tail; joined = refl }, kind_is Whole y Number k refl h d)
 s_whole (c ∷ r) y k h d =
     elim (test_two (lex_run r) (is_digit c) Whole (point_or_mark c) y h) [
-      inl p ↦ let q = s_whole r y k p.1 d in let t = q.0 in (record { digits = c ∷ t.digits; rest = t.rest; digits_are = (digit_is c p.0, t.digits_are); tail = t.tail; joined = ap (λ z. c ∷ z) t.joined }, q.1)
-    | inr p ↦ let q = s_tail c r y k p.1 d in (record { digits = []; rest = c ∷ r; digits_are = tt; tail = q.0; joined = refl }, q.1)
+      | inl p ↦ let q = s_whole r y k p.1 d in let t = q.0 in (record { digits = c ∷ t.digits; rest = t.rest; digits_are = (digit_is c p.0, t.digits_are); tail = t.tail; joined = ap (λ z. c ∷ z) t.joined }, q.1)
+      | inr p ↦ let q = s_tail c r y k p.1 d in (record { digits = []; rest = c ∷ r; digits_are = tt; tail = q.0; joined = refl }, q.1)
     ]
 
 -- a number without its sign
@@ -223,15 +223,21 @@ s_minus : (r : List ℕ) (y : Lex) (k : Kind) → lex_run r Minus ≡ Some y →
 s_minus [] y k h d = not_done Minus y k refl h d
 s_minus (c ∷ r) y k h d =
     elim (test_two (lex_run r) (nat_eq c 48) Zero (cond (nat_le 49 c && nat_le c 57) (Some Whole) None) y h) [
-      inl p ↦ u_zero c r y k (eqb-true c 48 p.0) p.1 d
-    | inr p ↦ let q = test_one (lex_run r) (nat_le 49 c && nat_le c 57) Whole y p.1 in u_whole c r y k q.0 q.1 d
+      | inl p ↦ u_zero c r y k (eqb-true c 48 p.0) p.1 d
+      | inr p ↦ let q = test_one (lex_run r) (nat_le 49 c && nat_le c 57) Whole y p.1 in u_whole c r y k q.0 q.1 d
     ]
 
 number : (minus r : List ℕ) → IsMinus minus → Unsigned r → IsNumber (minus ++ r)
 number minus r m u = record {
-  minus = minus; int = u.int; frac = u.tail.frac; exp = u.tail.exp;
-  minus_is = m; int_is = u.int_is; frac_is = u.tail.frac_is; exp_is = u.tail.exp_is;
-  joined = ap (λ z. minus ++ z) (u.joined ∙ ap (λ z. u.int ++ z) u.tail.joined)
+  minus = minus;
+  int = u.int;
+  frac = u.tail.frac;
+  exp = u.tail.exp;
+  minus_is = m;
+  int_is = u.int_is;
+  frac_is = u.tail.frac_is;
+  exp_is = u.tail.exp_is;
+  joined = ap (λ z. minus ++ z) (u.joined ∙ ap (λ z. u.int ++ z) u.tail.joined);
 }
 
 -- ---- strings
@@ -257,12 +263,12 @@ mutual
   s_plain [] y k h d = not_done InText y k refl h d
   s_plain (c ∷ r) y k h d =
       elim (test_two (lex_run r) (nat_eq c 34) TextDone (cond (nat_eq c 92) (Some Escape) (cond (nat_le 32 c) (Some InText) None)) y h) [
-        inl p ↦ let e = last_word TextDone Text r y k refl (λ c. refl) p.1 d in (([], nothing, ap (λ z. z ∷ r) (eqb-true c 34 p.0) ∙ ap (λ z. 34 ∷ z) e.0), e.1)
-      | inr p ↦ elim (test_two (lex_run r) (nat_eq c 92) Escape (cond (nat_le 32 c) (Some InText) None) y p.1) [
-          inl q ↦ s_escape c r y k (eqb-true c 92 q.0) q.1 d
-        | inr q ↦
-            let u = test_one (lex_run r) (nat_le 32 c) InText y q.1 in let t = s_plain r y k u.1 d in
-            ((c ∷ t.0.0, plain c t.0.0 (is_plain_from c p.0 q.0 u.0) t.0.1, ap (λ z. c ∷ z) t.0.2), t.1)
+        | inl p ↦ let e = last_word TextDone Text r y k refl (λ c. refl) p.1 d in (([], nothing, ap (λ z. z ∷ r) (eqb-true c 34 p.0) ∙ ap (λ z. 34 ∷ z) e.0), e.1)
+        | inr p ↦ elim (test_two (lex_run r) (nat_eq c 92) Escape (cond (nat_le 32 c) (Some InText) None) y p.1) [
+          | inl q ↦ s_escape c r y k (eqb-true c 92 q.0) q.1 d
+          | inr q ↦
+              let u = test_one (lex_run r) (nat_le 32 c) InText y q.1 in let t = s_plain r y k u.1 d in
+              ((c ∷ t.0.0, plain c t.0.0 (is_plain_from c p.0 q.0 u.0) t.0.1, ap (λ z. c ∷ z) t.0.2), t.1)
         ]
       ]
 
@@ -270,8 +276,8 @@ mutual
   s_escape b [] y k e h d = not_done Escape y k refl h d
   s_escape b (c ∷ r) y k e h d =
       elim (test_two (lex_run r) (is_escape c) InText (cond (nat_eq c 117) (Some Hex4) None) y h) [
-        inl p ↦ let t = s_plain r y k p.1 d in ((92 ∷ c ∷ t.0.0, escape c t.0.0 p.0 t.0.1, ap (λ z. z ∷ c ∷ r) e ∙ ap (λ z. 92 ∷ c ∷ z) t.0.2), t.1)
-      | inr p ↦ let u = test_one (lex_run r) (nat_eq c 117) Hex4 y p.1 in s_hex b c r y k e (eqb-true c 117 u.0) u.1 d
+        | inl p ↦ let t = s_plain r y k p.1 d in ((92 ∷ c ∷ t.0.0, escape c t.0.0 p.0 t.0.1, ap (λ z. z ∷ c ∷ r) e ∙ ap (λ z. 92 ∷ c ∷ z) t.0.2), t.1)
+        | inr p ↦ let u = test_one (lex_run r) (nat_eq c 117) Hex4 y p.1 in s_hex b c r y k e (eqb-true c 117 u.0) u.1 d
       ]
 
   s_hex : (b u : ℕ) (r : List ℕ) (y : Lex) (k : Kind) → b ≡ 92 → u ≡ 117 → lex_run r Hex4 ≡ Some y → Done y k → BodyTail (b ∷ u ∷ r) k
@@ -297,20 +303,20 @@ pub reading_sound : (s : List ℕ) (x : Lex) (k : Kind) → reading s ≡ Some x
 reading_sound [] x k h d = none_some x h
 reading_sound (c ∷ r) x k h d =
     elim (test_two (lex_run r) (nat_eq c 110) AfterN _ x h) [
-      inl p ↦ let q = s_null r x k p.1 d in scalar_is Null k (c ∷ r) q.1 (ap (λ z. z ∷ r) (eqb-true c 110 p.0) ∙ q.0)
-    | inr h1 ↦ elim (test_two (lex_run r) (nat_eq c 116) AfterT _ x h1.1) [
-        inl p ↦ let q = s_true r x k p.1 d in scalar_is Truth k (c ∷ r) q.1 (inl (ap (λ z. z ∷ r) (eqb-true c 116 p.0) ∙ q.0))
-      | inr h2 ↦ elim (test_two (lex_run r) (nat_eq c 102) AfterF _ x h2.1) [
-          inl p ↦ let q = s_false r x k p.1 d in scalar_is Truth k (c ∷ r) q.1 (inr (ap (λ z. z ∷ r) (eqb-true c 102 p.0) ∙ q.0))
-        | inr h3 ↦ elim (test_two (lex_run r) (nat_eq c 45) Minus _ x h3.1) [
-            inl p ↦ let q = s_minus r x k p.1 d in scalar_is Number k (c ∷ r) q.1 (number (c ∷ []) r (inr (ap (λ z. z ∷ []) (eqb-true c 45 p.0))) q.0)
-          | inr h4 ↦ elim (test_two (lex_run r) (nat_eq c 48) Zero _ x h4.1) [
-              inl p ↦ unsigned c r k (u_zero c r x k (eqb-true c 48 p.0) p.1 d)
-            | inr h5 ↦ elim (test_two (lex_run r) (nat_le 49 c && nat_le c 57) Whole _ x h5.1) [
-                inl p ↦ unsigned c r k (u_whole c r x k p.0 p.1 d)
-              | inr h6 ↦
-                  let p = test_one (lex_run r) (nat_eq c 34) InText x h6.1 in let q = s_plain r x k p.1 d in
-                  scalar_is Text k (c ∷ r) q.1 (record { body = q.0.0; body_is = q.0.1; joined = ap (λ z. z ∷ r) (eqb-true c 34 p.0) ∙ ap (λ z. 34 ∷ z) q.0.2 })
+      | inl p ↦ let q = s_null r x k p.1 d in scalar_is Null k (c ∷ r) q.1 (ap (λ z. z ∷ r) (eqb-true c 110 p.0) ∙ q.0)
+      | inr h1 ↦ elim (test_two (lex_run r) (nat_eq c 116) AfterT _ x h1.1) [
+        | inl p ↦ let q = s_true r x k p.1 d in scalar_is Truth k (c ∷ r) q.1 (inl (ap (λ z. z ∷ r) (eqb-true c 116 p.0) ∙ q.0))
+        | inr h2 ↦ elim (test_two (lex_run r) (nat_eq c 102) AfterF _ x h2.1) [
+          | inl p ↦ let q = s_false r x k p.1 d in scalar_is Truth k (c ∷ r) q.1 (inr (ap (λ z. z ∷ r) (eqb-true c 102 p.0) ∙ q.0))
+          | inr h3 ↦ elim (test_two (lex_run r) (nat_eq c 45) Minus _ x h3.1) [
+            | inl p ↦ let q = s_minus r x k p.1 d in scalar_is Number k (c ∷ r) q.1 (number (c ∷ []) r (inr (ap (λ z. z ∷ []) (eqb-true c 45 p.0))) q.0)
+            | inr h4 ↦ elim (test_two (lex_run r) (nat_eq c 48) Zero _ x h4.1) [
+              | inl p ↦ unsigned c r k (u_zero c r x k (eqb-true c 48 p.0) p.1 d)
+              | inr h5 ↦ elim (test_two (lex_run r) (nat_le 49 c && nat_le c 57) Whole _ x h5.1) [
+                | inl p ↦ unsigned c r k (u_whole c r x k p.0 p.1 d)
+                | inr h6 ↦
+                    let p = test_one (lex_run r) (nat_eq c 34) InText x h6.1 in let q = s_plain r x k p.1 d in
+                    scalar_is Text k (c ∷ r) q.1 (record { body = q.0.0; body_is = q.0.1; joined = ap (λ z. z ∷ r) (eqb-true c 34 p.0) ∙ ap (λ z. 34 ∷ z) q.0.2 })
               ]
             ]
           ]
@@ -372,10 +378,10 @@ rest_run s h =
     let P : List ℕ → Type 0 = λ t. lex_run (t ++ h.digits) Mark ≡ Some Exponent in
     ap (λ t. lex_run t Mark) h.joined ∙
     elim h.sign_is [
-      inl n ↦ subst P (sym n) (exponent_run h.digits Mark (λ c h. digit_step Exponent c _ h) h.digits_are)
-    | inr e ↦ elim e [
-        inl p ↦ subst P (sym p) (exponent_run h.digits MarkSign (λ c h. digit_step Exponent c None h) h.digits_are)
-      | inr m ↦ subst P (sym m) (exponent_run h.digits MarkSign (λ c h. digit_step Exponent c None h) h.digits_are)
+      | inl n ↦ subst P (sym n) (exponent_run h.digits Mark (λ c h. digit_step Exponent c _ h) h.digits_are)
+      | inr e ↦ elim e [
+        | inl p ↦ subst P (sym p) (exponent_run h.digits MarkSign (λ c h. digit_step Exponent c None h) h.digits_are)
+        | inr m ↦ subst P (sym m) (exponent_run h.digits MarkSign (λ c h. digit_step Exponent c None h) h.digits_are)
       ]
     ]
 
@@ -400,7 +406,7 @@ frac_part x k a b d (c ∷ e ∷ fs) s f h =
     record {
       last = r.last;
       run = ap (option_and_then (lex_run (e ∷ (fs ++ s)))) g ∙ ap (option_and_then (lex_run (fs ++ s))) (digit_step Fraction e None (digit_test e f.1.0)) ∙ digits_run Fraction (λ c h. digit_step Fraction c _ h) fs s f.1.1 ∙ r.run;
-      kind = r.kind
+      kind = r.kind;
     }
 
 record EndsInt (s : List ℕ) : Type 0 where
@@ -413,28 +419,29 @@ int_part : (i f s : List ℕ) → IsInt i → IsFrac f → IsExp s → EndsInt (
 int_part [] f s h g e = absurd h
 int_part (c ∷ i) f s h g e =
     elim h [
-      inl z ↦
-        let r = frac_part Zero refl refl refl refl f s g e in
-        let q : i ++ (f ++ s) ≡ f ++ s = ap (λ t. t ++ (f ++ s)) z.1 in
-        record {
-          last = r.last;
-          plain_run = ap (λ d. option_and_then (lex_run (i ++ (f ++ s))) (lex_start d)) z.0 ∙ ap (λ t. lex_run t Zero) q ∙ r.run;
-          minus_run = ap (λ d. option_and_then (lex_run (i ++ (f ++ s))) (lex_step Minus d)) z.0 ∙ ap (λ t. lex_run t Zero) q ∙ r.run;
-          kind = r.kind
-        }
-    | inr d ↦
-        let r = frac_part Whole refl refl refl refl f s g e in
-        let run = digits_run Whole (λ c h. digit_step Whole c _ h) i (f ++ s) d.2 ∙ r.run in
-        record {
-          last = r.last;
-          plain_run = ap (option_and_then (lex_run (i ++ (f ++ s)))) (first_digit c (first_test c d.0 d.1)) ∙ run;
-          minus_run = ap (option_and_then (lex_run (i ++ (f ++ s)))) (minus_digit c (first_test c d.0 d.1)) ∙ run;
-          kind = r.kind
-        }
+      | inl z ↦
+          let r = frac_part Zero refl refl refl refl f s g e in
+          let q : i ++ (f ++ s) ≡ f ++ s = ap (λ t. t ++ (f ++ s)) z.1 in
+          record {
+            last = r.last;
+            plain_run = ap (λ d. option_and_then (lex_run (i ++ (f ++ s))) (lex_start d)) z.0 ∙ ap (λ t. lex_run t Zero) q ∙ r.run;
+            minus_run = ap (λ d. option_and_then (lex_run (i ++ (f ++ s))) (lex_step Minus d)) z.0 ∙ ap (λ t. lex_run t Zero) q ∙ r.run;
+            kind = r.kind;
+          }
+      | inr d ↦
+          let r = frac_part Whole refl refl refl refl f s g e in
+          let run = digits_run Whole (λ c h. digit_step Whole c _ h) i (f ++ s) d.2 ∙ r.run in
+          record {
+            last = r.last;
+            plain_run = ap (option_and_then (lex_run (i ++ (f ++ s)))) (first_digit c (first_test c d.0 d.1)) ∙ run;
+            minus_run = ap (option_and_then (lex_run (i ++ (f ++ s)))) (minus_digit c (first_test c d.0 d.1)) ∙ run;
+            kind = r.kind;
+          }
     ]
   where
     first_digit : (c : ℕ) → nat_le 49 c && nat_le c 57 ≡ true → lex_start c ≡ Some Whole
     first_digit c h = grind (arith, nat_tests)
+
     minus_digit : (c : ℕ) → nat_le 49 c && nat_le c 57 ≡ true → lex_step Minus c ≡ Some Whole
     minus_digit c h = grind (arith, nat_tests)
 

@@ -49,7 +49,7 @@ standing_first b tokens stack w v e f = record {
   stack_limit = refl;
   stack_peak = omega arith;
   stack_room = λ r. r;
-  stack_within = v
+  stack_within = v;
 }
 
 module _ (b : List ℕ) (tokens0 : BoundedList Token) (stack0 : BoundedList ℕ) (tokens : BoundedList Token) (stack : BoundedList ℕ) (m : Mode) (i : ℕ) (s : Standing b tokens0 stack0 tokens stack m i) where
@@ -75,7 +75,7 @@ half_room : (t i n o d limit : ℕ) → 2 * t ≤ i + o → i < n → o ≤ d �
 half_room t i n o d limit h l g r = omega arith
 
 pub standing_small : (b : List ℕ) (tokens0 : BoundedList Token) (stack0 : BoundedList ℕ) (tokens : BoundedList Token) (stack : BoundedList ℕ) (m : Mode) (i : ℕ) → Standing b tokens0 stack0 tokens stack m i → length b ≤ 1073741824 → i < length b
-  → (i < 2 ^ 31) × (length tokens.elements < 2 ^ 31) × (length stack.elements < 2 ^ 31)
+    → (i < 2 ^ 31) × (length tokens.elements < 2 ^ 31) × (length stack.elements < 2 ^ 31)
 standing_small b tokens0 stack0 tokens stack m i s h l =
     let w = standing_lawful b tokens0 stack0 tokens stack m i s in
     let c = count_of m stack.elements tokens.elements i s.deepest w in
@@ -83,7 +83,7 @@ standing_small b tokens0 stack0 tokens stack m i s h l =
     (omega arith, omega arith, omega arith)
 
 pub standing_room : (b : List ℕ) (tokens0 : BoundedList Token) (stack0 : BoundedList ℕ) (tokens : BoundedList Token) (stack : BoundedList ℕ) (m : Mode) (i : ℕ) → Standing b tokens0 stack0 tokens stack m i → (length b + stack0.limit + 1) / 2 ≤ tokens0.limit → i < length b
-  → BeginsValue m → length tokens.elements < tokens.limit
+    → BeginsValue m → length tokens.elements < tokens.limit
 standing_room b tokens0 stack0 tokens stack m i s r l h =
     let w = standing_lawful b tokens0 stack0 tokens stack m i s in
     let c = count_before m stack.elements tokens.elements i s.deepest w h in
@@ -109,8 +109,8 @@ kept_both x y z k g =
     record { limit = g.kept.limit ∙ k.limit; peak = omega arith; room = λ r. g.kept.room (k.room r); within = g.kept.within }
 
 pub standing_step : (b : List ℕ) (tokens0 : BoundedList Token) (stack0 : BoundedList ℕ) (tokens tokens1 : BoundedList Token) (stack stack1 : BoundedList ℕ) (m : Mode) (i : ℕ) (v : Move) → Standing b tokens0 stack0 tokens stack m i → i < length b → Grown tokens tokens1 → Kept stack stack1
-  → ((p : ℕ) → read m (byte b i) (idle m stack.elements tokens.elements i p) ≡ Some (state (phase_after m i v) stack1.elements tokens1.elements (suc i) (deepest_after v p (length stack1.elements))))
-  → Stepped b tokens0 stack0 tokens1 stack1 m i v
+    → ((p : ℕ) → read m (byte b i) (idle m stack.elements tokens.elements i p) ≡ Some (state (phase_after m i v) stack1.elements tokens1.elements (suc i) (deepest_after v p (length stack1.elements))))
+    → Stepped b tokens0 stack0 tokens1 stack1 m i v
 standing_step b tokens0 stack0 tokens tokens1 stack stack1 m i v s l g k h =
     let t = idle m stack.elements tokens.elements i s.deepest in
     let u = state (phase_after m i v) stack1.elements tokens1.elements (suc i) (deepest_after v s.deepest (length stack1.elements)) in
@@ -126,7 +126,7 @@ standing_step b tokens0 stack0 tokens tokens1 stack stack1 m i v s l g k h =
       stack_limit = k.limit ∙ s.stack_limit;
       stack_peak = omega arith;
       stack_room = λ r. k.room (s.stack_room r);
-      stack_within = k.within
+      stack_within = k.within;
     }
 
 -- ---- the rest of a scalar or a name
@@ -136,7 +136,7 @@ atom_count m n i p (Atom k x) ks ts l h = l.token_count
 atom_count m n i p _ ks ts l h = absurd h
 
 pub stepped_room : (b : List ℕ) (tokens0 : BoundedList Token) (stack0 : BoundedList ℕ) (tokens : BoundedList Token) (stack : BoundedList ℕ) (m : Mode) (i : ℕ) (v : Move) → Stepped b tokens0 stack0 tokens stack m i v → (length b + stack0.limit + 1) / 2 ≤ tokens0.limit → i < length b
-  → BeginsAtom v → length tokens.elements < tokens.limit
+    → BeginsAtom v → length tokens.elements < tokens.limit
 stepped_room b tokens0 stack0 tokens stack m i v s r l h =
     let c = atom_count m m i s.deepest v stack.elements tokens.elements (lawful_reaches _ s.reached) h in
     let g : length stack.elements ≤ stack0.limit = let p = s.stack_within.below_peak in let q = s.stack_within.below_limit in let e = s.stack_limit in omega arith in
@@ -153,8 +153,8 @@ abbrev sticks_both : {b : List ℕ} {s t : State} {i : ℕ} → Reaches b s t �
 sticks_both r h = record { last = h.last; reached = reaches_both r h.reached; at = h.at; within = h.within; stuck = h.stuck }
 
 pub stepped_on : (b : List ℕ) (tokens0 : BoundedList Token) (stack0 : BoundedList ℕ) (tokens tokens1 : BoundedList Token) (stack : BoundedList ℕ) (m : Mode) (i : ℕ) (v : Move) (n : Next) → Stepped b tokens0 stack0 tokens stack m i v → Grown tokens tokens1
-  → ((p : ℕ) → Settles b (state (phase_after m i v) stack.elements tokens.elements (suc i) p) (idle n.mode stack.elements tokens1.elements n.place p) × (suc i ≤ n.place) × (n.place ≤ length b))
-  → Standing b tokens0 stack0 tokens1 stack n.mode n.place
+    → ((p : ℕ) → Settles b (state (phase_after m i v) stack.elements tokens.elements (suc i) p) (idle n.mode stack.elements tokens1.elements n.place p) × (suc i ≤ n.place) × (n.place ≤ length b))
+    → Standing b tokens0 stack0 tokens1 stack n.mode n.place
 stepped_on b tokens0 stack0 tokens tokens1 stack m i v n s g h = record {
   deepest = s.deepest;
   settles = settles_both s.reached (h s.deepest).0;
@@ -163,13 +163,13 @@ stepped_on b tokens0 stack0 tokens tokens1 stack m i v n s g h = record {
   stack_limit = s.stack_limit;
   stack_peak = s.stack_peak;
   stack_room = s.stack_room;
-  stack_within = s.stack_within
+  stack_within = s.stack_within;
 }
 
 -- ---- the law at every exit
 
 pub standing_law : (b : List ℕ) (tokens0 : BoundedList Token) (stack0 : BoundedList ℕ) (tokens tokens1 : BoundedList Token) (stack stack1 : BoundedList ℕ) (m : Mode) (i : ℕ) → Standing b tokens0 stack0 tokens stack m i
-  → Grown tokens tokens1 → Kept stack stack1 → tokens1 ≡ tokens → length stack.elements ≤ length stack1.elements → KeepsLaw b tokens0 tokens1 stack0 stack1
+    → Grown tokens tokens1 → Kept stack stack1 → tokens1 ≡ tokens → length stack.elements ≤ length stack1.elements → KeepsLaw b tokens0 tokens1 stack0 stack1
 standing_law b tokens0 stack0 tokens tokens1 stack stack1 m i s g k e l =
     let c = count_of m stack.elements tokens.elements i s.deepest (standing_lawful b tokens0 stack0 tokens stack m i s) in
     let q = s.place in
@@ -185,7 +185,7 @@ standing_law b tokens0 stack0 tokens tokens1 stack stack1 m i s g k e l =
       stack_limit = k.limit ∙ s.stack_limit;
       stack_peak = omega arith;
       stack_room = λ r. k.room (s.stack_room r);
-      stack_within = k.within
+      stack_within = k.within;
     }
 
 pub kept_same : (x : BoundedList ℕ) → IsWithin x → Kept x x
@@ -207,7 +207,7 @@ stepped_count m i p (Open n) ks ts l = step_reach n i ks ts p l
 stepped_count m i p (Atom n x) ks ts l = let c = l.token_count in omega arith
 
 pub stepped_law : (b : List ℕ) (tokens0 : BoundedList Token) (stack0 : BoundedList ℕ) (tokens tokens1 : BoundedList Token) (stack : BoundedList ℕ) (m : Mode) (i : ℕ) (v : Move) → Stepped b tokens0 stack0 tokens stack m i v
-  → i < length b → Grown tokens tokens1 → tokens1 ≡ tokens → KeepsLaw b tokens0 tokens1 stack0 stack
+    → i < length b → Grown tokens tokens1 → tokens1 ≡ tokens → KeepsLaw b tokens0 tokens1 stack0 stack
 stepped_law b tokens0 stack0 tokens tokens1 stack m i v s l g e =
     let c = stepped_count m i s.deepest v stack.elements tokens.elements (lawful_reaches _ s.reached) in
     let z = kept_both tokens0 tokens tokens1 s.kept g in
@@ -222,7 +222,7 @@ stepped_law b tokens0 stack0 tokens tokens1 stack m i v s l g e =
       stack_limit = s.stack_limit;
       stack_peak = omega arith;
       stack_room = s.stack_room;
-      stack_within = s.stack_within
+      stack_within = s.stack_within;
     }
 
 -- ---- faults
@@ -231,8 +231,8 @@ shallow_at : (deepest peak limit peak0 limit0 : ℕ) → peak ≡ max peak0 deep
 shallow_at deepest peak limit peak0 limit0 e h q = omega arith
 
 pub standing_fault : (X : Type 0) (b : List ℕ) (tokens0 : BoundedList Token) (stack0 : BoundedList ℕ) (tokens tokens1 : BoundedList Token) (stack stack1 : BoundedList ℕ) (m : Mode) (i : ℕ) (f : ScanFault) → Standing b tokens0 stack0 tokens stack m i → i < length b
-  → ((p : ℕ) → Answers (read m (byte b i) (idle m stack.elements tokens.elements i p)) m i p stack.limit (IsTrue tokens.reserved × IsTrue stack.reserved) (Err f) stack1.elements tokens1.elements)
-  → RunAnswers {X = X} b stack0 (IsTrue tokens0.reserved × IsTrue stack0.reserved) (Err f) tokens1 stack1
+    → ((p : ℕ) → Answers (read m (byte b i) (idle m stack.elements tokens.elements i p)) m i p stack.limit (IsTrue tokens.reserved × IsTrue stack.reserved) (Err f) stack1.elements tokens1.elements)
+    → RunAnswers {X = X} b stack0 (IsTrue tokens0.reserved × IsTrue stack0.reserved) (Err f) tokens1 stack1
 standing_fault X b tokens0 stack0 tokens tokens1 stack stack1 m i (NotUtf8 j) s l h = h 0
 standing_fault X b tokens0 stack0 tokens tokens1 stack stack1 m i Memory s l h = λ g. h 0 (s.kept.room g.0, s.stack_room g.1)
 standing_fault X b tokens0 stack0 tokens tokens1 stack stack1 m i (Syntax j) s l h =
@@ -245,7 +245,7 @@ standing_fault X b tokens0 stack0 tokens tokens1 stack stack1 m i (Syntax j) s l
     let ji = a.0 in
     record {
       sticks = record { last = s.settles.last; reached = s.settles.reached; at = e.place ∙ sym a.0; within = omega arith; stuck = inl (omega arith, q) };
-      shallow = omega arith
+      shallow = omega arith;
     }
 standing_fault X b tokens0 stack0 tokens tokens1 stack stack1 m i (TooDeep j) s l h =
     let t = idle m stack.elements tokens.elements i s.deepest in
@@ -263,12 +263,12 @@ standing_fault X b tokens0 stack0 tokens tokens1 stack stack1 m i (TooDeep j) s 
       at = e.place ∙ sym a.0;
       within = omega arith;
       shallow = omega arith;
-      deep = subst Q (sym q) (subst P s.stack_limit a.1)
+      deep = subst Q (sym q) (subst P s.stack_limit a.1);
     }
 
 pub stepped_fault : (X : Type 0) (b : List ℕ) (tokens0 : BoundedList Token) (stack0 : BoundedList ℕ) (tokens tokens1 : BoundedList Token) (stack : BoundedList ℕ) (m : Mode) (i : ℕ) (v : Move) (f : ScanFault) → Stepped b tokens0 stack0 tokens stack m i v
-  → ((p : ℕ) → Ends b (state (phase_after m i v) stack.elements tokens.elements (suc i) p) (IsTrue tokens.reserved) (Err f) tokens1.elements)
-  → RunAnswers {X = X} b stack0 (IsTrue tokens0.reserved × IsTrue stack0.reserved) (Err f) tokens1 stack
+    → ((p : ℕ) → Ends b (state (phase_after m i v) stack.elements tokens.elements (suc i) p) (IsTrue tokens.reserved) (Err f) tokens1.elements)
+    → RunAnswers {X = X} b stack0 (IsTrue tokens0.reserved × IsTrue stack0.reserved) (Err f) tokens1 stack
 stepped_fault X b tokens0 stack0 tokens tokens1 stack m i v (NotUtf8 j) s h = h 0
 stepped_fault X b tokens0 stack0 tokens tokens1 stack m i v Memory s h = λ g. h 0 (s.kept.room g.0)
 stepped_fault X b tokens0 stack0 tokens tokens1 stack m i v (TooDeep j) s h = absurd (h 0)
@@ -280,7 +280,7 @@ stepped_fault X b tokens0 stack0 tokens tokens1 stack m i v (Syntax j) s h =
 -- ---- the end of the line
 
 pub ended_fault : (b : List ℕ) (tokens0 : BoundedList Token) (stack0 : BoundedList ℕ) (tokens : BoundedList Token) (stack : BoundedList ℕ) (m : Mode) (i : ℕ) → Standing b tokens0 stack0 tokens stack m i → length b ≤ i
-  → ((m ≡ After) × (stack.elements ≡ []) → ⊥) → SticksAt b stack0.limit i
+    → ((m ≡ After) × (stack.elements ≡ []) → ⊥) → SticksAt b stack0.limit i
 ended_fault b tokens0 stack0 tokens stack m i s l n =
     let t = idle m stack.elements tokens.elements i s.deepest in
     let e = settled s.settles.last t s.settles.settles in
@@ -289,12 +289,18 @@ ended_fault b tokens0 stack0 tokens stack m i s l n =
     let r = shallow_at s.deepest stack.peak stack.limit stack0.peak stack0.limit s.stack_peak s.stack_within.below_limit s.stack_limit in
     record {
       sticks = record {
-        last = s.settles.last; reached = s.settles.reached; at = e.place; within = w;
-        stuck = inr (omega arith, λ ts p h.
-          let q = some_same t (idle After [] ts (length b) p) (sym s.settles.settles ∙ h) in
-          n (mode_of m After (ap (λ u. u.phase) q), ap (λ u. u.stack) q))
+        last = s.settles.last;
+        reached = s.settles.reached;
+        at = e.place;
+        within = w;
+        stuck = inr (
+          omega arith,
+          λ ts p h.
+              let q = some_same t (idle After [] ts (length b) p) (sym s.settles.settles ∙ h) in
+              n (mode_of m After (ap (λ u. u.phase) q), ap (λ u. u.stack) q),
+        );
       };
-      shallow = omega arith
+      shallow = omega arith;
     }
   where
     mode_of : (x y : Mode) → between x ≡ between y → x ≡ y

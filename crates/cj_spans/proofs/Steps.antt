@@ -32,7 +32,7 @@ cond_false false x y h = cc
 
 -- the answer of the mode n, where the machine's step in it is that of the call
 pub read_answers : (o : Option State) (m n : Mode) (c i p d : ℕ) (g : Type 0) (r : Result Move ScanFault) (ks : List ℕ) (ts : List Token) → m ≡ n → is_blank c ≡ false → o ≡ read_in n c (state (between n) ks ts i p)
-  → Answers o n i p d (Unit {0}) r ks ts → Answers (read m c (state (between m) ks ts i p)) m i p d g r ks ts
+    → Answers o n i p d (Unit {0}) r ks ts → Answers (read m c (state (between m) ks ts i p)) m i p d g r ks ts
 read_answers o m n c i p d g r ks ts e b q h =
     let P : Mode → Type 0 = λ z. Answers (read z c (state (between z) ks ts i p)) z i p d g r ks ts in
     let Q : Option State → Type 0 = λ z. Answers z n i p d g r ks ts in

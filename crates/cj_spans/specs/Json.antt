@@ -30,10 +30,10 @@ mutual
     atom : (k : Kind) (i j : ℕ) → IsAtom b k i j → Value b i j (scalar k (atom_at b i j))
     empty_array : (i j : ℕ) → byte b i ≡ 91 → White b (suc i) j → byte b j ≡ 93 → Value b i (suc j) (array i (suc j) no_items)
     full_array : (i j k : ℕ) (ts : Items) (t : Tree) → byte b i ≡ 91 → LedItems b (suc i) j ts → Padded b j k t → byte b k ≡ 93
-      → Value b i (suc k) (array i (suc k) (add_item ts t))
+        → Value b i (suc k) (array i (suc k) (add_item ts t))
     empty_object : (i j : ℕ) → byte b i ≡ 123 → White b (suc i) j → byte b j ≡ 125 → Value b i (suc j) (object i (suc j) no_members)
     full_object : (i j k l : ℕ) (ms : Members) (n : Atom) (t : Tree) → byte b i ≡ 123 → LedMembers b (suc i) j ms → Named b j k n → Padded b k l t → byte b l ≡ 125
-      → Value b i (suc l) (object i (suc l) (add_member ms n t))
+        → Value b i (suc l) (object i (suc l) (add_member ms n t))
 
   -- a value with white space round it
   pub data Padded (b : List ℕ) : ℕ → ℕ → Tree → Type 0 where
@@ -48,7 +48,7 @@ mutual
   pub data LedMembers (b : List ℕ) : ℕ → ℕ → Members → Type 0 where
     no_led_members : (i : ℕ) → LedMembers b i i no_members
     led_member : (i j k l : ℕ) (ms : Members) (n : Atom) (t : Tree) → LedMembers b i j ms → Named b j k n → Padded b k l t → byte b l ≡ 44
-      → LedMembers b i (suc l) (add_member ms n t)
+        → LedMembers b i (suc l) (add_member ms n t)
 
   -- a name with white space round it, and a colon
   pub data Named (b : List ℕ) : ℕ → ℕ → Atom → Type 0 where

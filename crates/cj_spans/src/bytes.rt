@@ -28,5 +28,12 @@ pub fn is_hex(byte: u8) -> bool
 pub fn is_escape(byte: u8) -> bool
     ensures { result ≡ is_escape_of byte }
 {
-    byte == b'"' || byte == b'\\' || byte == b'/' || byte == b'b' || byte == b'f' || byte == b'n' || byte == b'r' || byte == b't'
+    byte == b'"'
+        || byte == b'\\'
+        || byte == b'/'
+        || byte == b'b'
+        || byte == b'f'
+        || byte == b'n'
+        || byte == b'r'
+        || byte == b't'
 }

@@ -90,13 +90,21 @@ fn digit_or(byte: u8, next: Lex, other: Option<Lex>) -> Option<Lex>
 fn mark(byte: u8) -> Option<Lex>
     ensures { result ≡ mark_of byte }
 {
-    if byte == b'e' || byte == b'E' { Some(Lex::Mark) } else { None }
+    if byte == b'e' || byte == b'E' {
+        Some(Lex::Mark)
+    } else {
+        None
+    }
 }
 
 fn point_or_mark(byte: u8) -> Option<Lex>
     ensures { result ≡ point_or_mark_of byte }
 {
-    if byte == b'.' { Some(Lex::Point) } else { mark(byte) }
+    if byte == b'.' {
+        Some(Lex::Point)
+    } else {
+        mark(byte)
+    }
 }
 
 fn zero_or_whole(byte: u8) -> Option<Lex>
@@ -112,7 +120,11 @@ fn zero_or_whole(byte: u8) -> Option<Lex>
 fn sign_mark(byte: u8) -> Option<Lex>
     ensures { result ≡ sign_mark_of byte }
 {
-    if byte == b'+' || byte == b'-' { Some(Lex::MarkSign) } else { None }
+    if byte == b'+' || byte == b'-' {
+        Some(Lex::MarkSign)
+    } else {
+        None
+    }
 }
 
 fn text_step(byte: u8) -> Option<Lex>

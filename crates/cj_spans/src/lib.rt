@@ -25,4 +25,5 @@ mod step;
 mod token;
 
 pub use fault::ScanFault;
+pub use scanner::scan;
 pub use token::{Kind, Token};

@@ -49,7 +49,13 @@ fn token_of(tokens: &[Token], number: u32) -> Option<Token>
 }
 
 /// Opens a container.
-fn open(kind: Kind, next: Mode, place: usize, tokens: &mut Bounded<Token>, stack: &mut Stack) -> Result<Move, ScanFault>
+fn open(
+    kind: Kind,
+    next: Mode,
+    place: usize,
+    tokens: &mut Bounded<Token>,
+    stack: &mut Stack,
+) -> Result<Move, ScanFault>
     requires small { (place < 2 ^ 31) × (length tokens.old.elements < 2 ^ 31) × (length stack.old.elements < 2 ^ 31) }
     requires lists { IsWithin tokens.old × IsWithin stack.old }
     requires room { length tokens.old.elements < tokens.old.limit }
@@ -78,7 +84,12 @@ fn open(kind: Kind, next: Mode, place: usize, tokens: &mut Bounded<Token>, stack
 }
 
 /// Begins a value.
-fn begin_value(byte: u8, place: usize, tokens: &mut Bounded<Token>, stack: &mut Stack) -> Result<Move, ScanFault>
+fn begin_value(
+    byte: u8,
+    place: usize,
+    tokens: &mut Bounded<Token>,
+    stack: &mut Stack,
+) -> Result<Move, ScanFault>
     requires small { (place < 2 ^ 31) × (length tokens.old.elements < 2 ^ 31) × (length stack.old.elements < 2 ^ 31) }
     requires lists { IsWithin tokens.old × IsWithin stack.old }
     requires room { length tokens.old.elements < tokens.old.limit }
@@ -101,7 +112,12 @@ fn begin_value(byte: u8, place: usize, tokens: &mut Bounded<Token>, stack: &mut 
 }
 
 /// Closes the innermost container, whose token has this number.
-fn close(number: u32, place: usize, tokens: &mut Bounded<Token>, stack: &mut Stack) -> Result<Move, ScanFault>
+fn close(
+    number: u32,
+    place: usize,
+    tokens: &mut Bounded<Token>,
+    stack: &mut Stack,
+) -> Result<Move, ScanFault>
     requires small { place < 2 ^ 31 }
     requires lists { IsWithin tokens.old × IsWithin stack.old }
     ensures answer { (m : ModeOf) (p : ℕ) → Answers (close_token_of number (slice_get tokens.old.elements number) (state (between m) stack.old.elements tokens.old.elements place p))
@@ -125,7 +141,11 @@ fn close(number: u32, place: usize, tokens: &mut Bounded<Token>, stack: &mut Sta
 }
 
 /// Closes the innermost container, which holds nothing.
-fn close_empty(place: usize, tokens: &mut Bounded<Token>, stack: &mut Stack) -> Result<Move, ScanFault>
+fn close_empty(
+    place: usize,
+    tokens: &mut Bounded<Token>,
+    stack: &mut Stack,
+) -> Result<Move, ScanFault>
     requires small { place < 2 ^ 31 }
     requires lists { IsWithin tokens.old × IsWithin stack.old }
     ensures answer { (m : ModeOf) (p : ℕ) → Answers (close_empty_of (state (between m) stack.old.elements tokens.old.elements place p))
@@ -141,7 +161,14 @@ fn close_empty(place: usize, tokens: &mut Bounded<Token>, stack: &mut Stack) -> 
 }
 
 /// Goes on after a value in the container of this kind: a comma, or the bracket that closes it.
-fn after_in(kind: Kind, number: u32, byte: u8, place: usize, tokens: &mut Bounded<Token>, stack: &mut Stack) -> Result<Move, ScanFault>
+fn after_in(
+    kind: Kind,
+    number: u32,
+    byte: u8,
+    place: usize,
+    tokens: &mut Bounded<Token>,
+    stack: &mut Stack,
+) -> Result<Move, ScanFault>
     requires small { place < 2 ^ 31 }
     requires lists { IsWithin tokens.old × IsWithin stack.old }
     ensures answer { (m : ModeOf) (p : ℕ) (t : TokenOf) → slice_get tokens.old.elements number ≡ Some t → Answers (after_in_of kind byte number t (state (between m) stack.old.elements tokens.old.elements place p))
@@ -174,7 +201,12 @@ fn after_in(kind: Kind, number: u32, byte: u8, place: usize, tokens: &mut Bounde
 }
 
 /// Goes on after a value.
-fn after_value(byte: u8, place: usize, tokens: &mut Bounded<Token>, stack: &mut Stack) -> Result<Move, ScanFault>
+fn after_value(
+    byte: u8,
+    place: usize,
+    tokens: &mut Bounded<Token>,
+    stack: &mut Stack,
+) -> Result<Move, ScanFault>
     requires small { place < 2 ^ 31 }
     requires lists { IsWithin tokens.old × IsWithin stack.old }
     ensures answer { (m : ModeOf) (p : ℕ) → Answers (after_value_of byte (state (between m) stack.old.elements tokens.old.elements place p))
@@ -215,7 +247,13 @@ fn read_colon(byte: u8, place: usize) -> Result<Move, ScanFault>
 }
 
 /// Reads a byte between scalars and names.
-pub fn read_byte(mode: Mode, byte: u8, place: usize, tokens: &mut Bounded<Token>, stack: &mut Stack) -> Result<Move, ScanFault>
+pub fn read_byte(
+    mode: Mode,
+    byte: u8,
+    place: usize,
+    tokens: &mut Bounded<Token>,
+    stack: &mut Stack,
+) -> Result<Move, ScanFault>
     requires small { (place < 2 ^ 31) × (length tokens.old.elements < 2 ^ 31) × (length stack.old.elements < 2 ^ 31) }
     requires lists { IsWithin tokens.old × IsWithin stack.old }
     requires room { BeginsValue mode → length tokens.old.elements < tokens.old.limit }
