@@ -5,4 +5,5 @@ pub mod Front
 pub mod Preorder
 pub mod Forest
 pub mod Scan
+pub mod Reason
 pub mod Machine

@@ -20,10 +20,14 @@
 mod bytes;
 mod fault;
 mod lex;
+mod reason;
 mod scanner;
 mod step;
+#[cfg(test)]
+mod tests;
 mod token;
 
 pub use fault::ScanFault;
+pub use reason::Reason;
 pub use scanner::scan;
 pub use token::{Kind, Token};
