@@ -1,16 +1,18 @@
 -- Scalars and names in a line: what has been read of one, and the machine over it.
-use Rattle.std.proofs.Common.{◌≡◌, ℕ, zero, suc, ◌+◌, ◌-◌, ◌<◌, ◌≤◌, List, [], ◌∷◌, ◌++◌, length, take, drop, get_or, slice_range, Option, Some, None, refl, sym, ap, subst, arith, ◌∙◌, ◌⊎◌, inl, inr}
+use Rattle.std.proofs.Common.{◌≡◌, ℕ, suc, ◌+◌, ◌<◌, ◌≤◌, List, [], ◌∷◌, ◌++◌, length, true, Option, Some, None, refl, sym, ap, subst, arith, ◌∙◌, ◌⊎◌, inl, inr}
 use Rattle.std.specs.Prelude.{option_and_then}
 use Rattle.cj_spans.specs.declared.token.Kind.{Kind}
 use Rattle.cj_spans.specs.declared.token.Token.{Token}
 use Rattle.cj_spans.specs.declared.lex.Lex.{Lex}
+use Rattle.cj_spans.specs.declared.lex.Lex.TheVariants.{InText}
 use Rattle.cj_spans.specs.declared.step.Mode.{Mode}
 use Rattle.cj_spans.specs.declared.step.Mode.TheVariants.{After}
 use Rattle.cj_spans.specs.declared.step.Move.{Move}
 use Rattle.cj_spans.specs.Json.{byte}
 use Rattle.cj_spans.specs.Preorder.{token_at}
-use Rattle.cj_spans.specs.Machine.{State, state, between, in_atom, read, end_atom, go_on, step, settle, lex_step, lex_kind, Continues, still, further, Halts, Reaches, here, on, Settles, Sticks, SticksFlat, phase_after}
-use Rattle.cj_spans.proofs.Spellings.{none_some}
+use Rattle.cj_spans.specs.Machine.{State, state, between, in_atom, read, end_atom, go_on, step, settle, lex_step, lex_kind, Continues, still, further, Halts, Reaches, here, on, Settles, SticksFlat, phase_after}
+use Rattle.cj_spans.specs.Spelling.{is_plain}
+use Rattle.cj_spans.proofs.Spellings.{none_some, plain_goes}
 
 -- ---- the code's loop
 
@@ -21,6 +23,13 @@ pub read_more : (b : List ℕ) (i k : ℕ) (x y z : Lex) (o : Option Lex) → Co
 read_more b i k x y z o r is h =
     let e : suc k ≡ k + 1 = omega arith in
     subst (λ n. Continues b i x n z) e (further k y z r (sym h ∙ is))
+
+-- a byte that leaves the reading as it is
+pub read_same : (b : List ℕ) (i k : ℕ) (x y : Lex) → Continues b i x k y → lex_step y (byte b k) ≡ Some y → Continues b i x (k + 1) y
+read_same b i k x y r h = let e : suc k ≡ k + 1 = omega arith in subst (λ n. Continues b i x n y) e (further k y y r h)
+
+pub read_plain : (b : List ℕ) (i k : ℕ) (x : Lex) → Continues b i x k InText → is_plain (byte b k) ≡ true → Continues b i x (k + 1) InText
+read_plain b i k x r h = read_same b i k x InText r (plain_goes (byte b k) h)
 
 -- ---- the machine
 

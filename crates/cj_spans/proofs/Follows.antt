@@ -1,14 +1,14 @@
 -- Over a value the machine adds the value's tokens, and is where it was.
-use Rattle.std.proofs.Common.{◌≡◌, ℕ, zero, suc, ◌+◌, ◌<◌, ◌≤◌, List, [], ◌∷◌, ◌++◌, length, max, Option, Some, None, refl, sym, ap, subst, arith, ◌∙◌, append_assoc, slice_get, slice_set}
+use Rattle.std.proofs.Common.{◌≡◌, ℕ, suc, List, [], ◌∷◌, ◌++◌, length, max, Some, refl, sym, ap, subst, ◌∙◌, append_assoc, slice_get, slice_set}
 use Rattle.std.proofs.lemmas.List.{append-nil}
 use Rattle.cj_spans.specs.declared.token.Kind.TheVariants.{Text, Array, Object}
 use Rattle.cj_spans.specs.declared.token.Token.{Token}
 use Rattle.cj_spans.specs.declared.step.Mode.{Mode}
 use Rattle.cj_spans.specs.declared.step.Mode.TheVariants.{Ready, FirstItem, After, FirstName, NextName, AfterName}
-use Rattle.cj_spans.specs.Tree.{Atom, Tree, scalar, array, object, Items, no_items, item, Members, no_members, member, add_item, add_member}
-use Rattle.cj_spans.specs.Json.{byte, atom_at, White, IsAtom, Value, atom, empty_array, full_array, empty_object, full_object, Padded, padded, LedItems, no_led, led, LedMembers, no_led_members, led_member, Named, named, Json}
+use Rattle.cj_spans.specs.Tree.{Atom, Tree, Items, Members, add_item, add_member}
+use Rattle.cj_spans.specs.Json.{byte, Value, atom, empty_array, full_array, empty_object, full_object, Padded, padded, LedItems, no_led, led, LedMembers, no_led_members, led_member, Named, named, Json}
 use Rattle.cj_spans.specs.Preorder.{flatten, flatten_items, flatten_members, token_at}
-use Rattle.cj_spans.specs.Machine.{State, state, between, step, settle, Reaches, here, on, after_token, close_token, start}
+use Rattle.cj_spans.specs.Machine.{State, step, Reaches, here, on, after_token, close_token, start}
 use Rattle.cj_spans.proofs.Places.{run_atom, run_name}
 use Rattle.cj_spans.proofs.Lists.{flatten_items-add, flatten_members-add, slice_get-append, slice_get-seam, set_closed, set_opened, rise, rise_items, rise_members, rise_items-add, rise_members-add}
 use Rattle.cj_spans.proofs.Runs.{IsEnd, comma, colon, bracket, brace, Arrives, arrive_on, arrived, skip, skip_after, Begins, NameBegins, idle}

@@ -1,15 +1,15 @@
 -- The machine is at a state after the first i bytes exactly where they are a front.
-use Rattle.std.proofs.Common.{◌≡◌, ℕ, zero, suc, ◌+◌, ◌<◌, ◌≤◌, List, [], ◌∷◌, ◌++◌, length, max, Option, Some, None, refl, sym, ap, subst, arith, ◌∙◌, ◌⊎◌, inl, inr}
-use Rattle.cj_spans.specs.declared.token.Kind.TheVariants.{Text, Array, Object}
+use Rattle.std.proofs.Common.{◌≡◌, ℕ, suc, ◌+◌, ◌<◌, ◌≤◌, List, [], ◌∷◌, ◌++◌, length, max, refl, ap, subst, arith, ◌⊎◌, inl, inr}
+use Rattle.cj_spans.specs.declared.token.Kind.TheVariants.{Array, Object}
 use Rattle.cj_spans.specs.declared.token.Token.{Token}
 use Rattle.cj_spans.specs.declared.step.Mode.{Mode}
-use Rattle.cj_spans.specs.declared.step.Mode.TheVariants.{Ready, FirstItem, After, FirstName, NextName, AfterName}
-use Rattle.cj_spans.specs.Tree.{Tree, Members, no_items, no_members}
-use Rattle.cj_spans.specs.Json.{byte, White, IsAtom, Value, Padded, padded, no_led, LedMembers, no_led_members}
-use Rattle.cj_spans.specs.Front.{Begun, Front, blank, begun, whole, in_object}
+use Rattle.cj_spans.specs.declared.step.Mode.TheVariants.{Ready, FirstItem, After, FirstName, AfterName}
+use Rattle.cj_spans.specs.Tree.{Members, no_items, no_members}
+use Rattle.cj_spans.specs.Json.{byte, White, padded, no_led, LedMembers, no_led_members}
+use Rattle.cj_spans.specs.Front.{Front, blank, begun, whole, in_object}
 use Rattle.cj_spans.specs.Front.{in_array as front_array, in_member as front_member, in_name as front_name, after_name as front_after_name}
 use Rattle.cj_spans.specs.Preorder.{flatten, token_at}
-use Rattle.cj_spans.specs.Machine.{State, state, in_atom, step, settle, Reaches, here, on, start}
+use Rattle.cj_spans.specs.Machine.{State, state, in_atom, Reaches, on}
 use Rattle.cj_spans.proofs.Lists.{slice_get-seam, rise}
 use Rattle.cj_spans.proofs.Runs.{Arrives, settled, skip, Begins, NameBegins, idle}
 use Rattle.cj_spans.proofs.Follows.{run_padded, run_led, run_led_members, run_named, open_array, open_object}

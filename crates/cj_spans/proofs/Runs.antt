@@ -1,5 +1,5 @@
 -- Runs of the machine: bytes that end a scalar, and white space.
-use Rattle.std.proofs.Common.{◌≡◌, ℕ, zero, suc, ◌+◌, ◌-◌, ◌<◌, ◌≤◌, List, [], ◌∷◌, ◌++◌, length, Bool, true, false, cond, ◌||◌, nat_eq, Option, Some, None, refl, sym, ap, subst, arith, ◌∙◌, ◌⊎◌, inl, inr}
+use Rattle.std.proofs.Common.{◌≡◌, ℕ, zero, suc, ◌+◌, ◌-◌, ◌<◌, ◌≤◌, List, Bool, true, false, cond, ◌||◌, nat_eq, Option, Some, None, refl, sym, ap, subst, arith, ◌∙◌, ◌⊎◌, inl, inr}
 use Rattle.std.specs.Prelude.{option_and_then}
 use Rattle.std.proofs.lemmas.Bool.{eqb-true}
 use Rattle.cj_spans.specs.declared.token.Kind.{Kind}
@@ -7,11 +7,10 @@ use Rattle.cj_spans.specs.declared.token.Token.{Token}
 use Rattle.cj_spans.specs.declared.lex.Lex.{Lex}
 use Rattle.cj_spans.specs.declared.lex.Lex.TheVariants.{AfterN, AfterNu, AfterNul, NullDone, AfterT, AfterTr, AfterTru, AfterF, AfterFa, AfterFal, AfterFals, TruthDone, Minus, Zero, Whole, Point, Fraction, Mark, MarkSign, Exponent, InText, Escape, Hex4, Hex3, Hex2, Hex1, TextDone}
 use Rattle.cj_spans.specs.declared.step.Mode.{Mode}
-use Rattle.cj_spans.specs.declared.step.Mode.TheVariants.{Ready, FirstItem, After, FirstName, NextName, AfterName}
+use Rattle.cj_spans.specs.declared.step.Mode.TheVariants.{Ready, FirstItem, FirstName, NextName}
 use Rattle.cj_spans.specs.Spelling.{is_blank}
 use Rattle.cj_spans.specs.Json.{byte, White}
-use Rattle.cj_spans.specs.Preorder.{token_at}
-use Rattle.cj_spans.specs.Machine.{is_digit, Phase, State, state, between, in_atom, read, end_atom, go_on, step, settle, lex_step, lex_kind, point_or_mark, Reaches, here, on}
+use Rattle.cj_spans.specs.Machine.{is_digit, Phase, State, state, between, in_atom, read, end_atom, go_on, step, settle, lex_step, lex_kind, point_or_mark, Reaches, on}
 use Rattle.cj_spans.proofs.Spellings.{none_some, some_same}
 
 -- between scalars and names

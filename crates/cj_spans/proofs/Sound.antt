@@ -1,5 +1,5 @@
 -- What the machine has read, by its state.
-use Rattle.std.proofs.Common.{◌≡◌, ℕ, zero, suc, ◌+◌, ◌<◌, ◌≤◌, List, [], ◌∷◌, ◌++◌, length, max, Bool, true, false, cond, nat_eq, Option, Some, None, refl, sym, ap, subst, arith, ◌∙◌, ◌⊎◌, inl, inr, append_assoc, slice_get, slice_set}
+use Rattle.std.proofs.Common.{◌≡◌, ℕ, suc, ◌<◌, List, [], ◌∷◌, ◌++◌, length, max, Bool, true, false, cond, nat_eq, Option, Some, None, refl, sym, ap, subst, arith, ◌∙◌, ◌⊎◌, inl, inr, append_assoc, slice_set}
 use Rattle.std.specs.Prelude.{option_and_then, option_map}
 use Rattle.std.proofs.lemmas.List.{append-nil}
 use Rattle.std.proofs.lemmas.Bool.{eqb-true}
@@ -10,11 +10,11 @@ use Rattle.cj_spans.specs.declared.lex.Lex.{Lex}
 use Rattle.cj_spans.specs.declared.lex.Lex.TheVariants.{InText}
 use Rattle.cj_spans.specs.declared.step.Mode.{Mode}
 use Rattle.cj_spans.specs.declared.step.Mode.TheVariants.{Ready, FirstItem, After, FirstName, NextName, AfterName}
-use Rattle.cj_spans.specs.Tree.{Atom, Tree, scalar, array, object, Items, no_items, item, Members, no_members, member, add_item, add_member}
+use Rattle.cj_spans.specs.Tree.{Atom, Tree, scalar, array, object, Items, no_items, Members, no_members, add_item, add_member}
 use Rattle.cj_spans.specs.Spelling.{is_blank}
 use Rattle.cj_spans.specs.Json.{byte, atom_at, White, IsAtom, Value, atom, empty_array, full_array, empty_object, full_object, Padded, padded, LedItems, no_led, led, LedMembers, no_led_members, led_member, Named, named}
 use Rattle.cj_spans.specs.Preorder.{flatten, flatten_items, flatten_members, token_at}
-use Rattle.cj_spans.specs.Machine.{State, state, between, in_atom, step, read, read_in, begin_value, begin_name, after_value, after_in, after_token, close_token, colon_step, end_atom, go_on, lex_start, lex_step, lex_kind, Reaches, here, on, start}
+use Rattle.cj_spans.specs.Machine.{State, state, in_atom, step, read, begin_value, after_value, after_in, after_token, close_token, end_atom, go_on, lex_start, lex_step, lex_kind, Reaches, here, on, start}
 use Rattle.cj_spans.proofs.Spellings.{none_some, some_same}
 use Rattle.cj_spans.proofs.Lists.{flatten_items-add, flatten_members-add, slice_get-append, slice_get-seam, set_closed, set_opened}
 use Rattle.cj_spans.proofs.Runs.{idle}

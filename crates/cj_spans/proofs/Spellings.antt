@@ -1,5 +1,5 @@
 -- The readings of a scalar against the spellings of RFC 8259, over lists of bytes.
-use Rattle.std.proofs.Common.{◌≡◌, ℕ, zero, suc, ◌<◌, ◌≤◌, List, [], ◌∷◌, ◌++◌, length, Bool, true, false, cond, ◌&&◌, ◌||◌, not, nat_eq, nat_le, Option, Some, None, refl, sym, ap, subst, arith, ◌∙◌, ◌⊎◌, inl, inr}
+use Rattle.std.proofs.Common.{◌≡◌, ℕ, ◌<◌, ◌≤◌, List, [], ◌∷◌, ◌++◌, length, Bool, true, false, cond, ◌&&◌, ◌||◌, not, nat_eq, nat_le, Option, Some, None, refl, sym, ap, subst, arith, ◌∙◌, ◌⊎◌, inl, inr}
 use Rattle.std.specs.Prelude.{option_and_then}
 use Rattle.std.proofs.lemmas.List.{append-nil}
 use Rattle.std.proofs.lemmas.Bool.{eqb-true}
@@ -8,8 +8,8 @@ use Rattle.cj_spans.specs.declared.token.Kind.{Kind}
 use Rattle.cj_spans.specs.declared.token.Kind.TheVariants.{Null, Truth, Number, Text, Array, Object}
 use Rattle.cj_spans.specs.declared.lex.Lex.{Lex}
 use Rattle.cj_spans.specs.declared.lex.Lex.TheVariants.{AfterN, AfterNu, AfterNul, NullDone, AfterT, AfterTr, AfterTru, AfterF, AfterFa, AfterFal, AfterFals, TruthDone, Minus, Zero, Whole, Point, Fraction, Mark, MarkSign, Exponent, InText, Escape, Hex4, Hex3, Hex2, Hex1, TextDone}
-use Rattle.cj_spans.specs.Spelling.{IsScalar, is_plain, is_escape, is_hex, IsDigit, AllDigits, IsDigits, IsMinus, IsInt, IsFrac, IsExp, IsExpSign, IsExpRest, IsNumber, IsString, IsBody, nothing, plain, escape, unicode, null_text, true_text, false_text}
-use Rattle.cj_spans.specs.Machine.{is_digit, lex_start, lex_step, lex_kind, hex, one, digit_or, mark, point_or_mark, sign_mark, text_step, escape_step}
+use Rattle.cj_spans.specs.Spelling.{IsScalar, is_plain, is_escape, is_hex, IsDigit, AllDigits, IsDigits, IsMinus, IsInt, IsFrac, IsExp, IsExpSign, IsExpRest, IsNumber, IsBody, nothing, plain, escape, unicode, null_text, true_text, false_text}
+use Rattle.cj_spans.specs.Machine.{is_digit, lex_start, lex_step, lex_kind, hex, one, digit_or, mark, point_or_mark, sign_mark}
 
 pub none_some : {A B : Type 0} (x : A) → ◌≡◌ {A = Option A} None (Some x) → B
 none_some x h = cc
@@ -329,7 +329,7 @@ reading_sound (c ∷ r) x k h d =
 
 -- ---- a string's body is read at InText
 
-plain_goes : (c : ℕ) → is_plain c ≡ true → lex_step InText c ≡ Some InText
+pub plain_goes : (c : ℕ) → is_plain c ≡ true → lex_step InText c ≡ Some InText
 plain_goes c h = grind (arith)
 
 escape_goes : (c : ℕ) → is_escape c ≡ true → lex_step Escape c ≡ Some InText

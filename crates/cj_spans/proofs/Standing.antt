@@ -1,5 +1,5 @@
 -- Where the pass over a line stands in the machine.
-use Rattle.std.proofs.Common.{◌≡◌, ℕ, zero, suc, ◌+◌, ◌*◌, ◌/◌, ◌^◌, ◌<◌, ◌≤◌, List, [], ◌∷◌, ◌++◌, length, max, Bool, true, false, IsTrue, rules, Option, Some, None, Result, Ok, Err, refl, sym, ap, subst, arith, ◌∙◌, ◌⊎◌, inl, inr}
+use Rattle.std.proofs.Common.{◌≡◌, ℕ, suc, ◌+◌, ◌*◌, ◌/◌, ◌^◌, ◌<◌, ◌≤◌, List, [], length, max, Bool, true, false, IsTrue, rules, Option, Some, None, Err, refl, sym, ap, subst, arith, ◌∙◌, inl, inr}
 use Rattle.std.specs.Prelude.{IsSomeAnd}
 use Rattle.cj_budget.specs.Bounded.{BoundedList, IsWithin}
 use Rattle.cj_spans.specs.declared.fault.ScanFault.{ScanFault}
@@ -12,10 +12,10 @@ use Rattle.cj_spans.specs.declared.step.Move.TheVariants.{Stay, To, Open, Atom}
 use Rattle.cj_spans.specs.declared.step.Next.{Next}
 use Rattle.cj_spans.specs.Json.{byte}
 use Rattle.cj_spans.specs.Scan.{KeepsLaw}
-use Rattle.cj_spans.specs.Machine.{State, state, between, in_atom, step, read, settle, Reaches, here, on, start, Settles, Sticks, SticksFlat, phase_after, deepest_after, Answers, Ends, Kept, Grown, BeginsValue, BeginsAtom, SticksAt, SinksAt, Accepts, RunAnswers}
+use Rattle.cj_spans.specs.Machine.{State, state, between, step, read, Reaches, here, on, start, Settles, Sticks, phase_after, deepest_after, Answers, Ends, Kept, Grown, BeginsValue, BeginsAtom, SticksAt, RunAnswers}
 use Rattle.cj_spans.proofs.Spellings.{some_same}
 use Rattle.cj_spans.proofs.Runs.{idle, settled}
-use Rattle.cj_spans.proofs.Facts.{IsLawful, Goes, goes, lawful_reaches, lawful_settles, reaches_both}
+use Rattle.cj_spans.proofs.Facts.{IsLawful, goes, lawful_reaches, lawful_settles, reaches_both}
 
 -- the machine has come to the mode m at the place i, and the lists are those that it has
 pub record Standing (b : List ℕ) (tokens0 : BoundedList Token) (stack0 : BoundedList ℕ) (tokens : BoundedList Token) (stack : BoundedList ℕ) (m : Mode) (i : ℕ) : Type 0 where

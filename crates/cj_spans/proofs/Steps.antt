@@ -1,22 +1,13 @@
 -- One byte, in the code and in the machine.
-use Rattle.std.proofs.Common.{◌≡◌, ℕ, List, Bool, true, false, cond, nat_eq, Option, Some, None, Result, Ok, Err, arith, sym, subst, ap, ◌∙◌}
+use Rattle.std.proofs.Common.{◌≡◌, ℕ, List, Bool, true, false, cond, nat_eq, Option, Result, Ok, Err, arith, sym, subst, ◌∙◌}
 use Rattle.std.proofs.lemmas.Bool.Decides.{nat_tests}
 use Rattle.cj_spans.specs.declared.fault.ScanFault.{ScanFault}
 use Rattle.cj_spans.specs.declared.fault.ScanFault.TheVariants.{NotUtf8, Syntax, TooDeep, Memory}
 use Rattle.cj_spans.specs.declared.token.Token.{Token}
 use Rattle.cj_spans.specs.declared.step.Mode.{Mode}
-use Rattle.cj_spans.specs.declared.step.Mode.TheVariants.{FirstName, NextName, AfterName}
 use Rattle.cj_spans.specs.declared.step.Move.{Move}
-use Rattle.cj_spans.proofs.Spellings.{none_some}
-use Rattle.cj_spans.proofs.Lists.{rise}
-use Rattle.cj_spans.proofs.Places.{run_name}
-use Rattle.cj_spans.proofs.Follows.{run_json}
-use Rattle.cj_spans.proofs.Sound.{inv_reaches}
-use Rattle.cj_spans.proofs.Facts.{before}
-use Rattle.cj_spans.proofs.Forests.{json_shown}
-use Rattle.cj_spans.proofs.Fronts.{inv_front}
 use Rattle.cj_spans.specs.Spelling.{is_blank}
-use Rattle.cj_spans.specs.Machine.{State, state, between, read, read_in, begin_name, colon_step, Answers}
+use Rattle.cj_spans.specs.Machine.{State, state, between, read, read_in, Answers}
 
 -- an answer that never refuses memory
 answers_granted : (o : Option State) (m : Mode) (i p d : ℕ) (g : Type 0) (r : Result Move ScanFault) (ks : List ℕ) (ts : List Token) → Answers o m i p d (Unit {0}) r ks ts → Answers o m i p d g r ks ts

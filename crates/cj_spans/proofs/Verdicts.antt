@@ -1,32 +1,31 @@
 -- What the pass over a line says of the line.
-use Rattle.std.proofs.Common.{◌≡◌, ℕ, zero, suc, ◌+◌, ◌<◌, ◌≤◌, List, [], ◌∷◌, ◌++◌, length, max, take, Bool, IsTrue, Option, Some, None, Result, Ok, Err, refl, sym, ap, subst, arith, rules, ◌∙◌, ◌⊎◌, inl, inr}
+use Rattle.std.proofs.Common.{◌≡◌, ℕ, suc, ◌+◌, ◌<◌, ◌≤◌, List, [], ◌++◌, length, take, IsTrue, Option, Some, None, Result, Ok, Err, refl, sym, ap, subst, arith, rules, ◌∙◌, ◌⊎◌, inl, inr}
 use Rattle.std.proofs.lemmas.Grind.{common_steps}
 use Rattle.std.specs.Prelude.{IsSomeAnd, OnOk, IsErrOf, IsOk, IsUtf8}
 use Rattle.std.specs.Str.{IsValidUpTo}
 use Rattle.std.specs.Str.Lossy.{utf8_valid_len}
 use Rattle.std.proofs.lemmas.Str.{utf8_valid_len-IsValidUpTo}
-use Rattle.cj_budget.specs.Bounded.{BoundedList, IsWithin, Becomes}
+use Rattle.cj_budget.specs.Bounded.{BoundedList, Becomes}
 use Rattle.cj_spans.specs.declared.fault.ScanFault.{ScanFault}
 use Rattle.cj_spans.specs.declared.fault.ScanFault.TheVariants.{NotUtf8, Syntax, TooDeep, Memory}
 use Rattle.cj_spans.specs.declared.token.Kind.{Kind}
 use Rattle.cj_spans.specs.declared.token.Token.{Token}
-use Rattle.cj_spans.specs.declared.lex.Lex.{Lex}
 use Rattle.cj_spans.specs.declared.step.Mode.{Mode}
 use Rattle.cj_spans.specs.declared.step.Mode.TheVariants.{Ready, FirstItem, After, FirstName, NextName, AfterName}
 use Rattle.cj_spans.specs.Tree.{Tree, scalar, size, nest}
 use Rattle.cj_spans.specs.Json.{byte, atom_at, White, Value, atom, Padded, padded, Json}
 use Rattle.cj_spans.specs.Front.{Front, IsFront, SyntaxAt, stuck, short, DeepAt, NowhereDeep}
-use Rattle.cj_spans.specs.Preorder.{flatten, preorder, spans_of}
+use Rattle.cj_spans.specs.Preorder.{flatten, spans_of}
 use Rattle.cj_spans.specs.Forest.{forest}
 use Rattle.cj_spans.specs.Scan.{IsScanOf, KeepsLaw}
-use Rattle.cj_spans.specs.Machine.{State, state, between, in_atom, step, settle, end_atom, lex_kind, Reaches, here, on, start, Settles, Sticks, SticksAt, SinksAt, Accepts, RunAnswers}
+use Rattle.cj_spans.specs.Machine.{State, state, between, in_atom, step, settle, end_atom, lex_kind, Reaches, here, on, start, Sticks, SticksAt, SinksAt, Accepts, RunAnswers}
 use Rattle.cj_spans.proofs.Spellings.{none_some, some_same}
 use Rattle.cj_spans.proofs.Lists.{rise, rise-nest, length-flatten, spans_of-flatten}
-use Rattle.cj_spans.proofs.Runs.{Arrives, idle, settled}
+use Rattle.cj_spans.proofs.Runs.{idle, settled}
 use Rattle.cj_spans.proofs.Follows.{run_json}
 use Rattle.cj_spans.proofs.Places.{atom_sound}
 use Rattle.cj_spans.proofs.Sound.{Context, root, in_array, in_member, Inv, ready, first_item, after_tree, first_name, next_name, after_name, in_scalar, in_name, inv_reaches, no_white}
-use Rattle.cj_spans.proofs.Facts.{IsLawful, lawful_reaches, next_place, same_state, Before, before}
+use Rattle.cj_spans.proofs.Facts.{lawful_reaches, next_place, same_state, before}
 use Rattle.cj_spans.proofs.Fronts.{Live, front_runs, inv_front}
 use Rattle.cj_spans.proofs.Forests.{json_shown, tree_by_preorder}
 

@@ -1,8 +1,8 @@
 -- The grammar of RFC 8259 (sections 2 to 5) over places: the bytes i to j of b spell the placed tree t.
-use Rattle.std.specs.Prelude.{◌≡◌, ℕ, suc, ◌<◌, ◌≤◌, List, length, Bool, true, get_or, slice_range}
+use Rattle.std.specs.Prelude.{◌≡◌, ℕ, suc, ◌<◌, ◌≤◌, List, length, true, get_or, slice_range}
 use Rattle.cj_spans.specs.declared.token.Kind.{Kind}
 use Rattle.cj_spans.specs.declared.token.Kind.TheVariants.{Text}
-use Rattle.cj_spans.specs.Tree.{Atom, Tree, scalar, array, object, Items, no_items, item, Members, no_members, member, add_item, add_member}
+use Rattle.cj_spans.specs.Tree.{Atom, Tree, scalar, array, object, Items, no_items, Members, no_members, add_item, add_member}
 use Rattle.cj_spans.specs.Spelling.{is_blank, IsScalar}
 
 -- the byte at the place i, or 0 past the end

@@ -1,5 +1,5 @@
 -- The machine that reads a line byte by byte. Only private clauses cite it.
-use Rattle.std.specs.Prelude.{◌≡◌, ℕ, zero, suc, ◌+◌, ◌<◌, ◌≤◌, List, [], ◌∷◌, ◌++◌, length, drop, max, get_or, slice_get, slice_set, Bool, true, false, cond, ◌⊎◌, ◌||◌, ◌&&◌, nat_eq, nat_le, Option, Some, None, IsSomeAnd, option_map, option_and_then, Result, Ok, Err, IsTrue}
+use Rattle.std.specs.Prelude.{◌≡◌, ℕ, suc, ◌<◌, ◌≤◌, List, [], ◌∷◌, ◌++◌, length, drop, max, slice_get, slice_set, Bool, cond, ◌⊎◌, ◌||◌, ◌&&◌, nat_eq, nat_le, Option, Some, None, IsSomeAnd, option_map, option_and_then, Result, Ok, Err, IsTrue}
 use Rattle.cj_budget.specs.Bounded.{BoundedList, IsWithin}
 use Rattle.cj_spans.specs.declared.fault.ScanFault.{ScanFault}
 use Rattle.cj_spans.specs.declared.fault.ScanFault.TheVariants.{NotUtf8, Syntax, TooDeep, Memory}

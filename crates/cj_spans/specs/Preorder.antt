@@ -3,7 +3,7 @@ use Rattle.std.specs.Prelude.{ℕ, suc, List, [], ◌∷◌, ◌++◌}
 use Rattle.cj_spans.specs.declared.token.Kind.{Kind}
 use Rattle.cj_spans.specs.declared.token.Kind.TheVariants.{Text, Array, Object}
 use Rattle.cj_spans.specs.declared.token.Token.{Token}
-use Rattle.cj_spans.specs.Tree.{Atom, Tree, scalar, array, object, Items, no_items, item, Members, no_members, member}
+use Rattle.cj_spans.specs.Tree.{Tree, scalar, array, object, Items, no_items, item, Members, no_members, member}
 
 -- where a value or a name starts and stops
 pub record Span : Type 0 where

@@ -1,6 +1,6 @@
 //! The bytes that the grammar tells apart.
 ghost use Rattle.std.specs.Prelude.{◌≡◌};
-ghost use Rattle.cj_spans.specs.Spelling.{is_blank as is_blank_of, is_hex as is_hex_of, is_escape as is_escape_of};
+ghost use Rattle.cj_spans.specs.Spelling.{is_blank as is_blank_of, is_hex as is_hex_of, is_plain as is_plain_of, is_escape as is_escape_of};
 ghost use Rattle.cj_spans.specs.Machine.{is_digit as is_digit_of};
 
 /// White space.
@@ -36,4 +36,11 @@ pub fn is_escape(byte: u8) -> bool
         || byte == b'n'
         || byte == b'r'
         || byte == b't'
+}
+
+/// A byte of a string that stands for itself, or is a part of a longer character.
+pub fn is_plain(byte: u8) -> bool
+    ensures { result ≡ is_plain_of byte }
+{
+    byte >= b' ' && byte != b'"' && byte != b'\\'
 }

@@ -1,8 +1,10 @@
 //! How far the spelling of a scalar or a name has been read.
-ghost use Rattle.std.specs.Prelude.{◌≡◌, ◌≤◌, ◌<◌, length, suc};
-ghost use Rattle.cj_spans.specs.Machine.{lex_start as lex_start_of, lex_step as lex_step_of, lex_kind as lex_kind_of, one as one_of, hex as hex_of, mark as mark_of, point_or_mark as point_or_mark_of, zero_or_whole as zero_or_whole_of, sign_mark as sign_mark_of, text_step as text_step_of, escape_step as escape_step_of, digit_or as digit_or_of, Continues, Halts};
+ghost use Rattle.std.specs.Prelude.{◌≡◌, ◌≤◌, ◌<◌, ℕ, length, suc, Some, true};
+ghost use Rattle.cj_spans.specs.declared.lex.Lex.{Lex as LexOf};
+ghost use Rattle.cj_spans.specs.declared.lex.Lex.TheVariants.{InText};
+ghost use Rattle.cj_spans.specs.Machine.{is_digit as is_digit_of, lex_start as lex_start_of, lex_step as lex_step_of, lex_kind as lex_kind_of, one as one_of, hex as hex_of, mark as mark_of, point_or_mark as point_or_mark_of, zero_or_whole as zero_or_whole_of, sign_mark as sign_mark_of, text_step as text_step_of, escape_step as escape_step_of, digit_or as digit_or_of, Continues, Halts};
 
-use crate::bytes::{is_digit, is_escape, is_hex};
+use crate::bytes::{is_digit, is_escape, is_hex, is_plain};
 use crate::token::Kind;
 
 /// What has been read of a scalar: letters of a literal, a part of a number, or a part of a string.
@@ -38,6 +40,7 @@ pub enum Lex {
 }
 
 /// What the first byte of a scalar begins.
+#[inline(always)]
 pub fn lex_start(byte: u8) -> Option<Lex>
     ensures { result ≡ lex_start_of byte }
 {
@@ -54,6 +57,7 @@ pub fn lex_start(byte: u8) -> Option<Lex>
 }
 
 /// The kind of the scalar, where it may end here.
+#[inline(always)]
 pub fn lex_kind(read: Lex) -> Option<Kind>
     ensures { result ≡ lex_kind_of read }
 {
@@ -81,6 +85,7 @@ fn hex(byte: u8, next: Lex) -> Option<Lex>
     if is_hex(byte) { Some(next) } else { None }
 }
 
+#[inline(always)]
 fn digit_or(byte: u8, next: Lex, other: Option<Lex>) -> Option<Lex>
     ensures { result ≡ digit_or_of byte next other }
 {
@@ -127,6 +132,7 @@ fn sign_mark(byte: u8) -> Option<Lex>
     }
 }
 
+#[inline(always)]
 fn text_step(byte: u8) -> Option<Lex>
     ensures { result ≡ text_step_of byte }
 {
@@ -154,6 +160,7 @@ fn escape_step(byte: u8) -> Option<Lex>
 }
 
 /// Reads one byte more of a scalar; None where the byte does not go on with it.
+#[inline(always)]
 pub fn lex_step(read: Lex, byte: u8) -> Option<Lex>
     ensures { result ≡ lex_step_of read byte }
 {
@@ -188,6 +195,54 @@ pub fn lex_step(read: Lex, byte: u8) -> Option<Lex>
     }
 }
 
+/// Skips the bytes of a string that stand for themselves.
+#[inline(always)]
+fn skip_plain(line: &[u8], place: usize) -> usize
+    requires { place ≤ length line.now }
+    ensures same { (i : ℕ) (x : LexOf) → Continues line.now i x place InText → Continues line.now i x result InText }
+    ensures order { place ≤ result }
+    ensures end { result ≤ length line.now }
+{
+    let mut stop = place;
+    while stop < line.len() && is_plain(line[stop]) {
+        stop += 1;
+    }
+    stop
+}
+
+/// Skips digits, which leave these readings of a number as they are.
+#[inline(always)]
+fn skip_digits(line: &[u8], read: Lex, place: usize) -> usize
+    requires stays { (b : ℕ) → is_digit_of b ≡ true → lex_step_of read b ≡ Some read }
+    requires within { place ≤ length line.now }
+    ensures same { (i : ℕ) (x : LexOf) → Continues line.now i x place read → Continues line.now i x result read }
+    ensures order { place ≤ result }
+    ensures end { result ≤ length line.now }
+{
+    let mut stop = place;
+    while stop < line.len() && is_digit(line[stop]) {
+        stop += 1;
+    }
+    stop
+}
+
+/// Skips the bytes that leave the reading as it is, where there may be many.
+#[inline(always)]
+fn skip(line: &[u8], read: Lex, place: usize) -> usize
+    requires { place ≤ length line.now }
+    ensures same { (i : ℕ) (x : LexOf) → Continues line.now i x place read → Continues line.now i x result read }
+    ensures order { place ≤ result }
+    ensures end { result ≤ length line.now }
+{
+    match read {
+        Lex::InText => skip_plain(line, place),
+        Lex::Whole => skip_digits(line, Lex::Whole, place),
+        Lex::Fraction => skip_digits(line, Lex::Fraction, place),
+        Lex::Exponent => skip_digits(line, Lex::Exponent, place),
+        _ => place,
+    }
+}
+
 /// How far a scalar goes, and what has been read of it there.
 #[derive(Clone, Copy)]
 pub struct Reach {
@@ -196,6 +251,7 @@ pub struct Reach {
 }
 
 /// Reads on in the scalar that began at `start`, up to the first byte that does not go on with it.
+#[inline(always)]
 pub fn read_atom(line: &[u8], start: usize, first: Lex) -> Reach
     requires within { start < length line.now }
     ensures read { Continues line.now (suc start) first result.stop result.read }
@@ -204,12 +260,12 @@ pub fn read_atom(line: &[u8], start: usize, first: Lex) -> Reach
     ensures end { result.stop ≤ length line.now }
 {
     let mut read = first;
-    let mut stop = start + 1;
+    let mut stop = skip(line, first, start + 1);
     while stop < line.len() {
         match lex_step(read, line[stop]) {
             Some(next) => {
                 read = next;
-                stop += 1;
+                stop = skip(line, next, stop + 1);
             }
             None => break,
         }

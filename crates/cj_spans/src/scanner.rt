@@ -17,6 +17,7 @@ use cj_budget::{Bounded, Stack};
 use simdutf8::compat::from_utf8;
 
 /// Reads the rest of the scalar or the name that the byte at `place` began, and keeps its token.
+#[inline(always)]
 fn end_atom(
     line: &[u8],
     place: usize,
@@ -54,6 +55,7 @@ fn end_atom(
 }
 
 /// Goes on after a move: past a scalar or a name, or to the next byte.
+#[inline(always)]
 fn follow(
     line: &[u8],
     place: usize,
@@ -89,6 +91,7 @@ fn follow(
 }
 
 /// Whether a text may end here.
+#[inline(always)]
 fn is_end(mode: Mode, stack: &Stack) -> bool
     ensures { IsTrue result ↔ ((mode ≡ After) × (stack.now.elements ≡ [])) }
 {

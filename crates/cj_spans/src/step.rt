@@ -42,6 +42,7 @@ pub enum Move {
 }
 
 /// The token with a number.
+#[inline(always)]
 fn token_of(tokens: &[Token], number: u32) -> Option<Token>
     ensures { result ≡ slice_get tokens.now number }
 {
@@ -49,6 +50,7 @@ fn token_of(tokens: &[Token], number: u32) -> Option<Token>
 }
 
 /// Opens a container.
+#[inline(always)]
 fn open(
     kind: Kind,
     next: Mode,
@@ -84,6 +86,7 @@ fn open(
 }
 
 /// Begins a value.
+#[inline(always)]
 fn begin_value(
     byte: u8,
     place: usize,
@@ -112,6 +115,7 @@ fn begin_value(
 }
 
 /// Closes the innermost container, whose token has this number.
+#[inline(always)]
 fn close(
     number: u32,
     place: usize,
@@ -161,6 +165,7 @@ fn close_empty(
 }
 
 /// Goes on after a value in the container of this kind: a comma, or the bracket that closes it.
+#[inline(always)]
 fn after_in(
     kind: Kind,
     number: u32,
@@ -201,6 +206,7 @@ fn after_in(
 }
 
 /// Goes on after a value.
+#[inline(always)]
 fn after_value(
     byte: u8,
     place: usize,
@@ -225,6 +231,7 @@ fn after_value(
 }
 
 /// Begins a name.
+#[inline(always)]
 fn begin_name(byte: u8, place: usize) -> Result<Move, ScanFault>
     ensures { (m : ModeOf) (ks : List ℕ) (ts : List TokenOf) (p d : ℕ) → Answers (begin_name_of byte (state (between m) ks ts place p)) m place p d (Unit {0}) result ks ts }
 {
@@ -236,6 +243,7 @@ fn begin_name(byte: u8, place: usize) -> Result<Move, ScanFault>
 }
 
 /// Reads the colon after a name.
+#[inline(always)]
 fn read_colon(byte: u8, place: usize) -> Result<Move, ScanFault>
     ensures { (m : ModeOf) (ks : List ℕ) (ts : List TokenOf) (p d : ℕ) → Answers (colon_step_of byte (state (between m) ks ts place p)) m place p d (Unit {0}) result ks ts }
 {
@@ -247,6 +255,7 @@ fn read_colon(byte: u8, place: usize) -> Result<Move, ScanFault>
 }
 
 /// Reads a byte between scalars and names.
+#[inline(always)]
 pub fn read_byte(
     mode: Mode,
     byte: u8,

@@ -1,4 +1,4 @@
-use Rattle.std.proofs.Common.{arith, refl, ◌≤◌}
+use Rattle.std.proofs.Common.{arith, refl}
 use Rattle.cj_spans.specs.declared.step.Move.TheVariants.{Stay, To, Open}
 use Rattle.cj_spans.proofs.Atoms.{settles_at}
 use Rattle.cj_spans.proofs.scanner.follow.Goals as goal

@@ -1,5 +1,4 @@
-use Rattle.std.proofs.Common.{arith, sym, refl, ◌≤◌}
-use Rattle.cj_spans.proofs.Verdicts.{scan_of}
+use Rattle.std.proofs.Common.{arith, sym}
 use Rattle.cj_spans.proofs.Standing.{standing_first, standing_small, standing_room, standing_step, standing_law, standing_fault, stepped_small, stepped_room, stepped_on, stepped_law, stepped_fault, ended_law, ended_fault, not_so}
 use Rattle.cj_spans.proofs.scanner.run.Goals as goal
 

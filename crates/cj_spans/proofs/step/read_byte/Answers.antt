@@ -1,4 +1,4 @@
-use Rattle.std.proofs.Common.{◌≡◌, refl, sym, ◌∙◌, IsTrue}
+use Rattle.std.proofs.Common.{refl, sym, ◌∙◌, IsTrue}
 use Rattle.cj_spans.specs.declared.step.Mode.TheVariants.{FirstName, NextName, AfterName}
 use Rattle.cj_spans.specs.Machine.{state, between, begin_name, close_empty, colon_step}
 use Rattle.cj_spans.proofs.Steps.{read_answers, not_brace}
