@@ -11,3 +11,4 @@ pub mod Fronts
 pub mod Forests
 pub mod Standing
 pub mod Verdicts
+pub mod WorkedLines

@@ -56,7 +56,7 @@ other_mode m ks ls ts us i j p q n h = absurd (n (mode_of m After (ap (λ u. u.p
     mode_of : (x y : Mode) → between x ≡ between y → x ≡ y
     mode_of x y h = cc
 
-spells : {b : List ℕ} (s : State) → Inv b s → (us : List Token) (q : ℕ) → settle s ≡ Some (idle After [] us (length b) q) → Spells b us
+pub spells : {b : List ℕ} (s : State) → Inv b s → (us : List Token) (q : ℕ) → settle s ≡ Some (idle After [] us (length b) q) → Spells b us
 spells s (ready k p ks ts c) us q h = other_mode Ready _ _ _ _ _ _ _ _ (λ (e : Ready ≡ After). cc) h
 spells s (first_item e k p ks ts c o w) us q h = other_mode FirstItem _ _ _ _ _ _ _ _ (λ (e : FirstItem ≡ After). cc) h
 spells s (after_tree e j k p ks ts t c v w) us q h = spells_at e j k p q ks ts us t c v w (some_same _ _ h)
@@ -113,7 +113,7 @@ front_before b s k r l =
 live_at : (b : List ℕ) (i n : ℕ) → Front b 0 i n → Live b start i (n + 0)
 live_at b i n f = front_runs f start Ready [] [] 0 tt here
 
-sticks_syntax : (b : List ℕ) (i : ℕ) → Sticks b start i → SyntaxAt b i
+pub sticks_syntax : (b : List ℕ) (i : ℕ) → Sticks b start i → SyntaxAt b i
 sticks_syntax b i a =
     let e = a.at in
     elim a.stuck [
@@ -171,7 +171,7 @@ accepts_nowhere b tokens old new a =
     let p = e.place in let d = e.deepest in let s = a.shallow in
     nowhere_deep b a.settles.last old.limit a.settles.reached (omega arith) (inl (omega arith))
 
-sinks_deep : (b : List ℕ) (d i : ℕ) → SinksAt b d i → DeepAt b d i
+pub sinks_deep : (b : List ℕ) (d i : ℕ) → SinksAt b d i → DeepAt b d i
 sinks_deep b d i a = by_step (step (byte b i) a.last) refl a.deep
   where
     by_step : (o : Option State) → step (byte b i) a.last ≡ o → IsSomeAnd o (λ u. length u.stack ≡ suc d) → DeepAt b d i

@@ -7,3 +7,4 @@ pub mod Forest
 pub mod Scan
 pub mod Reason
 pub mod Machine
+pub mod Examples

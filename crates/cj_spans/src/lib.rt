@@ -18,6 +18,8 @@
 #![tactic(auto)]
 
 mod bytes;
+#[cfg(test)]
+mod examples;
 mod fault;
 mod lex;
 mod reason;

@@ -30,7 +30,8 @@ fn end_atom(
     requires within { place < length line.now }
     requires lists { IsWithin tokens.old }
     requires room { length tokens.old.elements < tokens.old.limit }
-    ensures answer { (ks : List ℕ) (p : ℕ) → length ks ≡ depth → Ends line.now (state (in_atom next place first) ks tokens.old.elements (suc place) p)
+    ensures answer { (ks : List ℕ) (p : ℕ) → length ks ≡ depth → Ends line.now
+        (state (in_atom next place first) ks tokens.old.elements (suc place) p)
         (IsTrue tokens.old.reserved) result tokens.new.elements }
     ensures tokens { Grown tokens.old tokens.new }
     ensures err { OnErr result (tokens.new ≡ tokens.old) }
@@ -68,7 +69,8 @@ fn follow(
     requires within { place < length line.now }
     requires lists { IsWithin tokens.old }
     requires room { BeginsAtom taken → length tokens.old.elements < tokens.old.limit }
-    ensures answer { (ks : List ℕ) (p : ℕ) → length ks ≡ depth → Ends line.now (state (phase_after mode place taken) ks tokens.old.elements (suc place) p)
+    ensures answer { (ks : List ℕ) (p : ℕ) → length ks ≡ depth → Ends line.now
+        (state (phase_after mode place taken) ks tokens.old.elements (suc place) p)
         (IsTrue tokens.old.reserved) result tokens.new.elements }
     ensures tokens { Grown tokens.old tokens.new }
     ensures err { OnErr result (tokens.new ≡ tokens.old) }
@@ -107,7 +109,8 @@ fn run(line: &[u8], tokens: &mut Bounded<Token>, stack: &mut Stack) -> Result<()
     requires room { (length line.now + stack.old.limit + 1) / 2 ≤ tokens.old.limit }
     requires empty { (tokens.old.elements ≡ []) × (stack.old.elements ≡ []) }
     requires lists { IsWithin tokens.old × IsWithin stack.old }
-    ensures answer { RunAnswers line.now stack.old (IsTrue tokens.old.reserved × IsTrue stack.old.reserved) result tokens.new stack.new }
+    ensures answer { RunAnswers line.now stack.old
+        (IsTrue tokens.old.reserved × IsTrue stack.old.reserved) result tokens.new stack.new }
     ensures law { KeepsLaw line.now tokens.old tokens.new stack.old stack.new }
 {
     let mut mode = Mode::Ready;
@@ -145,19 +148,27 @@ pub fn scan(line: &[u8], tokens: &mut Bounded<Token>, stack: &mut Stack) -> Resu
     requires room { (length line.now + stack.old.limit + 1) / 2 ≤ tokens.old.limit }
 
     // At Ok the lists show the one tree that the line spells.
-    ensures tree { OnOk result ((t : Tree) × IsScanOf line.now t tokens.old tokens.new stack.old stack.new) }
+    ensures tree { OnOk result ((t : Tree)
+        × IsScanOf line.now t tokens.old tokens.new stack.old stack.new) }
     ensures utf8 { ((i : ℕ) → IsErrOf result (ScanFault.NotUtf8 i) → ⊥) → IsUtf8 line.now }
 
     // Each fault comes with its place.
     ensures not_utf8 { (i : ℕ) → (IsErrOf result (ScanFault.NotUtf8 i) ↔ IsValidUpTo line.now i) }
-    ensures too_deep { (i : ℕ) → IsErrOf result (ScanFault.TooDeep i) → DeepAt line.now stack.old.limit i }
-    ensures syntax { (i : ℕ) → IsErrOf result (ScanFault.Syntax i) → SyntaxAt line.now i × NowhereDeep line.now stack.old.limit }
-    ensures memory { IsTrue tokens.old.reserved → IsTrue stack.old.reserved → IsErrOf result ScanFault.Memory → ⊥ }
+    ensures too_deep { (i : ℕ) → IsErrOf result (ScanFault.TooDeep i)
+        → DeepAt line.now stack.old.limit i }
+    ensures syntax { (i : ℕ) → IsErrOf result (ScanFault.Syntax i)
+        → SyntaxAt line.now i × NowhereDeep line.now stack.old.limit }
+    ensures memory { IsTrue tokens.old.reserved → IsTrue stack.old.reserved
+        → IsErrOf result ScanFault.Memory → ⊥ }
 
     // And no line is answered otherwise, but for want of memory.
-    ensures finds_tree { IsUtf8 line.now → (t : Tree) → Json line.now t → nest t ≤ stack.old.limit → IsOk result ⊎ IsErrOf result ScanFault.Memory }
-    ensures finds_deep { IsUtf8 line.now → (i : ℕ) → DeepAt line.now stack.old.limit i → IsErrOf result (ScanFault.TooDeep i) ⊎ IsErrOf result ScanFault.Memory }
-    ensures finds_syntax { IsUtf8 line.now → NowhereDeep line.now stack.old.limit → (i : ℕ) → SyntaxAt line.now i → IsErrOf result (ScanFault.Syntax i) ⊎ IsErrOf result ScanFault.Memory }
+    ensures finds_tree { IsUtf8 line.now → (t : Tree) → Json line.now t → nest t ≤ stack.old.limit
+        → IsOk result ⊎ IsErrOf result ScanFault.Memory }
+    ensures finds_deep { IsUtf8 line.now → (i : ℕ) → DeepAt line.now stack.old.limit i
+        → IsErrOf result (ScanFault.TooDeep i) ⊎ IsErrOf result ScanFault.Memory }
+    ensures finds_syntax { IsUtf8 line.now → NowhereDeep line.now stack.old.limit
+        → (i : ℕ) → SyntaxAt line.now i
+        → IsErrOf result (ScanFault.Syntax i) ⊎ IsErrOf result ScanFault.Memory }
 
     // Whatever the answer, the lists keep the law of the bound.
     ensures law { KeepsLaw line.now tokens.old tokens.new stack.old stack.new }

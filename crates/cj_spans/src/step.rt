@@ -58,14 +58,18 @@ fn open(
     tokens: &mut Bounded<Token>,
     stack: &mut Stack,
 ) -> Result<Move, ScanFault>
-    requires small { (place < 2 ^ 31) × (length tokens.old.elements < 2 ^ 31) × (length stack.old.elements < 2 ^ 31) }
+    requires small { (place < 2 ^ 31)
+        × (length tokens.old.elements < 2 ^ 31) × (length stack.old.elements < 2 ^ 31) }
     requires lists { IsWithin tokens.old × IsWithin stack.old }
     requires room { length tokens.old.elements < tokens.old.limit }
-    ensures answer { (m : ModeOf) (p : ℕ) → Answers (Some (opened kind next (state (between m) stack.old.elements tokens.old.elements place p)))
-        m place p stack.old.limit (IsTrue tokens.old.reserved × IsTrue stack.old.reserved) result stack.new.elements tokens.new.elements }
+    ensures answer { (m : ModeOf) (p : ℕ) → Answers
+        (Some (opened kind next (state (between m) stack.old.elements tokens.old.elements place p)))
+        m place p stack.old.limit (IsTrue tokens.old.reserved × IsTrue stack.old.reserved)
+        result stack.new.elements tokens.new.elements }
     ensures tokens { Grown tokens.old tokens.new }
     ensures stack { Kept stack.old stack.new }
-    ensures err { OnErr result ((tokens.new ≡ tokens.old) × (length stack.old.elements ≤ length stack.new.elements)) }
+    ensures err { OnErr result ((tokens.new ≡ tokens.old)
+        × (length stack.old.elements ≤ length stack.new.elements)) }
 {
     let depth = stack.len();
     match stack.push(tokens.len() as u32) {
@@ -93,14 +97,18 @@ fn begin_value(
     tokens: &mut Bounded<Token>,
     stack: &mut Stack,
 ) -> Result<Move, ScanFault>
-    requires small { (place < 2 ^ 31) × (length tokens.old.elements < 2 ^ 31) × (length stack.old.elements < 2 ^ 31) }
+    requires small { (place < 2 ^ 31)
+        × (length tokens.old.elements < 2 ^ 31) × (length stack.old.elements < 2 ^ 31) }
     requires lists { IsWithin tokens.old × IsWithin stack.old }
     requires room { length tokens.old.elements < tokens.old.limit }
-    ensures answer { (m : ModeOf) (p : ℕ) → Answers (begin_value_of byte (state (between m) stack.old.elements tokens.old.elements place p))
-        m place p stack.old.limit (IsTrue tokens.old.reserved × IsTrue stack.old.reserved) result stack.new.elements tokens.new.elements }
+    ensures answer { (m : ModeOf) (p : ℕ) → Answers
+        (begin_value_of byte (state (between m) stack.old.elements tokens.old.elements place p))
+        m place p stack.old.limit (IsTrue tokens.old.reserved × IsTrue stack.old.reserved)
+        result stack.new.elements tokens.new.elements }
     ensures tokens { Grown tokens.old tokens.new }
     ensures stack { Kept stack.old stack.new }
-    ensures err { OnErr result ((tokens.new ≡ tokens.old) × (length stack.old.elements ≤ length stack.new.elements)) }
+    ensures err { OnErr result ((tokens.new ≡ tokens.old)
+        × (length stack.old.elements ≤ length stack.new.elements)) }
 {
     if byte == b'[' {
         return open(Kind::Array, Mode::FirstItem, place, tokens, stack);
@@ -124,11 +132,15 @@ fn close(
 ) -> Result<Move, ScanFault>
     requires small { place < 2 ^ 31 }
     requires lists { IsWithin tokens.old × IsWithin stack.old }
-    ensures answer { (m : ModeOf) (p : ℕ) → Answers (close_token_of number (slice_get tokens.old.elements number) (state (between m) stack.old.elements tokens.old.elements place p))
-        m place p stack.old.limit (IsTrue tokens.old.reserved × IsTrue stack.old.reserved) result stack.new.elements tokens.new.elements }
+    ensures answer { (m : ModeOf) (p : ℕ) → Answers
+        (close_token_of number (slice_get tokens.old.elements number)
+        (state (between m) stack.old.elements tokens.old.elements place p))
+        m place p stack.old.limit (IsTrue tokens.old.reserved × IsTrue stack.old.reserved)
+        result stack.new.elements tokens.new.elements }
     ensures tokens { Grown tokens.old tokens.new }
     ensures stack { Kept stack.old stack.new }
-    ensures err { OnErr result ((tokens.new ≡ tokens.old) × (length stack.old.elements ≤ length stack.new.elements)) }
+    ensures err { OnErr result ((tokens.new ≡ tokens.old)
+        × (length stack.old.elements ≤ length stack.new.elements)) }
 {
     match token_of(tokens.as_slice(), number) {
         None => Err(ScanFault::Syntax(place as u64)),
@@ -152,11 +164,14 @@ fn close_empty(
 ) -> Result<Move, ScanFault>
     requires small { place < 2 ^ 31 }
     requires lists { IsWithin tokens.old × IsWithin stack.old }
-    ensures answer { (m : ModeOf) (p : ℕ) → Answers (close_empty_of (state (between m) stack.old.elements tokens.old.elements place p))
-        m place p stack.old.limit (IsTrue tokens.old.reserved × IsTrue stack.old.reserved) result stack.new.elements tokens.new.elements }
+    ensures answer { (m : ModeOf) (p : ℕ) → Answers
+        (close_empty_of (state (between m) stack.old.elements tokens.old.elements place p))
+        m place p stack.old.limit (IsTrue tokens.old.reserved × IsTrue stack.old.reserved)
+        result stack.new.elements tokens.new.elements }
     ensures tokens { Grown tokens.old tokens.new }
     ensures stack { Kept stack.old stack.new }
-    ensures err { OnErr result ((tokens.new ≡ tokens.old) × (length stack.old.elements ≤ length stack.new.elements)) }
+    ensures err { OnErr result ((tokens.new ≡ tokens.old)
+        × (length stack.old.elements ≤ length stack.new.elements)) }
 {
     match stack.top() {
         None => Err(ScanFault::Syntax(place as u64)),
@@ -176,11 +191,14 @@ fn after_in(
 ) -> Result<Move, ScanFault>
     requires small { place < 2 ^ 31 }
     requires lists { IsWithin tokens.old × IsWithin stack.old }
-    ensures answer { (m : ModeOf) (p : ℕ) (t : TokenOf) → slice_get tokens.old.elements number ≡ Some t → Answers (after_in_of kind byte number t (state (between m) stack.old.elements tokens.old.elements place p))
-        m place p stack.old.limit (IsTrue tokens.old.reserved × IsTrue stack.old.reserved) result stack.new.elements tokens.new.elements }
+    ensures answer { (m : ModeOf) (p : ℕ) (t : TokenOf) → slice_get tokens.old.elements number ≡ Some t → Answers
+        (after_in_of kind byte number t (state (between m) stack.old.elements tokens.old.elements place p))
+        m place p stack.old.limit (IsTrue tokens.old.reserved × IsTrue stack.old.reserved)
+        result stack.new.elements tokens.new.elements }
     ensures tokens { Grown tokens.old tokens.new }
     ensures stack { Kept stack.old stack.new }
-    ensures err { OnErr result ((tokens.new ≡ tokens.old) × (length stack.old.elements ≤ length stack.new.elements)) }
+    ensures err { OnErr result ((tokens.new ≡ tokens.old)
+        × (length stack.old.elements ≤ length stack.new.elements)) }
 {
     match kind {
         Kind::Array => {
@@ -215,11 +233,14 @@ fn after_value(
 ) -> Result<Move, ScanFault>
     requires small { place < 2 ^ 31 }
     requires lists { IsWithin tokens.old × IsWithin stack.old }
-    ensures answer { (m : ModeOf) (p : ℕ) → Answers (after_value_of byte (state (between m) stack.old.elements tokens.old.elements place p))
-        m place p stack.old.limit (IsTrue tokens.old.reserved × IsTrue stack.old.reserved) result stack.new.elements tokens.new.elements }
+    ensures answer { (m : ModeOf) (p : ℕ) → Answers
+        (after_value_of byte (state (between m) stack.old.elements tokens.old.elements place p))
+        m place p stack.old.limit (IsTrue tokens.old.reserved × IsTrue stack.old.reserved)
+        result stack.new.elements tokens.new.elements }
     ensures tokens { Grown tokens.old tokens.new }
     ensures stack { Kept stack.old stack.new }
-    ensures err { OnErr result ((tokens.new ≡ tokens.old) × (length stack.old.elements ≤ length stack.new.elements)) }
+    ensures err { OnErr result ((tokens.new ≡ tokens.old)
+        × (length stack.old.elements ≤ length stack.new.elements)) }
 {
     match stack.top() {
         None => Err(ScanFault::Syntax(place as u64)),
@@ -233,7 +254,8 @@ fn after_value(
 /// Begins a name.
 #[inline(always)]
 fn begin_name(byte: u8, place: usize) -> Result<Move, ScanFault>
-    ensures { (m : ModeOf) (ks : List ℕ) (ts : List TokenOf) (p d : ℕ) → Answers (begin_name_of byte (state (between m) ks ts place p)) m place p d (Unit {0}) result ks ts }
+    ensures { (m : ModeOf) (ks : List ℕ) (ts : List TokenOf) (p d : ℕ) → Answers
+        (begin_name_of byte (state (between m) ks ts place p)) m place p d (Unit {0}) result ks ts }
 {
     if byte == b'"' {
         Ok(Move::Atom(Mode::AfterName, Lex::InText))
@@ -245,7 +267,8 @@ fn begin_name(byte: u8, place: usize) -> Result<Move, ScanFault>
 /// Reads the colon after a name.
 #[inline(always)]
 fn read_colon(byte: u8, place: usize) -> Result<Move, ScanFault>
-    ensures { (m : ModeOf) (ks : List ℕ) (ts : List TokenOf) (p d : ℕ) → Answers (colon_step_of byte (state (between m) ks ts place p)) m place p d (Unit {0}) result ks ts }
+    ensures { (m : ModeOf) (ks : List ℕ) (ts : List TokenOf) (p d : ℕ) → Answers
+        (colon_step_of byte (state (between m) ks ts place p)) m place p d (Unit {0}) result ks ts }
 {
     if byte == b':' {
         Ok(Move::To(Mode::Ready))
@@ -263,14 +286,18 @@ pub fn read_byte(
     tokens: &mut Bounded<Token>,
     stack: &mut Stack,
 ) -> Result<Move, ScanFault>
-    requires small { (place < 2 ^ 31) × (length tokens.old.elements < 2 ^ 31) × (length stack.old.elements < 2 ^ 31) }
+    requires small { (place < 2 ^ 31)
+        × (length tokens.old.elements < 2 ^ 31) × (length stack.old.elements < 2 ^ 31) }
     requires lists { IsWithin tokens.old × IsWithin stack.old }
     requires room { BeginsValue mode → length tokens.old.elements < tokens.old.limit }
-    ensures answer { (p : ℕ) → Answers (read_of mode byte (state (between mode) stack.old.elements tokens.old.elements place p))
-        mode place p stack.old.limit (IsTrue tokens.old.reserved × IsTrue stack.old.reserved) result stack.new.elements tokens.new.elements }
+    ensures answer { (p : ℕ) → Answers
+        (read_of mode byte (state (between mode) stack.old.elements tokens.old.elements place p))
+        mode place p stack.old.limit (IsTrue tokens.old.reserved × IsTrue stack.old.reserved)
+        result stack.new.elements tokens.new.elements }
     ensures tokens { Grown tokens.old tokens.new }
     ensures stack { Kept stack.old stack.new }
-    ensures err { OnErr result ((tokens.new ≡ tokens.old) × (length stack.old.elements ≤ length stack.new.elements)) }
+    ensures err { OnErr result ((tokens.new ≡ tokens.old)
+        × (length stack.old.elements ≤ length stack.new.elements)) }
 {
     if is_blank(byte) {
         return Ok(Move::Stay);

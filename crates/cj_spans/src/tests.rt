@@ -270,6 +270,30 @@ fn lists_are_emptied_first(rt: HostRuntime) -> Result<(), Fail> {
     Ok(())
 }
 
+// Run also with each growth refused in turn, by `rt try --test --fail-alloc N`.
+#[test]
+fn a_refused_growth_is_memory(rt: HostRuntime) -> Result<(), Fail> {
+    let line = [b'['; 300];
+    let mut tokens: Bounded<Token> = Bounded::new(rt.alloc(), 300);
+    let mut stack = Stack::new(rt.alloc(), 300);
+    let got = scan(&line, &mut tokens, &mut stack);
+    if got == Err(ScanFault::Memory) {
+        assert!(rt; tokens.len() < 300);
+        assert_eq!(rt; tokens.peak(), tokens.len());
+        assert!(rt; stack.len() <= 300);
+        assert!(rt; 2 * tokens.len() <= 301 + stack.len());
+    } else {
+        assert_eq!(rt; got, Err(ScanFault::Syntax(300)));
+    }
+    assert_eq!(rt;
+        scan(&line, &mut tokens, &mut stack),
+        Err(ScanFault::Syntax(300))
+    );
+    assert_eq!(rt; tokens.len(), 300);
+    assert_eq!(rt; stack.len(), 300);
+    Ok(())
+}
+
 #[test]
 fn reasons_have_their_codes_and_texts(rt: HostRuntime) -> Result<(), Fail> {
     let rows = [

@@ -40,7 +40,7 @@ returns-in-Ok-clause-finds_syntax c = λ u n i s.
     answers_finds_syntax (Unit {0}) c.args.line.now c.args.tokens.now ts c.run.new.tokens c.args.stack.now ks c.run.new.stack (IsTrue ts.reserved × IsTrue ks.reserved) (cleared _ _ c.clear.ensures.cleared) (cleared _ _ c.clear-2.ensures.cleared) c.run.result i c.run.ensures.answer n s
 
 pub returns-in-Err-clause-utf8 : goal.returns-in-Err-clause-utf8
-returns-in-Err-clause-utf8 c = λ h. absurd (h c.valid_up_to.result refl)
+returns-in-Err-clause-utf8 c = λ h. absurd (h _ refl)
 
 pub returns-in-Err-clause-not_utf8 : goal.returns-in-Err-clause-not_utf8
 returns-in-Err-clause-not_utf8 c = utf8_fault c.args.line.now c.valid_up_to.result _ c.in-Err.ensures.cases.1 c.in-Err.ensures.valid_len c.valid_up_to.ensures
