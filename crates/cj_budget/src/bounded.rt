@@ -1,5 +1,5 @@
 //! A list with a limit, which keeps its greatest length.
-ghost use Rattle.std.specs.Prelude.{◌≡◌, ◌+◌, ◌<◌, ◌≤◌, ◌↔◌, ◌⊎◌, ◌++◌, ◌∷◌, [], length, IsTrue, IsOk, OnOk, OnErr, IsErrOf};
+ghost use Rattle.std.specs.Prelude.{◌≡◌, ◌+◌, ◌<◌, ◌≤◌, ◌↔◌, ◌⊎◌, ◌++◌, ◌∷◌, [], length, IsTrue, IsOk, OnOk, OnErr, IsErrOf, slice_set};
 ghost use Rattle.cj_budget.specs.Bounded.{IsWithin, Becomes};
 
 use std::alloc::Global;
@@ -72,12 +72,14 @@ impl<T: Copy> Bounded<T> {
         }
     }
 
-    /// Adds an element at the end. A refusal changes nothing.
+    /// Adds an element at the end. A refusal changes nothing. Where there is room for the limit it
+    /// takes no memory.
     pub fn push(&mut self, x: T) -> Result<(), Refused<T>>
         ensures ok { OnOk result (Becomes self.old (self.old.elements ++ x ∷ []) self.new) }
         ensures full { IsErrOf result (Refused.Full x) ↔ (length self.old.elements ≡ self.old.limit) }
         ensures err { OnErr result (self.new ≡ self.old) }
         ensures refused { OnErr result (IsErrOf result (Refused.Full x) ⊎ IsErrOf result (Refused.Memory x)) }
+        ensures room { IsTrue self.old.reserved → length self.old.elements < self.old.limit → IsOk result }
     {
         if self.items.len() == self.limit {
             return Err(Refused::Full(x));
@@ -105,6 +107,16 @@ impl<T: Copy> Bounded<T> {
         let _ = self.items.extend_from_slice(xs);
         self.peak = self.peak.max(self.items.len());
         Ok(())
+    }
+
+    /// Puts an element in the place of the one at an index. The length, the peak and the room stay.
+    /// It takes no memory.
+    pub fn set(&mut self, i: usize, x: T)
+        requires { i < length self.old.elements }
+        ensures set { self.new ≡ record self.old { elements = slice_set self.old.elements i x } }
+        ensures within { IsWithin self.new }
+    {
+        self.items[i] = x;
     }
 
     /// Takes all elements away, and keeps the peak and the room.

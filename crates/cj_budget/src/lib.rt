@@ -2,8 +2,8 @@
 //!
 //! A [`Limits`] holds the two numbers that a user sets: the most bytes of a line, and the most
 //! open containers. A [`Bounded`] is a list that refuses its next element once it is full, and that
-//! remembers its greatest length, its peak. The layers above hold nothing that grows in any other
-//! list, so what they hold is bounded by the limits.
+//! remembers its greatest length, its peak. A [`Stack`] does so for the open containers. The layers
+//! above hold nothing that grows in any other list, so what they hold is bounded by the limits.
 //!
 //! ```text
 //! let limits = Limits::new(8_388_608, 64)?;
@@ -15,8 +15,10 @@
 
 mod bounded;
 mod limits;
+mod stack;
 #[cfg(test)]
 mod tests;
 
 pub use bounded::{Bounded, ExtendFault, NoMemory, Refused};
 pub use limits::{LimitFault, Limits, Peaks};
+pub use stack::Stack;

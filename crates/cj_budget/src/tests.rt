@@ -1,5 +1,5 @@
 //! Rows on limits and lists.
-use crate::{Bounded, ExtendFault, LimitFault, Limits, NoMemory, Peaks, Refused};
+use crate::{Bounded, ExtendFault, LimitFault, Limits, NoMemory, Peaks, Refused, Stack};
 use std::test::Fail;
 
 #[derive(Drop)]
@@ -81,6 +81,53 @@ fn a_list_of_two(rt: HostRuntime) -> Result<(), Fail> {
     assert_eq!(rt; list.extend_from_slice(&[5, 6]), Ok(()));
     assert_eq!(rt; list.as_slice(), [5u8, 6].as_slice());
     assert!(rt; !list.is_empty());
+    Ok(())
+}
+
+#[test]
+fn one_element_is_replaced(rt: HostRuntime) -> Result<(), Fail> {
+    let mut list: Bounded<u8> = Bounded::new(rt.alloc(), 3);
+    assert_eq!(rt; list.extend_from_slice(&[7, 8, 9]), Ok(()));
+    assert_eq!(rt; list.len(), 3);
+    list.set(1, 5);
+    assert_eq!(rt; list.as_slice(), [7u8, 5, 9].as_slice());
+    assert_eq!(rt; list.peak(), 3);
+    assert_eq!(rt; list.limit(), 3);
+    Ok(())
+}
+
+#[test]
+fn a_stack_of_one(rt: HostRuntime) -> Result<(), Fail> {
+    let mut stack = Stack::new(rt.alloc(), 1);
+    assert!(rt; stack.is_empty());
+    assert_eq!(rt; stack.pop(), None);
+    assert_eq!(rt; stack.push(4), Ok(()));
+    assert_eq!(rt; stack.push(5), Err(Refused::Full(5)));
+    assert_eq!(rt; stack.top(), Some(4));
+    assert_eq!(rt; stack.len(), 1);
+    assert_eq!(rt; stack.pop(), Some(4));
+    assert_eq!(rt; stack.top(), None);
+    assert_eq!(rt; stack.peak(), 1);
+    assert_eq!(rt; stack.push(6), Ok(()));
+    stack.clear();
+    assert!(rt; stack.is_empty());
+    assert_eq!(rt; stack.peak(), 1);
+    assert_eq!(rt; stack.limit(), 1);
+    Ok(())
+}
+
+#[test]
+fn a_stack_past_its_inline_room(rt: HostRuntime) -> Result<(), Fail> {
+    let mut stack = Stack::new(rt.alloc(), 100);
+    for item in 0..100u32 {
+        assert_eq!(rt; stack.push(item), Ok(()));
+    }
+    assert_eq!(rt; stack.push(100), Err(Refused::Full(100)));
+    assert_eq!(rt; stack.peak(), 100);
+    for item in 0..100u32 {
+        assert_eq!(rt; stack.pop(), Some(99 - item));
+    }
+    assert_eq!(rt; stack.len(), 0);
     Ok(())
 }
 

@@ -1,0 +1,130 @@
+//! The open containers of a line: a stack with a limit, which keeps its greatest length.
+ghost use Rattle.std.specs.Prelude.{◌≡◌, ◌<◌, ◌↔◌, ◌⊎◌, ◌∷◌, [], length, drop, IsTrue, IsOk, OnOk, OnErr, IsErrOf, slice_get};
+ghost use Rattle.cj_budget.specs.Bounded.{IsWithin, Becomes};
+
+use crate::bounded::Refused;
+use smallvec::SmallVec;
+use std::alloc::Global;
+use std::marker::Model;
+
+/// A stack of numbers that never holds more than its limit, and that keeps its peak, the greatest
+/// number of items that it has had. Its first 64 items need no memory. Contracts see its items from
+/// the top on.
+#[derive(Drop)]
+pub struct Stack {
+    items: SmallVec<u32, 64>,
+    limit: usize,
+    peak: usize,
+}
+
+impl Model for Stack {
+    ghost use Rattle.std.specs.Prelude.{◌≤◌, ℕ, reverse, nat_le};
+    ghost use Rattle.std.specs.Coded.{coded_ℕ};
+    ghost use Rattle.smallvec.specs.SmallVec.{small_vec_len};
+    ghost use Rattle.cj_budget.specs.Bounded.{BoundedList, bounded_code};
+
+    ghost Value = { BoundedList ℕ };
+
+    ghost coded = { bounded_code coded_ℕ };
+
+    ghost view = { λ s. record {
+      elements = reverse s.items.items;
+      limit = s.limit;
+      peak = s.peak;
+      reserved = nat_le s.limit s.items.capacity;
+    } };
+
+    ghost invariant = { λ s. (small_vec_len s.items ≤ s.peak) × (s.peak ≤ s.limit) × (64 ≤ s.items.capacity) };
+}
+
+impl Stack {
+    /// An empty stack. It takes no memory.
+    pub fn new(alloc: Global, limit: usize) -> Stack
+        ensures elements { result.elements ≡ [] }
+        ensures limit { result.limit ≡ limit }
+        ensures peak { result.peak ≡ 0 }
+    {
+        Stack {
+            items: SmallVec::new(alloc),
+            limit,
+            peak: 0,
+        }
+    }
+
+    /// Puts an item on top. A refusal changes nothing. While fewer than 64 items are there it takes
+    /// no memory, nor where there is room for the limit.
+    pub fn push(&mut self, item: u32) -> Result<(), Refused<u32>>
+        ensures ok { OnOk result (Becomes self.old (item ∷ self.old.elements) self.new) }
+        ensures full { IsErrOf result (Refused.Full item) ↔ (length self.old.elements ≡ self.old.limit) }
+        ensures err { OnErr result (self.new ≡ self.old) }
+        ensures refused { OnErr result (IsErrOf result (Refused.Full item) ⊎ IsErrOf result (Refused.Memory item)) }
+        ensures inline { length self.old.elements < 64 → length self.old.elements < self.old.limit → IsOk result }
+        ensures room { IsTrue self.old.reserved → length self.old.elements < self.old.limit → IsOk result }
+    {
+        if self.items.len() == self.limit {
+            return Err(Refused::Full(item));
+        }
+        if self.items.push(item).is_err() {
+            return Err(Refused::Memory(item));
+        }
+        self.peak = self.peak.max(self.items.len());
+        Ok(())
+    }
+
+    /// Takes the top item away. It keeps the peak and the room.
+    pub fn pop(&mut self) -> Option<u32>
+        ensures top { result ≡ slice_get self.old.elements 0 }
+        ensures rest { Becomes self.old (drop 1 self.old.elements) self.new }
+        ensures room { self.new.reserved ≡ self.old.reserved }
+    {
+        self.items.pop()
+    }
+
+    /// The top item.
+    pub fn top(&self) -> Option<u32>
+        ensures value { result ≡ slice_get self.now.elements 0 }
+        ensures within { IsWithin self.now }
+    {
+        self.items.as_slice().last().copied()
+    }
+
+    /// Takes all items away, and keeps the peak and the room.
+    pub fn clear(&mut self)
+        ensures cleared { Becomes self.old [] self.new }
+        ensures room { self.new.reserved ≡ self.old.reserved }
+    {
+        self.items.clear();
+    }
+
+    /// How many items there are.
+    pub fn len(&self) -> usize
+        ensures value { result ≡ length self.now.elements }
+        ensures within { IsWithin self.now }
+    {
+        self.items.len()
+    }
+
+    /// Whether there is no item.
+    pub fn is_empty(&self) -> bool
+        ensures value { IsTrue result ↔ (self.now.elements ≡ []) }
+        ensures within { IsWithin self.now }
+    {
+        self.items.is_empty()
+    }
+
+    /// The greatest number of items so far.
+    pub fn peak(&self) -> usize
+        ensures value { result ≡ self.now.peak }
+        ensures within { IsWithin self.now }
+    {
+        self.peak // never below the length, by the invariant
+    }
+
+    /// The greatest number of items that is allowed.
+    pub fn limit(&self) -> usize
+        ensures value { result ≡ self.now.limit }
+        ensures within { IsWithin self.now }
+    {
+        self.limit
+    }
+}

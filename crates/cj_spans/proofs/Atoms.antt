@@ -1,0 +1,99 @@
+-- Scalars and names in a line: what has been read of one, and the machine over it.
+use Rattle.std.proofs.Common.{◌≡◌, ℕ, suc, ◌+◌, ◌<◌, ◌≤◌, List, [], ◌∷◌, ◌++◌, length, true, Option, Some, None, refl, sym, ap, subst, arith, ◌∙◌, ◌⊎◌, inl, inr}
+use Rattle.std.specs.Prelude.{option_and_then}
+use Rattle.cj_spans.specs.declared.token.Kind.{Kind}
+use Rattle.cj_spans.specs.declared.token.Token.{Token}
+use Rattle.cj_spans.specs.declared.lex.Lex.{Lex}
+use Rattle.cj_spans.specs.declared.lex.Lex.TheVariants.{InText}
+use Rattle.cj_spans.specs.declared.step.Mode.{Mode}
+use Rattle.cj_spans.specs.declared.step.Mode.TheVariants.{After}
+use Rattle.cj_spans.specs.declared.step.Move.{Move}
+use Rattle.cj_spans.specs.Json.{byte}
+use Rattle.cj_spans.specs.Preorder.{token_at}
+use Rattle.cj_spans.specs.Machine.{State, state, between, in_atom, read, end_atom, go_on, step, settle, lex_step, lex_kind, Continues, still, further, Halts, Reaches, here, on, Settles, SticksFlat, phase_after}
+use Rattle.cj_spans.specs.Spelling.{is_plain}
+use Rattle.cj_spans.proofs.Spellings.{none_some, plain_goes}
+
+-- ---- the code's loop
+
+pub read_first : (b : List ℕ) (i : ℕ) (x : Lex) → Continues b (suc i) x (i + 1) x
+read_first b i x = let e : suc i ≡ i + 1 = omega arith in subst (λ k. Continues b (suc i) x k x) e still
+
+pub read_more : (b : List ℕ) (i k : ℕ) (x y z : Lex) (o : Option Lex) → Continues b i x k y → o ≡ Some z → o ≡ lex_step y (byte b k) → Continues b i x (k + 1) z
+read_more b i k x y z o r is h =
+    let e : suc k ≡ k + 1 = omega arith in
+    subst (λ n. Continues b i x n z) e (further k y z r (sym h ∙ is))
+
+-- a byte that leaves the reading as it is
+pub read_same : (b : List ℕ) (i k : ℕ) (x y : Lex) → Continues b i x k y → lex_step y (byte b k) ≡ Some y → Continues b i x (k + 1) y
+read_same b i k x y r h = let e : suc k ≡ k + 1 = omega arith in subst (λ n. Continues b i x n y) e (further k y y r h)
+
+pub read_plain : (b : List ℕ) (i k : ℕ) (x : Lex) → Continues b i x k InText → is_plain (byte b k) ≡ true → Continues b i x (k + 1) InText
+read_plain b i k x r h = read_same b i k x InText r (plain_goes (byte b k) h)
+
+-- ---- the machine
+
+atom_goes : (b ks : List ℕ) (ts : List Token) (m : Mode) (a k p : ℕ) (x z : Lex) → lex_step x (byte b k) ≡ Some z → step (byte b k) (state (in_atom m a x) ks ts k p) ≡ Some (state (in_atom m a z) ks ts (suc k) p)
+atom_goes b ks ts m a k p x z h =
+    let s = state (in_atom m a x) ks ts k p in
+    ap (λ o. go_on (λ y. in_atom m a y) o s (option_and_then (read m (byte b k)) (end_atom m a (lex_kind x) s))) h
+
+pub continues_reaches : {b : List ℕ} {i : ℕ} {x : Lex} {k : ℕ} {y : Lex} → Continues b i x k y → (s : State) (m : Mode) (a : ℕ) (ks : List ℕ) (ts : List Token) (p : ℕ) → Reaches b s (state (in_atom m a x) ks ts i p) → Reaches b s (state (in_atom m a y) ks ts k p)
+continues_reaches {b} still s m a ks ts p r = r
+continues_reaches {b} (further k y z c h) s m a ks ts p r =
+    on (state (in_atom m a y) ks ts k p) (state (in_atom m a z) ks ts (suc k) p) (continues_reaches c s m a ks ts p r) (atom_goes b ks ts m a k p y z h)
+
+halted : (b ks : List ℕ) (ts : List Token) (m : Mode) (a k p : ℕ) (x : Lex) (r : Option Kind) → lex_step x (byte b k) ≡ None → lex_kind x ≡ r
+    → step (byte b k) (state (in_atom m a x) ks ts k p) ≡ option_and_then (read m (byte b k)) (end_atom m a r (state (in_atom m a x) ks ts k p))
+halted b ks ts m a k p x r none kind =
+    let s = state (in_atom m a x) ks ts k p in
+    ap (λ o. go_on (λ y. in_atom m a y) o s (option_and_then (read m (byte b k)) (end_atom m a (lex_kind x) s))) none
+    ∙ ap (λ q. option_and_then (read m (byte b k)) (end_atom m a q s)) kind
+
+-- a scalar that may end where it halts has ended there
+pub ends_ok : (b : List ℕ) (i k d p : ℕ) (x y : Lex) (kd : Kind) (m : Mode) (ks : List ℕ) (ts us : List Token) → Continues b (suc i) x k y → Halts b k y → lex_kind y ≡ Some kd → length ks ≡ d → us ≡ ts ++ token_at i k d kd ∷ []
+    → Settles b (state (in_atom m i x) ks ts (suc i) p) (state (between m) ks us k p)
+ends_ok b i k d p x y kd m ks ts us c h kind depth is =
+    let last = state (in_atom m i y) ks ts k p in
+    let e : ts ++ token_at i k (length ks) kd ∷ [] ≡ us = ap (λ n. ts ++ token_at i k n kd ∷ []) depth ∙ sym is in
+    record {
+      last = last;
+      reached = continues_reaches c (state (in_atom m i x) ks ts (suc i) p) m i ks ts p here;
+      settles = ap (λ r. end_atom m i r last) kind ∙ ap (λ zs. Some (state (between m) ks zs k p)) e;
+      same = λ l. elim h [
+        | inl g ↦ absurd (omega arith)
+        | inr none ↦ halted b ks ts m i k p y (Some kd) none kind ∙ ap (λ zs. read m (byte b k) (state (between m) ks zs k p)) e
+      ];
+    }
+
+-- one that may not end there is a fault there
+pub ends_err : (b : List ℕ) (i k p : ℕ) (x y : Lex) (m : Mode) (ks : List ℕ) (ts : List Token) → Continues b (suc i) x k y → Halts b k y → k ≤ length b → lex_kind y ≡ None
+    → SticksFlat b (state (in_atom m i x) ks ts (suc i) p) k
+ends_err b i k p x y m ks ts c h l kind =
+    let last = state (in_atom m i y) ks ts k p in
+    record {
+      sticks = record {
+        last = last;
+        reached = continues_reaches c (state (in_atom m i x) ks ts (suc i) p) m i ks ts p here;
+        at = refl;
+        within = l;
+        stuck = stuck_at (split k (length b));
+      };
+      flat = refl;
+    }
+  where
+    split : (a b : ℕ) → (a < b) ⊎ (b ≤ a)
+    split a b = grind arith
+
+    stuck_at : (k < length b) ⊎ (length b ≤ k) → ((k < length b) × (step (byte b k) (state (in_atom m i y) ks ts k p) ≡ None)) ⊎ ((k ≡ length b) × ((us : List Token) (q : ℕ) → settle (state (in_atom m i y) ks ts k p) ≡ Some (state (between After) [] us (length b) q) → ⊥))
+    stuck_at (inl g) = elim h [ inl n ↦ absurd (omega arith) | inr none ↦ inl (g, halted b ks ts m i k p y None none kind) ]
+    stuck_at (inr g) = inr (omega arith, λ us q e. none_some _ (sym (ap (λ r. end_atom m i r (state (in_atom m i y) ks ts k p)) kind) ∙ e))
+
+-- a move that begins no scalar settles at once
+pub settles_at : (b : List ℕ) (m n : Mode) (i j p : ℕ) (v w : Move) (ks : List ℕ) (ts : List Token) → v ≡ w → phase_after m i w ≡ between n → j ≡ i + 1 → Settles b (state (phase_after m i v) ks ts (suc i) p) (state (between n) ks ts j p)
+settles_at b m n i j p v w ks ts e f g =
+    let h : suc i ≡ j = omega arith in
+    let q : phase_after m i v ≡ between n = ap (phase_after m i) e ∙ f in
+    let s = state (between n) ks ts (suc i) p in
+    let base : Settles b s s = record { last = s; reached = here; settles = refl; same = λ l. refl } in
+    subst (λ z. Settles b (state z ks ts (suc i) p) (state (between n) ks ts j p)) (sym q) (subst (λ z. Settles b s (state (between n) ks ts z p)) h base)

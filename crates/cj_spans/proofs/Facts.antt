@@ -1,0 +1,217 @@
+-- What each step keeps: the place goes one on, the count of tokens stays within the bytes read and the open containers.
+use Rattle.std.proofs.Common.{◌≡◌, ℕ, suc, ◌+◌, ◌*◌, ◌<◌, ◌≤◌, List, [], ◌∷◌, ◌++◌, length, max, Bool, true, false, cond, nat_eq, Option, Some, None, refl, sym, ap, subst, arith, ◌∙◌, ◌⊎◌, inl, inr, slice_get, slice_set, length-append}
+use Rattle.std.specs.Prelude.{option_and_then, option_map}
+use Rattle.std.proofs.Math.ListN.{length-set}
+use Rattle.cj_spans.specs.declared.token.Kind.{Kind}
+use Rattle.cj_spans.specs.declared.token.Kind.TheVariants.{Null, Truth, Number, Text, Array, Object}
+use Rattle.cj_spans.specs.declared.token.Token.{Token}
+use Rattle.cj_spans.specs.declared.lex.Lex.{Lex}
+use Rattle.cj_spans.specs.declared.step.Mode.{Mode}
+use Rattle.cj_spans.specs.declared.step.Mode.TheVariants.{Ready, FirstItem, After, FirstName, NextName, AfterName}
+use Rattle.cj_spans.specs.Spelling.{is_blank}
+use Rattle.cj_spans.specs.Json.{byte}
+use Rattle.cj_spans.specs.Preorder.{token_at}
+use Rattle.cj_spans.specs.Machine.{Phase, State, state, between, in_atom, step, read, read_in, begin_value, begin_name, after_value, after_token, after_in, close_empty, close_token, end_atom, go_on, settle, lex_start, lex_step, lex_kind, Reaches, here, on, start}
+use Rattle.cj_spans.proofs.Spellings.{none_some, some_same}
+use Rattle.cj_spans.proofs.Runs.{idle}
+
+-- how many bytes stand for the tokens: after a value or a name one more than were read, in one those before it
+abbrev reach_in : Mode → ℕ → ℕ
+reach_in After i = suc i
+reach_in AfterName i = suc i
+reach_in _ i = i
+
+abbrev pub reach : Phase → ℕ → ℕ
+reach (between m) i = reach_in m i
+reach (in_atom m a x) i = a
+
+-- a scalar or a name began before the place, and a value's or a name's end comes after it
+abbrev EndsAtom : Mode → Type 0
+EndsAtom After = Unit {0}
+EndsAtom AfterName = Unit {0}
+EndsAtom _ = ⊥
+
+abbrev pub BeganBefore : Phase → ℕ → Type 0
+BeganBefore (between m) i = Unit {0}
+BeganBefore (in_atom m a x) i = (a < i) × EndsAtom m
+
+-- what holds of each state that the machine comes to
+pub record IsLawful (s : State) : Type 0 where
+  pub open_count : length s.stack ≤ s.place
+  pub deep : length s.stack ≤ s.deepest
+  pub token_count : 2 * length s.tokens ≤ reach s.phase s.place + length s.stack
+  pub began : BeganBefore s.phase s.place
+
+-- a step from the place i, where at most p containers were open
+pub record Goes (i p : ℕ) (u : State) : Type 0 where
+  pub place : u.place ≡ suc i
+  pub deepest : u.deepest ≡ max p (length u.stack)
+  pub lawful : IsLawful u
+
+abbrev GoesIf : ℕ → ℕ → Option State → Type 0
+GoesIf i p None = Unit {0}
+GoesIf i p (Some u) = Goes i p u
+
+goes_cond : (i p : ℕ) (v : Bool) (x y : Option State) → GoesIf i p x → GoesIf i p y → GoesIf i p (cond v x y)
+goes_cond i p true x y g h = g
+goes_cond i p false x y g h = h
+
+reach_more : (m : Mode) (i : ℕ) → reach_in m i ≤ reach_in m (suc i)
+reach_more Ready i = omega arith
+reach_more FirstItem i = omega arith
+reach_more After i = omega arith
+reach_more FirstName i = omega arith
+reach_more NextName i = omega arith
+reach_more AfterName i = omega arith
+
+module _ (i p : ℕ) (ts : List Token) where
+  -- to a mode at the next place
+  goes_to : (m : Mode) (ks : List ℕ) → length ks ≤ i → length ks ≤ p → 2 * length ts ≤ reach_in m (suc i) + length ks → Goes i p (idle m ks ts (suc i) p)
+  goes_to m ks o d c = record { place = refl; deepest = omega arith; lawful = record { open_count = omega arith; deep = d; token_count = c; began = tt } }
+
+  -- into a scalar or a name
+  goes_atom : (m : Mode) (x : Lex) (ks : List ℕ) → EndsAtom m → length ks ≤ i → length ks ≤ p → 2 * length ts ≤ i + length ks → Goes i p (state (in_atom m i x) ks ts (suc i) p)
+  goes_atom m x ks e o d c = record { place = refl; deepest = omega arith; lawful = record { open_count = omega arith; deep = d; token_count = c; began = (omega arith, e) } }
+
+  -- into a container
+  goes_open : (m : Mode) (k : Kind) (ks : List ℕ) → length ks ≤ i → 2 * length ts ≤ i + length ks → 2 * suc (length ts) ≤ reach_in m (suc i) + suc (length ks)
+      → Goes i p (idle m (length ts ∷ ks) (ts ++ token_at i 0 (length ks) k ∷ []) (suc i) (max p (suc (length ks))))
+  goes_open m k ks o c g =
+      let e : length (ts ++ token_at i 0 (length ks) k ∷ []) ≡ length ts + 1 = length-append ts (token_at i 0 (length ks) k ∷ []) in
+      record { place = refl; deepest = refl; lawful = record { open_count = omega arith; deep = omega arith; token_count = omega arith; began = tt } }
+
+  goes_lex : (ks : List ℕ) (o : Option Lex) → length ks ≤ i → length ks ≤ p → 2 * length ts ≤ i + length ks → GoesIf i p (option_map (λ x. state (in_atom After i x) ks ts (suc i) p) o)
+  goes_lex ks None o d c = tt
+  goes_lex ks (Some x) o d c = goes_atom After x ks tt o d c
+
+  goes_begin : (c : ℕ) (m : Mode) (ks : List ℕ) → length ks ≤ i → length ks ≤ p → 2 * length ts ≤ i + length ks → GoesIf i p (begin_value c (idle m ks ts i p))
+  goes_begin c m ks o d n =
+      goes_cond i p (nat_eq c 91) _ _ (goes_open FirstItem Array ks o n (omega arith)) (goes_cond i p (nat_eq c 123) _ _ (goes_open FirstName Object ks o n (omega arith)) (goes_lex ks (lex_start c) o d n))
+
+  goes_name : (c : ℕ) (m : Mode) (ks : List ℕ) → length ks ≤ i → length ks ≤ p → 2 * length ts ≤ i + length ks → GoesIf i p (begin_name c (idle m ks ts i p))
+  goes_name c m ks o d n = goes_cond i p (nat_eq c 34) _ None (goes_atom AfterName _ ks tt o d n) tt
+
+  -- out of a container
+  goes_closed : (m : Mode) (k : ℕ) (ks : List ℕ) (t : Token) → suc (length ks) ≤ i → suc (length ks) ≤ p → 2 * length ts ≤ suc i + suc (length ks)
+      → Goes i p (idle After ks (slice_set ts k t) (suc i) p)
+  goes_closed m k ks t o d n =
+      let e : length (slice_set ts k t) ≡ length ts = length-set ts k t in
+      record { place = refl; deepest = omega arith; lawful = record { open_count = omega arith; deep = omega arith; token_count = omega arith; began = tt } }
+
+  goes_in : (kd : Kind) (c k : ℕ) (t : Token) (m : Mode) (ks : List ℕ) → suc (length ks) ≤ i → suc (length ks) ≤ p → 2 * length ts ≤ suc i + suc (length ks) → GoesIf i p (after_in kd c k t (idle m (k ∷ ks) ts i p))
+  goes_in Null c k t m ks o d n = tt
+  goes_in Truth c k t m ks o d n = tt
+  goes_in Number c k t m ks o d n = tt
+  goes_in Text c k t m ks o d n = tt
+  goes_in Array c k t m ks o d n = goes_cond i p (nat_eq c 44) _ _ (goes_to Ready (k ∷ ks) o d n) (goes_cond i p (nat_eq c 93) _ None (goes_closed m k ks _ o d n) tt)
+  goes_in Object c k t m ks o d n = goes_cond i p (nat_eq c 44) _ _ (goes_to NextName (k ∷ ks) o d n) (goes_cond i p (nat_eq c 125) _ None (goes_closed m k ks _ o d n) tt)
+
+  goes_token : (c k : ℕ) (z : Option Token) (m : Mode) (ks : List ℕ) → suc (length ks) ≤ i → suc (length ks) ≤ p → 2 * length ts ≤ suc i + suc (length ks) → GoesIf i p (after_token c k z (idle m (k ∷ ks) ts i p))
+  goes_token c k None m ks o d n = tt
+  goes_token c k (Some t) m ks o d n = goes_in t.kind c k t m ks o d n
+
+  goes_after : (c : ℕ) (m : Mode) (ks : List ℕ) → length ks ≤ i → length ks ≤ p → 2 * length ts ≤ suc i + length ks → GoesIf i p (after_value c (idle m ks ts i p))
+  goes_after c m [] o d n = tt
+  goes_after c m (k ∷ ks) o d n = goes_token c k (slice_get ts k) m ks o d n
+
+  goes_close_token : (k : ℕ) (z : Option Token) (m : Mode) (ks : List ℕ) → suc (length ks) ≤ i → suc (length ks) ≤ p → 2 * length ts ≤ suc i + suc (length ks) → GoesIf i p (close_token k z (idle m (k ∷ ks) ts i p))
+  goes_close_token k None m ks o d n = tt
+  goes_close_token k (Some t) m ks o d n = goes_closed m k ks _ o d n
+
+  goes_close : (m : Mode) (ks : List ℕ) → length ks ≤ i → length ks ≤ p → 2 * length ts ≤ i + length ks → GoesIf i p (close_empty (idle m ks ts i p))
+  goes_close m [] o d n = tt
+  goes_close m (k ∷ ks) o d n = goes_close_token k (slice_get ts k) m ks o d (omega arith)
+
+  goes_read_in : (m : Mode) (c : ℕ) (ks : List ℕ) → length ks ≤ i → length ks ≤ p → 2 * length ts ≤ reach_in m i + length ks → GoesIf i p (read_in m c (idle m ks ts i p))
+  goes_read_in Ready c ks o d n = goes_begin c Ready ks o d n
+  goes_read_in FirstItem c ks o d n = goes_cond i p (nat_eq c 93) _ _ (goes_close FirstItem ks o d n) (goes_begin c FirstItem ks o d n)
+  goes_read_in After c ks o d n = goes_after c After ks o d n
+  goes_read_in FirstName c ks o d n = goes_cond i p (nat_eq c 125) _ _ (goes_close FirstName ks o d n) (goes_name c FirstName ks o d n)
+  goes_read_in NextName c ks o d n = goes_name c NextName ks o d n
+  goes_read_in AfterName c ks o d n = goes_cond i p (nat_eq c 58) _ None (goes_to Ready ks o d n) tt
+
+  goes_read : (m : Mode) (c : ℕ) (ks : List ℕ) → length ks ≤ i → length ks ≤ p → 2 * length ts ≤ reach_in m i + length ks → GoesIf i p (read m c (idle m ks ts i p))
+  goes_read m c ks o d n = let r = reach_more m i in goes_cond i p (is_blank c) _ _ (goes_to m ks o d (omega arith)) (goes_read_in m c ks o d n)
+
+-- one token more, where a scalar or a name ends
+ends_count : (m : Mode) (a i d : ℕ) (k : Kind) (ks : List ℕ) (ts : List Token) → EndsAtom m → a < i → 2 * length ts ≤ a + length ks → 2 * length (ts ++ token_at a i d k ∷ []) ≤ reach_in m i + length ks
+ends_count After a i d k ks ts e l n = let f : length (ts ++ token_at a i d k ∷ []) ≡ length ts + 1 = length-append ts (token_at a i d k ∷ []) in omega arith
+ends_count AfterName a i d k ks ts e l n = let f : length (ts ++ token_at a i d k ∷ []) ≡ length ts + 1 = length-append ts (token_at a i d k ∷ []) in omega arith
+ends_count _ a i d k ks ts e l n = absurd e
+
+goes_ended : (m : Mode) (a : ℕ) (f : Phase) (r : Option Kind) (c : ℕ) (ks : List ℕ) (ts : List Token) (i p : ℕ) → EndsAtom m → a < i → length ks ≤ i → length ks ≤ p → 2 * length ts ≤ a + length ks
+    → GoesIf i p (option_and_then (read m c) (end_atom m a r (state f ks ts i p)))
+goes_ended m a f None c ks ts i p e l o d n = tt
+goes_ended m a f (Some k) c ks ts i p e l o d n = goes_read i p (ts ++ token_at a i (length ks) k ∷ []) m c ks o d (ends_count m a i (length ks) k ks ts e l n)
+
+goes_on : (m : Mode) (a : ℕ) (x : Lex) (z : Option Lex) (c : ℕ) (ks : List ℕ) (ts : List Token) (i p : ℕ) → EndsAtom m → a < i → length ks ≤ i → length ks ≤ p → 2 * length ts ≤ a + length ks
+    → GoesIf i p (go_on (λ y. in_atom m a y) z (state (in_atom m a x) ks ts i p) (option_and_then (read m c) (end_atom m a (lex_kind x) (state (in_atom m a x) ks ts i p))))
+goes_on m a x None c ks ts i p e l o d n = goes_ended m a (in_atom m a x) (lex_kind x) c ks ts i p e l o d n
+goes_on m a x (Some y) c ks ts i p e l o d n = record { place = refl; deepest = omega arith; lawful = record { open_count = omega arith; deep = d; token_count = n; began = (omega arith, e) } }
+
+goes_phase : (f : Phase) (c : ℕ) (ks : List ℕ) (ts : List Token) (i p : ℕ) → IsLawful (state f ks ts i p) → GoesIf i p (step c (state f ks ts i p))
+goes_phase (between m) c ks ts i p h = goes_read i p ts m c ks h.open_count h.deep h.token_count
+goes_phase (in_atom m a x) c ks ts i p h = goes_on m a x (lex_step x c) c ks ts i p h.began.1 h.began.0 h.open_count h.deep h.token_count
+
+pub goes : (s u : State) (c : ℕ) → IsLawful s → step c s ≡ Some u → Goes s.place s.deepest u
+goes s u c l h = subst (GoesIf s.place s.deepest) h (goes_phase s.phase c s.stack s.tokens s.place s.deepest l)
+
+pub lawful_reaches : {b : List ℕ} (s : State) → Reaches b start s → IsLawful s
+lawful_reaches s here = record { open_count = omega arith; deep = omega arith; token_count = omega arith; began = tt }
+lawful_reaches {b} s (on t u r h) = (goes t u (byte b t.place) (lawful_reaches t r) h).lawful
+
+-- where a scalar or a name ends, the law still holds
+settle_lawful : (m : Mode) (a : ℕ) (x : Lex) (r : Option Kind) (ks : List ℕ) (ts : List Token) (i p : ℕ) (t : State) → IsLawful (state (in_atom m a x) ks ts i p) → end_atom m a r (state (in_atom m a x) ks ts i p) ≡ Some t → IsLawful t
+settle_lawful m a x None ks ts i p t l h = none_some t h
+settle_lawful m a x (Some k) ks ts i p t l h =
+    subst IsLawful (some_same _ t h) (record { open_count = l.open_count; deep = l.deep; token_count = ends_count m a i (length ks) k ks ts l.began.1 l.began.0 l.token_count; began = tt })
+
+lawful_phase : (f : Phase) (ks : List ℕ) (ts : List Token) (i p : ℕ) (t : State) → IsLawful (state f ks ts i p) → settle (state f ks ts i p) ≡ Some t → IsLawful t
+lawful_phase (between m) ks ts i p t l h = subst IsLawful (some_same _ t h) l
+lawful_phase (in_atom m a x) ks ts i p t l h = settle_lawful m a x (lex_kind x) ks ts i p t l h
+
+pub lawful_settles : (s t : State) → IsLawful s → settle s ≡ Some t → IsLawful t
+lawful_settles s t l h = lawful_phase s.phase s.stack s.tokens s.place s.deepest t l h
+
+-- ---- runs are determined
+
+suc_same : (m n : ℕ) → suc m ≡ suc n → m ≡ n
+suc_same m n h = omega arith
+
+pub next_place : {b : List ℕ} (t v : State) → Reaches b start t → step (byte b t.place) t ≡ Some v → v.place ≡ suc t.place
+next_place {b} t v r h = (goes t v (byte b t.place) (lawful_reaches t r) h).place
+
+pub same_state : (b : List ℕ) (s u : State) → Reaches b start s → Reaches b start u → s.place ≡ u.place → s ≡ u
+same_state b s u here here e = refl
+same_state b s u here (on t v r h) e = let p = next_place t v r h in absurd (omega arith)
+same_state b s u (on t v r h) here e = let p = next_place t v r h in absurd (omega arith)
+same_state b s u (on t v r h) (on t2 v2 r2 h2) e =
+    let p = next_place t v r h in
+    let p2 = next_place t2 v2 r2 h2 in
+    let d : t ≡ t2 = same_state b t t2 r r2 (suc_same _ _ (sym p ∙ e ∙ p2)) in
+    some_same v v2 (sym h ∙ ap (λ w. step (byte b w.place) w) d ∙ h2)
+
+-- the state at an earlier place
+pub record Before (b : List ℕ) (s : State) (k : ℕ) : Type 0 where
+  pub at : State
+  pub reached : Reaches b start at
+  pub place : at.place ≡ k
+  pub below : at.deepest ≤ s.deepest
+
+pub before : (b : List ℕ) (s : State) (k : ℕ) → Reaches b start s → k ≤ s.place → Before b s k
+before b s k here h = record { at = start; reached = here; place = omega arith; below = omega arith }
+before b s k (on t v r e) h =
+    let g = goes t v (byte b t.place) (lawful_reaches t r) e in
+    let p = g.place in let d = g.deepest in
+    elim (last_or k v.place h) [
+      | inl l ↦ let z = before b t k r (omega arith) in let y = z.below in record { at = z.at; reached = z.reached; place = z.place; below = omega arith }
+      | inr q ↦ record { at = v; reached = on t v r e; place = sym q; below = omega arith }
+    ]
+  where
+    last_or : (k n : ℕ) → k ≤ n → (k < n) ⊎ (k ≡ n)
+    last_or k n h = grind arith
+
+-- a run after a run
+pub reaches_both : {b : List ℕ} {s t u : State} → Reaches b s t → Reaches b t u → Reaches b s u
+reaches_both r here = r
+reaches_both r (on v w q h) = on v w (reaches_both r q) h

@@ -1,0 +1,14 @@
+pub mod Steps
+pub mod Spellings
+pub mod Atoms
+pub mod Lists
+pub mod Runs
+pub mod Places
+pub mod Follows
+pub mod Sound
+pub mod Facts
+pub mod Fronts
+pub mod Forests
+pub mod Standing
+pub mod Verdicts
+pub mod WorkedLines

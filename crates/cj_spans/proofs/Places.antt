@@ -1,0 +1,303 @@
+-- Scalars and names by their places.
+use Rattle.std.proofs.Common.{◌≡◌, ℕ, suc, ◌+◌, ◌-◌, ◌<◌, ◌≤◌, List, [], ◌∷◌, ◌++◌, length, take, drop, get_or, slice_range, Bool, true, false, cond, nat_eq, Option, Some, None, refl, sym, ap, subst, arith, ◌∙◌, ◌⊎◌, inl, inr}
+use Rattle.std.specs.Prelude.{option_and_then, option_map}
+use Rattle.std.proofs.lemmas.Grind.{common_steps}
+use Rattle.std.proofs.Math.Seq.{take-suc}
+use Rattle.std.proofs.lemmas.List.{get_or-drop, length-drop, length-take, get_or-take, append-nil}
+use Rattle.std.proofs.lemmas.Bool.{eqb-true}
+use Rattle.cj_spans.specs.declared.token.Kind.{Kind}
+use Rattle.cj_spans.specs.declared.token.Kind.TheVariants.{Text}
+use Rattle.cj_spans.specs.declared.token.Token.{Token}
+use Rattle.cj_spans.specs.declared.lex.Lex.{Lex}
+use Rattle.cj_spans.specs.declared.lex.Lex.TheVariants.{AfterN, AfterNu, AfterNul, NullDone, AfterT, AfterTr, AfterTru, AfterF, AfterFa, AfterFal, AfterFals, TruthDone, Minus, Zero, Whole, Point, Fraction, Mark, MarkSign, Exponent, InText, Escape, Hex4, Hex3, Hex2, Hex1, TextDone}
+use Rattle.cj_spans.specs.declared.step.Mode.{Mode}
+use Rattle.cj_spans.specs.declared.step.Mode.TheVariants.{Ready, FirstItem, After, FirstName, NextName, AfterName}
+use Rattle.cj_spans.specs.Spelling.{is_blank, IsScalar}
+use Rattle.cj_spans.specs.Json.{byte, IsAtom}
+use Rattle.cj_spans.specs.Front.{Begun}
+use Rattle.cj_spans.specs.Preorder.{token_at}
+use Rattle.cj_spans.specs.Machine.{State, state, in_atom, step, begin_value, lex_start, lex_step, lex_kind, Continues, still, further, Reaches, on, end_atom}
+use Rattle.cj_spans.proofs.Spellings.{none_some, some_same, lex_run, reading, reading_sound, reading_whole, reading-more, reading-append, reading-prefix, can_end, IsOfText, TextOption, of_text_step, text_kind, text_end}
+use Rattle.cj_spans.proofs.Atoms.{continues_reaches}
+use Rattle.cj_spans.proofs.Runs.{IsEnd, space, tab, feed, «return», comma, colon, bracket, brace, blank_end, Arrives, Begins, NameBegins, idle}
+
+-- the bytes from i to k begin a scalar, and x is how far it is
+pub record InAtom (b : List ℕ) (i k : ℕ) (x : Lex) : Type 0 where
+  pub order : i < k
+  pub within : k ≤ length b
+  pub run : reading (slice_range b i k) ≡ Some x
+
+-- ---- bytes of the line
+
+slice-more : (b : List ℕ) (i k : ℕ) → i ≤ k → k < length b → slice_range b i (suc k) ≡ slice_range b i k ++ get_or b k 0 ∷ []
+slice-more b i k h l =
+    let e : suc k - i ≡ suc (k - i) = omega arith in
+    let g : i + (k - i) ≡ k = omega arith in
+    let r : k - i < length (drop i b) = omega (arith, length-drop i b) in
+    ap (λ n. take n (drop i b)) e ∙ take-suc (drop i b) (k - i) 0 r ∙ ap (λ z. take (k - i) (drop i b) ++ z ∷ []) (get_or-drop i b (k - i) 0 ∙ ap (λ n. get_or b n 0) g)
+
+slice-one : (b : List ℕ) (i : ℕ) → i < length b → slice_range b i (suc i) ≡ get_or b i 0 ∷ []
+slice-one b i h =
+    let z : i - i ≡ 0 = omega arith in
+    slice-more b i i (omega arith) h ∙ ap (λ n. take n (drop i b) ++ get_or b i 0 ∷ []) z
+
+slice-length : (b : List ℕ) (i j : ℕ) → i ≤ j → j ≤ length b → i + length (slice_range b i j) ≡ j
+slice-length b i j h l = grind (arith, common_steps)
+
+past_end : (b : List ℕ) (k : ℕ) → length b ≤ k → get_or b k 0 ≡ 0
+past_end b k h = grind (arith, common_steps)
+
+no_zero : (x : Lex) → lex_step x 0 ≡ None
+no_zero AfterN = refl
+no_zero AfterNu = refl
+no_zero AfterNul = refl
+no_zero NullDone = refl
+no_zero AfterT = refl
+no_zero AfterTr = refl
+no_zero AfterTru = refl
+no_zero AfterF = refl
+no_zero AfterFa = refl
+no_zero AfterFal = refl
+no_zero AfterFals = refl
+no_zero TruthDone = refl
+no_zero Minus = refl
+no_zero Zero = refl
+no_zero Whole = refl
+no_zero Point = refl
+no_zero Fraction = refl
+no_zero Mark = refl
+no_zero MarkSign = refl
+no_zero Exponent = refl
+no_zero InText = refl
+no_zero Escape = refl
+no_zero Hex4 = refl
+no_zero Hex3 = refl
+no_zero Hex2 = refl
+no_zero Hex1 = refl
+no_zero TextDone = refl
+
+pub split : (a b : ℕ) → (a < b) ⊎ (b ≤ a)
+split a b = grind arith
+
+within_step : (b : List ℕ) (k : ℕ) (x y : Lex) → lex_step x (get_or b k 0) ≡ Some y → k < length b
+within_step b k x y h = elim (split k (length b)) [ inl l ↦ l | inr g ↦ none_some y (sym (no_zero x) ∙ ap (lex_step x) (sym (past_end b k g)) ∙ h) ]
+
+within_start : (b : List ℕ) (k : ℕ) (y : Lex) → lex_start (get_or b k 0) ≡ Some y → k < length b
+within_start b k y h = elim (split k (length b)) [ inl l ↦ l | inr g ↦ none_some y (ap lex_start (sym (past_end b k g)) ∙ h) ]
+
+start_one : (o : Option Lex) → option_and_then (lex_run []) o ≡ o
+start_one None = refl
+start_one (Some x) = refl
+
+-- ---- a scalar that has begun
+
+pub atom_first : (b : List ℕ) (i : ℕ) (x : Lex) → lex_start (byte b i) ≡ Some x → InAtom b i (suc i) x
+atom_first b i x h =
+    let l = within_start b i x h in
+    record { order = omega arith; within = omega arith; run = ap reading (slice-one b i l) ∙ start_one (lex_start (get_or b i 0)) ∙ h }
+
+pub atom_more : (b : List ℕ) (i k : ℕ) (x y : Lex) → InAtom b i k x → lex_step x (byte b k) ≡ Some y → InAtom b i (suc k) y
+atom_more b i k x y r h =
+    let l = within_step b k x y h in
+    let o : i ≤ k = omega (arith, r.order) in
+    record { order = omega (arith, r.order); within = omega arith; run = ap reading (slice-more b i k o l) ∙ reading-more (slice_range b i k) (get_or b k 0) x r.run ∙ h }
+
+pub atom_sound : {b : List ℕ} {i k : ℕ} {x : Lex} → InAtom b i k x → (kd : Kind) → lex_kind x ≡ Some kd → IsAtom b kd i k
+atom_sound {b} {i} {k} {x} r kd h = record { order = r.order; within = r.within; spelled = reading_sound (slice_range b i k) x kd r.run h }
+
+-- some scalar begins so
+pub record SomeBegun (b : List ℕ) (i k : ℕ) : Type 0 where
+  pub kind : Kind
+  pub begun : Begun b kind i k
+
+pub atom_begun : {b : List ℕ} {i k : ℕ} {x : Lex} → InAtom b i k x → SomeBegun b i k
+atom_begun {b} {i} {k} {x} r =
+    let c = can_end x in
+    record { kind = c.kind; begun = record { order = r.order; within = r.within; rest = c.rest; spelled = reading_sound (slice_range b i k ++ c.rest) c.last c.kind (reading-append (slice_range b i k) c.rest x r.run ∙ c.run) c.done } }
+
+-- ---- names
+
+-- a reading that began with a quote is one of a string
+of_text : (s : List ℕ) (o : Option Lex) (y : Lex) → TextOption o → option_and_then (lex_run s) o ≡ Some y → IsOfText y
+of_text s None y t e = none_some y e
+of_text [] (Some x) y t e = subst IsOfText (some_same x y e) t
+of_text (c ∷ s) (Some x) y t e = of_text s (lex_step x c) y (of_text_step x c t) e
+
+slice_has : (b : List ℕ) (i j n : ℕ) → n < length (slice_range b i j) → byte b (i + n) ≡ get_or (slice_range b i j) n 0
+slice_has b i j n l =
+    let q : n < j - i = omega (arith, length-take (j - i) (drop i b)) in
+    sym (get_or-take (j - i) (drop i b) n 0 q ∙ get_or-drop i b n 0)
+
+plus_zero : (k : ℕ) → k ≡ k + 0
+plus_zero k = omega arith
+
+pub first_byte : (b : List ℕ) (i k : ℕ) → i < k → k ≤ length b → byte b i ≡ get_or (slice_range b i k) 0 0
+first_byte b i k o l = let e = slice-length b i k (omega arith) l in ap (byte b) (plus_zero i) ∙ slice_has b i k 0 (omega arith)
+
+in_text : {b : List ℕ} {i k : ℕ} {x : Lex} → InAtom b i k x → byte b i ≡ 34 → IsOfText x
+in_text {b} {i} {k} {x} r q = by_first (slice_range b i k) (sym (first_byte b i k r.order r.within) ∙ q) r.run
+  where
+    by_first : (s : List ℕ) → get_or s 0 0 ≡ 34 → reading s ≡ Some x → IsOfText x
+    by_first [] e h = none_some x h
+    by_first (c ∷ s) e h = of_text s (Some InText) x tt (sym (ap (λ d. option_and_then (lex_run s) (lex_start d)) e) ∙ h)
+
+pub name_kind : {b : List ℕ} {i k : ℕ} {x : Lex} → InAtom b i k x → byte b i ≡ 34 → (kd : Kind) → lex_kind x ≡ Some kd → kd ≡ Text
+name_kind {x = x} r q kd h = text_kind x kd (in_text r q) h
+
+pub name_begun : {b : List ℕ} {i k : ℕ} {x : Lex} → InAtom b i k x → byte b i ≡ 34 → Begun b Text i k
+name_begun {b} {i} {k} {x} r q =
+    let c = text_end x (in_text r q) in
+    record { order = r.order; within = r.within; rest = c.rest; spelled = reading_sound (slice_range b i k ++ c.rest) TextDone Text (reading-append (slice_range b i k) c.rest x r.run ∙ c.run) refl }
+
+-- ---- the machine over a scalar
+
+cond_not : {A : Type 0} (v : Bool) (x y : A) → (v ≡ true → ⊥) → cond v x y ≡ y
+cond_not true x y h = absurd (h refl)
+cond_not false x y h = refl
+
+start_end : {c : ℕ} → IsEnd c → lex_start c ≡ None
+start_end space = refl
+start_end tab = refl
+start_end feed = refl
+start_end «return» = refl
+start_end comma = refl
+start_end colon = refl
+start_end bracket = refl
+start_end brace = refl
+
+starts_not : (c d : ℕ) (x : Lex) → lex_start c ≡ Some x → lex_start d ≡ None → nat_eq c d ≡ true → ⊥
+starts_not c d x h n e = none_some x (sym n ∙ sym (ap lex_start (eqb-true c d e)) ∙ h)
+
+starts_not_blank : (c : ℕ) (x : Lex) → lex_start c ≡ Some x → is_blank c ≡ true → ⊥
+starts_not_blank c x h e = none_some x (sym (start_end (blank_end c e)) ∙ h)
+
+begin_atom : (c : ℕ) (x : Lex) (m : Mode) (ks : List ℕ) (ts : List Token) (i p : ℕ) → lex_start c ≡ Some x → begin_value c (idle m ks ts i p) ≡ Some (state (in_atom After i x) ks ts (suc i) p)
+begin_atom c x m ks ts i p h =
+    cond_not (nat_eq c 91) _ _ (starts_not c 91 x h refl) ∙ cond_not (nat_eq c 123) _ _ (starts_not c 123 x h refl) ∙ ap (option_map (λ y. state (in_atom After i y) ks ts (suc i) p)) h
+
+step_atom : (c : ℕ) (x : Lex) (m : Mode) (ks : List ℕ) (ts : List Token) (i p : ℕ) → Begins m → lex_start c ≡ Some x → step c (idle m ks ts i p) ≡ Some (state (in_atom After i x) ks ts (suc i) p)
+step_atom c x Ready ks ts i p b h = cond_not (is_blank c) _ _ (starts_not_blank c x h) ∙ begin_atom c x Ready ks ts i p h
+step_atom c x FirstItem ks ts i p b h = cond_not (is_blank c) _ _ (starts_not_blank c x h) ∙ cond_not (nat_eq c 93) _ _ (starts_not c 93 x h refl) ∙ begin_atom c x FirstItem ks ts i p h
+step_atom c x _ ks ts i p b h = absurd b
+
+name_34 : (m : Mode) (ks : List ℕ) (ts : List Token) (i p : ℕ) → NameBegins m → step 34 (idle m ks ts i p) ≡ Some (state (in_atom AfterName i InText) ks ts (suc i) p)
+name_34 FirstName ks ts i p g = refl
+name_34 NextName ks ts i p g = refl
+name_34 _ ks ts i p g = absurd g
+
+step_name : (c : ℕ) (m : Mode) (ks : List ℕ) (ts : List Token) (i p : ℕ) → NameBegins m → c ≡ 34 → step c (idle m ks ts i p) ≡ Some (state (in_atom AfterName i InText) ks ts (suc i) p)
+step_name c m ks ts i p g q = ap (λ d. step d (idle m ks ts i p)) q ∙ name_34 m ks ts i p g
+
+stepped : (f : Lex → Option Lex) (o : Option Lex) (y : Lex) → option_and_then f o ≡ Some y → (z : Lex) × (o ≡ Some z) × (f z ≡ Some y)
+stepped f None y h = none_some y h
+stepped f (Some z) y h = (z, refl, h)
+
+-- bytes that a reading passes over, by their places
+continues_run : (r : List ℕ) (b : List ℕ) (i k : ℕ) (x y z : Lex) → Continues b i x k y → lex_run r y ≡ Some z → ((n : ℕ) → n < length r → byte b (k + n) ≡ get_or r n 0) → Continues b i x (k + length r) z
+continues_run [] b i k x y z c h e =
+    let q : y ≡ z = some_same y z h in
+    let f : k ≡ k + 0 = omega arith in
+    subst (λ n. Continues b i x n z) f (subst (λ w. Continues b i x k w) q c)
+continues_run (d ∷ r) b i k x y z c h e =
+    let w = stepped (lex_run r) (lex_step y d) z h in
+    let f : byte b k ≡ d = ap (byte b) (plus_zero k) ∙ e 0 (omega arith) in
+    let a : suc k + length r ≡ k + suc (length r) = omega arith in
+    subst (λ n. Continues b i x n z) a (continues_run r b i (suc k) x w.0 z (further k y w.0 c (ap (lex_step y) f ∙ w.1)) w.2 (λ n l. ap (byte b) (shift k n) ∙ e (suc n) (omega arith)))
+  where
+    shift : (k n : ℕ) → suc k + n ≡ k + suc n
+    shift k n = omega arith
+
+-- the first reading of a scalar, and how it goes on
+record Started (b : List ℕ) (i k : ℕ) (y : Lex) : Type 0 where
+  first : Lex
+  starts : lex_start (byte b i) ≡ Some first
+  goes : Continues b (suc i) first k y
+
+started : (b : List ℕ) (i k : ℕ) (y : Lex) → InAtom b i k y → Started b i k y
+started b i k y r = by_list (slice_range b i k) (slice-length b i k (omega (arith, r.order)) r.within) (slice_has b i k) r.run
+  where
+    shift : (k n : ℕ) → suc k + n ≡ k + suc n
+    shift k n = omega arith
+
+    by_list : (s : List ℕ) → i + length s ≡ k → ((n : ℕ) → n < length s → byte b (i + n) ≡ get_or s n 0) → reading s ≡ Some y → Started b i k y
+    by_list [] l e h = none_some y h
+    by_list (c ∷ s) l e h =
+        let z = stepped (lex_run s) (lex_start c) y h in
+        let f : byte b i ≡ c = ap (byte b) (plus_zero i) ∙ e 0 (omega arith) in
+        let a : suc i + length s ≡ k = omega arith in
+        record {
+          first = z.0;
+          starts = ap lex_start f ∙ z.1;
+          goes = subst (λ n. Continues b (suc i) z.0 n y) a (continues_run s b (suc i) (suc i) z.0 z.0 y still z.2 (λ n q. ap (byte b) (shift i n) ∙ e (suc n) (omega arith)));
+        }
+
+pub run_begun : {b : List ℕ} {i k : ℕ} {y : Lex} → InAtom b i k y → (s : State) (m : Mode) (ks : List ℕ) (ts : List Token) (p : ℕ) → Begins m → Reaches b s (idle m ks ts i p) → Reaches b s (state (in_atom After i y) ks ts k p)
+run_begun {b} {i} {k} {y} r s m ks ts p g h =
+    let z = started b i k y r in
+    continues_reaches z.goes s After i ks ts p (on (idle m ks ts i p) (state (in_atom After i z.first) ks ts (suc i) p) h (step_atom (byte b i) z.first m ks ts i p g z.starts))
+
+pub run_begun_name : {b : List ℕ} {i k : ℕ} {y : Lex} → InAtom b i k y → byte b i ≡ 34 → (s : State) (m : Mode) (ks : List ℕ) (ts : List Token) (p : ℕ) → NameBegins m → Reaches b s (idle m ks ts i p) → Reaches b s (state (in_atom AfterName i y) ks ts k p)
+run_begun_name {b} {i} {k} {y} r q s m ks ts p g h =
+    let z = started b i k y r in
+    let e : InText ≡ z.first = some_same InText z.first (sym (ap lex_start q) ∙ z.starts) in
+    let c = subst (λ w. Continues b (suc i) w k y) (sym e) z.goes in
+    continues_reaches c s AfterName i ks ts p (on (idle m ks ts i p) (state (in_atom AfterName i InText) ks ts (suc i) p) h (step_name (byte b i) m ks ts i p g q))
+
+-- ---- scalars of the grammar
+
+-- the reading of a prefix of a scalar
+pub record Reading (b : List ℕ) (i k : ℕ) : Type 0 where
+  pub last : Lex
+  pub inside : InAtom b i k last
+
+pub begun_reading : {b : List ℕ} {kd : Kind} {i j : ℕ} → Begun b kd i j → Reading b i j
+begun_reading {b} {kd} {i} {j} w =
+    let a = reading_whole kd (slice_range b i j ++ w.rest) w.spelled in
+    let o = w.order in let l = w.within in
+    let e = slice-length b i j (omega arith) l in
+    let q = reading-prefix (slice_range b i j) w.rest a.last (omega arith) a.run in
+    record { last = q.last; inside = record { order = w.order; within = w.within; run = q.run } }
+
+-- the reading of a whole scalar
+pub record WholeReading (b : List ℕ) (kd : Kind) (i k : ℕ) : Type 0 where
+  pub last : Lex
+  pub inside : InAtom b i k last
+  pub kind : lex_kind last ≡ Some kd
+
+pub atom_reading : {b : List ℕ} {kd : Kind} {i j : ℕ} → IsAtom b kd i j → WholeReading b kd i j
+atom_reading {b} {kd} {i} {j} w =
+    let a = reading_whole kd (slice_range b i j) w.spelled in
+    record { last = a.last; inside = record { order = w.order; within = w.within; run = a.run }; kind = a.kind }
+
+-- a string begins with its quote
+pub quote_first : (b : List ℕ) (i j : ℕ) (r : List ℕ) → i < j → j ≤ length b → IsScalar Text (slice_range b i j ++ r) → byte b i ≡ 34
+quote_first b i j r h l w =
+    let e = slice-length b i j (omega arith) l in
+    first_byte b i j h l ∙ head_of (slice_range b i j) r (w.body ++ 34 ∷ []) (omega arith) w.joined
+  where
+    head_of : (s r body : List ℕ) → 0 < length s → s ++ r ≡ 34 ∷ body → get_or s 0 0 ≡ 34
+    head_of [] r body l h = absurd (omega arith)
+    head_of (c ∷ s) r body l h = cc
+
+pub name_quote : {b : List ℕ} {i j : ℕ} → IsAtom b Text i j → byte b i ≡ 34
+name_quote {b} {i} {j} w = quote_first b i j [] w.order w.within (subst (IsScalar Text) (sym (append-nil (slice_range b i j))) w.spelled)
+
+pub run_atom : {b : List ℕ} {kd : Kind} {i j : ℕ} → IsAtom b kd i j → (s : State) (m : Mode) (ks : List ℕ) (ts : List Token) (p : ℕ) → Begins m → Reaches b s (idle m ks ts i p)
+    → Arrives b s (idle After ks (ts ++ token_at i j (length ks) kd ∷ []) j p)
+run_atom {b} {kd} {i} {j} w s m ks ts p g r =
+    let a = atom_reading w in
+    record {
+      at = state (in_atom After i a.last) ks ts j p;
+      reached = run_begun a.inside s m ks ts p g r;
+      settles = ap (λ q. end_atom After i q (state (in_atom After i a.last) ks ts j p)) a.kind;
+    }
+
+pub run_name : {b : List ℕ} {i j : ℕ} → IsAtom b Text i j → (s : State) (m : Mode) (ks : List ℕ) (ts : List Token) (p : ℕ) → NameBegins m → Reaches b s (idle m ks ts i p)
+    → Arrives b s (idle AfterName ks (ts ++ token_at i j (length ks) Text ∷ []) j p)
+run_name {b} {i} {j} w s m ks ts p g r =
+    let a = atom_reading w in
+    record {
+      at = state (in_atom AfterName i a.last) ks ts j p;
+      reached = run_begun_name a.inside (name_quote w) s m ks ts p g r;
+      settles = ap (λ q. end_atom AfterName i q (state (in_atom AfterName i a.last) ks ts j p)) a.kind;
+    }

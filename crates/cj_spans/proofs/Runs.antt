@@ -1,0 +1,211 @@
+-- Runs of the machine: bytes that end a scalar, and white space.
+use Rattle.std.proofs.Common.{◌≡◌, ℕ, zero, suc, ◌+◌, ◌-◌, ◌<◌, ◌≤◌, List, Bool, true, false, cond, ◌||◌, nat_eq, Option, Some, None, refl, sym, ap, subst, arith, ◌∙◌, ◌⊎◌, inl, inr}
+use Rattle.std.specs.Prelude.{option_and_then}
+use Rattle.std.proofs.lemmas.Bool.{eqb-true}
+use Rattle.cj_spans.specs.declared.token.Kind.{Kind}
+use Rattle.cj_spans.specs.declared.token.Token.{Token}
+use Rattle.cj_spans.specs.declared.lex.Lex.{Lex}
+use Rattle.cj_spans.specs.declared.lex.Lex.TheVariants.{AfterN, AfterNu, AfterNul, NullDone, AfterT, AfterTr, AfterTru, AfterF, AfterFa, AfterFal, AfterFals, TruthDone, Minus, Zero, Whole, Point, Fraction, Mark, MarkSign, Exponent, InText, Escape, Hex4, Hex3, Hex2, Hex1, TextDone}
+use Rattle.cj_spans.specs.declared.step.Mode.{Mode}
+use Rattle.cj_spans.specs.declared.step.Mode.TheVariants.{Ready, FirstItem, FirstName, NextName}
+use Rattle.cj_spans.specs.Spelling.{is_blank}
+use Rattle.cj_spans.specs.Json.{byte, White}
+use Rattle.cj_spans.specs.Machine.{is_digit, Phase, State, state, between, in_atom, read, end_atom, go_on, step, settle, lex_step, lex_kind, point_or_mark, Reaches, on}
+use Rattle.cj_spans.proofs.Spellings.{none_some, some_same}
+
+-- between scalars and names
+abbrev pub idle : Mode → List ℕ → List Token → ℕ → ℕ → State
+idle m ks ts i p = state (between m) ks ts i p
+
+pub cond_true : {A : Type 0} (v : Bool) (x y : A) → v ≡ true → cond v x y ≡ x
+cond_true true x y h = refl
+cond_true false x y h = cc
+
+pub cond_false : {A : Type 0} (v : Bool) (x y : A) → v ≡ false → cond v x y ≡ y
+cond_false true x y h = cc
+cond_false false x y h = refl
+
+-- ---- the bytes that end a scalar or a name
+
+pub data IsEnd : ℕ → Type 0 where
+  space : IsEnd 32
+  tab : IsEnd 9
+  feed : IsEnd 10
+  «return» : IsEnd 13
+  comma : IsEnd 44
+  colon : IsEnd 58
+  bracket : IsEnd 93
+  brace : IsEnd 125
+
+digit_end : {c : ℕ} → IsEnd c → is_digit c ≡ false
+digit_end space = refl
+digit_end tab = refl
+digit_end feed = refl
+digit_end «return» = refl
+digit_end comma = refl
+digit_end colon = refl
+digit_end bracket = refl
+digit_end brace = refl
+
+point_end : {c : ℕ} → IsEnd c → point_or_mark c ≡ None
+point_end space = refl
+point_end tab = refl
+point_end feed = refl
+point_end «return» = refl
+point_end comma = refl
+point_end colon = refl
+point_end bracket = refl
+point_end brace = refl
+
+fraction_end : {c : ℕ} → IsEnd c → lex_step Fraction c ≡ None
+fraction_end space = refl
+fraction_end tab = refl
+fraction_end feed = refl
+fraction_end «return» = refl
+fraction_end comma = refl
+fraction_end colon = refl
+fraction_end bracket = refl
+fraction_end brace = refl
+
+-- a scalar that may end does not go on with one of them
+pub atom_ends : (x : Lex) (c : ℕ) (k : Kind) → lex_kind x ≡ Some k → IsEnd c → lex_step x c ≡ None
+atom_ends NullDone c k h e = refl
+atom_ends TruthDone c k h e = refl
+atom_ends Zero c k h e = point_end e
+atom_ends Whole c k h e = cond_false (is_digit c) _ _ (digit_end e) ∙ point_end e
+atom_ends Fraction c k h e = fraction_end e
+atom_ends Exponent c k h e = cond_false (is_digit c) _ _ (digit_end e)
+atom_ends TextDone c k h e = refl
+atom_ends AfterN c k h e = cc
+atom_ends AfterNu c k h e = cc
+atom_ends AfterNul c k h e = cc
+atom_ends AfterT c k h e = cc
+atom_ends AfterTr c k h e = cc
+atom_ends AfterTru c k h e = cc
+atom_ends AfterF c k h e = cc
+atom_ends AfterFa c k h e = cc
+atom_ends AfterFal c k h e = cc
+atom_ends AfterFals c k h e = cc
+atom_ends Minus c k h e = cc
+atom_ends Point c k h e = cc
+atom_ends Mark c k h e = cc
+atom_ends MarkSign c k h e = cc
+atom_ends InText c k h e = cc
+atom_ends Escape c k h e = cc
+atom_ends Hex4 c k h e = cc
+atom_ends Hex3 c k h e = cc
+atom_ends Hex2 c k h e = cc
+atom_ends Hex1 c k h e = cc
+
+pub or_cases : (v w : Bool) → v || w ≡ true → (v ≡ true) ⊎ (w ≡ true)
+or_cases true w h = inl refl
+or_cases false w h = inr h
+
+end_at : (c d : ℕ) → IsEnd d → nat_eq c d ≡ true → IsEnd c
+end_at c d e h = subst IsEnd (sym (eqb-true c d h)) e
+
+pub blank_end : (c : ℕ) → is_blank c ≡ true → IsEnd c
+blank_end c h =
+    elim (or_cases (nat_eq c 32 || nat_eq c 9 || nat_eq c 10) (nat_eq c 13) h) [
+      | inr q ↦ end_at c 13 «return» q
+      | inl p ↦ elim (or_cases (nat_eq c 32 || nat_eq c 9) (nat_eq c 10) p) [
+        | inr q ↦ end_at c 10 feed q
+        | inl o ↦ elim (or_cases (nat_eq c 32) (nat_eq c 9) o) [ inl q ↦ end_at c 32 space q | inr q ↦ end_at c 9 tab q ]
+      ]
+    ]
+
+-- ---- a state and the one that it settles to
+
+settled_atom : (m : Mode) (a : ℕ) (x : Lex) (k : Option Kind) (ks : List ℕ) (ts : List Token) (i p : ℕ) (t : State) (c : ℕ) → lex_kind x ≡ k → IsEnd c → end_atom m a k (state (in_atom m a x) ks ts i p) ≡ Some t
+    → go_on (λ y. in_atom m a y) (lex_step x c) (state (in_atom m a x) ks ts i p) (option_and_then (read m c) (end_atom m a k (state (in_atom m a x) ks ts i p))) ≡ step c t
+settled_atom m a x None ks ts i p t c kind e h = none_some t h
+settled_atom m a x (Some k) ks ts i p t c kind e h =
+    let s = state (in_atom m a x) ks ts i p in
+    ap (λ o. go_on (λ y. in_atom m a y) o s (option_and_then (read m c) (end_atom m a (Some k) s))) (atom_ends x c k kind e) ∙ ap (step c) (some_same _ t h)
+
+settled_phase : (f : Phase) (ks : List ℕ) (ts : List Token) (i p : ℕ) (t : State) (c : ℕ) → IsEnd c → settle (state f ks ts i p) ≡ Some t → step c (state f ks ts i p) ≡ step c t
+settled_phase (between m) ks ts i p t c e h = ap (step c) (some_same _ t h)
+settled_phase (in_atom m a x) ks ts i p t c e h = settled_atom m a x (lex_kind x) ks ts i p t c refl e h
+
+pub settled_step : (s t : State) (c : ℕ) → IsEnd c → settle s ≡ Some t → step c s ≡ step c t
+settled_step s t c e h = settled_phase s.phase s.stack s.tokens s.place s.deepest t c e h
+
+-- what stays where a state settles
+pub record Settled (s t : State) : Type 0 where
+  pub stack : s.stack ≡ t.stack
+  pub place : s.place ≡ t.place
+  pub deepest : s.deepest ≡ t.deepest
+
+settled_by : (s t : State) → s ≡ t → Settled s t
+settled_by s t e = record { stack = ap (λ u. u.stack) e; place = ap (λ u. u.place) e; deepest = ap (λ u. u.deepest) e }
+
+settled_end : (m : Mode) (a : ℕ) (k : Option Kind) (s t : State) → end_atom m a k s ≡ Some t → Settled s t
+settled_end m a None s t h = none_some t h
+settled_end m a (Some k) s t h = let e = some_same _ t h in record { stack = ap (λ u. u.stack) e; place = ap (λ u. u.place) e; deepest = ap (λ u. u.deepest) e }
+
+settled_same : (f : Phase) (ks : List ℕ) (ts : List Token) (i p : ℕ) (t : State) → settle (state f ks ts i p) ≡ Some t → Settled (state f ks ts i p) t
+settled_same (between m) ks ts i p t h = settled_by (idle m ks ts i p) t (some_same _ t h)
+settled_same (in_atom m a x) ks ts i p t h = settled_end m a (lex_kind x) (state (in_atom m a x) ks ts i p) t h
+
+pub settled : (s t : State) → settle s ≡ Some t → Settled s t
+settled s t h = settled_same s.phase s.stack s.tokens s.place s.deepest t h
+
+-- ---- runs
+
+-- the machine comes from s to a state that is t, or t once its scalar has ended
+pub record Arrives (b : List ℕ) (s t : State) : Type 0 where
+  pub at : State
+  pub reached : Reaches b s at
+  pub settles : settle at ≡ Some t
+
+pub arrive_on : (b : List ℕ) (s t u : State) → IsEnd (byte b t.place) → Arrives b s t → step (byte b t.place) t ≡ Some u → Reaches b s u
+arrive_on b s t u e a h =
+    let p : a.at.place ≡ t.place = (settled a.at t a.settles).place in
+    let q : step (byte b t.place) a.at ≡ step (byte b t.place) t = settled_step a.at t (byte b t.place) e a.settles in
+    on a.at u a.reached (ap (λ i. step (byte b i) a.at) p ∙ q ∙ h)
+
+pub arrived : (b : List ℕ) (s : State) (m : Mode) (ks : List ℕ) (ts : List Token) (i p : ℕ) → Reaches b s (idle m ks ts i p) → Arrives b s (idle m ks ts i p)
+arrived b s m ks ts i p r = record { at = idle m ks ts i p; reached = r; settles = refl }
+
+skip_some : (n : ℕ) (b : List ℕ) (s : State) (m : Mode) (ks : List ℕ) (ts : List Token) (i p : ℕ) → ((k : ℕ) → i ≤ k → k < i + n → is_blank (byte b k) ≡ true)
+    → Reaches b s (idle m ks ts i p) → Reaches b s (idle m ks ts (i + n) p)
+skip_some zero b s m ks ts i p each r = let e : i ≡ i + 0 = omega arith in subst (λ k. Reaches b s (idle m ks ts k p)) e r
+skip_some (suc n) b s m ks ts i p each r =
+    let white = each i (omega arith) (omega arith) in
+    let e : suc i + n ≡ i + suc n = omega arith in
+    let q = on (idle m ks ts i p) (idle m ks ts (suc i) p) r (cond_true (is_blank (byte b i)) _ _ white) in
+    subst (λ k. Reaches b s (idle m ks ts k p)) e (skip_some n b s m ks ts (suc i) p (λ k l u. each k (omega arith) (omega arith)) q)
+
+pub skip : {b : List ℕ} {i j : ℕ} → White b i j → (s : State) (m : Mode) (ks : List ℕ) (ts : List Token) (p : ℕ) → Reaches b s (idle m ks ts i p) → Reaches b s (idle m ks ts j p)
+skip {b} {i} {j} w s m ks ts p r =
+    let o = w.order in
+    let e : i + (j - i) ≡ j = omega arith in
+    subst (λ k. Reaches b s (idle m ks ts k p)) e (skip_some (j - i) b s m ks ts i p (λ k l u. w.each k l (omega arith)) r)
+
+white_rest : (b : List ℕ) (i j : ℕ) → White b i j → i < j → White b (suc i) j
+white_rest b i j w h = record { order = omega arith; each = λ k l u. w.each k (omega arith) u }
+
+-- the same where a scalar may just have ended
+pub skip_after : {b : List ℕ} {i j : ℕ} → White b i j → (s : State) (m : Mode) (ks : List ℕ) (ts : List Token) (p : ℕ) → Arrives b s (idle m ks ts i p) → Arrives b s (idle m ks ts j p)
+skip_after {b} {i} {j} w s m ks ts p a =
+    elim (same_or i j w.order) [
+      | inl e ↦ subst (λ k. Arrives b s (idle m ks ts k p)) e a
+      | inr l ↦
+          let white = w.each i (omega arith) l in
+          let r = arrive_on b s (idle m ks ts i p) (idle m ks ts (suc i) p) (blank_end (byte b i) white) a (cond_true (is_blank (byte b i)) _ _ white) in
+          arrived b s m ks ts j p (skip (white_rest b i j w l) s m ks ts p r)
+    ]
+  where
+    same_or : (i j : ℕ) → i ≤ j → (i ≡ j) ⊎ (i < j)
+    same_or i j h = grind arith
+
+-- the modes in which a value may begin, and those in which a name may
+abbrev pub Begins : Mode → Type 0
+Begins Ready = Unit {0}
+Begins FirstItem = Unit {0}
+Begins _ = ⊥
+
+abbrev pub NameBegins : Mode → Type 0
+NameBegins FirstName = Unit {0}
+NameBegins NextName = Unit {0}
+NameBegins _ = ⊥

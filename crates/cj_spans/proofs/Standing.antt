@@ -1,0 +1,315 @@
+-- Where the pass over a line stands in the machine.
+use Rattle.std.proofs.Common.{◌≡◌, ℕ, suc, ◌+◌, ◌*◌, ◌/◌, ◌^◌, ◌<◌, ◌≤◌, List, [], length, max, Bool, true, false, IsTrue, rules, Option, Some, None, Err, refl, sym, ap, subst, arith, ◌∙◌, inl, inr}
+use Rattle.std.specs.Prelude.{IsSomeAnd}
+use Rattle.cj_budget.specs.Bounded.{BoundedList, IsWithin}
+use Rattle.cj_spans.specs.declared.fault.ScanFault.{ScanFault}
+use Rattle.cj_spans.specs.declared.fault.ScanFault.TheVariants.{NotUtf8, Syntax, TooDeep, Memory}
+use Rattle.cj_spans.specs.declared.token.Token.{Token}
+use Rattle.cj_spans.specs.declared.step.Mode.{Mode}
+use Rattle.cj_spans.specs.declared.step.Mode.TheVariants.{Ready, FirstItem, After, FirstName, NextName, AfterName}
+use Rattle.cj_spans.specs.declared.step.Move.{Move}
+use Rattle.cj_spans.specs.declared.step.Move.TheVariants.{Stay, To, Open, Atom}
+use Rattle.cj_spans.specs.declared.step.Next.{Next}
+use Rattle.cj_spans.specs.Json.{byte}
+use Rattle.cj_spans.specs.Scan.{KeepsLaw}
+use Rattle.cj_spans.specs.Machine.{State, state, between, step, read, Reaches, here, on, start, Settles, Sticks, phase_after, deepest_after, Answers, Ends, Kept, Grown, BeginsValue, BeginsAtom, SticksAt, RunAnswers}
+use Rattle.cj_spans.proofs.Spellings.{some_same}
+use Rattle.cj_spans.proofs.Runs.{idle, settled}
+use Rattle.cj_spans.proofs.Facts.{IsLawful, goes, lawful_reaches, lawful_settles, reaches_both}
+
+-- the machine has come to the mode m at the place i, and the lists are those that it has
+pub record Standing (b : List ℕ) (tokens0 : BoundedList Token) (stack0 : BoundedList ℕ) (tokens : BoundedList Token) (stack : BoundedList ℕ) (m : Mode) (i : ℕ) : Type 0 where
+  pub deepest : ℕ
+  pub settles : Settles b start (idle m stack.elements tokens.elements i deepest)
+  pub place : i ≤ length b
+  pub kept : Kept tokens0 tokens
+  pub stack_limit : stack.limit ≡ stack0.limit
+  pub stack_peak : stack.peak ≡ max stack0.peak deepest
+  pub stack_room : IsTrue stack0.reserved → IsTrue stack.reserved
+  pub stack_within : IsWithin stack
+
+-- the room for the tokens of a line, under a limit of open containers
+pub record HasRoom (b : List ℕ) (tokens0 : BoundedList Token) (stack0 : BoundedList ℕ) : Type 0 where
+  pub short : length b ≤ 1073741824
+  pub room : (length b + stack0.limit + 1) / 2 ≤ tokens0.limit
+
+-- ---- the beginning
+
+empty_settles : (b : List ℕ) (ks : List ℕ) (ts : List Token) → ts ≡ [] → ks ≡ [] → Settles b start (idle Ready ks ts 0 0)
+empty_settles b ks ts e f =
+    let base : Settles b start start = record { last = start; reached = here; settles = refl; same = λ l. refl } in
+    subst (λ z. Settles b start (idle Ready z ts 0 0)) (sym f) (subst (λ z. Settles b start (idle Ready [] z 0 0)) (sym e) base)
+
+pub standing_first : (b : List ℕ) (tokens : BoundedList Token) (stack : BoundedList ℕ) → IsWithin tokens → IsWithin stack → tokens.elements ≡ [] → stack.elements ≡ [] → Standing b tokens stack tokens stack Ready 0
+standing_first b tokens stack w v e f = record {
+  deepest = 0;
+  settles = empty_settles b stack.elements tokens.elements e f;
+  place = omega arith;
+  kept = record { limit = refl; peak = let g = w.below_peak in omega arith; room = λ r. r; within = w };
+  stack_limit = refl;
+  stack_peak = omega arith;
+  stack_room = λ r. r;
+  stack_within = v;
+}
+
+module _ (b : List ℕ) (tokens0 : BoundedList Token) (stack0 : BoundedList ℕ) (tokens : BoundedList Token) (stack : BoundedList ℕ) (m : Mode) (i : ℕ) (s : Standing b tokens0 stack0 tokens stack m i) where
+  pub standing_lawful : IsLawful (idle m stack.elements tokens.elements i s.deepest)
+  standing_lawful = lawful_settles s.settles.last _ (lawful_reaches s.settles.last s.settles.reached) s.settles.settles
+
+-- ---- what the calls need
+
+count_of : (m : Mode) (ks : List ℕ) (ts : List Token) (i p : ℕ) → IsLawful (idle m ks ts i p) → 2 * length ts ≤ suc i + length ks
+count_of Ready ks ts i p l = let c = l.token_count in omega arith
+count_of FirstItem ks ts i p l = let c = l.token_count in omega arith
+count_of After ks ts i p l = l.token_count
+count_of FirstName ks ts i p l = let c = l.token_count in omega arith
+count_of NextName ks ts i p l = let c = l.token_count in omega arith
+count_of AfterName ks ts i p l = l.token_count
+
+count_before : (m : Mode) (ks : List ℕ) (ts : List Token) (i p : ℕ) → IsLawful (idle m ks ts i p) → BeginsValue m → 2 * length ts ≤ i + length ks
+count_before Ready ks ts i p l h = l.token_count
+count_before FirstItem ks ts i p l h = l.token_count
+count_before _ ks ts i p l h = absurd h
+
+half_room : (t i n o d limit : ℕ) → 2 * t ≤ i + o → i < n → o ≤ d → (n + d + 1) / 2 ≤ limit → t < limit
+half_room t i n o d limit h l g r = omega arith
+
+pub standing_small : (b : List ℕ) (tokens0 : BoundedList Token) (stack0 : BoundedList ℕ) (tokens : BoundedList Token) (stack : BoundedList ℕ) (m : Mode) (i : ℕ) → Standing b tokens0 stack0 tokens stack m i → length b ≤ 1073741824 → i < length b
+    → (i < 2 ^ 31) × (length tokens.elements < 2 ^ 31) × (length stack.elements < 2 ^ 31)
+standing_small b tokens0 stack0 tokens stack m i s h l =
+    let w = standing_lawful b tokens0 stack0 tokens stack m i s in
+    let c = count_of m stack.elements tokens.elements i s.deepest w in
+    let o = w.open_count in
+    (omega arith, omega arith, omega arith)
+
+pub standing_room : (b : List ℕ) (tokens0 : BoundedList Token) (stack0 : BoundedList ℕ) (tokens : BoundedList Token) (stack : BoundedList ℕ) (m : Mode) (i : ℕ) → Standing b tokens0 stack0 tokens stack m i → (length b + stack0.limit + 1) / 2 ≤ tokens0.limit → i < length b
+    → BeginsValue m → length tokens.elements < tokens.limit
+standing_room b tokens0 stack0 tokens stack m i s r l h =
+    let w = standing_lawful b tokens0 stack0 tokens stack m i s in
+    let c = count_before m stack.elements tokens.elements i s.deepest w h in
+    let g : length stack.elements ≤ stack0.limit = let p = s.stack_within.below_peak in let q = s.stack_within.below_limit in let e = s.stack_limit in omega arith in
+    let e = s.kept.limit in
+    subst (λ n. length tokens.elements < n) (sym e) (half_room (length tokens.elements) i (length b) (length stack.elements) stack0.limit tokens0.limit c l g r)
+
+-- ---- one byte
+
+-- the machine after a byte, with the lists that the code then has
+pub record Stepped (b : List ℕ) (tokens0 : BoundedList Token) (stack0 : BoundedList ℕ) (tokens : BoundedList Token) (stack : BoundedList ℕ) (m : Mode) (i : ℕ) (v : Move) : Type 0 where
+  pub deepest : ℕ
+  pub reached : Reaches b start (state (phase_after m i v) stack.elements tokens.elements (suc i) deepest)
+  pub kept : Kept tokens0 tokens
+  pub stack_limit : stack.limit ≡ stack0.limit
+  pub stack_peak : stack.peak ≡ max stack0.peak deepest
+  pub stack_room : IsTrue stack0.reserved → IsTrue stack.reserved
+  pub stack_within : IsWithin stack
+
+kept_both : (x y z : BoundedList Token) → Kept x y → Grown y z → Kept x z
+kept_both x y z k g =
+    let a = k.peak in let c = g.kept.peak in let d = g.longer in
+    record { limit = g.kept.limit ∙ k.limit; peak = omega arith; room = λ r. g.kept.room (k.room r); within = g.kept.within }
+
+pub standing_step : (b : List ℕ) (tokens0 : BoundedList Token) (stack0 : BoundedList ℕ) (tokens tokens1 : BoundedList Token) (stack stack1 : BoundedList ℕ) (m : Mode) (i : ℕ) (v : Move) → Standing b tokens0 stack0 tokens stack m i → i < length b → Grown tokens tokens1 → Kept stack stack1
+    → ((p : ℕ) → read m (byte b i) (idle m stack.elements tokens.elements i p) ≡ Some (state (phase_after m i v) stack1.elements tokens1.elements (suc i) (deepest_after v p (length stack1.elements))))
+    → Stepped b tokens0 stack0 tokens1 stack1 m i v
+standing_step b tokens0 stack0 tokens tokens1 stack stack1 m i v s l g k h =
+    let t = idle m stack.elements tokens.elements i s.deepest in
+    let u = state (phase_after m i v) stack1.elements tokens1.elements (suc i) (deepest_after v s.deepest (length stack1.elements)) in
+    let w = standing_lawful b tokens0 stack0 tokens stack m i s in
+    let e : s.settles.last.place ≡ i = (settled s.settles.last t s.settles.settles).place in
+    let q : step (byte b s.settles.last.place) s.settles.last ≡ Some u = ap (λ n. step (byte b n) s.settles.last) e ∙ s.settles.same l ∙ h s.deepest in
+    let d = (goes t u (byte b i) w (h s.deepest)).deepest in
+    let a = s.stack_peak in let c = k.peak in
+    record {
+      deepest = deepest_after v s.deepest (length stack1.elements);
+      reached = on s.settles.last u s.settles.reached q;
+      kept = kept_both tokens0 tokens tokens1 s.kept g;
+      stack_limit = k.limit ∙ s.stack_limit;
+      stack_peak = omega arith;
+      stack_room = λ r. k.room (s.stack_room r);
+      stack_within = k.within;
+    }
+
+-- ---- the rest of a scalar or a name
+
+atom_count : (m n : Mode) (i p : ℕ) (v : Move) (ks : List ℕ) (ts : List Token) → IsLawful (state (phase_after m i v) ks ts (suc i) p) → BeginsAtom v → 2 * length ts ≤ i + length ks
+atom_count m n i p (Atom k x) ks ts l h = l.token_count
+atom_count m n i p _ ks ts l h = absurd h
+
+pub stepped_room : (b : List ℕ) (tokens0 : BoundedList Token) (stack0 : BoundedList ℕ) (tokens : BoundedList Token) (stack : BoundedList ℕ) (m : Mode) (i : ℕ) (v : Move) → Stepped b tokens0 stack0 tokens stack m i v → (length b + stack0.limit + 1) / 2 ≤ tokens0.limit → i < length b
+    → BeginsAtom v → length tokens.elements < tokens.limit
+stepped_room b tokens0 stack0 tokens stack m i v s r l h =
+    let c = atom_count m m i s.deepest v stack.elements tokens.elements (lawful_reaches _ s.reached) h in
+    let g : length stack.elements ≤ stack0.limit = let p = s.stack_within.below_peak in let q = s.stack_within.below_limit in let e = s.stack_limit in omega arith in
+    subst (λ n. length tokens.elements < n) (sym s.kept.limit) (half_room (length tokens.elements) i (length b) (length stack.elements) stack0.limit tokens0.limit c l g r)
+
+pub stepped_small : (b : List ℕ) (tokens0 : BoundedList Token) (stack0 : BoundedList ℕ) (tokens : BoundedList Token) (stack : BoundedList ℕ) (m : Mode) (i : ℕ) (v : Move) → Stepped b tokens0 stack0 tokens stack m i v → length b ≤ 1073741824 → i < length b → length stack.elements < 2 ^ 31
+stepped_small b tokens0 stack0 tokens stack m i v s h l = let o = (lawful_reaches _ s.reached).open_count in omega arith
+
+-- a run goes on
+settles_both : {b : List ℕ} {s t u : State} → Reaches b s t → Settles b t u → Settles b s u
+settles_both r h = record { last = h.last; reached = reaches_both r h.reached; settles = h.settles; same = h.same }
+
+abbrev sticks_both : {b : List ℕ} {s t : State} {i : ℕ} → Reaches b s t → Sticks b t i → Sticks b s i
+sticks_both r h = record { last = h.last; reached = reaches_both r h.reached; at = h.at; within = h.within; stuck = h.stuck }
+
+pub stepped_on : (b : List ℕ) (tokens0 : BoundedList Token) (stack0 : BoundedList ℕ) (tokens tokens1 : BoundedList Token) (stack : BoundedList ℕ) (m : Mode) (i : ℕ) (v : Move) (n : Next) → Stepped b tokens0 stack0 tokens stack m i v → Grown tokens tokens1
+    → ((p : ℕ) → Settles b (state (phase_after m i v) stack.elements tokens.elements (suc i) p) (idle n.mode stack.elements tokens1.elements n.place p) × (suc i ≤ n.place) × (n.place ≤ length b))
+    → Standing b tokens0 stack0 tokens1 stack n.mode n.place
+stepped_on b tokens0 stack0 tokens tokens1 stack m i v n s g h = record {
+  deepest = s.deepest;
+  settles = settles_both s.reached (h s.deepest).0;
+  place = (h s.deepest).2;
+  kept = kept_both tokens0 tokens tokens1 s.kept g;
+  stack_limit = s.stack_limit;
+  stack_peak = s.stack_peak;
+  stack_room = s.stack_room;
+  stack_within = s.stack_within;
+}
+
+-- ---- the law at every exit
+
+pub standing_law : (b : List ℕ) (tokens0 : BoundedList Token) (stack0 : BoundedList ℕ) (tokens tokens1 : BoundedList Token) (stack stack1 : BoundedList ℕ) (m : Mode) (i : ℕ) → Standing b tokens0 stack0 tokens stack m i
+    → Grown tokens tokens1 → Kept stack stack1 → tokens1 ≡ tokens → length stack.elements ≤ length stack1.elements → KeepsLaw b tokens0 tokens1 stack0 stack1
+standing_law b tokens0 stack0 tokens tokens1 stack stack1 m i s g k e l =
+    let c = count_of m stack.elements tokens.elements i s.deepest (standing_lawful b tokens0 stack0 tokens stack m i s) in
+    let q = s.place in
+    let z = kept_both tokens0 tokens tokens1 s.kept g in
+    let f : length tokens1.elements ≡ length tokens.elements = ap (λ t. length t.elements) e in
+    let a = s.stack_peak in let d = k.peak in
+    record {
+      law = omega arith;
+      token_limit = z.limit;
+      token_peak = z.peak;
+      token_room = z.room;
+      tokens_within = z.within;
+      stack_limit = k.limit ∙ s.stack_limit;
+      stack_peak = omega arith;
+      stack_room = λ r. k.room (s.stack_room r);
+      stack_within = k.within;
+    }
+
+pub kept_same : (x : BoundedList ℕ) → IsWithin x → Kept x x
+kept_same x w = let g = w.below_peak in record { limit = refl; peak = omega arith; room = λ r. r; within = w }
+
+pub grown_same : (x : BoundedList Token) → IsWithin x → Grown x x
+grown_same x w = let g = w.below_peak in record { kept = record { limit = refl; peak = omega arith; room = λ r. r; within = w }; longer = omega arith }
+
+pub ended_law : (b : List ℕ) (tokens0 : BoundedList Token) (stack0 : BoundedList ℕ) (tokens : BoundedList Token) (stack : BoundedList ℕ) (m : Mode) (i : ℕ) → Standing b tokens0 stack0 tokens stack m i → KeepsLaw b tokens0 tokens stack0 stack
+ended_law b tokens0 stack0 tokens stack m i s = standing_law b tokens0 stack0 tokens tokens stack stack m i s (grown_same tokens s.kept.within) (kept_same stack s.stack_within) refl (omega arith)
+
+step_reach : (n : Mode) (i : ℕ) (ks : List ℕ) (ts : List Token) (p : ℕ) → IsLawful (idle n ks ts (suc i) p) → 2 * length ts ≤ suc (suc i) + length ks
+step_reach n i ks ts p l = count_of n ks ts (suc i) p l
+
+stepped_count : (m : Mode) (i p : ℕ) (v : Move) (ks : List ℕ) (ts : List Token) → IsLawful (state (phase_after m i v) ks ts (suc i) p) → 2 * length ts ≤ suc (suc i) + length ks
+stepped_count m i p Stay ks ts l = step_reach m i ks ts p l
+stepped_count m i p (To n) ks ts l = step_reach n i ks ts p l
+stepped_count m i p (Open n) ks ts l = step_reach n i ks ts p l
+stepped_count m i p (Atom n x) ks ts l = let c = l.token_count in omega arith
+
+pub stepped_law : (b : List ℕ) (tokens0 : BoundedList Token) (stack0 : BoundedList ℕ) (tokens tokens1 : BoundedList Token) (stack : BoundedList ℕ) (m : Mode) (i : ℕ) (v : Move) → Stepped b tokens0 stack0 tokens stack m i v
+    → i < length b → Grown tokens tokens1 → tokens1 ≡ tokens → KeepsLaw b tokens0 tokens1 stack0 stack
+stepped_law b tokens0 stack0 tokens tokens1 stack m i v s l g e =
+    let c = stepped_count m i s.deepest v stack.elements tokens.elements (lawful_reaches _ s.reached) in
+    let z = kept_both tokens0 tokens tokens1 s.kept g in
+    let f : length tokens1.elements ≡ length tokens.elements = ap (λ t. length t.elements) e in
+    let a = s.stack_peak in
+    record {
+      law = omega arith;
+      token_limit = z.limit;
+      token_peak = z.peak;
+      token_room = z.room;
+      tokens_within = z.within;
+      stack_limit = s.stack_limit;
+      stack_peak = omega arith;
+      stack_room = s.stack_room;
+      stack_within = s.stack_within;
+    }
+
+-- ---- faults
+
+shallow_at : (deepest peak limit peak0 limit0 : ℕ) → peak ≡ max peak0 deepest → peak ≤ limit → limit ≡ limit0 → deepest ≤ limit0
+shallow_at deepest peak limit peak0 limit0 e h q = omega arith
+
+pub standing_fault : (X : Type 0) (b : List ℕ) (tokens0 : BoundedList Token) (stack0 : BoundedList ℕ) (tokens tokens1 : BoundedList Token) (stack stack1 : BoundedList ℕ) (m : Mode) (i : ℕ) (f : ScanFault) → Standing b tokens0 stack0 tokens stack m i → i < length b
+    → ((p : ℕ) → Answers (read m (byte b i) (idle m stack.elements tokens.elements i p)) m i p stack.limit (IsTrue tokens.reserved × IsTrue stack.reserved) (Err f) stack1.elements tokens1.elements)
+    → RunAnswers {X = X} b stack0 (IsTrue tokens0.reserved × IsTrue stack0.reserved) (Err f) tokens1 stack1
+standing_fault X b tokens0 stack0 tokens tokens1 stack stack1 m i (NotUtf8 j) s l h = h 0
+standing_fault X b tokens0 stack0 tokens tokens1 stack stack1 m i Memory s l h = λ g. h 0 (s.kept.room g.0, s.stack_room g.1)
+standing_fault X b tokens0 stack0 tokens tokens1 stack stack1 m i (Syntax j) s l h =
+    let t = idle m stack.elements tokens.elements i s.deepest in
+    let e = settled s.settles.last t s.settles.settles in
+    let d = e.deepest in
+    let a = h s.deepest in
+    let q : step (byte b j) s.settles.last ≡ None = ap (λ n. step (byte b n) s.settles.last) a.0 ∙ s.settles.same l ∙ a.1 in
+    let r = shallow_at s.deepest stack.peak stack.limit stack0.peak stack0.limit s.stack_peak s.stack_within.below_limit s.stack_limit in
+    let ji = a.0 in
+    record {
+      sticks = record { last = s.settles.last; reached = s.settles.reached; at = e.place ∙ sym a.0; within = omega arith; stuck = inl (omega arith, q) };
+      shallow = omega arith;
+    }
+standing_fault X b tokens0 stack0 tokens tokens1 stack stack1 m i (TooDeep j) s l h =
+    let t = idle m stack.elements tokens.elements i s.deepest in
+    let e = settled s.settles.last t s.settles.settles in
+    let d = e.deepest in
+    let a = h s.deepest in
+    let q : step (byte b j) s.settles.last ≡ read m (byte b i) t = ap (λ n. step (byte b n) s.settles.last) a.0 ∙ s.settles.same l in
+    let r = shallow_at s.deepest stack.peak stack.limit stack0.peak stack0.limit s.stack_peak s.stack_within.below_limit s.stack_limit in
+    let ji = a.0 in
+    let P : ℕ → Type 0 = λ n. IsSomeAnd (read m (byte b i) t) (λ u. length u.stack ≡ suc n) in
+    let Q : Option State → Type 0 = λ o. IsSomeAnd o (λ u. length u.stack ≡ suc stack0.limit) in
+    record {
+      last = s.settles.last;
+      reached = s.settles.reached;
+      at = e.place ∙ sym a.0;
+      within = omega arith;
+      shallow = omega arith;
+      deep = subst Q (sym q) (subst P s.stack_limit a.1);
+    }
+
+pub stepped_fault : (X : Type 0) (b : List ℕ) (tokens0 : BoundedList Token) (stack0 : BoundedList ℕ) (tokens tokens1 : BoundedList Token) (stack : BoundedList ℕ) (m : Mode) (i : ℕ) (v : Move) (f : ScanFault) → Stepped b tokens0 stack0 tokens stack m i v
+    → ((p : ℕ) → Ends b (state (phase_after m i v) stack.elements tokens.elements (suc i) p) (IsTrue tokens.reserved) (Err f) tokens1.elements)
+    → RunAnswers {X = X} b stack0 (IsTrue tokens0.reserved × IsTrue stack0.reserved) (Err f) tokens1 stack
+stepped_fault X b tokens0 stack0 tokens tokens1 stack m i v (NotUtf8 j) s h = h 0
+stepped_fault X b tokens0 stack0 tokens tokens1 stack m i v Memory s h = λ g. h 0 (s.kept.room g.0)
+stepped_fault X b tokens0 stack0 tokens tokens1 stack m i v (TooDeep j) s h = absurd (h 0)
+stepped_fault X b tokens0 stack0 tokens tokens1 stack m i v (Syntax j) s h =
+    let a = h s.deepest in
+    let r = shallow_at s.deepest stack.peak stack.limit stack0.peak stack0.limit s.stack_peak s.stack_within.below_limit s.stack_limit in
+    record { sticks = sticks_both s.reached a.sticks; shallow = subst (λ n. n ≤ stack0.limit) (sym a.flat) r }
+
+-- ---- the end of the line
+
+pub ended_fault : (b : List ℕ) (tokens0 : BoundedList Token) (stack0 : BoundedList ℕ) (tokens : BoundedList Token) (stack : BoundedList ℕ) (m : Mode) (i : ℕ) → Standing b tokens0 stack0 tokens stack m i → length b ≤ i
+    → ((m ≡ After) × (stack.elements ≡ []) → ⊥) → SticksAt b stack0.limit i
+ended_fault b tokens0 stack0 tokens stack m i s l n =
+    let t = idle m stack.elements tokens.elements i s.deepest in
+    let e = settled s.settles.last t s.settles.settles in
+    let d = e.deepest in
+    let w = s.place in
+    let r = shallow_at s.deepest stack.peak stack.limit stack0.peak stack0.limit s.stack_peak s.stack_within.below_limit s.stack_limit in
+    record {
+      sticks = record {
+        last = s.settles.last;
+        reached = s.settles.reached;
+        at = e.place;
+        within = w;
+        stuck = inr (
+          omega arith,
+          λ ts p h.
+              let q = some_same t (idle After [] ts (length b) p) (sym s.settles.settles ∙ h) in
+              n (mode_of m After (ap (λ u. u.phase) q), ap (λ u. u.stack) q),
+        );
+      };
+      shallow = omega arith;
+    }
+  where
+    mode_of : (x y : Mode) → between x ≡ between y → x ≡ y
+    mode_of x y h = cc
+
+-- a test that failed
+pub not_so : (r : Bool) (P : Type 0) → (IsTrue r → P) × (P → IsTrue r) → r ≡ false → P → ⊥
+not_so r P h e x = is_false r e (h.1 x)
+  where
+    is_false : (r : Bool) → r ≡ false → IsTrue r → ⊥
+    is_false true e t = cc
+    is_false false e t = search rules

@@ -1,0 +1,351 @@
+-- What the pass over a line says of the line.
+use Rattle.std.proofs.Common.{◌≡◌, ℕ, suc, ◌+◌, ◌<◌, ◌≤◌, List, [], ◌++◌, length, take, IsTrue, Option, Some, None, Result, Ok, Err, refl, sym, ap, subst, arith, rules, ◌∙◌, ◌⊎◌, inl, inr}
+use Rattle.std.proofs.lemmas.Grind.{common_steps}
+use Rattle.std.specs.Prelude.{IsSomeAnd, OnOk, IsErrOf, IsOk, IsUtf8}
+use Rattle.std.specs.Str.{IsValidUpTo}
+use Rattle.std.specs.Str.Lossy.{utf8_valid_len}
+use Rattle.std.proofs.lemmas.Str.{utf8_valid_len-IsValidUpTo}
+use Rattle.cj_budget.specs.Bounded.{BoundedList, Becomes}
+use Rattle.cj_spans.specs.declared.fault.ScanFault.{ScanFault}
+use Rattle.cj_spans.specs.declared.fault.ScanFault.TheVariants.{NotUtf8, Syntax, TooDeep, Memory}
+use Rattle.cj_spans.specs.declared.token.Kind.{Kind}
+use Rattle.cj_spans.specs.declared.token.Token.{Token}
+use Rattle.cj_spans.specs.declared.step.Mode.{Mode}
+use Rattle.cj_spans.specs.declared.step.Mode.TheVariants.{Ready, FirstItem, After, FirstName, NextName, AfterName}
+use Rattle.cj_spans.specs.Tree.{Tree, scalar, size, nest}
+use Rattle.cj_spans.specs.Json.{byte, atom_at, White, Value, atom, Padded, padded, Json}
+use Rattle.cj_spans.specs.Front.{Front, IsFront, SyntaxAt, stuck, short, DeepAt, NowhereDeep}
+use Rattle.cj_spans.specs.Preorder.{flatten, spans_of}
+use Rattle.cj_spans.specs.Forest.{forest}
+use Rattle.cj_spans.specs.Scan.{IsScanOf, KeepsLaw}
+use Rattle.cj_spans.specs.Machine.{State, state, between, in_atom, step, settle, end_atom, lex_kind, Reaches, here, on, start, Sticks, SticksAt, SinksAt, Accepts, RunAnswers}
+use Rattle.cj_spans.proofs.Spellings.{none_some, some_same}
+use Rattle.cj_spans.proofs.Lists.{rise, rise-nest, length-flatten, spans_of-flatten}
+use Rattle.cj_spans.proofs.Runs.{idle, settled}
+use Rattle.cj_spans.proofs.Follows.{run_json}
+use Rattle.cj_spans.proofs.Places.{atom_sound}
+use Rattle.cj_spans.proofs.Sound.{Context, root, in_array, in_member, Inv, ready, first_item, after_tree, first_name, next_name, after_name, in_scalar, in_name, inv_reaches, no_white}
+use Rattle.cj_spans.proofs.Facts.{lawful_reaches, next_place, same_state, before}
+use Rattle.cj_spans.proofs.Fronts.{Live, front_runs, inv_front}
+use Rattle.cj_spans.proofs.Forests.{json_shown, tree_by_preorder}
+
+-- ---- a line that is read to its end
+
+-- a tree that the line spells, whose tokens these are
+pub record Spells (b : List ℕ) (us : List Token) : Type 0 where
+  pub tree : Tree
+  pub json : Json b tree
+  pub tokens : us ≡ flatten 0 tree
+
+root_only : {b : List ℕ} {e : ℕ} {ks : List ℕ} {ts : List Token} → Context b e ks ts → ks ≡ [] → White b 0 e × (ts ≡ [])
+root_only (root e w) h = (w, refl)
+root_only (in_array e j k ks ts us c o l w) h = cc
+root_only (in_member e j k l ks ts us n c o m d w) h = cc
+
+spells_at : {b : List ℕ} (e j k p q : ℕ) (ks : List ℕ) (ts us : List Token) (t : Tree) → Context b e ks ts → Value b e j t → White b j k → idle After ks (ts ++ flatten (length ks) t) k p ≡ idle After [] us (length b) q → Spells b us
+spells_at {b} e j k p q ks ts us t c v w h =
+    let s : ks ≡ [] = ap (λ u. u.stack) h in
+    let n : k ≡ length b = ap (λ u. u.place) h in
+    let r = root_only c s in
+    let z : us ≡ ts ++ flatten (length ks) t = sym (ap (λ u. u.tokens) h) in
+    record { tree = t; json = subst (λ n. Padded b 0 n t) n (padded 0 e j k t r.0 v w); tokens = z ∙ ap (λ y. y ++ flatten (length ks) t) r.1 ∙ ap (λ y. flatten (length y) t) s }
+
+other_mode : {A : Type 0} (m : Mode) (ks ls : List ℕ) (ts us : List Token) (i j p q : ℕ) → (m ≡ After → ⊥) → Some (idle m ks ts i p) ≡ Some (idle After ls us j q) → A
+other_mode m ks ls ts us i j p q n h = absurd (n (mode_of m After (ap (λ u. u.phase) (some_same _ _ h))))
+  where
+    mode_of : (x y : Mode) → between x ≡ between y → x ≡ y
+    mode_of x y h = cc
+
+pub spells : {b : List ℕ} (s : State) → Inv b s → (us : List Token) (q : ℕ) → settle s ≡ Some (idle After [] us (length b) q) → Spells b us
+spells s (ready k p ks ts c) us q h = other_mode Ready _ _ _ _ _ _ _ _ (λ (e : Ready ≡ After). cc) h
+spells s (first_item e k p ks ts c o w) us q h = other_mode FirstItem _ _ _ _ _ _ _ _ (λ (e : FirstItem ≡ After). cc) h
+spells s (after_tree e j k p ks ts t c v w) us q h = spells_at e j k p q ks ts us t c v w (some_same _ _ h)
+spells s (first_name e k p ks ts c o w) us q h = other_mode FirstName _ _ _ _ _ _ _ _ (λ (e : FirstName ≡ After). cc) h
+spells s (next_name e j k p ks ts us0 c o l w) us q h = other_mode NextName _ _ _ _ _ _ _ _ (λ (e : NextName ≡ After). cc) h
+spells s (after_name e j l m k p ks ts us0 c o ld w0 wd w) us q h = other_mode AfterName _ _ _ _ _ _ _ _ (λ (e : AfterName ≡ After). cc) h
+spells {b} s (in_scalar e k p ks ts x c w) us q h = by_kind (lex_kind x) refl h
+  where
+    by_kind : (r : Option Kind) → lex_kind x ≡ r → end_atom After e r (state (in_atom After e x) ks ts k p) ≡ Some (idle After [] us (length b) q) → Spells b us
+    by_kind None kind h = none_some _ h
+    by_kind (Some kd) kind h = spells_at e k k p q ks ts us (scalar kd (atom_at b e k)) c (atom kd e k (atom_sound w kd kind)) (no_white b k) (some_same _ _ h)
+spells {b} s (in_name e j l k p ks ts us0 x c o ld w0 y w) us q h = by_name (lex_kind x) h
+  where
+    by_name : (r : Option Kind) → end_atom AfterName l r s ≡ Some (idle After [] us (length b) q) → Spells b us
+    by_name None h = none_some _ h
+    by_name (Some kd) h = other_mode AfterName _ _ _ _ _ _ _ _ (λ (e : AfterName ≡ After). cc) h
+
+-- two ends of one line are the same
+same_end : (b : List ℕ) (x y s t : State) → Reaches b start s → Reaches b start t → settle s ≡ Some x → settle t ≡ Some y → x.place ≡ y.place → x ≡ y
+same_end b x y s t r q e f p =
+    let d : s ≡ t = same_state b s t r q ((settled s x e).place ∙ p ∙ sym (settled t y f).place) in
+    some_same x y (sym e ∙ ap settle d ∙ f)
+
+-- a line spells one tree at most
+pub json_only : (b : List ℕ) (t u : Tree) → Json b t → Json b u → u ≡ t
+json_only b t u j k =
+    let r = run_json b t j in let q = run_json b u k in
+    let e = same_end b _ _ q.at r.at q.reached r.reached q.settles r.settles refl in
+    let f : flatten 0 u ≡ flatten 0 t = ap (λ s. s.tokens) e in
+    tree_by_preorder b u t k j (sym (spans_of-flatten 0 u) ∙ ap spans_of f ∙ spans_of-flatten 0 t)
+
+nest_of : (b : List ℕ) (t : Tree) (s : State) (us : List Token) (p : ℕ) → Json b t → Reaches b start s → settle s ≡ Some (idle After [] us (length b) p) → p ≡ nest t
+nest_of b t s us p j r h =
+    let q = run_json b t j in
+    let e = same_end b (idle After [] us (length b) p) _ s q.at r q.reached h q.settles refl in
+    let f = rise-nest 0 0 t (omega arith) in
+    let d : p ≡ rise 0 0 t = ap (λ u. u.deepest) e in
+    omega arith
+
+-- ---- the places of faults
+
+next_stuck : (b : List ℕ) (s u : State) → Reaches b start s → step (byte b s.place) s ≡ None → Reaches b start u → u.place ≡ suc s.place → ⊥
+next_stuck b s u r n here e = absurd (omega arith)
+next_stuck b s u r n (on t v q h) e =
+    let z = next_place t v q h in
+    let d : s ≡ t = same_state b s t r q (omega arith) in
+    none_some v (sym n ∙ ap (λ w. step (byte b w.place) w) d ∙ h)
+
+front_before : (b : List ℕ) (s : State) (k : ℕ) → Reaches b start s → k ≤ s.place → IsFront b k
+front_before b s k r l =
+    let v = before b s k r l in
+    record { open_count = length v.at.stack; front = subst (λ n. Front b 0 n (length v.at.stack)) v.place (inv_front v.at (inv_reaches b v.at v.reached)) }
+
+live_at : (b : List ℕ) (i n : ℕ) → Front b 0 i n → Live b start i (n + 0)
+live_at b i n f = front_runs f start Ready [] [] 0 tt here
+
+pub sticks_syntax : (b : List ℕ) (i : ℕ) → Sticks b start i → SyntaxAt b i
+sticks_syntax b i a =
+    let e = a.at in
+    elim a.stuck [
+      | inl z ↦ stuck z.0 (λ k h. front_before b a.last (suc k) a.reached (omega arith)) (λ f.
+          let v = live_at b (suc i) f.open_count f.front in
+          next_stuck b a.last v.at a.reached (ap (λ n. step (byte b n) a.last) e ∙ z.1) v.reached (v.place ∙ ap suc (sym e)))
+      | inr z ↦ short z.0 (λ k h. front_before b a.last (suc k) a.reached (omega arith)) (λ t j.
+          let v = run_json b t j in
+          let d : a.last ≡ v.at = same_state b a.last v.at a.reached v.reached (e ∙ z.0 ∙ sym (settled v.at _ v.settles).place) in
+          z.1 (flatten 0 t) (rise 0 0 t) (ap settle d ∙ v.settles))
+    ]
+
+-- no state that the machine comes to on its way has more containers open
+not_before : (b : List ℕ) (s : State) (d i n : ℕ) → Reaches b start s → s.deepest ≤ d → i ≤ s.place → Front b 0 i n → d < n → ⊥
+not_before b s d i n r h l f g =
+    let v = live_at b i n f in
+    let w = before b s i r l in
+    let e : v.at ≡ w.at = same_state b v.at w.at v.reached w.reached (v.place ∙ sym w.place) in
+    let a = (lawful_reaches v.at v.reached).deep in
+    let c = w.below in let o = v.open_count in
+    let q : v.at.deepest ≡ w.at.deepest = ap (λ u. u.deepest) e in
+    absurd (omega arith)
+
+nowhere_deep : (b : List ℕ) (s : State) (d : ℕ) → Reaches b start s → s.deepest ≤ d → (length b ≤ s.place) ⊎ (step (byte b s.place) s ≡ None) → NowhereDeep b d
+nowhere_deep b s d r h stop i a =
+    elim (split (suc i) s.place) [
+      | inl l ↦ not_before b s d (suc i) (suc d) r h (omega arith) a.deep (omega arith)
+      | inr g ↦ elim (same_or s.place (suc i) g) [
+        | inl e ↦ not_before b s d (suc i) (suc d) r h (omega arith) a.deep (omega arith)
+        | inr l ↦ elim stop [
+          | inl e ↦ let w = a.within in absurd (omega arith)
+          | inr n ↦
+              let v = live_at b (suc i) (suc d) a.deep in let p = v.place in
+              let w = before b v.at (suc s.place) v.reached (omega arith) in
+              next_stuck b s w.at r n w.reached w.place
+        ]
+      ]
+    ]
+  where
+    split : (x y : ℕ) → (x < y) ⊎ (y ≤ x)
+    split x y = grind arith
+
+    same_or : (x y : ℕ) → x ≤ y → (x ≡ y) ⊎ (x < y)
+    same_or x y h = grind arith
+
+sticks_nowhere : (b : List ℕ) (d i : ℕ) → SticksAt b d i → NowhereDeep b d
+sticks_nowhere b d i a =
+    let e = a.sticks.at in
+    nowhere_deep b a.sticks.last d a.sticks.reached a.shallow
+    (elim a.sticks.stuck [ inl z ↦ inr (ap (λ n. step (byte b n) a.sticks.last) e ∙ z.1) | inr z ↦ let q = z.0 in inl (omega arith) ])
+
+accepts_nowhere : (b : List ℕ) (tokens : BoundedList Token) (old new : BoundedList ℕ) → Accepts b tokens old new → NowhereDeep b old.limit
+accepts_nowhere b tokens old new a =
+    let e = settled a.settles.last _ a.settles.settles in
+    let p = e.place in let d = e.deepest in let s = a.shallow in
+    nowhere_deep b a.settles.last old.limit a.settles.reached (omega arith) (inl (omega arith))
+
+pub sinks_deep : (b : List ℕ) (d i : ℕ) → SinksAt b d i → DeepAt b d i
+sinks_deep b d i a = by_step (step (byte b i) a.last) refl a.deep
+  where
+    by_step : (o : Option State) → step (byte b i) a.last ≡ o → IsSomeAnd o (λ u. length u.stack ≡ suc d) → DeepAt b d i
+    by_step None e h = absurd h
+    by_step (Some u) e h =
+        let q : step (byte b a.last.place) a.last ≡ Some u = ap (λ n. step (byte b n) a.last) a.at ∙ e in
+        let r = on a.last u a.reached q in
+        let p : u.place ≡ suc i = next_place a.last u a.reached q ∙ ap suc a.at in
+        let f : Front b 0 (suc i) (length u.stack) = subst (λ n. Front b 0 n (length u.stack)) p (inv_front u (inv_reaches b u r)) in
+        let at = a.at in
+        record {
+          within = a.within;
+          deep = subst (λ n. Front b 0 (suc i) n) h f;
+          least = λ k l g. not_before b a.last d (suc k) (suc d) a.reached a.shallow (omega arith) g (omega arith);
+        }
+
+-- ---- each line has one verdict
+
+one_deep : (b : List ℕ) (d i j : ℕ) → DeepAt b d i → DeepAt b d j → i ≡ j
+one_deep b d i j x y = elim (three i j) [ inl e ↦ e | inr o ↦ elim o [ inl l ↦ absurd (y.least i l x.deep) | inr g ↦ absurd (x.least j g y.deep) ] ]
+  where
+    three : (x y : ℕ) → (x ≡ y) ⊎ ((x < y) ⊎ (y < x))
+    three x y = grind arith
+
+fronts_below : {b : List ℕ} {j : ℕ} → SyntaxAt b j → (k : ℕ) → k < j → IsFront b (suc k)
+fronts_below (stuck l f n) k h = f k h
+fronts_below (short e f n) k h = f k h
+
+syntax_within : {b : List ℕ} {j : ℕ} → SyntaxAt b j → j ≤ length b
+syntax_within (stuck l f n) = omega arith
+syntax_within (short e f n) = omega arith
+
+-- there is no fault before another's place
+not_earlier : {b : List ℕ} {i j : ℕ} → SyntaxAt b i → SyntaxAt b j → i < j → ⊥
+not_earlier (stuck l f n) y h = n (fronts_below y _ h)
+not_earlier (short e f n) y h = let w = syntax_within y in absurd (omega arith)
+
+one_syntax : (b : List ℕ) (i j : ℕ) → SyntaxAt b i → SyntaxAt b j → i ≡ j
+one_syntax b i j x y = elim (three i j) [ inl e ↦ e | inr o ↦ elim o [ inl l ↦ absurd (not_earlier x y l) | inr g ↦ absurd (not_earlier y x g) ] ]
+  where
+    three : (x y : ℕ) → (x ≡ y) ⊎ ((x < y) ⊎ (y < x))
+    three x y = grind arith
+
+json_no_syntax : {b : List ℕ} {i : ℕ} → (t : Tree) → Json b t → SyntaxAt b i → ⊥
+json_no_syntax {b} {i} t j (stuck l f n) =
+    let v = run_json b t j in let p = (settled v.at _ v.settles).place in
+    n (front_before b v.at (suc i) v.reached (omega arith))
+json_no_syntax t j (short e f n) = n t j
+
+json_nowhere : (b : List ℕ) (d : ℕ) (t : Tree) → Json b t → nest t ≤ d → NowhereDeep b d
+json_nowhere b d t j h =
+    let v = run_json b t j in
+    let e = settled v.at _ v.settles in
+    let p = e.place in let q = e.deepest in let f = rise-nest 0 0 t (omega arith) in
+    nowhere_deep b v.at d v.reached (omega arith) (inl (omega arith))
+
+-- ---- the clauses of the scan
+
+-- what a call leaves that began with cleared lists
+pub record Cleared {T : Type 0} (old empty : BoundedList T) : Type 0 where
+  pub limit : empty.limit ≡ old.limit
+  pub peak : empty.peak ≡ old.peak
+  pub room : IsTrue old.reserved → IsTrue empty.reserved
+
+pub cleared : {T : Type 0} (old empty : BoundedList T) → Becomes old [] empty → Cleared old empty
+cleared old empty c = let p = c.peak in record { limit = c.limit; peak = omega arith; room = c.room }
+
+pub law_of : (b : List ℕ) (old empty new : BoundedList Token) (old_stack empty_stack new_stack : BoundedList ℕ) → Cleared old empty → Cleared old_stack empty_stack → KeepsLaw b empty new empty_stack new_stack → KeepsLaw b old new old_stack new_stack
+law_of b old empty new old_stack empty_stack new_stack c d k =
+    let e = c.peak in let f = d.peak in let p = k.token_peak in let q = k.stack_peak in
+    record {
+      law = k.law;
+      token_limit = k.token_limit ∙ c.limit;
+      token_peak = omega arith;
+      token_room = λ r. k.token_room (c.room r);
+      tokens_within = k.tokens_within;
+      stack_limit = k.stack_limit ∙ d.limit;
+      stack_peak = omega arith;
+      stack_room = λ r. k.stack_room (d.room r);
+      stack_within = k.stack_within;
+    }
+
+pub scan_of : (b : List ℕ) (old empty new : BoundedList Token) (old_stack empty_stack new_stack : BoundedList ℕ) → Cleared old empty → Cleared old_stack empty_stack → KeepsLaw b empty new empty_stack new_stack → Accepts b new empty_stack new_stack
+    → (t : Tree) × IsScanOf b t old new old_stack new_stack
+scan_of b old empty new old_stack empty_stack new_stack c d k a =
+    let s = spells a.settles.last (inv_reaches b a.settles.last a.settles.reached) new.elements a.deepest a.settles.settles in
+    let t = s.tree in
+    let n = nest_of b t a.settles.last new.elements a.deepest s.json a.settles.reached a.settles.settles in
+    let count : length new.elements ≡ size t = ap length s.tokens ∙ length-flatten 0 t in
+    let p = k.token_peak in let q = a.peak in let e = c.peak in let f = d.peak in let sh = a.shallow in let g = d.limit in (
+      t,
+      record {
+        json = s.json;
+        only = λ u j. json_only b t u s.json j;
+        shallow = omega arith;
+        tokens = s.tokens;
+        shown = ap (λ z. forest b (spans_of z)) s.tokens ∙ ap (forest b) (spans_of-flatten 0 t) ∙ json_shown b t s.json;
+        count = count;
+        closed = a.closed;
+        token_peak = omega arith;
+        stack_peak = omega arith;
+      },
+    )
+
+module _ (X : Type 0) (b : List ℕ) (old : BoundedList ℕ) (g : Type 0) (tokens : BoundedList Token) (new : BoundedList ℕ) where
+  pub run_deep : (r : Result X ScanFault) (i : ℕ) → RunAnswers b old g r tokens new → r ≡ Err (TooDeep i) → DeepAt b old.limit i
+  run_deep r i a e = sinks_deep b old.limit i (subst (λ z. RunAnswers b old g z tokens new) e a)
+
+  pub run_syntax : (r : Result X ScanFault) (i : ℕ) → RunAnswers b old g r tokens new → r ≡ Err (Syntax i) → SyntaxAt b i × NowhereDeep b old.limit
+  run_syntax r i a e = let s : SticksAt b old.limit i = subst (λ z. RunAnswers b old g z tokens new) e a in (sticks_syntax b i s.sticks, sticks_nowhere b old.limit i s)
+
+  pub run_no_memory : (r : Result X ScanFault) → RunAnswers b old g r tokens new → g → r ≡ Err Memory → ⊥
+  run_no_memory r a h e = let s : g → ⊥ = subst (λ z. RunAnswers b old g z tokens new) e a in s h
+
+  pub run_utf8 : (r : Result X ScanFault) (i : ℕ) → RunAnswers b old g r tokens new → r ≡ Err (NotUtf8 i) → ⊥
+  run_utf8 r i a e = subst (λ z. RunAnswers b old g z tokens new) e a
+
+  pub finds_deep : (r : Result X ScanFault) (i : ℕ) → RunAnswers b old g r tokens new → DeepAt b old.limit i → (r ≡ Err (TooDeep i)) ⊎ (r ≡ Err Memory)
+  finds_deep (Ok v) i a d = absurd (accepts_nowhere b tokens old new a i d)
+  finds_deep (Err (NotUtf8 j)) i a d = absurd a
+  finds_deep (Err (Syntax j)) i a d = absurd (sticks_nowhere b old.limit j a i d)
+  finds_deep (Err (TooDeep j)) i a d = inl (ap (λ n. Err (TooDeep n)) (one_deep b old.limit j i (sinks_deep b old.limit j a) d))
+  finds_deep (Err Memory) i a d = inr refl
+
+  pub finds_syntax : (r : Result X ScanFault) (i : ℕ) → RunAnswers b old g r tokens new → NowhereDeep b old.limit → SyntaxAt b i → (r ≡ Err (Syntax i)) ⊎ (r ≡ Err Memory)
+  finds_syntax (Ok v) i a n s =
+      let z = spells a.settles.last (inv_reaches b a.settles.last a.settles.reached) tokens.elements a.deepest a.settles.settles in
+      absurd (json_no_syntax z.tree z.json s)
+  finds_syntax (Err (NotUtf8 j)) i a n s = absurd a
+  finds_syntax (Err (Syntax j)) i a n s = inl (ap (λ k. Err (Syntax k)) (one_syntax b j i (sticks_syntax b j a.sticks) s))
+  finds_syntax (Err (TooDeep j)) i a n s = absurd (n j (sinks_deep b old.limit j a))
+  finds_syntax (Err Memory) i a n s = inr refl
+
+  pub finds_tree : (r : Result X ScanFault) (t : Tree) → RunAnswers b old g r tokens new → Json b t → nest t ≤ old.limit → IsOk r ⊎ (r ≡ Err Memory)
+  finds_tree (Ok v) t a j h = inl (search rules)
+  finds_tree (Err (NotUtf8 i)) t a j h = absurd a
+  finds_tree (Err (Syntax i)) t a j h = absurd (json_no_syntax t j (sticks_syntax b i a.sticks))
+  finds_tree (Err (TooDeep i)) t a j h = absurd (json_nowhere b old.limit t j h i (sinks_deep b old.limit i a))
+  finds_tree (Err Memory) t a j h = inr refl
+
+-- the same under the limit that the stack had before it was emptied
+module _ (X : Type 0) (b : List ℕ) (old empty new : BoundedList Token) (old_stack empty_stack new_stack : BoundedList ℕ) (g : Type 0) (c : Cleared old empty) (d : Cleared old_stack empty_stack) where
+  pub answers_tree : (r : Result X ScanFault) → RunAnswers b empty_stack g r new new_stack → KeepsLaw b empty new empty_stack new_stack → OnOk r ((t : Tree) × IsScanOf b t old new old_stack new_stack)
+  answers_tree (Ok v) a k = scan_of b old empty new old_stack empty_stack new_stack c d k a
+  answers_tree (Err e) a k = search rules
+
+  pub answers_deep : (r : Result X ScanFault) (i : ℕ) → RunAnswers b empty_stack g r new new_stack → r ≡ Err (TooDeep i) → DeepAt b old_stack.limit i
+  answers_deep r i a e = subst (λ n. DeepAt b n i) d.limit (run_deep X b empty_stack g new new_stack r i a e)
+
+  pub answers_syntax : (r : Result X ScanFault) (i : ℕ) → RunAnswers b empty_stack g r new new_stack → r ≡ Err (Syntax i) → SyntaxAt b i × NowhereDeep b old_stack.limit
+  answers_syntax r i a e = subst (λ n. SyntaxAt b i × NowhereDeep b n) d.limit (run_syntax X b empty_stack g new new_stack r i a e)
+
+  pub answers_finds_deep : (r : Result X ScanFault) (i : ℕ) → RunAnswers b empty_stack g r new new_stack → DeepAt b old_stack.limit i → (r ≡ Err (TooDeep i)) ⊎ (r ≡ Err Memory)
+  answers_finds_deep r i a h = finds_deep X b empty_stack g new new_stack r i a (subst (λ n. DeepAt b n i) (sym d.limit) h)
+
+  pub answers_finds_syntax : (r : Result X ScanFault) (i : ℕ) → RunAnswers b empty_stack g r new new_stack → NowhereDeep b old_stack.limit → SyntaxAt b i → (r ≡ Err (Syntax i)) ⊎ (r ≡ Err Memory)
+  answers_finds_syntax r i a n s = finds_syntax X b empty_stack g new new_stack r i a (subst (λ n. NowhereDeep b n) (sym d.limit) n) s
+
+  pub answers_finds_tree : (r : Result X ScanFault) (t : Tree) → RunAnswers b empty_stack g r new new_stack → Json b t → nest t ≤ old_stack.limit → IsOk r ⊎ (r ≡ Err Memory)
+  answers_finds_tree r t a j h = finds_tree X b empty_stack g new new_stack r t a j (subst (λ n. nest t ≤ n) (sym d.limit) h)
+
+-- ---- UTF-8
+
+pub utf8_whole : (b : List ℕ) (i : ℕ) → IsValidUpTo b i → IsUtf8 b → ⊥
+utf8_whole b i v u = let s = v.short in v.longest (length b) s (subst IsUtf8 (sym (take_all b)) u)
+  where
+    take_all : (b : List ℕ) → take (length b) b ≡ b
+    take_all b = grind (arith, common_steps)
+
+fault_same : (i j : ℕ) → ◌≡◌ {A = Result (Unit {0}) ScanFault} (Err (NotUtf8 i)) (Err (NotUtf8 j)) → i ≡ j
+fault_same i j h = cc
+
+pub utf8_fault : (b : List ℕ) (n m : ℕ) → IsValidUpTo b m → m ≡ utf8_valid_len b → n ≡ m → (i : ℕ) → (IsErrOf {T = Unit {0}} (Err (NotUtf8 n)) (NotUtf8 i) → IsValidUpTo b i) × (IsValidUpTo b i → IsErrOf {T = Unit {0}} (Err (NotUtf8 n)) (NotUtf8 i))
+utf8_fault b n m v e q i = (
+  λ h. subst (IsValidUpTo b) (sym q ∙ fault_same n i h) v,
+  λ w. ap (λ k. Err (NotUtf8 k)) (q ∙ e ∙ utf8_valid_len-IsValidUpTo b i w),
+)

@@ -1,0 +1,63 @@
+use Rattle.std.proofs.Common.{arith, sym}
+use Rattle.cj_spans.proofs.Standing.{standing_first, standing_small, standing_room, standing_step, standing_law, standing_fault, stepped_small, stepped_room, stepped_on, stepped_law, stepped_fault, ended_law, ended_fault, not_so}
+use Rattle.cj_spans.proofs.scanner.run.Goals as goal
+
+pub loop-place-init : goal.loop-place-init
+loop-place-init c = standing_first c.args.line.now c.args.tokens.now c.args.stack.now c.requires.lists.0 c.requires.lists.1 c.requires.empty.0 c.requires.empty.1
+
+pub read_byte-requires-clause-small : goal.read_byte-requires-clause-small
+read_byte-requires-clause-small c = standing_small _ _ _ _ _ _ _ c.loop-place.invariant c.requires.short c.loop-place-test.true
+
+pub read_byte-requires-clause-room : goal.read_byte-requires-clause-room
+read_byte-requires-clause-room c = standing_room _ _ _ _ _ _ _ c.loop-place.invariant c.requires.room c.loop-place-test.true
+
+pub returns-in-Err-clause-answer : goal.returns-in-Err-clause-answer
+returns-in-Err-clause-answer c = standing_fault (Unit {0}) c.args.line.now c.args.tokens.now c.args.stack.now c.loop-place.tokens c.read_byte.new.tokens c.loop-place.stack c.read_byte.new.stack c.loop-place.mode c.loop-place.place c.in-Err.fault c.loop-place.invariant c.loop-place-test.true c.in-Err.ensures.answer
+
+pub returns-in-Err-clause-law : goal.returns-in-Err-clause-law
+returns-in-Err-clause-law c = standing_law c.args.line.now c.args.tokens.now c.args.stack.now c.loop-place.tokens c.read_byte.new.tokens c.loop-place.stack c.read_byte.new.stack c.loop-place.mode c.loop-place.place c.loop-place.invariant c.in-Err.ensures.tokens c.in-Err.ensures.stack c.in-Err.ensures.err.0 c.in-Err.ensures.err.1
+
+pub follow-requires-clause-small : goal.follow-requires-clause-small
+follow-requires-clause-small c =
+    let s = standing_step c.args.line.now c.args.tokens.now c.args.stack.now c.loop-place.tokens c.read_byte.new.tokens c.loop-place.stack c.read_byte.new.stack c.loop-place.mode c.loop-place.place c.in-Ok.taken c.loop-place.invariant c.loop-place-test.true c.in-Ok.ensures.tokens c.in-Ok.ensures.stack c.in-Ok.ensures.answer in
+    let q = stepped_small _ _ _ _ _ _ _ _ s c.requires.short c.loop-place-test.true in
+    let h = c.requires.short in
+    let e = c.len.ensures.value in
+    (omega arith, omega arith)
+
+pub follow-requires-clause-room : goal.follow-requires-clause-room
+follow-requires-clause-room c =
+    let s = standing_step c.args.line.now c.args.tokens.now c.args.stack.now c.loop-place.tokens c.read_byte.new.tokens c.loop-place.stack c.read_byte.new.stack c.loop-place.mode c.loop-place.place c.in-Ok.taken c.loop-place.invariant c.loop-place-test.true c.in-Ok.ensures.tokens c.in-Ok.ensures.stack c.in-Ok.ensures.answer in
+    stepped_room _ _ _ _ _ _ _ _ s c.requires.room c.loop-place-test.true
+
+pub loop-place-smaller : goal.loop-place-smaller
+loop-place-smaller c =
+    let a = c.in-Ok-follow.ensures.answer c.read_byte.new.stack.elements 0 (sym c.len.ensures.value) in
+    let g = a.1 in let l = a.2 in let t = c.loop-place-test.true in
+    omega arith
+
+pub loop-place-preserved : goal.loop-place-preserved
+loop-place-preserved c =
+    let s = standing_step c.args.line.now c.args.tokens.now c.args.stack.now c.loop-place.tokens c.read_byte.new.tokens c.loop-place.stack c.read_byte.new.stack c.loop-place.mode c.loop-place.place c.in-Ok.taken c.loop-place.invariant c.loop-place-test.true c.in-Ok.ensures.tokens c.in-Ok.ensures.stack c.in-Ok.ensures.answer in
+    stepped_on c.args.line.now c.args.tokens.now c.args.stack.now c.read_byte.new.tokens c.follow.new.tokens c.read_byte.new.stack c.loop-place.mode c.loop-place.place c.in-Ok.taken c.in-Ok-follow.next s c.in-Ok-follow.ensures.tokens
+    (λ p. c.in-Ok-follow.ensures.answer c.read_byte.new.stack.elements p (sym c.len.ensures.value))
+
+pub returns-in-Err-follow-clause-answer : goal.returns-in-Err-follow-clause-answer
+returns-in-Err-follow-clause-answer c =
+    let s = standing_step c.args.line.now c.args.tokens.now c.args.stack.now c.loop-place.tokens c.read_byte.new.tokens c.loop-place.stack c.read_byte.new.stack c.loop-place.mode c.loop-place.place c.in-Ok.taken c.loop-place.invariant c.loop-place-test.true c.in-Ok.ensures.tokens c.in-Ok.ensures.stack c.in-Ok.ensures.answer in
+    stepped_fault (Unit {0}) c.args.line.now c.args.tokens.now c.args.stack.now c.read_byte.new.tokens c.follow.new.tokens c.read_byte.new.stack c.loop-place.mode c.loop-place.place c.in-Ok.taken c.in-Err-follow.fault s
+    (λ p. c.in-Err-follow.ensures.answer c.read_byte.new.stack.elements p (sym c.len.ensures.value))
+
+pub returns-in-Err-follow-clause-law : goal.returns-in-Err-follow-clause-law
+returns-in-Err-follow-clause-law c =
+    let s = standing_step c.args.line.now c.args.tokens.now c.args.stack.now c.loop-place.tokens c.read_byte.new.tokens c.loop-place.stack c.read_byte.new.stack c.loop-place.mode c.loop-place.place c.in-Ok.taken c.loop-place.invariant c.loop-place-test.true c.in-Ok.ensures.tokens c.in-Ok.ensures.stack c.in-Ok.ensures.answer in
+    stepped_law c.args.line.now c.args.tokens.now c.args.stack.now c.read_byte.new.tokens c.follow.new.tokens c.read_byte.new.stack c.loop-place.mode c.loop-place.place c.in-Ok.taken s c.loop-place-test.true c.in-Err-follow.ensures.tokens c.in-Err-follow.ensures.err
+
+pub returns-then-is_end-clause-law : goal.returns-then-is_end-clause-law
+returns-then-is_end-clause-law c = ended_law _ _ _ _ _ _ _ c.loop-place.invariant
+
+pub returns-else-is_end-clause-law : goal.returns-else-is_end-clause-law
+returns-else-is_end-clause-law c = ended_law _ _ _ _ _ _ _ c.loop-place.invariant
+
+pub returns-else-is_end-clause-answer : goal.returns-else-is_end-clause-answer
+returns-else-is_end-clause-answer c = ended_fault c.args.line.now c.args.tokens.now c.args.stack.now c.loop-place.tokens c.loop-place.stack c.loop-place.mode c.loop-place.place c.loop-place.invariant c.loop-place-test.false (not_so _ _ c.is_end.ensures c.if-is_end.false)

@@ -1,0 +1,46 @@
+use Rattle.std.proofs.Common.{IsTrue, refl}
+use Rattle.cj_spans.proofs.Verdicts.{cleared, run_utf8, answers_tree, answers_deep, answers_syntax, answers_finds_deep, answers_finds_syntax, answers_finds_tree, utf8_whole, utf8_fault}
+use Rattle.cj_spans.proofs.scanner.scan.Goals as goal
+
+pub returns-in-Ok-clause-tree : goal.returns-in-Ok-clause-tree
+returns-in-Ok-clause-tree c =
+    let ts = c.clear.new.self in let ks = c.clear-2.new.self in
+    answers_tree (Unit {0}) c.args.line.now c.args.tokens.now ts c.run.new.tokens c.args.stack.now ks c.run.new.stack (IsTrue ts.reserved × IsTrue ks.reserved) (cleared _ _ c.clear.ensures.cleared) (cleared _ _ c.clear-2.ensures.cleared) c.run.result c.run.ensures.answer c.run.ensures.law
+
+pub returns-in-Ok-clause-not_utf8 : goal.returns-in-Ok-clause-not_utf8
+returns-in-Ok-clause-not_utf8 c = λ i.
+    let ts = c.clear.new.self in let ks = c.clear-2.new.self in (
+      λ e. absurd (run_utf8 (Unit {0}) c.args.line.now ks (IsTrue ts.reserved × IsTrue ks.reserved) c.run.new.tokens c.run.new.stack c.run.result i c.run.ensures.answer e),
+      λ v. absurd (utf8_whole c.args.line.now i v c.in-Ok.ensures.cases.1),
+    )
+
+pub returns-in-Ok-clause-too_deep : goal.returns-in-Ok-clause-too_deep
+returns-in-Ok-clause-too_deep c = λ i e.
+    let ts = c.clear.new.self in let ks = c.clear-2.new.self in
+    answers_deep (Unit {0}) c.args.line.now c.args.tokens.now ts c.run.new.tokens c.args.stack.now ks c.run.new.stack (IsTrue ts.reserved × IsTrue ks.reserved) (cleared _ _ c.clear.ensures.cleared) (cleared _ _ c.clear-2.ensures.cleared) c.run.result i c.run.ensures.answer e
+
+pub returns-in-Ok-clause-syntax : goal.returns-in-Ok-clause-syntax
+returns-in-Ok-clause-syntax c = λ i e.
+    let ts = c.clear.new.self in let ks = c.clear-2.new.self in
+    answers_syntax (Unit {0}) c.args.line.now c.args.tokens.now ts c.run.new.tokens c.args.stack.now ks c.run.new.stack (IsTrue ts.reserved × IsTrue ks.reserved) (cleared _ _ c.clear.ensures.cleared) (cleared _ _ c.clear-2.ensures.cleared) c.run.result i c.run.ensures.answer e
+
+pub returns-in-Ok-clause-finds_tree : goal.returns-in-Ok-clause-finds_tree
+returns-in-Ok-clause-finds_tree c = λ u t j h.
+    let ts = c.clear.new.self in let ks = c.clear-2.new.self in
+    answers_finds_tree (Unit {0}) c.args.line.now c.args.tokens.now ts c.run.new.tokens c.args.stack.now ks c.run.new.stack (IsTrue ts.reserved × IsTrue ks.reserved) (cleared _ _ c.clear.ensures.cleared) (cleared _ _ c.clear-2.ensures.cleared) c.run.result t c.run.ensures.answer j h
+
+pub returns-in-Ok-clause-finds_deep : goal.returns-in-Ok-clause-finds_deep
+returns-in-Ok-clause-finds_deep c = λ u i d.
+    let ts = c.clear.new.self in let ks = c.clear-2.new.self in
+    answers_finds_deep (Unit {0}) c.args.line.now c.args.tokens.now ts c.run.new.tokens c.args.stack.now ks c.run.new.stack (IsTrue ts.reserved × IsTrue ks.reserved) (cleared _ _ c.clear.ensures.cleared) (cleared _ _ c.clear-2.ensures.cleared) c.run.result i c.run.ensures.answer d
+
+pub returns-in-Ok-clause-finds_syntax : goal.returns-in-Ok-clause-finds_syntax
+returns-in-Ok-clause-finds_syntax c = λ u n i s.
+    let ts = c.clear.new.self in let ks = c.clear-2.new.self in
+    answers_finds_syntax (Unit {0}) c.args.line.now c.args.tokens.now ts c.run.new.tokens c.args.stack.now ks c.run.new.stack (IsTrue ts.reserved × IsTrue ks.reserved) (cleared _ _ c.clear.ensures.cleared) (cleared _ _ c.clear-2.ensures.cleared) c.run.result i c.run.ensures.answer n s
+
+pub returns-in-Err-clause-utf8 : goal.returns-in-Err-clause-utf8
+returns-in-Err-clause-utf8 c = λ h. absurd (h _ refl)
+
+pub returns-in-Err-clause-not_utf8 : goal.returns-in-Err-clause-not_utf8
+returns-in-Err-clause-not_utf8 c = utf8_fault c.args.line.now c.valid_up_to.result _ c.in-Err.ensures.cases.1 c.in-Err.ensures.valid_len c.valid_up_to.ensures

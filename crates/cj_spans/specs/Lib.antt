@@ -1,0 +1,10 @@
+pub mod Spelling
+pub mod Tree
+pub mod Json
+pub mod Front
+pub mod Preorder
+pub mod Forest
+pub mod Scan
+pub mod Reason
+pub mod Machine
+pub mod Examples

@@ -1,0 +1,346 @@
+-- The machine that reads a line byte by byte. Only private clauses cite it.
+use Rattle.std.specs.Prelude.{◌≡◌, ℕ, suc, ◌<◌, ◌≤◌, List, [], ◌∷◌, ◌++◌, length, drop, max, slice_get, slice_set, Bool, cond, ◌⊎◌, ◌||◌, ◌&&◌, nat_eq, nat_le, Option, Some, None, IsSomeAnd, option_map, option_and_then, Result, Ok, Err, IsTrue}
+use Rattle.cj_budget.specs.Bounded.{BoundedList, IsWithin}
+use Rattle.cj_spans.specs.declared.fault.ScanFault.{ScanFault}
+use Rattle.cj_spans.specs.declared.fault.ScanFault.TheVariants.{NotUtf8, Syntax, TooDeep, Memory}
+use Rattle.cj_spans.specs.declared.token.Kind.{Kind}
+use Rattle.cj_spans.specs.declared.token.Kind.TheVariants.{Null, Truth, Number, Text, Array, Object}
+use Rattle.cj_spans.specs.declared.token.Token.{Token}
+use Rattle.cj_spans.specs.declared.lex.Lex.{Lex}
+use Rattle.cj_spans.specs.declared.lex.Lex.TheVariants.{AfterN, AfterNu, AfterNul, NullDone, AfterT, AfterTr, AfterTru, AfterF, AfterFa, AfterFal, AfterFals, TruthDone, Minus, Zero, Whole, Point, Fraction, Mark, MarkSign, Exponent, InText, Escape, Hex4, Hex3, Hex2, Hex1, TextDone}
+use Rattle.cj_spans.specs.declared.step.Mode.{Mode}
+use Rattle.cj_spans.specs.declared.step.Mode.TheVariants.{Ready, FirstItem, After, FirstName, NextName, AfterName}
+use Rattle.cj_spans.specs.declared.step.Move.{Move}
+use Rattle.cj_spans.specs.declared.step.Move.TheVariants.{Stay, To, Open, Atom}
+use Rattle.cj_spans.specs.declared.step.Next.{Next}
+use Rattle.cj_spans.specs.Spelling.{is_blank, is_hex, is_escape}
+use Rattle.cj_spans.specs.Json.{byte}
+use Rattle.cj_spans.specs.Preorder.{token_at}
+
+-- ---- scalars and names
+
+abbrev pub is_digit : ℕ → Bool
+is_digit b = nat_le 48 b && nat_le b 57
+
+abbrev pub lex_start : ℕ → Option Lex
+lex_start b =
+    cond (nat_eq b 110) (Some AfterN) (cond (nat_eq b 116) (Some AfterT) (cond (nat_eq b 102) (Some AfterF) (cond (nat_eq b 45) (Some Minus) (cond (nat_eq b 48) (Some Zero)
+    (cond (nat_le 49 b && nat_le b 57) (Some Whole) (cond (nat_eq b 34) (Some InText) None))))))
+
+abbrev pub one : ℕ → ℕ → Lex → Option Lex
+one b d x = cond (nat_eq b d) (Some x) None
+
+abbrev pub digit_or : ℕ → Lex → Option Lex → Option Lex
+digit_or b x other = cond (is_digit b) (Some x) other
+
+abbrev pub hex : ℕ → Lex → Option Lex
+hex b x = cond (is_hex b) (Some x) None
+
+abbrev pub mark : ℕ → Option Lex
+mark b = cond (nat_eq b 101 || nat_eq b 69) (Some Mark) None
+
+abbrev pub point_or_mark : ℕ → Option Lex
+point_or_mark b = cond (nat_eq b 46) (Some Point) (mark b)
+
+abbrev pub zero_or_whole : ℕ → Option Lex
+zero_or_whole b = cond (nat_eq b 48) (Some Zero) (cond (nat_le 49 b && nat_le b 57) (Some Whole) None)
+
+abbrev pub sign_mark : ℕ → Option Lex
+sign_mark b = cond (nat_eq b 43 || nat_eq b 45) (Some MarkSign) None
+
+abbrev pub text_step : ℕ → Option Lex
+text_step b = cond (nat_eq b 34) (Some TextDone) (cond (nat_eq b 92) (Some Escape) (cond (nat_le 32 b) (Some InText) None))
+
+abbrev pub escape_step : ℕ → Option Lex
+escape_step b = cond (is_escape b) (Some InText) (cond (nat_eq b 117) (Some Hex4) None)
+
+-- how far the spelling is after one byte more
+abbrev pub lex_step : Lex → ℕ → Option Lex
+lex_step AfterN b = one b 117 AfterNu
+lex_step AfterNu b = one b 108 AfterNul
+lex_step AfterNul b = one b 108 NullDone
+lex_step AfterT b = one b 114 AfterTr
+lex_step AfterTr b = one b 117 AfterTru
+lex_step AfterTru b = one b 101 TruthDone
+lex_step AfterF b = one b 97 AfterFa
+lex_step AfterFa b = one b 108 AfterFal
+lex_step AfterFal b = one b 115 AfterFals
+lex_step AfterFals b = one b 101 TruthDone
+lex_step NullDone b = None
+lex_step TruthDone b = None
+lex_step Minus b = zero_or_whole b
+lex_step Zero b = point_or_mark b
+lex_step Whole b = digit_or b Whole (point_or_mark b)
+lex_step Point b = digit_or b Fraction None
+lex_step Fraction b = digit_or b Fraction (mark b)
+lex_step Mark b = digit_or b Exponent (sign_mark b)
+lex_step MarkSign b = digit_or b Exponent None
+lex_step Exponent b = digit_or b Exponent None
+lex_step InText b = text_step b
+lex_step Escape b = escape_step b
+lex_step Hex4 b = hex b Hex3
+lex_step Hex3 b = hex b Hex2
+lex_step Hex2 b = hex b Hex1
+lex_step Hex1 b = hex b InText
+lex_step TextDone b = None
+
+-- the kind of the scalar that may end here
+abbrev pub lex_kind : Lex → Option Kind
+lex_kind AfterN = None
+lex_kind AfterNu = None
+lex_kind AfterNul = None
+lex_kind AfterT = None
+lex_kind AfterTr = None
+lex_kind AfterTru = None
+lex_kind AfterF = None
+lex_kind AfterFa = None
+lex_kind AfterFal = None
+lex_kind AfterFals = None
+lex_kind NullDone = Some Null
+lex_kind TruthDone = Some Truth
+lex_kind Minus = None
+lex_kind Zero = Some Number
+lex_kind Whole = Some Number
+lex_kind Point = None
+lex_kind Fraction = Some Number
+lex_kind Mark = None
+lex_kind MarkSign = None
+lex_kind Exponent = Some Number
+lex_kind InText = None
+lex_kind Escape = None
+lex_kind Hex4 = None
+lex_kind Hex3 = None
+lex_kind Hex2 = None
+lex_kind Hex1 = None
+lex_kind TextDone = Some Text
+
+-- from the place i and the reading x on, the bytes up to k give the reading y
+pub data Continues (b : List ℕ) (i : ℕ) (x : Lex) : ℕ → Lex → Type 0 where
+  still : Continues b i x i x
+  further : (k : ℕ) (y z : Lex) → Continues b i x k y → lex_step y (byte b k) ≡ Some z → Continues b i x (suc k) z
+
+-- at the place k, the line ends or the next byte does not go on from x
+abbrev pub Halts : List ℕ → ℕ → Lex → Type 0
+Halts b k x = (length b ≤ k) ⊎ (lex_step x (byte b k) ≡ None)
+
+-- ---- states
+
+-- between scalars and names, or in one that began at a place, with the mode after it
+pub data Phase : Type 0 where
+  between : Mode → Phase
+  in_atom : Mode → ℕ → Lex → Phase
+
+-- the phase, the open containers from the innermost on, the tokens, how many bytes were read, and the most containers that were open
+pub record State : Type 0 where
+  pub phase : Phase
+  pub stack : List ℕ
+  pub tokens : List Token
+  pub place : ℕ
+  pub deepest : ℕ
+
+abbrev pub state : Phase → List ℕ → List Token → ℕ → ℕ → State
+state f ks ts i p = record { phase = f; stack = ks; tokens = ts; place = i; deepest = p }
+
+abbrev pub start : State
+start = state (between Ready) [] [] 0 0
+
+abbrev pub moved : Phase → State → State
+moved f s = state f s.stack s.tokens (suc s.place) s.deepest
+
+abbrev pub opened : Kind → Mode → State → State
+opened k m s = state (between m) (length s.tokens ∷ s.stack) (s.tokens ++ token_at s.place 0 (length s.stack) k ∷ []) (suc s.place) (max s.deepest (suc (length s.stack)))
+
+-- the innermost container k, whose token is t, ends with the byte that is read
+abbrev pub closed : ℕ → Token → State → State
+closed k t s = state (between After) (drop 1 s.stack) (slice_set s.tokens k (token_at t.start (suc s.place) t.depth t.kind)) (suc s.place) s.deepest
+
+-- ---- one byte
+
+abbrev pub begin_value : ℕ → State → Option State
+begin_value c s =
+    cond (nat_eq c 91) (Some (opened Array FirstItem s)) (cond (nat_eq c 123) (Some (opened Object FirstName s))
+    (option_map (λ x. moved (in_atom After s.place x) s) (lex_start c)))
+
+abbrev pub begin_name : ℕ → State → Option State
+begin_name c s = cond (nat_eq c 34) (Some (moved (in_atom AfterName s.place InText) s)) None
+
+-- the container k with the token t is closed by the bracket d
+abbrev pub close_by : ℕ → ℕ → ℕ → Token → State → Option State
+close_by c d k t s = cond (nat_eq c d) (Some (closed k t s)) None
+
+abbrev pub after_in : Kind → ℕ → ℕ → Token → State → Option State
+after_in Array c k t s = cond (nat_eq c 44) (Some (moved (between Ready) s)) (close_by c 93 k t s)
+after_in Object c k t s = cond (nat_eq c 44) (Some (moved (between NextName) s)) (close_by c 125 k t s)
+after_in _ c k t s = None
+
+abbrev pub after_token : ℕ → ℕ → Option Token → State → Option State
+after_token c k None s = None
+after_token c k (Some t) s = after_in t.kind c k t s
+
+abbrev pub after_top : ℕ → Option ℕ → State → Option State
+after_top c None s = None
+after_top c (Some k) s = after_token c k (slice_get s.tokens k) s
+
+abbrev pub after_value : ℕ → State → Option State
+after_value c s = after_top c (slice_get s.stack 0) s
+
+abbrev pub close_token : ℕ → Option Token → State → Option State
+close_token k None s = None
+close_token k (Some t) s = Some (closed k t s)
+
+abbrev pub close_top : Option ℕ → State → Option State
+close_top None s = None
+close_top (Some k) s = close_token k (slice_get s.tokens k) s
+
+abbrev pub close_empty : State → Option State
+close_empty s = close_top (slice_get s.stack 0) s
+
+abbrev pub colon_step : ℕ → State → Option State
+colon_step c s = cond (nat_eq c 58) (Some (moved (between Ready) s)) None
+
+-- a byte that is not white space, between scalars and names
+abbrev pub read_in : Mode → ℕ → State → Option State
+read_in Ready c s = begin_value c s
+read_in FirstItem c s = cond (nat_eq c 93) (close_empty s) (begin_value c s)
+read_in After c s = after_value c s
+read_in FirstName c s = cond (nat_eq c 125) (close_empty s) (begin_name c s)
+read_in NextName c s = begin_name c s
+read_in AfterName c s = colon_step c s
+
+-- a byte, between scalars and names
+abbrev pub read : Mode → ℕ → State → Option State
+read m c s = cond (is_blank c) (Some (moved (between m) s)) (read_in m c s)
+
+-- where a scalar or a name may end, it has ended
+abbrev pub end_atom : Mode → ℕ → Option Kind → State → Option State
+end_atom m i None s = None
+end_atom m i (Some k) s = Some (state (between m) s.stack (s.tokens ++ token_at i s.place (length s.stack) k ∷ []) s.place s.deepest)
+
+abbrev pub go_on : (Lex → Phase) → Option Lex → State → Option State → Option State
+go_on f (Some x) s other = Some (moved (f x) s)
+go_on f None s other = other
+
+abbrev pub step_by : Phase → ℕ → State → Option State
+step_by (between m) c s = read m c s
+step_by (in_atom m i x) c s = go_on (λ y. in_atom m i y) (lex_step x c) s (option_and_then (read m c) (end_atom m i (lex_kind x) s))
+
+abbrev pub step : ℕ → State → Option State
+step c s = step_by s.phase c s
+
+abbrev pub settle_by : Phase → State → Option State
+settle_by (between m) s = Some s
+settle_by (in_atom m i x) s = end_atom m i (lex_kind x) s
+
+-- the state once its scalar or name has ended, if it may end
+abbrev pub settle : State → Option State
+settle s = settle_by s.phase s
+
+-- ---- runs
+
+-- the machine comes from s to t over the bytes of b
+pub data Reaches (b : List ℕ) (s : State) : State → Type 0 where
+  here : Reaches b s s
+  on : (t u : State) → Reaches b s t → step (byte b t.place) t ≡ Some u → Reaches b s u
+
+-- the machine comes from s to t, or to where t is once its scalar has ended, which the next byte does not continue
+pub record Settles (b : List ℕ) (s t : State) : Type 0 where
+  pub last : State
+  pub reached : Reaches b s last
+  pub settles : settle last ≡ Some t
+  pub same : t.place < length b → step (byte b t.place) last ≡ step (byte b t.place) t
+
+-- the machine comes from s to the place i, and no further
+pub record Sticks (b : List ℕ) (s : State) (i : ℕ) : Type 0 where
+  pub last : State
+  pub reached : Reaches b s last
+  pub at : last.place ≡ i
+  pub within : i ≤ length b
+  pub stuck : ((i < length b) × (step (byte b i) last ≡ None)) ⊎ ((i ≡ length b) × ((ts : List Token) (p : ℕ) → settle last ≡ Some (state (between After) [] ts (length b) p) → ⊥))
+
+-- the same where no container opens on the way
+pub record SticksFlat (b : List ℕ) (s : State) (i : ℕ) : Type 0 where
+  pub sticks : Sticks b s i
+  pub flat : sticks.last.deepest ≡ s.deepest
+
+-- ---- what the code answers
+
+abbrev pub phase_after : Mode → ℕ → Move → Phase
+phase_after m i Stay = between m
+phase_after m i (To n) = between n
+phase_after m i (Open n) = between n
+phase_after m i (Atom n x) = in_atom n i x
+
+-- the most containers that were open, after a move that leaves n of them
+abbrev pub deepest_after : Move → ℕ → ℕ → ℕ
+deepest_after (Open m) p n = max p n
+deepest_after _ p n = p
+
+-- what a call answers that reads the byte at the place i in the mode m, where the machine's step gives o: under the limit d,
+-- and with a refusal of memory only where not `granted`
+abbrev pub Answers : Option State → Mode → ℕ → ℕ → ℕ → Type 0 → Result Move ScanFault → List ℕ → List Token → Type 0
+Answers o m i p d granted (Ok v) ks ts = o ≡ Some (state (phase_after m i v) ks ts (suc i) (deepest_after v p (length ks)))
+Answers o m i p d granted (Err (Syntax j)) ks ts = (j ≡ i) × (o ≡ None)
+Answers o m i p d granted (Err (TooDeep j)) ks ts = (j ≡ i) × IsSomeAnd o (λ u. length u.stack ≡ suc d)
+Answers o m i p d granted (Err Memory) ks ts = granted → ⊥
+Answers o m i p d granted (Err (NotUtf8 j)) ks ts = ⊥
+
+-- what a call answers that ends the scalar or the name of the state s, if it is in one
+abbrev pub Ends : List ℕ → State → Type 0 → Result Next ScanFault → List Token → Type 0
+Ends b s granted (Ok n) ts = Settles b s (state (between n.mode) s.stack ts n.place s.deepest) × (s.place ≤ n.place) × (n.place ≤ length b)
+Ends b s granted (Err (Syntax j)) ts = SticksFlat b s j
+Ends b s granted (Err (TooDeep j)) ts = ⊥
+Ends b s granted (Err Memory) ts = granted → ⊥
+Ends b s granted (Err (NotUtf8 j)) ts = ⊥
+
+-- what calls leave of a list: the limit, the peak, and room that is there
+pub record Kept {T : Type 0} (old new : BoundedList T) : Type 0 where
+  pub limit : new.limit ≡ old.limit
+  pub peak : new.peak ≡ max old.peak (length new.elements)
+  pub room : IsTrue old.reserved → IsTrue new.reserved
+  pub within : IsWithin new
+
+-- the same of a list to which tokens are added
+pub record Grown (old new : BoundedList Token) : Type 0 where
+  pub kept : Kept old new
+  pub longer : length old.elements ≤ length new.elements
+
+-- a value may begin in the mode
+abbrev pub BeginsValue : Mode → Type 0
+BeginsValue Ready = Unit {0}
+BeginsValue FirstItem = Unit {0}
+BeginsValue _ = ⊥
+
+-- the byte begins a scalar or a name
+abbrev pub BeginsAtom : Move → Type 0
+BeginsAtom (Atom m x) = Unit {0}
+BeginsAtom _ = ⊥
+
+-- the machine comes to the place i and no further, with at most d containers open
+pub record SticksAt (b : List ℕ) (d i : ℕ) : Type 0 where
+  pub sticks : Sticks b start i
+  pub shallow : sticks.last.deepest ≤ d
+
+-- the byte at the place i opens one container more than the d that were open
+pub record SinksAt (b : List ℕ) (d i : ℕ) : Type 0 where
+  pub last : State
+  pub reached : Reaches b start last
+  pub at : last.place ≡ i
+  pub within : i < length b
+  pub shallow : last.deepest ≤ d
+  pub deep : IsSomeAnd (step (byte b i) last) (λ u. length u.stack ≡ suc d)
+
+-- the machine reads all of the line, and has these tokens
+pub record Accepts (b : List ℕ) (tokens : BoundedList Token) (old new : BoundedList ℕ) : Type 0 where
+  pub deepest : ℕ
+  pub settles : Settles b start (state (between After) [] tokens.elements (length b) deepest)
+  pub closed : new.elements ≡ []
+  pub peak : new.peak ≡ max old.peak deepest
+  pub shallow : deepest ≤ old.limit
+
+-- what the pass over a line answers
+abbrev pub RunAnswers : {X : Type 0} → List ℕ → BoundedList ℕ → Type 0 → Result X ScanFault → BoundedList Token → BoundedList ℕ → Type 0
+RunAnswers b old granted (Ok v) tokens new = Accepts b tokens old new
+RunAnswers b old granted (Err (Syntax i)) tokens new = SticksAt b old.limit i
+RunAnswers b old granted (Err (TooDeep i)) tokens new = SinksAt b old.limit i
+RunAnswers b old granted (Err Memory) tokens new = granted → ⊥
+RunAnswers b old granted (Err (NotUtf8 i)) tokens new = ⊥

@@ -1,0 +1,53 @@
+-- The tokens of a tree, each before those of its parts.
+use Rattle.std.specs.Prelude.{ℕ, suc, List, [], ◌∷◌, ◌++◌}
+use Rattle.cj_spans.specs.declared.token.Kind.{Kind}
+use Rattle.cj_spans.specs.declared.token.Kind.TheVariants.{Text, Array, Object}
+use Rattle.cj_spans.specs.declared.token.Token.{Token}
+use Rattle.cj_spans.specs.Tree.{Tree, scalar, array, object, Items, no_items, item, Members, no_members, member}
+
+-- where a value or a name starts and stops
+pub record Span : Type 0 where
+  pub start : ℕ
+  pub stop : ℕ
+
+abbrev pub span_at : ℕ → ℕ → Span
+span_at i j = record { start = i; stop = j }
+
+-- one span for each value and each name, each before its parts
+abbrev mutual
+  pub preorder : Tree → List Span
+  preorder (scalar k a) = span_at a.start a.stop ∷ []
+  preorder (array i j ts) = span_at i j ∷ items_preorder ts
+  preorder (object i j ms) = span_at i j ∷ members_preorder ms
+
+  pub items_preorder : Items → List Span
+  items_preorder no_items = []
+  items_preorder (item t ts) = preorder t ++ items_preorder ts
+
+  pub members_preorder : Members → List Span
+  members_preorder no_members = []
+  members_preorder (member n t ms) = span_at n.start n.stop ∷ (preorder t ++ members_preorder ms)
+
+-- the token of a span, with the number of containers round it and its kind
+abbrev pub token_at : ℕ → ℕ → ℕ → Kind → Token
+token_at i j d k = record { start = i; stop = j; depth = d; kind = k }
+
+-- one token for each value and each name of a tree with d containers round it, each before its parts
+abbrev mutual
+  pub flatten : ℕ → Tree → List Token
+  flatten d (scalar k a) = token_at a.start a.stop d k ∷ []
+  flatten d (array i j ts) = token_at i j d Array ∷ flatten_items (suc d) ts
+  flatten d (object i j ms) = token_at i j d Object ∷ flatten_members (suc d) ms
+
+  pub flatten_items : ℕ → Items → List Token
+  flatten_items d no_items = []
+  flatten_items d (item t ts) = flatten d t ++ flatten_items d ts
+
+  pub flatten_members : ℕ → Members → List Token
+  flatten_members d no_members = []
+  flatten_members d (member n t ms) = token_at n.start n.stop d Text ∷ (flatten d t ++ flatten_members d ms)
+
+-- where each token starts and stops
+abbrev pub spans_of : List Token → List Span
+spans_of [] = []
+spans_of (t ∷ ts) = span_at t.start t.stop ∷ spans_of ts

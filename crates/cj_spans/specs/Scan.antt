@@ -1,0 +1,32 @@
+-- What a scan leaves in its lists.
+use Rattle.std.specs.Prelude.{◌≡◌, ℕ, ◌+◌, ◌*◌, ◌≤◌, List, [], ◌∷◌, length, max, IsTrue}
+use Rattle.cj_budget.specs.Bounded.{BoundedList, IsWithin}
+use Rattle.cj_spans.specs.declared.token.Token.{Token}
+use Rattle.cj_spans.specs.Tree.{Tree, size, nest}
+use Rattle.cj_spans.specs.Json.{Json}
+use Rattle.cj_spans.specs.Preorder.{flatten, spans_of}
+use Rattle.cj_spans.specs.Forest.{forest}
+
+-- the line spells the tree t and no other, which opens no more containers than the limit, and the lists show it
+pub record IsScanOf (line : List ℕ) (t : Tree) (old_tokens new_tokens : BoundedList Token) (old_stack new_stack : BoundedList ℕ) : Type 0 where
+  pub json : Json line t
+  pub only : (u : Tree) → Json line u → u ≡ t
+  pub shallow : nest t ≤ old_stack.limit
+  pub tokens : new_tokens.elements ≡ flatten 0 t
+  pub shown : forest line (spans_of new_tokens.elements) ≡ t ∷ []
+  pub count : length new_tokens.elements ≡ size t
+  pub closed : new_stack.elements ≡ []
+  pub token_peak : new_tokens.peak ≡ max old_tokens.peak (size t)
+  pub stack_peak : new_stack.peak ≡ max old_stack.peak (nest t)
+
+-- at every exit: twice the tokens are within the bytes, the open containers and one; and what the lists keep
+pub record KeepsLaw (line : List ℕ) (old_tokens new_tokens : BoundedList Token) (old_stack new_stack : BoundedList ℕ) : Type 0 where
+  pub law : 2 * length new_tokens.elements ≤ length line + length new_stack.elements + 1
+  pub token_limit : new_tokens.limit ≡ old_tokens.limit
+  pub token_peak : new_tokens.peak ≡ max old_tokens.peak (length new_tokens.elements)
+  pub token_room : IsTrue old_tokens.reserved → IsTrue new_tokens.reserved
+  pub tokens_within : IsWithin new_tokens
+  pub stack_limit : new_stack.limit ≡ old_stack.limit
+  pub stack_peak : old_stack.peak ≤ new_stack.peak
+  pub stack_room : IsTrue old_stack.reserved → IsTrue new_stack.reserved
+  pub stack_within : IsWithin new_stack

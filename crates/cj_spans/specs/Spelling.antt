@@ -1,0 +1,109 @@
+-- The spellings of RFC 8259: white space (section 2), literals (3), numbers (6) and strings (7), over bytes.
+use Rattle.std.specs.Prelude.{◌≡◌, ℕ, ◌≤◌, List, [], ◌∷◌, ◌++◌, Bool, true, ◌||◌, ◌&&◌, nat_eq, nat_le, not, ◌⊎◌}
+use Rattle.cj_spans.specs.declared.token.Kind.{Kind}
+use Rattle.cj_spans.specs.declared.token.Kind.TheVariants.{Null, Truth, Number, Text, Array, Object}
+
+-- space, tab, LF or CR
+abbrev pub is_blank : ℕ → Bool
+is_blank b = nat_eq b 32 || nat_eq b 9 || nat_eq b 10 || nat_eq b 13
+
+-- one of the bytes `0` to `9`
+abbrev pub IsDigit : ℕ → Type 0
+IsDigit b = (48 ≤ b) × (b ≤ 57)
+
+-- digits alone, perhaps none
+abbrev pub AllDigits : List ℕ → Type 0
+AllDigits [] = Unit {0}
+AllDigits (b ∷ s) = IsDigit b × AllDigits s
+
+-- one digit or more
+abbrev pub IsDigits : List ℕ → Type 0
+IsDigits [] = ⊥
+IsDigits (b ∷ s) = IsDigit b × AllDigits s
+
+-- minus: `-` or nothing
+abbrev pub IsMinus : List ℕ → Type 0
+IsMinus s = (s ≡ []) ⊎ (s ≡ 45 ∷ [])
+
+-- int: `0` alone, or digits of which the first is not `0`
+abbrev pub IsInt : List ℕ → Type 0
+IsInt [] = ⊥
+IsInt (b ∷ s) = ((b ≡ 48) × (s ≡ [])) ⊎ ((49 ≤ b) × (b ≤ 57) × AllDigits s)
+
+-- frac: nothing, or `.` and one digit or more
+abbrev pub IsFrac : List ℕ → Type 0
+IsFrac [] = Unit {0}
+IsFrac (b ∷ s) = (b ≡ 46) × IsDigits s
+
+-- the sign of an exponent: nothing, `+` or `-`
+abbrev pub IsExpSign : List ℕ → Type 0
+IsExpSign s = (s ≡ []) ⊎ ((s ≡ 43 ∷ []) ⊎ (s ≡ 45 ∷ []))
+
+-- a sign and one digit or more
+pub record IsExpRest (s : List ℕ) : Type 0 where
+  pub sign : List ℕ
+  pub digits : List ℕ
+  pub sign_is : IsExpSign sign
+  pub digits_are : IsDigits digits
+  pub joined : s ≡ sign ++ digits
+
+-- exp: nothing, or `e` or `E`, a sign, and one digit or more
+abbrev pub IsExp : List ℕ → Type 0
+IsExp [] = Unit {0}
+IsExp (b ∷ s) = ((b ≡ 101) ⊎ (b ≡ 69)) × IsExpRest s
+
+-- a number: minus, int, frac and exp
+pub record IsNumber (s : List ℕ) : Type 0 where
+  pub minus : List ℕ
+  pub int : List ℕ
+  pub frac : List ℕ
+  pub exp : List ℕ
+  pub minus_is : IsMinus minus
+  pub int_is : IsInt int
+  pub frac_is : IsFrac frac
+  pub exp_is : IsExp exp
+  pub joined : s ≡ minus ++ (int ++ (frac ++ exp))
+
+-- a hexadecimal digit of either case
+abbrev pub is_hex : ℕ → Bool
+is_hex b = (nat_le 48 b && nat_le b 57) || (nat_le 65 b && nat_le b 70) || (nat_le 97 b && nat_le b 102)
+
+-- a byte of a string that stands for itself or is a part of a longer character: neither a control character, `"` nor `\`
+abbrev pub is_plain : ℕ → Bool
+is_plain b = nat_le 32 b && (not (nat_eq b 34) && not (nat_eq b 92))
+
+-- what may follow a backslash, beside `u`: one of `"` `\` `/` `b` `f` `n` `r` `t`
+abbrev pub is_escape : ℕ → Bool
+is_escape b = nat_eq b 34 || nat_eq b 92 || nat_eq b 47 || nat_eq b 98 || nat_eq b 102 || nat_eq b 110 || nat_eq b 114 || nat_eq b 116
+
+-- what stands between the quotes: plain bytes, escapes, and `\u` with four hexadecimal digits
+pub data IsBody : List ℕ → Type 0 where
+  nothing : IsBody []
+  plain : (b : ℕ) (s : List ℕ) → is_plain b ≡ true → IsBody s → IsBody (b ∷ s)
+  escape : (b : ℕ) (s : List ℕ) → is_escape b ≡ true → IsBody s → IsBody (92 ∷ b ∷ s)
+  unicode : (h i j k : ℕ) (s : List ℕ) → is_hex h && is_hex i && is_hex j && is_hex k ≡ true → IsBody s → IsBody (92 ∷ 117 ∷ h ∷ i ∷ j ∷ k ∷ s)
+
+-- a string: a body between quotes
+pub record IsString (s : List ℕ) : Type 0 where
+  pub body : List ℕ
+  pub body_is : IsBody body
+  pub joined : s ≡ 34 ∷ (body ++ 34 ∷ [])
+
+-- the letters of `null`, `true` and `false`
+abbrev pub null_text : List ℕ
+null_text = 110 ∷ 117 ∷ 108 ∷ 108 ∷ []
+
+abbrev pub true_text : List ℕ
+true_text = 116 ∷ 114 ∷ 117 ∷ 101 ∷ []
+
+abbrev pub false_text : List ℕ
+false_text = 102 ∷ 97 ∷ 108 ∷ 115 ∷ 101 ∷ []
+
+-- these bytes spell a scalar of the kind
+abbrev pub IsScalar : Kind → List ℕ → Type 0
+IsScalar Null s = s ≡ null_text
+IsScalar Truth s = (s ≡ true_text) ⊎ (s ≡ false_text)
+IsScalar Number s = IsNumber s
+IsScalar Text s = IsString s
+IsScalar Array s = ⊥
+IsScalar Object s = ⊥

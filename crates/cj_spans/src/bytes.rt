@@ -1,0 +1,46 @@
+//! The bytes that the grammar tells apart.
+ghost use Rattle.std.specs.Prelude.{◌≡◌};
+ghost use Rattle.cj_spans.specs.Spelling.{is_blank as is_blank_of, is_hex as is_hex_of, is_plain as is_plain_of, is_escape as is_escape_of};
+ghost use Rattle.cj_spans.specs.Machine.{is_digit as is_digit_of};
+
+/// White space.
+pub fn is_blank(byte: u8) -> bool
+    ensures { result ≡ is_blank_of byte }
+{
+    byte == b' ' || byte == b'\t' || byte == b'\n' || byte == b'\r'
+}
+
+/// A digit.
+pub fn is_digit(byte: u8) -> bool
+    ensures { result ≡ is_digit_of byte }
+{
+    byte >= b'0' && byte <= b'9'
+}
+
+/// A hexadecimal digit of either case.
+pub fn is_hex(byte: u8) -> bool
+    ensures { result ≡ is_hex_of byte }
+{
+    is_digit(byte) || (byte >= b'A' && byte <= b'F') || (byte >= b'a' && byte <= b'f')
+}
+
+/// What may follow a backslash, beside `u`.
+pub fn is_escape(byte: u8) -> bool
+    ensures { result ≡ is_escape_of byte }
+{
+    byte == b'"'
+        || byte == b'\\'
+        || byte == b'/'
+        || byte == b'b'
+        || byte == b'f'
+        || byte == b'n'
+        || byte == b'r'
+        || byte == b't'
+}
+
+/// A byte of a string that stands for itself, or is a part of a longer character.
+pub fn is_plain(byte: u8) -> bool
+    ensures { result ≡ is_plain_of byte }
+{
+    byte >= b' ' && byte != b'"' && byte != b'\\'
+}

@@ -1,0 +1,274 @@
+//! How far the spelling of a scalar or a name has been read.
+ghost use Rattle.std.specs.Prelude.{◌≡◌, ◌≤◌, ◌<◌, ℕ, length, suc, Some, true};
+ghost use Rattle.cj_spans.specs.declared.lex.Lex.{Lex as LexOf};
+ghost use Rattle.cj_spans.specs.declared.lex.Lex.TheVariants.{InText};
+ghost use Rattle.cj_spans.specs.Machine.{is_digit as is_digit_of, lex_start as lex_start_of, lex_step as lex_step_of, lex_kind as lex_kind_of, one as one_of, hex as hex_of, mark as mark_of, point_or_mark as point_or_mark_of, zero_or_whole as zero_or_whole_of, sign_mark as sign_mark_of, text_step as text_step_of, escape_step as escape_step_of, digit_or as digit_or_of, Continues, Halts};
+
+use crate::bytes::{is_digit, is_escape, is_hex, is_plain};
+use crate::token::Kind;
+
+/// What has been read of a scalar: letters of a literal, a part of a number, or a part of a string.
+#[derive(Clone, Copy)]
+pub enum Lex {
+    AfterN,
+    AfterNu,
+    AfterNul,
+    NullDone,
+    AfterT,
+    AfterTr,
+    AfterTru,
+    AfterF,
+    AfterFa,
+    AfterFal,
+    AfterFals,
+    TruthDone,
+    Minus,
+    Zero,
+    Whole,
+    Point,
+    Fraction,
+    Mark,
+    MarkSign,
+    Exponent,
+    InText,
+    Escape,
+    Hex4,
+    Hex3,
+    Hex2,
+    Hex1,
+    TextDone,
+}
+
+/// What the first byte of a scalar begins.
+#[inline(always)]
+pub fn lex_start(byte: u8) -> Option<Lex>
+    ensures { result ≡ lex_start_of byte }
+{
+    match byte {
+        b'n' => Some(Lex::AfterN),
+        b't' => Some(Lex::AfterT),
+        b'f' => Some(Lex::AfterF),
+        b'-' => Some(Lex::Minus),
+        b'0' => Some(Lex::Zero),
+        b'1'..=b'9' => Some(Lex::Whole),
+        b'"' => Some(Lex::InText),
+        _ => None,
+    }
+}
+
+/// The kind of the scalar, where it may end here.
+#[inline(always)]
+pub fn lex_kind(read: Lex) -> Option<Kind>
+    ensures { result ≡ lex_kind_of read }
+{
+    match read {
+        Lex::NullDone => Some(Kind::Null),
+        Lex::TruthDone => Some(Kind::Truth),
+        Lex::Zero => Some(Kind::Number),
+        Lex::Whole => Some(Kind::Number),
+        Lex::Fraction => Some(Kind::Number),
+        Lex::Exponent => Some(Kind::Number),
+        Lex::TextDone => Some(Kind::Text),
+        _ => None,
+    }
+}
+
+fn one(byte: u8, wanted: u8, next: Lex) -> Option<Lex>
+    ensures { result ≡ one_of byte wanted next }
+{
+    if byte == wanted { Some(next) } else { None }
+}
+
+fn hex(byte: u8, next: Lex) -> Option<Lex>
+    ensures { result ≡ hex_of byte next }
+{
+    if is_hex(byte) { Some(next) } else { None }
+}
+
+#[inline(always)]
+fn digit_or(byte: u8, next: Lex, other: Option<Lex>) -> Option<Lex>
+    ensures { result ≡ digit_or_of byte next other }
+{
+    if is_digit(byte) { Some(next) } else { other }
+}
+
+fn mark(byte: u8) -> Option<Lex>
+    ensures { result ≡ mark_of byte }
+{
+    if byte == b'e' || byte == b'E' {
+        Some(Lex::Mark)
+    } else {
+        None
+    }
+}
+
+fn point_or_mark(byte: u8) -> Option<Lex>
+    ensures { result ≡ point_or_mark_of byte }
+{
+    if byte == b'.' {
+        Some(Lex::Point)
+    } else {
+        mark(byte)
+    }
+}
+
+fn zero_or_whole(byte: u8) -> Option<Lex>
+    ensures { result ≡ zero_or_whole_of byte }
+{
+    match byte {
+        b'0' => Some(Lex::Zero),
+        b'1'..=b'9' => Some(Lex::Whole),
+        _ => None,
+    }
+}
+
+fn sign_mark(byte: u8) -> Option<Lex>
+    ensures { result ≡ sign_mark_of byte }
+{
+    if byte == b'+' || byte == b'-' {
+        Some(Lex::MarkSign)
+    } else {
+        None
+    }
+}
+
+#[inline(always)]
+fn text_step(byte: u8) -> Option<Lex>
+    ensures { result ≡ text_step_of byte }
+{
+    if byte == b'"' {
+        Some(Lex::TextDone)
+    } else if byte == b'\\' {
+        Some(Lex::Escape)
+    } else if byte >= b' ' {
+        Some(Lex::InText)
+    } else {
+        None
+    }
+}
+
+fn escape_step(byte: u8) -> Option<Lex>
+    ensures { result ≡ escape_step_of byte }
+{
+    if is_escape(byte) {
+        Some(Lex::InText)
+    } else if byte == b'u' {
+        Some(Lex::Hex4)
+    } else {
+        None
+    }
+}
+
+/// Reads one byte more of a scalar; None where the byte does not go on with it.
+#[inline(always)]
+pub fn lex_step(read: Lex, byte: u8) -> Option<Lex>
+    ensures { result ≡ lex_step_of read byte }
+{
+    match read {
+        Lex::InText => text_step(byte),
+        Lex::Whole => digit_or(byte, Lex::Whole, point_or_mark(byte)),
+        Lex::Fraction => digit_or(byte, Lex::Fraction, mark(byte)),
+        Lex::TextDone => None,
+        Lex::AfterN => one(byte, b'u', Lex::AfterNu),
+        Lex::AfterNu => one(byte, b'l', Lex::AfterNul),
+        Lex::AfterNul => one(byte, b'l', Lex::NullDone),
+        Lex::AfterT => one(byte, b'r', Lex::AfterTr),
+        Lex::AfterTr => one(byte, b'u', Lex::AfterTru),
+        Lex::AfterTru => one(byte, b'e', Lex::TruthDone),
+        Lex::AfterF => one(byte, b'a', Lex::AfterFa),
+        Lex::AfterFa => one(byte, b'l', Lex::AfterFal),
+        Lex::AfterFal => one(byte, b's', Lex::AfterFals),
+        Lex::AfterFals => one(byte, b'e', Lex::TruthDone),
+        Lex::NullDone => None,
+        Lex::TruthDone => None,
+        Lex::Minus => zero_or_whole(byte),
+        Lex::Zero => point_or_mark(byte),
+        Lex::Point => digit_or(byte, Lex::Fraction, None),
+        Lex::Mark => digit_or(byte, Lex::Exponent, sign_mark(byte)),
+        Lex::MarkSign => digit_or(byte, Lex::Exponent, None),
+        Lex::Exponent => digit_or(byte, Lex::Exponent, None),
+        Lex::Escape => escape_step(byte),
+        Lex::Hex4 => hex(byte, Lex::Hex3),
+        Lex::Hex3 => hex(byte, Lex::Hex2),
+        Lex::Hex2 => hex(byte, Lex::Hex1),
+        Lex::Hex1 => hex(byte, Lex::InText),
+    }
+}
+
+/// Skips the bytes of a string that stand for themselves.
+#[inline(always)]
+fn skip_plain(line: &[u8], place: usize) -> usize
+    requires { place ≤ length line.now }
+    ensures same { (i : ℕ) (x : LexOf) → Continues line.now i x place InText → Continues line.now i x result InText }
+    ensures order { place ≤ result }
+    ensures end { result ≤ length line.now }
+{
+    let mut stop = place;
+    while stop < line.len() && is_plain(line[stop]) {
+        stop += 1;
+    }
+    stop
+}
+
+/// Skips digits, which leave these readings of a number as they are.
+#[inline(always)]
+fn skip_digits(line: &[u8], read: Lex, place: usize) -> usize
+    requires stays { (b : ℕ) → is_digit_of b ≡ true → lex_step_of read b ≡ Some read }
+    requires within { place ≤ length line.now }
+    ensures same { (i : ℕ) (x : LexOf) → Continues line.now i x place read → Continues line.now i x result read }
+    ensures order { place ≤ result }
+    ensures end { result ≤ length line.now }
+{
+    let mut stop = place;
+    while stop < line.len() && is_digit(line[stop]) {
+        stop += 1;
+    }
+    stop
+}
+
+/// Skips the bytes that leave the reading as it is, where there may be many.
+#[inline(always)]
+fn skip(line: &[u8], read: Lex, place: usize) -> usize
+    requires { place ≤ length line.now }
+    ensures same { (i : ℕ) (x : LexOf) → Continues line.now i x place read → Continues line.now i x result read }
+    ensures order { place ≤ result }
+    ensures end { result ≤ length line.now }
+{
+    match read {
+        Lex::InText => skip_plain(line, place),
+        Lex::Whole => skip_digits(line, Lex::Whole, place),
+        Lex::Fraction => skip_digits(line, Lex::Fraction, place),
+        Lex::Exponent => skip_digits(line, Lex::Exponent, place),
+        _ => place,
+    }
+}
+
+/// How far a scalar goes, and what has been read of it there.
+#[derive(Clone, Copy)]
+pub struct Reach {
+    pub stop: usize,
+    pub read: Lex,
+}
+
+/// Reads on in the scalar that began at `start`, up to the first byte that does not go on with it.
+#[inline(always)]
+pub fn read_atom(line: &[u8], start: usize, first: Lex) -> Reach
+    requires within { start < length line.now }
+    ensures read { Continues line.now (suc start) first result.stop result.read }
+    ensures halts { Halts line.now result.stop result.read }
+    ensures order { start < result.stop }
+    ensures end { result.stop ≤ length line.now }
+{
+    let mut read = first;
+    let mut stop = skip(line, first, start + 1);
+    while stop < line.len() {
+        match lex_step(read, line[stop]) {
+            Some(next) => {
+                read = next;
+                stop = skip(line, next, stop + 1);
+            }
+            None => break,
+        }
+    }
+    Reach { stop, read }
+}

@@ -1,0 +1,35 @@
+//! JSON lines as lists of tokens.
+//!
+//! [`scan`] reads a line once. Where the line is a JSON text, it leaves one [`Token`] for each value
+//! and each member name, in the order in which they start; else it answers the place of the fault. It
+//! holds nothing but the two lists that it is given, a [`cj_budget::Bounded`] and a
+//! [`cj_budget::Stack`], so what it takes is bounded by the line's length and the depth limit.
+//! [`Reason`] is the list of all that a line can be refused for.
+//!
+//! ```text
+//! let mut tokens = Bounded::new(alloc, (line.len() + 64 + 1) / 2);
+//! let mut stack = Stack::new(alloc, 64); // at most 64 open arrays and objects
+//! match scan(line, &mut tokens, &mut stack) {
+//!     Ok(()) => {}                           // tokens.len() values and names
+//!     Err(ScanFault::Syntax(place)) => {}    // no JSON text begins with line[..=place]
+//!     Err(fault) => return Err(fault),
+//! }
+//! ```
+#![tactic(auto)]
+
+mod bytes;
+#[cfg(test)]
+mod examples;
+mod fault;
+mod lex;
+mod reason;
+mod scanner;
+mod step;
+#[cfg(test)]
+mod tests;
+mod token;
+
+pub use fault::ScanFault;
+pub use reason::Reason;
+pub use scanner::scan;
+pub use token::{Kind, Token};

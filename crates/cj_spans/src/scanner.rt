@@ -1,0 +1,182 @@
+//! The pass over a line.
+ghost use Rattle.std.specs.Prelude.{◌≡◌, ◌+◌, ◌/◌, ◌^◌, ◌≤◌, ◌<◌, ◌↔◌, ◌⊎◌, [], length, List, ℕ, suc, OnOk, OnErr, IsOk, IsErrOf, IsTrue, IsUtf8};
+ghost use Rattle.std.specs.Str.{IsValidUpTo};
+ghost use Rattle.cj_budget.specs.Bounded.{IsWithin};
+ghost use Rattle.cj_spans.specs.declared.step.Mode.TheVariants.{After};
+ghost use Rattle.cj_spans.specs.Tree.{Tree, nest};
+ghost use Rattle.cj_spans.specs.Json.{Json};
+ghost use Rattle.cj_spans.specs.Front.{SyntaxAt, DeepAt, NowhereDeep};
+ghost use Rattle.cj_spans.specs.Scan.{IsScanOf, KeepsLaw};
+ghost use Rattle.cj_spans.specs.Machine.{state, in_atom, phase_after, Ends, Grown, BeginsAtom, RunAnswers};
+
+use crate::fault::ScanFault;
+use crate::lex::{Lex, lex_kind, read_atom};
+use crate::step::{Mode, Move, Next, read_byte};
+use crate::token::Token;
+use cj_budget::{Bounded, Stack};
+use simdutf8::compat::from_utf8;
+
+/// Reads the rest of the scalar or the name that the byte at `place` began, and keeps its token.
+#[inline(always)]
+fn end_atom(
+    line: &[u8],
+    place: usize,
+    next: Mode,
+    first: Lex,
+    depth: usize,
+    tokens: &mut Bounded<Token>,
+) -> Result<Next, ScanFault>
+    requires small { (length line.now < 2 ^ 31) × (depth < 2 ^ 31) }
+    requires within { place < length line.now }
+    requires lists { IsWithin tokens.old }
+    requires room { length tokens.old.elements < tokens.old.limit }
+    ensures answer { (ks : List ℕ) (p : ℕ) → length ks ≡ depth → Ends line.now
+        (state (in_atom next place first) ks tokens.old.elements (suc place) p)
+        (IsTrue tokens.old.reserved) result tokens.new.elements }
+    ensures tokens { Grown tokens.old tokens.new }
+    ensures err { OnErr result (tokens.new ≡ tokens.old) }
+{
+    let reach = read_atom(line, place, first);
+    let Some(kind) = lex_kind(reach.read) else {
+        return Err(ScanFault::Syntax(reach.stop as u64));
+    };
+    let token = Token {
+        start: place as u32,
+        stop: reach.stop as u32,
+        depth: depth as u32,
+        kind,
+    };
+    match tokens.push(token) {
+        Ok(()) => Ok(Next {
+            mode: next,
+            place: reach.stop,
+        }),
+        Err(_) => Err(ScanFault::Memory),
+    }
+}
+
+/// Goes on after a move: past a scalar or a name, or to the next byte.
+#[inline(always)]
+fn follow(
+    line: &[u8],
+    place: usize,
+    mode: Mode,
+    taken: Move,
+    depth: usize,
+    tokens: &mut Bounded<Token>,
+) -> Result<Next, ScanFault>
+    requires small { (length line.now < 2 ^ 31) × (depth < 2 ^ 31) }
+    requires within { place < length line.now }
+    requires lists { IsWithin tokens.old }
+    requires room { BeginsAtom taken → length tokens.old.elements < tokens.old.limit }
+    ensures answer { (ks : List ℕ) (p : ℕ) → length ks ≡ depth → Ends line.now
+        (state (phase_after mode place taken) ks tokens.old.elements (suc place) p)
+        (IsTrue tokens.old.reserved) result tokens.new.elements }
+    ensures tokens { Grown tokens.old tokens.new }
+    ensures err { OnErr result (tokens.new ≡ tokens.old) }
+{
+    match taken {
+        Move::Stay => Ok(Next {
+            mode,
+            place: place + 1,
+        }),
+        Move::To(mode) => Ok(Next {
+            mode,
+            place: place + 1,
+        }),
+        Move::Open(mode) => Ok(Next {
+            mode,
+            place: place + 1,
+        }),
+        Move::Atom(next, first) => end_atom(line, place, next, first, depth, tokens),
+    }
+}
+
+/// Whether a text may end here.
+#[inline(always)]
+fn is_end(mode: Mode, stack: &Stack) -> bool
+    ensures { IsTrue result ↔ ((mode ≡ After) × (stack.now.elements ≡ [])) }
+{
+    match mode {
+        Mode::After => stack.is_empty(),
+        _ => false,
+    }
+}
+
+/// Reads the line, from empty lists.
+fn run(line: &[u8], tokens: &mut Bounded<Token>, stack: &mut Stack) -> Result<(), ScanFault>
+    requires short { length line.now ≤ 1073741824 }
+    requires room { (length line.now + stack.old.limit + 1) / 2 ≤ tokens.old.limit }
+    requires empty { (tokens.old.elements ≡ []) × (stack.old.elements ≡ []) }
+    requires lists { IsWithin tokens.old × IsWithin stack.old }
+    ensures answer { RunAnswers line.now stack.old
+        (IsTrue tokens.old.reserved × IsTrue stack.old.reserved) result tokens.new stack.new }
+    ensures law { KeepsLaw line.now tokens.old tokens.new stack.old stack.new }
+{
+    let mut mode = Mode::Ready;
+    let mut place = 0;
+    while place < line.len() {
+        let taken = match read_byte(mode, line[place], place, tokens, stack) {
+            Ok(taken) => taken,
+            Err(fault) => return Err(fault),
+        };
+        match follow(line, place, mode, taken, stack.len(), tokens) {
+            Ok(next) => {
+                mode = next.mode;
+                place = next.place;
+            }
+            Err(fault) => return Err(fault),
+        }
+    }
+    if is_end(mode, stack) {
+        Ok(())
+    } else {
+        Err(ScanFault::Syntax(place as u64))
+    }
+}
+
+/// Scans a line into tokens, under the stack's limit of open containers. Both lists are emptied
+/// first. At `Ok` there is one token for each value and each member name (RFC 8259).
+///
+/// A line that is not UTF-8 is refused as such, whatever else is wrong with it. A line that opens
+/// more containers than the limit allows is refused at the place of the first one too many: what
+/// comes after is not read. Else a line that is no JSON text is refused at the first place that no
+/// JSON text can have, or at its end. `Memory` comes where a list had to grow and was not granted
+/// it; whether the line has another fault is then not said.
+pub fn scan(line: &[u8], tokens: &mut Bounded<Token>, stack: &mut Stack) -> Result<(), ScanFault>
+    requires short { length line.now ≤ 1073741824 }
+    requires room { (length line.now + stack.old.limit + 1) / 2 ≤ tokens.old.limit }
+
+    // At Ok the lists show the one tree that the line spells.
+    ensures tree { OnOk result ((t : Tree)
+        × IsScanOf line.now t tokens.old tokens.new stack.old stack.new) }
+    ensures utf8 { ((i : ℕ) → IsErrOf result (ScanFault.NotUtf8 i) → ⊥) → IsUtf8 line.now }
+
+    // Each fault comes with its place.
+    ensures not_utf8 { (i : ℕ) → (IsErrOf result (ScanFault.NotUtf8 i) ↔ IsValidUpTo line.now i) }
+    ensures too_deep { (i : ℕ) → IsErrOf result (ScanFault.TooDeep i)
+        → DeepAt line.now stack.old.limit i }
+    ensures syntax { (i : ℕ) → IsErrOf result (ScanFault.Syntax i)
+        → SyntaxAt line.now i × NowhereDeep line.now stack.old.limit }
+    ensures memory { IsTrue tokens.old.reserved → IsTrue stack.old.reserved
+        → IsErrOf result ScanFault.Memory → ⊥ }
+
+    // And no line is answered otherwise, but for want of memory.
+    ensures finds_tree { IsUtf8 line.now → (t : Tree) → Json line.now t → nest t ≤ stack.old.limit
+        → IsOk result ⊎ IsErrOf result ScanFault.Memory }
+    ensures finds_deep { IsUtf8 line.now → (i : ℕ) → DeepAt line.now stack.old.limit i
+        → IsErrOf result (ScanFault.TooDeep i) ⊎ IsErrOf result ScanFault.Memory }
+    ensures finds_syntax { IsUtf8 line.now → NowhereDeep line.now stack.old.limit
+        → (i : ℕ) → SyntaxAt line.now i
+        → IsErrOf result (ScanFault.Syntax i) ⊎ IsErrOf result ScanFault.Memory }
+
+    // Whatever the answer, the lists keep the law of the bound.
+    ensures law { KeepsLaw line.now tokens.old tokens.new stack.old stack.new }
+{
+    tokens.clear();
+    stack.clear();
+    match from_utf8(line) {
+        Ok(_) => run(line, tokens, stack),
+        Err(error) => Err(ScanFault::NotUtf8(error.valid_up_to() as u64)),
+    }
+}

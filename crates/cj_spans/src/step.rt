@@ -1,0 +1,332 @@
+//! One byte of a line: what may come, and what the byte makes of the open containers and the tokens.
+ghost use Rattle.std.specs.Prelude.{◌≡◌, ◌^◌, ◌≤◌, ◌<◌, ◌++◌, ◌∷◌, [], length, List, ℕ, slice_get, Some, None, OnErr, IsTrue};
+ghost use Rattle.cj_budget.specs.Bounded.{IsWithin};
+ghost use Rattle.cj_spans.specs.declared.token.Token.{Token as TokenOf};
+ghost use Rattle.cj_spans.specs.declared.step.Mode.{Mode as ModeOf};
+ghost use Rattle.cj_spans.specs.Machine.{state, between, read as read_of, begin_value as begin_value_of, begin_name as begin_name_of, after_value as after_value_of, after_in as after_in_of, close_token as close_token_of, close_empty as close_empty_of, colon_step as colon_step_of, opened, Answers, Grown, Kept, BeginsValue};
+
+use crate::bytes::is_blank;
+use crate::fault::ScanFault;
+use crate::lex::{Lex, lex_start};
+use crate::token::{Kind, Token};
+use cj_budget::{Bounded, Refused, Stack};
+
+/// What may come next.
+#[derive(Clone, Copy)]
+pub enum Mode {
+    /// A value.
+    Ready,
+    /// A value or `]`.
+    FirstItem,
+    /// What follows a value.
+    After,
+    /// A name or `}`.
+    FirstName,
+    /// A name.
+    NextName,
+    /// A colon.
+    AfterName,
+}
+
+/// What a byte does.
+#[derive(Clone, Copy)]
+pub enum Move {
+    /// It is white space.
+    Stay,
+    /// It is a bracket or a sign.
+    To(Mode),
+    /// It opens a container.
+    Open(Mode),
+    /// It begins a scalar or a name, after which the mode comes.
+    Atom(Mode, Lex),
+}
+
+/// The token with a number.
+#[inline(always)]
+fn token_of(tokens: &[Token], number: u32) -> Option<Token>
+    ensures { result ≡ slice_get tokens.now number }
+{
+    tokens.get(number as usize).copied()
+}
+
+/// Opens a container.
+#[inline(always)]
+fn open(
+    kind: Kind,
+    next: Mode,
+    place: usize,
+    tokens: &mut Bounded<Token>,
+    stack: &mut Stack,
+) -> Result<Move, ScanFault>
+    requires small { (place < 2 ^ 31)
+        × (length tokens.old.elements < 2 ^ 31) × (length stack.old.elements < 2 ^ 31) }
+    requires lists { IsWithin tokens.old × IsWithin stack.old }
+    requires room { length tokens.old.elements < tokens.old.limit }
+    ensures answer { (m : ModeOf) (p : ℕ) → Answers
+        (Some (opened kind next (state (between m) stack.old.elements tokens.old.elements place p)))
+        m place p stack.old.limit (IsTrue tokens.old.reserved × IsTrue stack.old.reserved)
+        result stack.new.elements tokens.new.elements }
+    ensures tokens { Grown tokens.old tokens.new }
+    ensures stack { Kept stack.old stack.new }
+    ensures err { OnErr result ((tokens.new ≡ tokens.old)
+        × (length stack.old.elements ≤ length stack.new.elements)) }
+{
+    let depth = stack.len();
+    match stack.push(tokens.len() as u32) {
+        Ok(()) => {}
+        Err(Refused::Full(_)) => return Err(ScanFault::TooDeep(place as u64)),
+        Err(Refused::Memory(_)) => return Err(ScanFault::Memory),
+    }
+    let token = Token {
+        start: place as u32,
+        stop: 0,
+        depth: depth as u32,
+        kind,
+    };
+    match tokens.push(token) {
+        Ok(()) => Ok(Move::Open(next)),
+        Err(_) => Err(ScanFault::Memory),
+    }
+}
+
+/// Begins a value.
+#[inline(always)]
+fn begin_value(
+    byte: u8,
+    place: usize,
+    tokens: &mut Bounded<Token>,
+    stack: &mut Stack,
+) -> Result<Move, ScanFault>
+    requires small { (place < 2 ^ 31)
+        × (length tokens.old.elements < 2 ^ 31) × (length stack.old.elements < 2 ^ 31) }
+    requires lists { IsWithin tokens.old × IsWithin stack.old }
+    requires room { length tokens.old.elements < tokens.old.limit }
+    ensures answer { (m : ModeOf) (p : ℕ) → Answers
+        (begin_value_of byte (state (between m) stack.old.elements tokens.old.elements place p))
+        m place p stack.old.limit (IsTrue tokens.old.reserved × IsTrue stack.old.reserved)
+        result stack.new.elements tokens.new.elements }
+    ensures tokens { Grown tokens.old tokens.new }
+    ensures stack { Kept stack.old stack.new }
+    ensures err { OnErr result ((tokens.new ≡ tokens.old)
+        × (length stack.old.elements ≤ length stack.new.elements)) }
+{
+    if byte == b'[' {
+        return open(Kind::Array, Mode::FirstItem, place, tokens, stack);
+    }
+    if byte == b'{' {
+        return open(Kind::Object, Mode::FirstName, place, tokens, stack);
+    }
+    match lex_start(byte) {
+        Some(first) => Ok(Move::Atom(Mode::After, first)),
+        None => Err(ScanFault::Syntax(place as u64)),
+    }
+}
+
+/// Closes the innermost container, whose token has this number.
+#[inline(always)]
+fn close(
+    number: u32,
+    place: usize,
+    tokens: &mut Bounded<Token>,
+    stack: &mut Stack,
+) -> Result<Move, ScanFault>
+    requires small { place < 2 ^ 31 }
+    requires lists { IsWithin tokens.old × IsWithin stack.old }
+    ensures answer { (m : ModeOf) (p : ℕ) → Answers
+        (close_token_of number (slice_get tokens.old.elements number)
+        (state (between m) stack.old.elements tokens.old.elements place p))
+        m place p stack.old.limit (IsTrue tokens.old.reserved × IsTrue stack.old.reserved)
+        result stack.new.elements tokens.new.elements }
+    ensures tokens { Grown tokens.old tokens.new }
+    ensures stack { Kept stack.old stack.new }
+    ensures err { OnErr result ((tokens.new ≡ tokens.old)
+        × (length stack.old.elements ≤ length stack.new.elements)) }
+{
+    match token_of(tokens.as_slice(), number) {
+        None => Err(ScanFault::Syntax(place as u64)),
+        Some(token) => {
+            let whole = Token {
+                stop: place as u32 + 1,
+                ..token
+            };
+            tokens.set(number as usize, whole);
+            stack.pop();
+            Ok(Move::To(Mode::After))
+        }
+    }
+}
+
+/// Closes the innermost container, which holds nothing.
+fn close_empty(
+    place: usize,
+    tokens: &mut Bounded<Token>,
+    stack: &mut Stack,
+) -> Result<Move, ScanFault>
+    requires small { place < 2 ^ 31 }
+    requires lists { IsWithin tokens.old × IsWithin stack.old }
+    ensures answer { (m : ModeOf) (p : ℕ) → Answers
+        (close_empty_of (state (between m) stack.old.elements tokens.old.elements place p))
+        m place p stack.old.limit (IsTrue tokens.old.reserved × IsTrue stack.old.reserved)
+        result stack.new.elements tokens.new.elements }
+    ensures tokens { Grown tokens.old tokens.new }
+    ensures stack { Kept stack.old stack.new }
+    ensures err { OnErr result ((tokens.new ≡ tokens.old)
+        × (length stack.old.elements ≤ length stack.new.elements)) }
+{
+    match stack.top() {
+        None => Err(ScanFault::Syntax(place as u64)),
+        Some(number) => close(number, place, tokens, stack),
+    }
+}
+
+/// Goes on after a value in the container of this kind: a comma, or the bracket that closes it.
+#[inline(always)]
+fn after_in(
+    kind: Kind,
+    number: u32,
+    byte: u8,
+    place: usize,
+    tokens: &mut Bounded<Token>,
+    stack: &mut Stack,
+) -> Result<Move, ScanFault>
+    requires small { place < 2 ^ 31 }
+    requires lists { IsWithin tokens.old × IsWithin stack.old }
+    ensures answer { (m : ModeOf) (p : ℕ) (t : TokenOf) → slice_get tokens.old.elements number ≡ Some t → Answers
+        (after_in_of kind byte number t (state (between m) stack.old.elements tokens.old.elements place p))
+        m place p stack.old.limit (IsTrue tokens.old.reserved × IsTrue stack.old.reserved)
+        result stack.new.elements tokens.new.elements }
+    ensures tokens { Grown tokens.old tokens.new }
+    ensures stack { Kept stack.old stack.new }
+    ensures err { OnErr result ((tokens.new ≡ tokens.old)
+        × (length stack.old.elements ≤ length stack.new.elements)) }
+{
+    match kind {
+        Kind::Array => {
+            if byte == b',' {
+                Ok(Move::To(Mode::Ready))
+            } else if byte == b']' {
+                close(number, place, tokens, stack)
+            } else {
+                Err(ScanFault::Syntax(place as u64))
+            }
+        }
+        Kind::Object => {
+            if byte == b',' {
+                Ok(Move::To(Mode::NextName))
+            } else if byte == b'}' {
+                close(number, place, tokens, stack)
+            } else {
+                Err(ScanFault::Syntax(place as u64))
+            }
+        }
+        _ => Err(ScanFault::Syntax(place as u64)),
+    }
+}
+
+/// Goes on after a value.
+#[inline(always)]
+fn after_value(
+    byte: u8,
+    place: usize,
+    tokens: &mut Bounded<Token>,
+    stack: &mut Stack,
+) -> Result<Move, ScanFault>
+    requires small { place < 2 ^ 31 }
+    requires lists { IsWithin tokens.old × IsWithin stack.old }
+    ensures answer { (m : ModeOf) (p : ℕ) → Answers
+        (after_value_of byte (state (between m) stack.old.elements tokens.old.elements place p))
+        m place p stack.old.limit (IsTrue tokens.old.reserved × IsTrue stack.old.reserved)
+        result stack.new.elements tokens.new.elements }
+    ensures tokens { Grown tokens.old tokens.new }
+    ensures stack { Kept stack.old stack.new }
+    ensures err { OnErr result ((tokens.new ≡ tokens.old)
+        × (length stack.old.elements ≤ length stack.new.elements)) }
+{
+    match stack.top() {
+        None => Err(ScanFault::Syntax(place as u64)),
+        Some(number) => match token_of(tokens.as_slice(), number) {
+            None => Err(ScanFault::Syntax(place as u64)),
+            Some(token) => after_in(token.kind, number, byte, place, tokens, stack),
+        },
+    }
+}
+
+/// Begins a name.
+#[inline(always)]
+fn begin_name(byte: u8, place: usize) -> Result<Move, ScanFault>
+    ensures { (m : ModeOf) (ks : List ℕ) (ts : List TokenOf) (p d : ℕ) → Answers
+        (begin_name_of byte (state (between m) ks ts place p)) m place p d (Unit {0}) result ks ts }
+{
+    if byte == b'"' {
+        Ok(Move::Atom(Mode::AfterName, Lex::InText))
+    } else {
+        Err(ScanFault::Syntax(place as u64))
+    }
+}
+
+/// Reads the colon after a name.
+#[inline(always)]
+fn read_colon(byte: u8, place: usize) -> Result<Move, ScanFault>
+    ensures { (m : ModeOf) (ks : List ℕ) (ts : List TokenOf) (p d : ℕ) → Answers
+        (colon_step_of byte (state (between m) ks ts place p)) m place p d (Unit {0}) result ks ts }
+{
+    if byte == b':' {
+        Ok(Move::To(Mode::Ready))
+    } else {
+        Err(ScanFault::Syntax(place as u64))
+    }
+}
+
+/// Reads a byte between scalars and names.
+#[inline(always)]
+pub fn read_byte(
+    mode: Mode,
+    byte: u8,
+    place: usize,
+    tokens: &mut Bounded<Token>,
+    stack: &mut Stack,
+) -> Result<Move, ScanFault>
+    requires small { (place < 2 ^ 31)
+        × (length tokens.old.elements < 2 ^ 31) × (length stack.old.elements < 2 ^ 31) }
+    requires lists { IsWithin tokens.old × IsWithin stack.old }
+    requires room { BeginsValue mode → length tokens.old.elements < tokens.old.limit }
+    ensures answer { (p : ℕ) → Answers
+        (read_of mode byte (state (between mode) stack.old.elements tokens.old.elements place p))
+        mode place p stack.old.limit (IsTrue tokens.old.reserved × IsTrue stack.old.reserved)
+        result stack.new.elements tokens.new.elements }
+    ensures tokens { Grown tokens.old tokens.new }
+    ensures stack { Kept stack.old stack.new }
+    ensures err { OnErr result ((tokens.new ≡ tokens.old)
+        × (length stack.old.elements ≤ length stack.new.elements)) }
+{
+    if is_blank(byte) {
+        return Ok(Move::Stay);
+    }
+    match mode {
+        Mode::Ready => begin_value(byte, place, tokens, stack),
+        Mode::FirstItem => {
+            if byte == b']' {
+                close_empty(place, tokens, stack)
+            } else {
+                begin_value(byte, place, tokens, stack)
+            }
+        }
+        Mode::After => after_value(byte, place, tokens, stack),
+        Mode::FirstName => {
+            if byte == b'}' {
+                close_empty(place, tokens, stack)
+            } else {
+                begin_name(byte, place)
+            }
+        }
+        Mode::NextName => begin_name(byte, place),
+        Mode::AfterName => read_colon(byte, place),
+    }
+}
+
+/// What may come next, and where.
+#[derive(Clone, Copy)]
+pub struct Next {
+    pub mode: Mode,
+    pub place: usize,
+}

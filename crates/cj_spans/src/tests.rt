@@ -1,0 +1,334 @@
+//! Rows of scans and reasons. Expected places and counts are worked out by hand from the grammar.
+use crate::{Kind, Reason, ScanFault, Token, scan};
+use cj_budget::{Bounded, Stack};
+use std::alloc::Global;
+use std::process::Abort;
+use std::test::Fail;
+
+/// A line, the depth limit, and the tokens and the greatest number of open containers, or the fault.
+#[derive(Clone, Copy, Drop)]
+struct Row {
+    name: &'static str,
+    line: &'static [u8],
+    depth: usize,
+    want: Result<(usize, usize), ScanFault>,
+}
+
+/// A header of 140 bytes.
+const HEADER: &[u8] =
+    b"{\"type\":\"CityJSON\",\"version\":\"2.0\",\"transform\":{\"scale\":[0.001,0.001,0.001],\"translate\":[1000.0,2000.0,0.0]},\"CityObjects\":{},\"vertices\":[]}";
+
+/// A feature of 210 bytes.
+const FEATURE: &[u8] =
+    b"{\"type\":\"CityJSONFeature\",\"id\":\"b1\",\"CityObjects\":{\"b1\":{\"type\":\"Building\",\"geometry\":[{\"type\":\"MultiSurface\",\"lod\":\"2.2\",\"boundaries\":[[[0,1,2,3]]]}]}},\"vertices\":[[0,0,0],[1000,0,0],[1000,1000,0],[0,1000,0]]}";
+
+/// A feature of 89 bytes.
+const SMALL: &[u8] =
+    b"{\"type\":\"CityJSONFeature\",\"id\":\"b\",\"CityObjects\":{\"b\":{\"type\":\"Building\"}},\"vertices\":[]}";
+
+/// Scans a line into fresh lists and compares the answer, the tokens and the peaks.
+fn meets(rt: &impl Abort, alloc: Global, row: &Row) {
+    let line = row.line;
+    let depth = row.depth;
+    assert!(rt; line.len() <= 100_000, "{}", row.name);
+    assert!(rt; depth <= 2_000, "{}", row.name);
+    let mut tokens: Bounded<Token> = Bounded::new(alloc, (line.len() + depth + 1) / 2);
+    let mut stack = Stack::new(alloc, depth);
+    let got = match scan(line, &mut tokens, &mut stack) {
+        Ok(()) => Ok((tokens.len(), stack.peak())),
+        Err(fault) => Err(fault),
+    };
+    assert_eq!(rt; got, row.want, "{}", row.name);
+    assert_eq!(rt; tokens.peak(), tokens.len(), "{}", row.name);
+    if got.is_ok() {
+        assert!(rt; stack.is_empty(), "{}", row.name);
+    }
+}
+
+/// A row at the usual depth limit.
+fn at_64(line: &'static [u8], want: Result<(usize, usize), ScanFault>) -> Row {
+    Row {
+        name: "a row at depth 64",
+        line,
+        depth: 64,
+        want,
+    }
+}
+
+#[test]
+fn lines_that_are_texts(rt: HostRuntime) -> Result<(), Fail> {
+    let rows = [
+        at_64(b"{\"a\":{\"b\":[]},\"c\":0}", Ok((7, 3))),
+        at_64(b"[[],{},[1]]", Ok((5, 2))),
+        at_64(b"[1,2]", Ok((3, 1))),
+        at_64(HEADER, Ok((21, 3))),
+        at_64(FEATURE, Ok((44, 8))),
+        at_64(SMALL, Ok((13, 3))),
+        at_64(b" \t\r\n7 \r", Ok((1, 0))),
+        at_64(b"-0.5e+10", Ok((1, 0))),
+        at_64(b"[0,-0,10,1.25,1e5,1E-05,-1.0e+0]", Ok((8, 1))),
+        at_64(b"[null,true,false]", Ok((4, 1))),
+        at_64(
+            b"\"\\\"\\\\\\/\\b\\f\\n\\r\\t\\u00e9\\uD83D\\uDE00\"",
+            Ok((1, 0)),
+        ),
+        at_64(b"\"\xE2\x82\xAC\"", Ok((1, 0))),
+        at_64(b"{ \"\" : { } , \"a\" : [ ] }", Ok((5, 2))),
+    ];
+    for r in &rows {
+        meets(&rt, rt.alloc(), r);
+    }
+    Ok(())
+}
+
+#[test]
+fn lines_that_are_no_texts(rt: HostRuntime) -> Result<(), Fail> {
+    let rows = [
+        at_64(b"", Err(ScanFault::Syntax(0))),
+        at_64(b"\r", Err(ScanFault::Syntax(1))),
+        at_64(b"01", Err(ScanFault::Syntax(1))),
+        at_64(b"-", Err(ScanFault::Syntax(1))),
+        at_64(b"[1,]", Err(ScanFault::Syntax(3))),
+        at_64(b"\"\\q\"", Err(ScanFault::Syntax(2))),
+        at_64(b"tru}", Err(ScanFault::Syntax(3))),
+        at_64(b"{} x", Err(ScanFault::Syntax(3))),
+        at_64(b"[1", Err(ScanFault::Syntax(2))),
+        at_64(b"[1,2", Err(ScanFault::Syntax(4))),
+        at_64(
+            b"{\"type\":\"CityJSONFeature\",}",
+            Err(ScanFault::Syntax(26)),
+        ),
+        at_64(b"\xEF\xBB\xBF{}", Err(ScanFault::Syntax(0))),
+        at_64(b"\x1E{}", Err(ScanFault::Syntax(0))),
+        at_64(b"[1 2]", Err(ScanFault::Syntax(3))),
+        at_64(b"[,1]", Err(ScanFault::Syntax(1))),
+        at_64(b"{\"a\" 1}", Err(ScanFault::Syntax(5))),
+        at_64(b"{\"a\":}", Err(ScanFault::Syntax(5))),
+        at_64(b"{a:1}", Err(ScanFault::Syntax(1))),
+        at_64(b"{\"a\":1]", Err(ScanFault::Syntax(6))),
+        at_64(b"[1}", Err(ScanFault::Syntax(2))),
+        at_64(b"1.", Err(ScanFault::Syntax(2))),
+        at_64(b"1.e1", Err(ScanFault::Syntax(2))),
+        at_64(b"+1", Err(ScanFault::Syntax(0))),
+        at_64(b".5", Err(ScanFault::Syntax(0))),
+        at_64(b"1e", Err(ScanFault::Syntax(2))),
+        at_64(b"1e+", Err(ScanFault::Syntax(3))),
+        at_64(b"nulL", Err(ScanFault::Syntax(3))),
+        at_64(b"\"a", Err(ScanFault::Syntax(2))),
+        at_64(b"\"\x1F\"", Err(ScanFault::Syntax(1))),
+        at_64(b"\"\\u12g4\"", Err(ScanFault::Syntax(5))),
+        at_64(b"\"\\u123\"", Err(ScanFault::Syntax(6))),
+        at_64(b"}", Err(ScanFault::Syntax(0))),
+        at_64(b"[]]", Err(ScanFault::Syntax(2))),
+        at_64(b"\"a\"\"b\"", Err(ScanFault::Syntax(3))),
+    ];
+    for r in &rows {
+        meets(&rt, rt.alloc(), r);
+    }
+    Ok(())
+}
+
+#[test]
+fn lines_that_are_no_utf8(rt: HostRuntime) -> Result<(), Fail> {
+    let rows = [
+        at_64(b"}\xFF", Err(ScanFault::NotUtf8(1))),
+        at_64(b"\"\xE2\x82\"", Err(ScanFault::NotUtf8(1))),
+        at_64(b"\"a\xE2\x82", Err(ScanFault::NotUtf8(2))),
+        at_64(b"\x80", Err(ScanFault::NotUtf8(0))),
+    ];
+    for r in &rows {
+        meets(&rt, rt.alloc(), r);
+    }
+    Ok(())
+}
+
+#[test]
+fn lines_that_are_nested(rt: HostRuntime) -> Result<(), Fail> {
+    let rows = [
+        Row {
+            name: "a fault after the place that is too deep",
+            line: b"[[}",
+            depth: 1,
+            want: Err(ScanFault::TooDeep(1)),
+        },
+        Row {
+            name: "no container is allowed",
+            line: b" {",
+            depth: 0,
+            want: Err(ScanFault::TooDeep(1)),
+        },
+        Row {
+            name: "as deep as allowed",
+            line: b"[{\"a\":[]}]",
+            depth: 3,
+            want: Ok((4, 3)),
+        },
+        Row {
+            name: "one too deep",
+            line: b"[{\"a\":[]}]",
+            depth: 2,
+            want: Err(ScanFault::TooDeep(6)),
+        },
+        Row {
+            name: "a fault before the place that is too deep",
+            line: b"[}[",
+            depth: 1,
+            want: Err(ScanFault::Syntax(1)),
+        },
+        Row {
+            name: "not UTF-8 after the place that is too deep",
+            line: b"[[\xFF",
+            depth: 1,
+            want: Err(ScanFault::NotUtf8(2)),
+        },
+        Row {
+            name: "opened and closed again",
+            line: b"[[],[],[]]",
+            depth: 2,
+            want: Ok((4, 2)),
+        },
+    ];
+    for r in &rows {
+        meets(&rt, rt.alloc(), r);
+    }
+    Ok(())
+}
+
+#[test]
+fn a_thousand_brackets(rt: HostRuntime) -> Result<(), Fail> {
+    let line = [b'['; 1_025];
+    let alloc = rt.alloc();
+    let mut tokens: Bounded<Token> = Bounded::new(alloc, 1_025);
+    let mut deep = Stack::new(alloc, 1_024);
+    assert_eq!(rt;
+        scan(&line, &mut tokens, &mut deep),
+        Err(ScanFault::TooDeep(1_024))
+    );
+    assert_eq!(rt; tokens.len(), 1_024);
+    assert_eq!(rt; deep.len(), 1_024);
+    assert_eq!(rt;
+        scan(&line[..1_024], &mut tokens, &mut deep),
+        Err(ScanFault::Syntax(1_024))
+    );
+    let mut shallow = Stack::new(alloc, 64);
+    assert_eq!(rt;
+        scan(&line, &mut tokens, &mut shallow),
+        Err(ScanFault::TooDeep(64))
+    );
+    assert_eq!(rt; tokens.len(), 64);
+    assert_eq!(rt; tokens.peak(), 1_024);
+    assert_eq!(rt; shallow.peak(), 64);
+    Ok(())
+}
+
+#[test]
+fn tokens_stand_where_the_values_do(rt: HostRuntime) -> Result<(), Fail> {
+    let line = b" {\"a\" : [true, -1.5e3,\"x\"],\"b\":null}";
+    let mut tokens: Bounded<Token> = Bounded::new(rt.alloc(), 64);
+    let mut stack = Stack::new(rt.alloc(), 4);
+    assert_eq!(rt; scan(line, &mut tokens, &mut stack), Ok(()));
+    let want = [
+        token_at(1, 36, 0, Kind::Object),
+        token_at(2, 5, 1, Kind::Text),
+        token_at(8, 26, 1, Kind::Array),
+        token_at(9, 13, 2, Kind::Truth),
+        token_at(15, 21, 2, Kind::Number),
+        token_at(22, 25, 2, Kind::Text),
+        token_at(27, 30, 1, Kind::Text),
+        token_at(31, 35, 1, Kind::Null),
+    ];
+    assert_eq!(rt; tokens.as_slice(), want.as_slice());
+    Ok(())
+}
+
+fn token_at(start: u32, stop: u32, depth: u32, kind: Kind) -> Token {
+    Token {
+        start,
+        stop,
+        depth,
+        kind,
+    }
+}
+
+#[test]
+fn lists_are_emptied_first(rt: HostRuntime) -> Result<(), Fail> {
+    let mut tokens: Bounded<Token> = Bounded::new(rt.alloc(), 100);
+    let mut stack = Stack::new(rt.alloc(), 8);
+    assert_eq!(rt;
+        scan(b"[[[", &mut tokens, &mut stack),
+        Err(ScanFault::Syntax(3))
+    );
+    assert_eq!(rt; stack.len(), 3);
+    assert_eq!(rt; scan(b"[1,2,3,4]", &mut tokens, &mut stack), Ok(()));
+    assert_eq!(rt; tokens.len(), 5);
+    assert_eq!(rt; scan(b"7", &mut tokens, &mut stack), Ok(()));
+    assert_eq!(rt; tokens.len(), 1);
+    assert_eq!(rt; tokens.peak(), 5);
+    assert_eq!(rt; stack.peak(), 3);
+    assert_eq!(rt; tokens.limit(), 100);
+    assert_eq!(rt; stack.limit(), 8);
+    Ok(())
+}
+
+// Run also with each growth refused in turn, by `rt try --test --fail-alloc N`.
+#[test]
+fn a_refused_growth_is_memory(rt: HostRuntime) -> Result<(), Fail> {
+    let line = [b'['; 300];
+    let mut tokens: Bounded<Token> = Bounded::new(rt.alloc(), 300);
+    let mut stack = Stack::new(rt.alloc(), 300);
+    let got = scan(&line, &mut tokens, &mut stack);
+    if got == Err(ScanFault::Memory) {
+        assert!(rt; tokens.len() < 300);
+        assert_eq!(rt; tokens.peak(), tokens.len());
+        assert!(rt; stack.len() <= 300);
+        assert!(rt; 2 * tokens.len() <= 301 + stack.len());
+    } else {
+        assert_eq!(rt; got, Err(ScanFault::Syntax(300)));
+    }
+    assert_eq!(rt;
+        scan(&line, &mut tokens, &mut stack),
+        Err(ScanFault::Syntax(300))
+    );
+    assert_eq!(rt; tokens.len(), 300);
+    assert_eq!(rt; stack.len(), 300);
+    Ok(())
+}
+
+#[test]
+fn reasons_have_their_codes_and_texts(rt: HostRuntime) -> Result<(), Fail> {
+    let rows = [
+        (Reason::NoHeader, 1u8, "no header line"),
+        (Reason::LineTooLong, 2u8, "line too long"),
+        (Reason::NotUtf8, 3u8, "not UTF-8"),
+        (Reason::Syntax, 4u8, "syntax"),
+        (Reason::TooDeep, 5u8, "nested too deep"),
+        (Reason::MissingMember, 10u8, "member missing"),
+        (Reason::DuplicateName, 11u8, "duplicate name"),
+        (Reason::WrongKind, 12u8, "wrong kind"),
+        (Reason::NumberRange, 13u8, "number out of range"),
+        (Reason::WrongType, 14u8, "wrong type"),
+        (Reason::WrongVersion, 15u8, "wrong version"),
+        (Reason::NotEmpty, 16u8, "not empty"),
+        (Reason::NotThree, 17u8, "not three items"),
+        (Reason::NotWhole, 18u8, "not a whole number"),
+        (Reason::UnknownObjectType, 19u8, "unknown object type"),
+        (Reason::IdNotFound, 20u8, "id not among the city objects"),
+        (Reason::ChildNotFound, 21u8, "child not found"),
+        (Reason::LinkNotMutual, 22u8, "link not mutual"),
+        (Reason::NoParent, 23u8, "no parent in the feature"),
+        (Reason::UnknownGeometryType, 24u8, "unknown geometry type"),
+        (Reason::VertexIndex, 25u8, "vertex index out of range"),
+        (Reason::SemanticsCount, 26u8, "semantics count"),
+        (Reason::SemanticsIndex, 27u8, "semantics index out of range"),
+        (Reason::TemplateIndex, 28u8, "template index out of range"),
+        (Reason::BadInstance, 29u8, "bad instance"),
+        (Reason::TransformNotFixed, 30u8, "transform not fixed"),
+    ];
+    for (reason, code, text) in &rows {
+        assert_eq!(rt; reason.code(), *code);
+        assert_eq!(rt; reason.text(), *text);
+    }
+    assert!(rt; Reason::NoHeader < Reason::LineTooLong);
+    assert!(rt; Reason::TransformNotFixed > Reason::MissingMember);
+    Ok(())
+}

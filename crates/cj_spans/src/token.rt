@@ -1,0 +1,28 @@
+//! Tokens: where each value and each member name of a line stands.
+
+/// The kinds of JSON values.
+#[derive(Clone, Copy, Debug, PartialEq, Eq)]
+pub enum Kind {
+    /// `null`.
+    Null,
+    /// `true` or `false`.
+    Truth,
+    /// A number.
+    Number,
+    /// A string.
+    Text,
+    /// An array.
+    Array,
+    /// An object.
+    Object,
+}
+
+/// One value or member name of a line: the places where it starts and stops, how many containers it
+/// stands in, and its kind.
+#[derive(Clone, Copy, Debug, PartialEq, Eq)]
+pub struct Token {
+    pub(crate) start: u32,
+    pub(crate) stop: u32,
+    pub(crate) depth: u32,
+    pub(crate) kind: Kind,
+}
