@@ -56,7 +56,7 @@ other_mode m ks ls ts us i j p q n h = absurd (n (mode_of m After (ap (λ u. u.p
     mode_of : (x y : Mode) → between x ≡ between y → x ≡ y
     mode_of x y h = cc
 
-spells : {b : List ℕ} (s : State) → Inv b s → (us : List Token) (q : ℕ) → settle s ≡ Some (idle After [] us (length b) q) → Spells b us
+pub spells : {b : List ℕ} (s : State) → Inv b s → (us : List Token) (q : ℕ) → settle s ≡ Some (idle After [] us (length b) q) → Spells b us
 spells s (ready k p ks ts c) us q h = other_mode Ready _ _ _ _ _ _ _ _ (λ (e : Ready ≡ After). cc) h
 spells s (first_item e k p ks ts c o w) us q h = other_mode FirstItem _ _ _ _ _ _ _ _ (λ (e : FirstItem ≡ After). cc) h
 spells s (after_tree e j k p ks ts t c v w) us q h = spells_at e j k p q ks ts us t c v w (some_same _ _ h)
@@ -88,7 +88,7 @@ json_only b t u j k =
     let f : flatten 0 u ≡ flatten 0 t = ap (λ s. s.tokens) e in
     tree_by_preorder b u t k j (sym (spans_of-flatten 0 u) ∙ ap spans_of f ∙ spans_of-flatten 0 t)
 
-nest_of : (b : List ℕ) (t : Tree) (s : State) (us : List Token) (p : ℕ) → Json b t → Reaches b start s → settle s ≡ Some (idle After [] us (length b) p) → p ≡ nest t
+pub nest_of : (b : List ℕ) (t : Tree) (s : State) (us : List Token) (p : ℕ) → Json b t → Reaches b start s → settle s ≡ Some (idle After [] us (length b) p) → p ≡ nest t
 nest_of b t s us p j r h =
     let q = run_json b t j in
     let e = same_end b (idle After [] us (length b) p) _ s q.at r q.reached h q.settles refl in
@@ -113,7 +113,7 @@ front_before b s k r l =
 live_at : (b : List ℕ) (i n : ℕ) → Front b 0 i n → Live b start i (n + 0)
 live_at b i n f = front_runs f start Ready [] [] 0 tt here
 
-sticks_syntax : (b : List ℕ) (i : ℕ) → Sticks b start i → SyntaxAt b i
+pub sticks_syntax : (b : List ℕ) (i : ℕ) → Sticks b start i → SyntaxAt b i
 sticks_syntax b i a =
     let e = a.at in
     elim a.stuck [
@@ -159,7 +159,7 @@ nowhere_deep b s d r h stop i a =
     same_or : (x y : ℕ) → x ≤ y → (x ≡ y) ⊎ (x < y)
     same_or x y h = grind arith
 
-sticks_nowhere : (b : List ℕ) (d i : ℕ) → SticksAt b d i → NowhereDeep b d
+pub sticks_nowhere : (b : List ℕ) (d i : ℕ) → SticksAt b d i → NowhereDeep b d
 sticks_nowhere b d i a =
     let e = a.sticks.at in
     nowhere_deep b a.sticks.last d a.sticks.reached a.shallow
@@ -171,7 +171,7 @@ accepts_nowhere b tokens old new a =
     let p = e.place in let d = e.deepest in let s = a.shallow in
     nowhere_deep b a.settles.last old.limit a.settles.reached (omega arith) (inl (omega arith))
 
-sinks_deep : (b : List ℕ) (d i : ℕ) → SinksAt b d i → DeepAt b d i
+pub sinks_deep : (b : List ℕ) (d i : ℕ) → SinksAt b d i → DeepAt b d i
 sinks_deep b d i a = by_step (step (byte b i) a.last) refl a.deep
   where
     by_step : (o : Option State) → step (byte b i) a.last ≡ o → IsSomeAnd o (λ u. length u.stack ≡ suc d) → DeepAt b d i
