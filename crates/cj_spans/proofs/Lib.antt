@@ -1,6 +1,7 @@
 pub mod Steps
 pub mod Spellings
 pub mod Atoms
+pub mod Judgements
 pub mod Lists
 pub mod Runs
 pub mod Places

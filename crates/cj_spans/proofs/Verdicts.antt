@@ -88,7 +88,7 @@ json_only b t u j k =
     let f : flatten 0 u ≡ flatten 0 t = ap (λ s. s.tokens) e in
     tree_by_preorder b u t k j (sym (spans_of-flatten 0 u) ∙ ap spans_of f ∙ spans_of-flatten 0 t)
 
-nest_of : (b : List ℕ) (t : Tree) (s : State) (us : List Token) (p : ℕ) → Json b t → Reaches b start s → settle s ≡ Some (idle After [] us (length b) p) → p ≡ nest t
+pub nest_of : (b : List ℕ) (t : Tree) (s : State) (us : List Token) (p : ℕ) → Json b t → Reaches b start s → settle s ≡ Some (idle After [] us (length b) p) → p ≡ nest t
 nest_of b t s us p j r h =
     let q = run_json b t j in
     let e = same_end b (idle After [] us (length b) p) _ s q.at r q.reached h q.settles refl in
@@ -159,7 +159,7 @@ nowhere_deep b s d r h stop i a =
     same_or : (x y : ℕ) → x ≤ y → (x ≡ y) ⊎ (x < y)
     same_or x y h = grind arith
 
-sticks_nowhere : (b : List ℕ) (d i : ℕ) → SticksAt b d i → NowhereDeep b d
+pub sticks_nowhere : (b : List ℕ) (d i : ℕ) → SticksAt b d i → NowhereDeep b d
 sticks_nowhere b d i a =
     let e = a.sticks.at in
     nowhere_deep b a.sticks.last d a.sticks.reached a.shallow

@@ -1,6 +1,7 @@
 pub mod Spelling
 pub mod Tree
 pub mod Json
+pub mod Judgement
 pub mod Front
 pub mod Preorder
 pub mod Forest

@@ -7,6 +7,7 @@ ghost use Rattle.cj_spans.specs.Tree.{Tree, nest};
 ghost use Rattle.cj_spans.specs.Json.{Json};
 ghost use Rattle.cj_spans.specs.Front.{SyntaxAt, DeepAt, NowhereDeep};
 ghost use Rattle.cj_spans.specs.Scan.{IsScanOf, KeepsLaw};
+ghost use Rattle.cj_spans.specs.Judgement.{Judgement, IsAnswerOf};
 ghost use Rattle.cj_spans.specs.Machine.{state, in_atom, phase_after, Ends, Grown, BeginsAtom, RunAnswers};
 
 use crate::fault::ScanFault;
@@ -169,6 +170,10 @@ pub fn scan(line: &[u8], tokens: &mut Bounded<Token>, stack: &mut Stack) -> Resu
     ensures finds_syntax { IsUtf8 line.now → NowhereDeep line.now stack.old.limit
         → (i : ℕ) → SyntaxAt line.now i
         → IsErrOf result (ScanFault.Syntax i) ⊎ IsErrOf result ScanFault.Memory }
+
+    // In one: each line has a judgement, and the answer is that judgement's.
+    ensures judgement { Judgement line.now stack.old.limit }
+    ensures judged { (j : Judgement line.now stack.old.limit) → IsUtf8 line.now → IsAnswerOf j result }
 
     // Whatever the answer, the lists keep the law of the bound.
     ensures law { KeepsLaw line.now tokens.old tokens.new stack.old stack.new }

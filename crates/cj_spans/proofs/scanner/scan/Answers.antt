@@ -1,5 +1,6 @@
 use Rattle.std.proofs.Common.{IsTrue, refl}
 use Rattle.cj_spans.proofs.Verdicts.{cleared, run_utf8, answers_tree, answers_deep, answers_syntax, answers_finds_deep, answers_finds_syntax, answers_finds_tree, utf8_whole, utf8_fault}
+use Rattle.cj_spans.proofs.Judgements.{judgement, answer_of}
 use Rattle.cj_spans.proofs.scanner.scan.Goals as goal
 
 pub returns-in-Ok-clause-tree : goal.returns-in-Ok-clause-tree
@@ -44,3 +45,13 @@ returns-in-Err-clause-utf8 c = λ h. absurd (h _ refl)
 
 pub returns-in-Err-clause-not_utf8 : goal.returns-in-Err-clause-not_utf8
 returns-in-Err-clause-not_utf8 c = utf8_fault c.args.line.now c.valid_up_to.result _ c.in-Err.ensures.cases.1 c.in-Err.ensures.valid_len c.valid_up_to.ensures
+
+pub returns-in-Ok-clause-judgement : goal.returns-in-Ok-clause-judgement
+returns-in-Ok-clause-judgement c = judgement c.args.line.now c.args.stack.now.limit
+
+pub returns-in-Err-clause-judgement : goal.returns-in-Err-clause-judgement
+returns-in-Err-clause-judgement c = judgement c.args.line.now c.args.stack.now.limit
+
+pub returns-in-Ok-clause-judged : goal.returns-in-Ok-clause-judged
+returns-in-Ok-clause-judged c = λ j u.
+    answer_of j c.run.result (returns-in-Ok-clause-finds_tree c u) (returns-in-Ok-clause-finds_deep c u) (λ n i s. returns-in-Ok-clause-finds_syntax c u n i s)

@@ -1,0 +1,31 @@
+-- What a line is under a depth limit: exactly one of three.
+use Rattle.std.specs.Prelude.{ℕ, ◌≤◌, ◌⊎◌, List, Result, IsOk, IsErrOf}
+use Rattle.cj_spans.specs.declared.fault.ScanFault.{ScanFault}
+use Rattle.cj_spans.specs.declared.fault.ScanFault.TheVariants.{Syntax, TooDeep, Memory}
+use Rattle.cj_spans.specs.Tree.{Tree, size, nest}
+use Rattle.cj_spans.specs.Json.{Json}
+use Rattle.cj_spans.specs.Front.{SyntaxAt, DeepAt, NowhereDeep}
+
+-- a JSON text of a tree within the limit, no JSON text from a place on, or nested too deep from a place on
+pub data Judgement (b : List ℕ) (d : ℕ) : Type 0 where
+  spelled : (t : Tree) → Json b t → nest t ≤ d → Judgement b d
+  broken : (i : ℕ) → SyntaxAt b i → NowhereDeep b d → Judgement b d
+  sunk : (i : ℕ) → DeepAt b d i → Judgement b d
+
+-- the size of the tree, or 0 where there is none
+abbrev pub judged_size : {b : List ℕ} {d : ℕ} → Judgement b d → ℕ
+judged_size (spelled t j n) = size t
+judged_size (broken i s n) = 0
+judged_size (sunk i s) = 0
+
+-- the nest of the tree, or 0 where there is none
+abbrev pub judged_nest : {b : List ℕ} {d : ℕ} → Judgement b d → ℕ
+judged_nest (spelled t j n) = nest t
+judged_nest (broken i s n) = 0
+judged_nest (sunk i s) = 0
+
+-- what a scan answers of a line with this judgement, unless memory is refused
+abbrev pub IsAnswerOf : {b : List ℕ} {d : ℕ} → Judgement b d → Result (Unit {0}) ScanFault → Type 0
+IsAnswerOf (spelled t j n) r = IsOk r ⊎ IsErrOf r Memory
+IsAnswerOf (broken i s n) r = IsErrOf r (Syntax i) ⊎ IsErrOf r Memory
+IsAnswerOf (sunk i s) r = IsErrOf r (TooDeep i) ⊎ IsErrOf r Memory
