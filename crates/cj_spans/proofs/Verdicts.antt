@@ -88,7 +88,7 @@ json_only b t u j k =
     let f : flatten 0 u ≡ flatten 0 t = ap (λ s. s.tokens) e in
     tree_by_preorder b u t k j (sym (spans_of-flatten 0 u) ∙ ap spans_of f ∙ spans_of-flatten 0 t)
 
-nest_of : (b : List ℕ) (t : Tree) (s : State) (us : List Token) (p : ℕ) → Json b t → Reaches b start s → settle s ≡ Some (idle After [] us (length b) p) → p ≡ nest t
+pub nest_of : (b : List ℕ) (t : Tree) (s : State) (us : List Token) (p : ℕ) → Json b t → Reaches b start s → settle s ≡ Some (idle After [] us (length b) p) → p ≡ nest t
 nest_of b t s us p j r h =
     let q = run_json b t j in
     let e = same_end b (idle After [] us (length b) p) _ s q.at r q.reached h q.settles refl in
@@ -196,11 +196,11 @@ one_deep b d i j x y = elim (three i j) [ inl e ↦ e | inr o ↦ elim o [ inl l
     three : (x y : ℕ) → (x ≡ y) ⊎ ((x < y) ⊎ (y < x))
     three x y = grind arith
 
-fronts_below : {b : List ℕ} {j : ℕ} → SyntaxAt b j → (k : ℕ) → k < j → IsFront b (suc k)
+pub fronts_below : {b : List ℕ} {j : ℕ} → SyntaxAt b j → (k : ℕ) → k < j → IsFront b (suc k)
 fronts_below (stuck l f n) k h = f k h
 fronts_below (short e f n) k h = f k h
 
-syntax_within : {b : List ℕ} {j : ℕ} → SyntaxAt b j → j ≤ length b
+pub syntax_within : {b : List ℕ} {j : ℕ} → SyntaxAt b j → j ≤ length b
 syntax_within (stuck l f n) = omega arith
 syntax_within (short e f n) = omega arith
 
