@@ -12,4 +12,5 @@ pub mod Fronts
 pub mod Forests
 pub mod Standing
 pub mod Verdicts
+pub mod Endings
 pub mod WorkedLines

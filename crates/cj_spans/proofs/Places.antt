@@ -134,7 +134,7 @@ plus_zero k = omega arith
 pub first_byte : (b : List ℕ) (i k : ℕ) → i < k → k ≤ length b → byte b i ≡ get_or (slice_range b i k) 0 0
 first_byte b i k o l = let e = slice-length b i k (omega arith) l in ap (byte b) (plus_zero i) ∙ slice_has b i k 0 (omega arith)
 
-in_text : {b : List ℕ} {i k : ℕ} {x : Lex} → InAtom b i k x → byte b i ≡ 34 → IsOfText x
+pub in_text : {b : List ℕ} {i k : ℕ} {x : Lex} → InAtom b i k x → byte b i ≡ 34 → IsOfText x
 in_text {b} {i} {k} {x} r q = by_first (slice_range b i k) (sym (first_byte b i k r.order r.within) ∙ q) r.run
   where
     by_first : (s : List ℕ) → get_or s 0 0 ≡ 34 → reading s ≡ Some x → IsOfText x
@@ -180,7 +180,7 @@ step_atom c x Ready ks ts i p b h = cond_not (is_blank c) _ _ (starts_not_blank 
 step_atom c x FirstItem ks ts i p b h = cond_not (is_blank c) _ _ (starts_not_blank c x h) ∙ cond_not (nat_eq c 93) _ _ (starts_not c 93 x h refl) ∙ begin_atom c x FirstItem ks ts i p h
 step_atom c x _ ks ts i p b h = absurd b
 
-name_34 : (m : Mode) (ks : List ℕ) (ts : List Token) (i p : ℕ) → NameBegins m → step 34 (idle m ks ts i p) ≡ Some (state (in_atom AfterName i InText) ks ts (suc i) p)
+pub name_34 : (m : Mode) (ks : List ℕ) (ts : List Token) (i p : ℕ) → NameBegins m → step 34 (idle m ks ts i p) ≡ Some (state (in_atom AfterName i InText) ks ts (suc i) p)
 name_34 FirstName ks ts i p g = refl
 name_34 NextName ks ts i p g = refl
 name_34 _ ks ts i p g = absurd g
@@ -193,7 +193,7 @@ stepped f None y h = none_some y h
 stepped f (Some z) y h = (z, refl, h)
 
 -- bytes that a reading passes over, by their places
-continues_run : (r : List ℕ) (b : List ℕ) (i k : ℕ) (x y z : Lex) → Continues b i x k y → lex_run r y ≡ Some z → ((n : ℕ) → n < length r → byte b (k + n) ≡ get_or r n 0) → Continues b i x (k + length r) z
+pub continues_run : (r : List ℕ) (b : List ℕ) (i k : ℕ) (x y z : Lex) → Continues b i x k y → lex_run r y ≡ Some z → ((n : ℕ) → n < length r → byte b (k + n) ≡ get_or r n 0) → Continues b i x (k + length r) z
 continues_run [] b i k x y z c h e =
     let q : y ≡ z = some_same y z h in
     let f : k ≡ k + 0 = omega arith in

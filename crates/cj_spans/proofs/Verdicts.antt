@@ -196,11 +196,11 @@ one_deep b d i j x y = elim (three i j) [ inl e ↦ e | inr o ↦ elim o [ inl l
     three : (x y : ℕ) → (x ≡ y) ⊎ ((x < y) ⊎ (y < x))
     three x y = grind arith
 
-fronts_below : {b : List ℕ} {j : ℕ} → SyntaxAt b j → (k : ℕ) → k < j → IsFront b (suc k)
+pub fronts_below : {b : List ℕ} {j : ℕ} → SyntaxAt b j → (k : ℕ) → k < j → IsFront b (suc k)
 fronts_below (stuck l f n) k h = f k h
 fronts_below (short e f n) k h = f k h
 
-syntax_within : {b : List ℕ} {j : ℕ} → SyntaxAt b j → j ≤ length b
+pub syntax_within : {b : List ℕ} {j : ℕ} → SyntaxAt b j → j ≤ length b
 syntax_within (stuck l f n) = omega arith
 syntax_within (short e f n) = omega arith
 

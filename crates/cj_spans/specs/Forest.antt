@@ -28,6 +28,7 @@ atom_of (scalar k a) = a
 atom_of (array i j ts) = record { start = i; stop = j; spelling = [] }
 atom_of (object i j ms) = record { start = i; stop = j; spelling = [] }
 
+-- the items that are these trees
 abbrev pub items_from : List Tree → Items
 items_from [] = no_items
 items_from (t ∷ ts) = item t (items_from ts)

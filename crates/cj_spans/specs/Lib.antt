@@ -6,6 +6,7 @@ pub mod Front
 pub mod Preorder
 pub mod Forest
 pub mod Scan
+pub mod Begins
 pub mod Reason
 pub mod Machine
 pub mod Examples

@@ -19,38 +19,49 @@ use Rattle.cj_spans.specs.Preorder.{token_at}
 
 -- ---- scalars and names
 
+-- one of the bytes `0` to `9`
 abbrev pub is_digit : ℕ → Bool
 is_digit b = nat_le 48 b && nat_le b 57
 
+-- what the first byte of a scalar begins
 abbrev pub lex_start : ℕ → Option Lex
 lex_start b =
     cond (nat_eq b 110) (Some AfterN) (cond (nat_eq b 116) (Some AfterT) (cond (nat_eq b 102) (Some AfterF) (cond (nat_eq b 45) (Some Minus) (cond (nat_eq b 48) (Some Zero)
     (cond (nat_le 49 b && nat_le b 57) (Some Whole) (cond (nat_eq b 34) (Some InText) None))))))
 
+-- the reading x after the byte d alone
 abbrev pub one : ℕ → ℕ → Lex → Option Lex
 one b d x = cond (nat_eq b d) (Some x) None
 
+-- the reading x after a digit
 abbrev pub digit_or : ℕ → Lex → Option Lex → Option Lex
 digit_or b x other = cond (is_digit b) (Some x) other
 
+-- the reading x after a hexadecimal digit
 abbrev pub hex : ℕ → Lex → Option Lex
 hex b x = cond (is_hex b) (Some x) None
 
+-- the mark of an exponent
 abbrev pub mark : ℕ → Option Lex
 mark b = cond (nat_eq b 101 || nat_eq b 69) (Some Mark) None
 
+-- a point or the mark of an exponent
 abbrev pub point_or_mark : ℕ → Option Lex
 point_or_mark b = cond (nat_eq b 46) (Some Point) (mark b)
 
+-- the first digit of a number
 abbrev pub zero_or_whole : ℕ → Option Lex
 zero_or_whole b = cond (nat_eq b 48) (Some Zero) (cond (nat_le 49 b && nat_le b 57) (Some Whole) None)
 
+-- the sign of an exponent
 abbrev pub sign_mark : ℕ → Option Lex
 sign_mark b = cond (nat_eq b 43 || nat_eq b 45) (Some MarkSign) None
 
+-- a byte in a string
 abbrev pub text_step : ℕ → Option Lex
 text_step b = cond (nat_eq b 34) (Some TextDone) (cond (nat_eq b 92) (Some Escape) (cond (nat_le 32 b) (Some InText) None))
 
+-- a byte after a backslash
 abbrev pub escape_step : ℕ → Option Lex
 escape_step b = cond (is_escape b) (Some InText) (cond (nat_eq b 117) (Some Hex4) None)
 
@@ -138,15 +149,19 @@ pub record State : Type 0 where
   pub place : ℕ
   pub deepest : ℕ
 
+-- the state of these parts
 abbrev pub state : Phase → List ℕ → List Token → ℕ → ℕ → State
 state f ks ts i p = record { phase = f; stack = ks; tokens = ts; place = i; deepest = p }
 
+-- before the first byte
 abbrev pub start : State
 start = state (between Ready) [] [] 0 0
 
+-- one byte on, in the phase f
 abbrev pub moved : Phase → State → State
 moved f s = state f s.stack s.tokens (suc s.place) s.deepest
 
+-- the byte opens a container of the kind k, in which the mode m comes
 abbrev pub opened : Kind → Mode → State → State
 opened k m s = state (between m) (length s.tokens ∷ s.stack) (s.tokens ++ token_at s.place 0 (length s.stack) k ∷ []) (suc s.place) (max s.deepest (suc (length s.stack)))
 
@@ -156,11 +171,13 @@ closed k t s = state (between After) (drop 1 s.stack) (slice_set s.tokens k (tok
 
 -- ---- one byte
 
+-- a byte where a value may begin
 abbrev pub begin_value : ℕ → State → Option State
 begin_value c s =
     cond (nat_eq c 91) (Some (opened Array FirstItem s)) (cond (nat_eq c 123) (Some (opened Object FirstName s))
     (option_map (λ x. moved (in_atom After s.place x) s) (lex_start c)))
 
+-- a byte where a name may begin
 abbrev pub begin_name : ℕ → State → Option State
 begin_name c s = cond (nat_eq c 34) (Some (moved (in_atom AfterName s.place InText) s)) None
 
@@ -168,33 +185,41 @@ begin_name c s = cond (nat_eq c 34) (Some (moved (in_atom AfterName s.place InTe
 abbrev pub close_by : ℕ → ℕ → ℕ → Token → State → Option State
 close_by c d k t s = cond (nat_eq c d) (Some (closed k t s)) None
 
+-- a byte after a value in a container of this kind
 abbrev pub after_in : Kind → ℕ → ℕ → Token → State → Option State
 after_in Array c k t s = cond (nat_eq c 44) (Some (moved (between Ready) s)) (close_by c 93 k t s)
 after_in Object c k t s = cond (nat_eq c 44) (Some (moved (between NextName) s)) (close_by c 125 k t s)
 after_in _ c k t s = None
 
+-- the same, in the container whose token this is
 abbrev pub after_token : ℕ → ℕ → Option Token → State → Option State
 after_token c k None s = None
 after_token c k (Some t) s = after_in t.kind c k t s
 
+-- the same, in the innermost container
 abbrev pub after_top : ℕ → Option ℕ → State → Option State
 after_top c None s = None
 after_top c (Some k) s = after_token c k (slice_get s.tokens k) s
 
+-- a byte after a value
 abbrev pub after_value : ℕ → State → Option State
 after_value c s = after_top c (slice_get s.stack 0) s
 
+-- the container whose token this is holds nothing
 abbrev pub close_token : ℕ → Option Token → State → Option State
 close_token k None s = None
 close_token k (Some t) s = Some (closed k t s)
 
+-- the same of the innermost container
 abbrev pub close_top : Option ℕ → State → Option State
 close_top None s = None
 close_top (Some k) s = close_token k (slice_get s.tokens k) s
 
+-- the bracket that closes a container which holds nothing
 abbrev pub close_empty : State → Option State
 close_empty s = close_top (slice_get s.stack 0) s
 
+-- a byte after a name
 abbrev pub colon_step : ℕ → State → Option State
 colon_step c s = cond (nat_eq c 58) (Some (moved (between Ready) s)) None
 
@@ -216,17 +241,21 @@ abbrev pub end_atom : Mode → ℕ → Option Kind → State → Option State
 end_atom m i None s = None
 end_atom m i (Some k) s = Some (state (between m) s.stack (s.tokens ++ token_at i s.place (length s.stack) k ∷ []) s.place s.deepest)
 
+-- the scalar goes on, or the other state comes
 abbrev pub go_on : (Lex → Phase) → Option Lex → State → Option State → Option State
 go_on f (Some x) s other = Some (moved (f x) s)
 go_on f None s other = other
 
+-- a byte in this phase
 abbrev pub step_by : Phase → ℕ → State → Option State
 step_by (between m) c s = read m c s
 step_by (in_atom m i x) c s = go_on (λ y. in_atom m i y) (lex_step x c) s (option_and_then (read m c) (end_atom m i (lex_kind x) s))
 
+-- a byte
 abbrev pub step : ℕ → State → Option State
 step c s = step_by s.phase c s
 
+-- the state once the scalar or name of this phase has ended
 abbrev pub settle_by : Phase → State → Option State
 settle_by (between m) s = Some s
 settle_by (in_atom m i x) s = end_atom m i (lex_kind x) s
@@ -264,6 +293,7 @@ pub record SticksFlat (b : List ℕ) (s : State) (i : ℕ) : Type 0 where
 
 -- ---- what the code answers
 
+-- the phase after a move of the byte at the place i, in the mode m
 abbrev pub phase_after : Mode → ℕ → Move → Phase
 phase_after m i Stay = between m
 phase_after m i (To n) = between n

@@ -10,6 +10,7 @@ pub record Span : Type 0 where
   pub start : ℕ
   pub stop : ℕ
 
+-- the span from i to j
 abbrev pub span_at : ℕ → ℕ → Span
 span_at i j = record { start = i; stop = j }
 

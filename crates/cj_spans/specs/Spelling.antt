@@ -89,13 +89,15 @@ pub record IsString (s : List ℕ) : Type 0 where
   pub body_is : IsBody body
   pub joined : s ≡ 34 ∷ (body ++ 34 ∷ [])
 
--- the letters of `null`, `true` and `false`
+-- the letters of `null`
 abbrev pub null_text : List ℕ
 null_text = 110 ∷ 117 ∷ 108 ∷ 108 ∷ []
 
+-- the letters of `true`
 abbrev pub true_text : List ℕ
 true_text = 116 ∷ 114 ∷ 117 ∷ 101 ∷ []
 
+-- the letters of `false`
 abbrev pub false_text : List ℕ
 false_text = 102 ∷ 97 ∷ 108 ∷ 115 ∷ 101 ∷ []
 

@@ -6,6 +6,7 @@ ghost use Rattle.cj_spans.specs.declared.step.Mode.TheVariants.{After};
 ghost use Rattle.cj_spans.specs.Tree.{Tree, nest};
 ghost use Rattle.cj_spans.specs.Json.{Json};
 ghost use Rattle.cj_spans.specs.Front.{SyntaxAt, DeepAt, NowhereDeep};
+ghost use Rattle.cj_spans.specs.Begins.{IsFirstFault, IsFirstTooDeep};
 ghost use Rattle.cj_spans.specs.Scan.{IsScanOf, KeepsLaw};
 ghost use Rattle.cj_spans.specs.Judgement.{Judgement, IsAnswerOf};
 ghost use Rattle.cj_spans.specs.Machine.{state, in_atom, phase_after, Ends, Grown, BeginsAtom, RunAnswers};
@@ -161,6 +162,11 @@ pub fn scan(line: &[u8], tokens: &mut Bounded<Token>, stack: &mut Stack) -> Resu
         → SyntaxAt line.now i × NowhereDeep line.now stack.old.limit }
     ensures memory { IsTrue tokens.old.reserved → IsTrue stack.old.reserved
         → IsErrOf result ScanFault.Memory → ⊥ }
+
+    // The same places, told by the texts that the line begins.
+    ensures first_too_deep { (i : ℕ) → IsErrOf result (ScanFault.TooDeep i)
+        → IsFirstTooDeep line.now stack.old.limit i }
+    ensures first_fault { (i : ℕ) → IsErrOf result (ScanFault.Syntax i) → IsFirstFault line.now i }
 
     // And no line is answered otherwise, but for want of memory.
     ensures finds_tree { IsUtf8 line.now → (t : Tree) → Json line.now t → nest t ≤ stack.old.limit

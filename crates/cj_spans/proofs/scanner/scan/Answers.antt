@@ -1,6 +1,7 @@
 use Rattle.std.proofs.Common.{IsTrue, refl}
 use Rattle.cj_spans.proofs.Verdicts.{cleared, run_utf8, answers_tree, answers_deep, answers_syntax, answers_finds_deep, answers_finds_syntax, answers_finds_tree, utf8_whole, utf8_fault}
 use Rattle.cj_spans.proofs.Judgements.{judgement, answer_of}
+use Rattle.cj_spans.proofs.Endings.{answers_first_too_deep, answers_first_fault}
 use Rattle.cj_spans.proofs.scanner.scan.Goals as goal
 
 pub returns-in-Ok-clause-tree : goal.returns-in-Ok-clause-tree
@@ -24,6 +25,16 @@ pub returns-in-Ok-clause-syntax : goal.returns-in-Ok-clause-syntax
 returns-in-Ok-clause-syntax c = λ i e.
     let ts = c.clear.new.self in let ks = c.clear-2.new.self in
     answers_syntax (Unit {0}) c.args.line.now c.args.tokens.now ts c.run.new.tokens c.args.stack.now ks c.run.new.stack (IsTrue ts.reserved × IsTrue ks.reserved) (cleared _ _ c.clear.ensures.cleared) (cleared _ _ c.clear-2.ensures.cleared) c.run.result i c.run.ensures.answer e
+
+pub returns-in-Ok-clause-first_too_deep : goal.returns-in-Ok-clause-first_too_deep
+returns-in-Ok-clause-first_too_deep c = λ i e.
+    let ts = c.clear.new.self in let ks = c.clear-2.new.self in
+    answers_first_too_deep (Unit {0}) c.args.line.now c.args.stack.now ks c.run.new.stack c.run.new.tokens (IsTrue ts.reserved × IsTrue ks.reserved) (cleared _ _ c.clear-2.ensures.cleared) c.run.result i c.run.ensures.answer e
+
+pub returns-in-Ok-clause-first_fault : goal.returns-in-Ok-clause-first_fault
+returns-in-Ok-clause-first_fault c = λ i e.
+    let ts = c.clear.new.self in let ks = c.clear-2.new.self in
+    answers_first_fault (Unit {0}) c.args.line.now c.args.stack.now ks c.run.new.stack c.run.new.tokens (IsTrue ts.reserved × IsTrue ks.reserved) (cleared _ _ c.clear-2.ensures.cleared) c.run.result i c.run.ensures.answer e
 
 pub returns-in-Ok-clause-finds_tree : goal.returns-in-Ok-clause-finds_tree
 returns-in-Ok-clause-finds_tree c = λ u t j h.

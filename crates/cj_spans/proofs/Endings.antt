@@ -1,0 +1,423 @@
+-- A front is what a text begins with: some bytes more make it one.
+use Rattle.std.proofs.Common.{◌≡◌, ℕ, zero, suc, ◌+◌, ◌<◌, ◌≤◌, List, [], ◌∷◌, ◌++◌, length, take, get_or, Option, Some, None, Result, Err, refl, sym, ap, subst, arith, ◌∙◌, slice_get, slice_set, length-append}
+use Rattle.std.specs.Prelude.{option_map}
+use Rattle.std.proofs.lemmas.Grind.{common_steps}
+use Rattle.cj_budget.specs.Bounded.{BoundedList}
+use Rattle.cj_spans.specs.declared.fault.ScanFault.{ScanFault}
+use Rattle.cj_spans.specs.declared.fault.ScanFault.TheVariants.{Syntax, TooDeep}
+use Rattle.cj_spans.specs.declared.token.Kind.{Kind}
+use Rattle.cj_spans.specs.declared.token.Kind.TheVariants.{Number, Text, Array, Object}
+use Rattle.cj_spans.specs.declared.token.Token.{Token}
+use Rattle.cj_spans.specs.declared.lex.Lex.{Lex}
+use Rattle.cj_spans.specs.declared.lex.Lex.TheVariants.{Zero, InText, TextDone}
+use Rattle.cj_spans.specs.declared.step.Mode.{Mode}
+use Rattle.cj_spans.specs.declared.step.Mode.TheVariants.{Ready, FirstItem, After, FirstName, NextName, AfterName}
+use Rattle.cj_spans.specs.Tree.{Tree, nest}
+use Rattle.cj_spans.specs.Json.{byte, Json}
+use Rattle.cj_spans.specs.Front.{Front, IsFront, SyntaxAt, stuck, short}
+use Rattle.cj_spans.specs.Begins.{BeginsText, IsFirstFault, IsFirstTooDeep}
+use Rattle.cj_spans.specs.Preorder.{token_at, flatten, flatten_items, flatten_members}
+use Rattle.cj_spans.specs.Machine.{State, state, in_atom, step, end_atom, after_token, after_in, still, Reaches, here, on, start, SinksAt, RunAnswers}
+use Rattle.cj_spans.proofs.Spellings.{some_same, can_end, text_end}
+use Rattle.cj_spans.proofs.Lists.{slice_get-append, slice_get-seam, rise-nest}
+use Rattle.cj_spans.proofs.Runs.{IsEnd, colon, bracket, brace, Arrives, arrive_on, arrived, settled, idle, Begins, NameBegins}
+use Rattle.cj_spans.proofs.Follows.{run_json}
+use Rattle.cj_spans.proofs.Places.{InAtom, in_text, continues_run, name_34}
+use Rattle.cj_spans.proofs.Atoms.{continues_reaches}
+use Rattle.cj_spans.proofs.Sound.{Context, root, in_array, in_member, Inv, ready, first_item, after_tree, first_name, next_name, after_name, in_scalar, in_name, inv_reaches}
+use Rattle.cj_spans.proofs.Facts.{next_place, same_state, lawful_reaches, before}
+use Rattle.cj_spans.proofs.Fronts.{front_runs, inv_front}
+use Rattle.cj_spans.proofs.Verdicts.{spells, nest_of, sinks_deep, fronts_below, syntax_within, Cleared, run_syntax}
+
+-- ---- lines that have the same bytes up to a place
+
+transfer : {b : List ℕ} (c : List ℕ) (n : ℕ) → ((k : ℕ) → k < n → byte b k ≡ byte c k) → (s : State) → Reaches b start s → s.place ≤ n → Reaches c start s
+transfer c n same s here l = here
+transfer {b} c n same s (on t v r h) l =
+    let p = next_place t v r h in
+    on t v (transfer c n same t r (omega arith)) (ap (λ z. step z t) (sym (same t.place (omega arith))) ∙ h)
+
+same_byte : (b rest : List ℕ) (i k : ℕ) → i ≤ length b → k < i → get_or b k 0 ≡ get_or (take i b ++ rest) k 0
+same_byte b rest i k l h = grind (arith, common_steps)
+
+rest_byte : (b rest : List ℕ) (i n : ℕ) → i ≤ length b → get_or (take i b ++ rest) (i + n) 0 ≡ get_or rest n 0
+rest_byte b rest i n l = grind (arith, common_steps)
+
+length_with : (b rest : List ℕ) (i : ℕ) → i ≤ length b → length (take i b ++ rest) ≡ i + length rest
+length_with b rest i l = grind (arith, common_steps)
+
+pub text_front : (b : List ℕ) (i : ℕ) → i ≤ length b → BeginsText b i → IsFront b i
+text_front b i l x =
+    let c = take i b ++ x.rest in
+    let v = run_json c x.tree x.json in
+    let p = (settled v.at _ v.settles).place in
+    let q = length_with b x.rest i l in
+    let w = before c v.at i v.reached (omega arith) in
+    let e = w.place in
+    let r = transfer b i (λ k h. sym (same_byte b x.rest i k l h)) w.at w.reached (omega arith) in
+    record { open_count = length w.at.stack; front = subst (λ n. Front b 0 n (length w.at.stack)) w.place (inv_front w.at (inv_reaches b w.at r)) }
+
+-- ---- the open containers and what closes them
+
+abbrev kind_at : List Token → ℕ → Option Kind
+kind_at ts k = option_map (λ t. t.kind) (slice_get ts k)
+
+abbrev IsContainer : Option Kind → Type 0
+IsContainer (Some Array) = Unit {0}
+IsContainer (Some Object) = Unit {0}
+IsContainer _ = ⊥
+
+abbrev AllContainers : List ℕ → List Token → Type 0
+AllContainers [] ts = Unit {0}
+AllContainers (k ∷ ks) ts = IsContainer (kind_at ts k) × AllContainers ks ts
+
+abbrev closer : Option Kind → ℕ
+closer (Some Array) = 93
+closer _ = 125
+
+abbrev closers : List ℕ → List Token → List ℕ
+closers [] ts = []
+closers (k ∷ ks) ts = closer (kind_at ts k) ∷ closers ks ts
+
+-- more tokens leave the containers as they are
+container_more : (ts us : List Token) (k : ℕ) → IsContainer (kind_at ts k) → IsContainer (kind_at (ts ++ us) k)
+container_more ts us k h = by_get (slice_get ts k) refl h
+  where
+    by_get : (o : Option Token) → slice_get ts k ≡ o → IsContainer (option_map (λ t. t.kind) o) → IsContainer (kind_at (ts ++ us) k)
+    by_get None e h = absurd h
+    by_get (Some t) e h = subst (λ o. IsContainer (option_map (λ t. t.kind) o)) (sym (slice_get-append ts us k t e)) h
+
+containers_more : (ks : List ℕ) (ts us : List Token) → AllContainers ks ts → AllContainers ks (ts ++ us)
+containers_more [] ts us h = tt
+containers_more (k ∷ ks) ts us h = (container_more ts us k h.0, containers_more ks ts us h.1)
+
+container_last : (ts : List Token) (t : Token) → IsContainer (Some t.kind) → IsContainer (kind_at (ts ++ t ∷ []) (length ts))
+container_last ts t h = subst (λ o. IsContainer (option_map (λ u. u.kind) o)) (sym (slice_get-seam ts [] t)) h
+
+context_containers : {b : List ℕ} {e : ℕ} {ks : List ℕ} {ts : List Token} → Context b e ks ts → AllContainers ks ts
+context_containers (root e w) = tt
+context_containers (in_array e j k ks ts us c o l w) =
+    let t = token_at e 0 (length ks) Array in
+    containers_more (length ts ∷ ks) (ts ++ t ∷ []) (flatten_items (suc (length ks)) us) (container_last ts t tt, containers_more ks ts (t ∷ []) (context_containers c))
+context_containers (in_member e j k l ks ts us n c o m d w) =
+    let t = token_at e 0 (length ks) Object in
+    containers_more (length ts ∷ ks) ((ts ++ t ∷ []) ++ flatten_members (suc (length ks)) us) _
+    (containers_more (length ts ∷ ks) (ts ++ t ∷ []) (flatten_members (suc (length ks)) us) (container_last ts t tt, containers_more ks ts (t ∷ []) (context_containers c)))
+
+-- a token that is written anew keeps its kind
+kind_set : (ts : List Token) (k j : ℕ) (t u : Token) → slice_get ts k ≡ Some t → u.kind ≡ t.kind → kind_at (slice_set ts k u) j ≡ kind_at ts j
+kind_set [] k j t u h e = cc
+kind_set (z ∷ ts) zero zero t u h e = let q : z ≡ t = some_same z t h in ap (λ x. Some x) (e ∙ ap (λ y. y.kind) (sym q))
+kind_set (z ∷ ts) zero (suc j) t u h e = refl
+kind_set (z ∷ ts) (suc k) zero t u h e = refl
+kind_set (z ∷ ts) (suc k) (suc j) t u h e = kind_set ts k j t u h e
+
+containers_set : (ks : List ℕ) (ts us : List Token) → ((j : ℕ) → kind_at us j ≡ kind_at ts j) → AllContainers ks ts → AllContainers ks us
+containers_set [] ts us e h = tt
+containers_set (k ∷ ks) ts us e h = (subst IsContainer (sym (e k)) h.0, containers_set ks ts us e h.1)
+
+closers_set : (ks : List ℕ) (ts us : List Token) → ((j : ℕ) → kind_at us j ≡ kind_at ts j) → closers ks us ≡ closers ks ts
+closers_set [] ts us e = refl
+closers_set (k ∷ ks) ts us e = ap (λ z. closer z ∷ closers ks us) (e k) ∙ ap (λ zs. closer (kind_at ts k) ∷ zs) (closers_set ks ts us e)
+
+-- from the place j on, the line has these bytes and no more
+record Has (c : List ℕ) (j : ℕ) (cs : List ℕ) : Type 0 where
+  whole : length c ≡ j + length cs
+  bytes : (n : ℕ) → n < length cs → byte c (j + n) ≡ get_or cs n 0
+
+has_head : (c : List ℕ) (j x : ℕ) (cs : List ℕ) → Has c j (x ∷ cs) → byte c j ≡ x
+has_head c j x cs h = let e : j ≡ j + 0 = omega arith in ap (byte c) e ∙ h.bytes 0 (omega arith)
+
+has_tail : (c : List ℕ) (j x : ℕ) (cs : List ℕ) → Has c j (x ∷ cs) → Has c (suc j) cs
+has_tail c j x cs h =
+    let w = h.whole in
+    record { whole = omega arith; bytes = λ n l. let e : suc j + n ≡ j + suc n = omega arith in ap (byte c) e ∙ h.bytes (suc n) (omega arith) }
+
+close_step : (k : ℕ) (ks : List ℕ) (ts : List Token) (j p : ℕ) (t : Token) (kd : Kind) → slice_get ts k ≡ Some t → t.kind ≡ kd → IsContainer (Some kd)
+    → step (closer (Some kd)) (idle After (k ∷ ks) ts j p) ≡ Some (idle After ks (slice_set ts k (token_at t.start (suc j) t.depth t.kind)) (suc j) p)
+close_step k ks ts j p t Array e q h = let s = idle After (k ∷ ks) ts j p in ap (λ o. after_token 93 k o s) e ∙ ap (λ z. after_in z 93 k t s) q
+close_step k ks ts j p t Object e q h = let s = idle After (k ∷ ks) ts j p in ap (λ o. after_token 125 k o s) e ∙ ap (λ z. after_in z 125 k t s) q
+close_step k ks ts j p t _ e q h = absurd h
+
+closer_end : (kd : Kind) → IsContainer (Some kd) → IsEnd (closer (Some kd))
+closer_end Array h = bracket
+closer_end Object h = brace
+closer_end _ h = absurd h
+
+-- the machine comes to the end of the line, where a text may end
+record Ended (c : List ℕ) (p : ℕ) : Type 0 where
+  tokens : List Token
+  arrives : Arrives c start (idle After [] tokens (length c) p)
+
+-- one container is closed
+close_one : (c : List ℕ) (ks : List ℕ) (ts : List Token) (k j p : ℕ) (o : Option Token) → slice_get ts k ≡ o → Arrives c start (idle After (k ∷ ks) ts j p) → IsContainer (option_map (λ t. t.kind) o) → byte c j ≡ closer (option_map (λ t. t.kind) o)
+    → ((u : Token) → Reaches c start (idle After ks (slice_set ts k u) (suc j) p) → ((i : ℕ) → kind_at (slice_set ts k u) i ≡ kind_at ts i) → Ended c p) → Ended c p
+close_one c ks ts k j p None e a h b next = absurd h
+close_one c ks ts k j p (Some t) e a h b next =
+    let u = token_at t.start (suc j) t.depth t.kind in
+    let s = idle After (k ∷ ks) ts j p in
+    let r = arrive_on c start s (idle After ks (slice_set ts k u) (suc j) p) (subst IsEnd (sym b) (closer_end t.kind h)) a (ap (λ z. step z s) b ∙ close_step k ks ts j p t t.kind e refl h) in
+    next u r (λ i. kind_set ts k i t u e refl)
+
+close_all : (ks : List ℕ) (c cs : List ℕ) (ts : List Token) (j p : ℕ) → Arrives c start (idle After ks ts j p) → AllContainers ks ts → closers ks ts ≡ cs → Has c j cs → Ended c p
+close_all [] c cs ts j p a all e h =
+    let n : length cs ≡ 0 = sym (ap length e) in
+    let w = h.whole in
+    let q : j ≡ length c = omega arith in
+    record { tokens = ts; arrives = subst (λ z. Arrives c start (idle After [] ts z p)) q a }
+close_all (k ∷ ks) c cs ts j p a all e h =
+    close_one c ks ts k j p (slice_get ts k) refl a all.0 (has_head c j _ _ (subst (Has c j) (sym e) h)) (λ u r same.
+    close_all ks c (closers ks ts) (slice_set ts k u) (suc j) p (arrived c start After ks (slice_set ts k u) (suc j) p r) (containers_set ks ts (slice_set ts k u) same all.1) (closers_set ks ts (slice_set ts k u) same)
+    (has_tail c j _ _ (subst (Has c j) (sym e) h)))
+
+-- ---- a value after the front
+
+-- a number after a place where a value may begin
+zero_step : (m : Mode) (ks : List ℕ) (ts : List Token) (j p : ℕ) → Begins m → step 48 (idle m ks ts j p) ≡ Some (state (in_atom After j Zero) ks ts (suc j) p)
+zero_step Ready ks ts j p h = refl
+zero_step FirstItem ks ts j p h = refl
+zero_step _ ks ts j p h = absurd h
+
+read_zero : (c : List ℕ) (m : Mode) (ks : List ℕ) (ts : List Token) (j p : ℕ) → Begins m → byte c j ≡ 48 → Reaches c start (idle m ks ts j p) → Arrives c start (idle After ks (ts ++ token_at j (suc j) (length ks) Number ∷ []) (suc j) p)
+read_zero c m ks ts j p h e r = record {
+  at = state (in_atom After j Zero) ks ts (suc j) p;
+  reached = on (idle m ks ts j p) (state (in_atom After j Zero) ks ts (suc j) p) r (ap (λ z. step z (idle m ks ts j p)) e ∙ zero_step m ks ts j p h);
+  settles = refl;
+}
+
+read_colon : (c : List ℕ) (ks : List ℕ) (ts : List Token) (j p : ℕ) → byte c j ≡ 58 → Arrives c start (idle AfterName ks ts j p) → Reaches c start (idle Ready ks ts (suc j) p)
+read_colon c ks ts j p e a = arrive_on c start (idle AfterName ks ts j p) (idle Ready ks ts (suc j) p) (subst IsEnd (sym e) colon) a (ap (λ z. step z (idle AfterName ks ts j p)) e)
+
+read_value : (c : List ℕ) (ks : List ℕ) (ts : List Token) (j p : ℕ) → byte c j ≡ 58 → byte c (suc j) ≡ 48 → Arrives c start (idle AfterName ks ts j p) → Arrives c start (idle After ks (ts ++ token_at (suc j) (suc (suc j)) (length ks) Number ∷ []) (suc (suc j)) p)
+read_value c ks ts j p e f a = read_zero c Ready ks ts (suc j) p tt f (read_colon c ks ts j p e a)
+
+-- an empty name
+read_name : (c : List ℕ) (m : Mode) (ks : List ℕ) (ts : List Token) (j p : ℕ) → NameBegins m → byte c j ≡ 34 → byte c (suc j) ≡ 34 → Reaches c start (idle m ks ts j p)
+    → Arrives c start (idle AfterName ks (ts ++ token_at j (suc (suc j)) (length ks) Text ∷ []) (suc (suc j)) p)
+read_name c m ks ts j p h e f r =
+    let s = state (in_atom AfterName j InText) ks ts (suc j) p in
+    let q = on (idle m ks ts j p) s r (ap (λ z. step z (idle m ks ts j p)) e ∙ name_34 m ks ts j p h) in
+    record {
+      at = state (in_atom AfterName j TextDone) ks ts (suc (suc j)) p;
+      reached = on s (state (in_atom AfterName j TextDone) ks ts (suc (suc j)) p) q (ap (λ z. step z s) f);
+      settles = refl;
+    }
+
+read_member : (c : List ℕ) (m : Mode) (ks : List ℕ) (ts : List Token) (j p : ℕ) → NameBegins m → byte c j ≡ 34 → byte c (suc j) ≡ 34 → byte c (suc (suc j)) ≡ 58 → byte c (suc (suc (suc j))) ≡ 48 → Reaches c start (idle m ks ts j p)
+    → Arrives c start (idle After ks ((ts ++ token_at j (suc (suc j)) (length ks) Text ∷ []) ++ token_at (suc (suc (suc j))) (suc (suc (suc (suc j)))) (length ks) Number ∷ []) (suc (suc (suc (suc j)))) p)
+read_member c m ks ts j p h e f g i r = read_value c ks (ts ++ token_at j (suc (suc j)) (length ks) Text ∷ []) (suc (suc j)) p g i (read_name c m ks ts j p h e f r)
+
+-- bytes after which the value that is begun, or is to come, has ended
+record Finish (s : State) : Type 0 where
+  rest : List ℕ
+  stack : List ℕ
+  tokens : List Token
+  containers : AllContainers stack tokens
+  goes : (c : List ℕ) → Reaches c start s → ((n : ℕ) → n < length rest → byte c (s.place + n) ≡ get_or rest n 0) → Arrives c start (idle After stack tokens (s.place + length rest) s.deepest)
+
+place_at : (c : List ℕ) (j k x : ℕ) → j ≡ k → byte c k ≡ x → byte c j ≡ x
+place_at c j k x e h = ap (byte c) e ∙ h
+
+arrives_at : (c ks : List ℕ) (ts : List Token) (j k p : ℕ) → j ≡ k → Arrives c start (idle After ks ts j p) → Arrives c start (idle After ks ts k p)
+arrives_at c ks ts j k p e a = subst (λ z. Arrives c start (idle After ks ts z p)) e a
+
+finish_value : (m : Mode) (k p : ℕ) (ks : List ℕ) (ts : List Token) → Begins m → AllContainers ks ts → Finish (idle m ks ts k p)
+finish_value m k p ks ts h all = record {
+  rest = 48 ∷ [];
+  stack = ks;
+  tokens = ts ++ token_at k (suc k) (length ks) Number ∷ [];
+  containers = containers_more ks ts _ all;
+  goes = λ c r b. arrives_at c ks _ (suc k) (k + 1) p (omega arith) (read_zero c m ks ts k p h (place_at c k (k + 0) 48 (omega arith) (b 0 (omega arith))) r);
+}
+
+finish_name : (m : Mode) (k p : ℕ) (ks : List ℕ) (ts : List Token) → NameBegins m → AllContainers ks ts → Finish (idle m ks ts k p)
+finish_name m k p ks ts h all = record {
+  rest = 34 ∷ 34 ∷ 58 ∷ 48 ∷ [];
+  stack = ks;
+  tokens = (ts ++ token_at k (suc (suc k)) (length ks) Text ∷ []) ++ token_at (suc (suc (suc k))) (suc (suc (suc (suc k)))) (length ks) Number ∷ [];
+  containers = containers_more ks _ _ (containers_more ks ts _ all);
+  goes = λ c r b. arrives_at c ks _ (suc (suc (suc (suc k)))) (k + 4) p (omega arith)
+      (read_member c m ks ts k p h (place_at c k (k + 0) 34 (omega arith) (b 0 (omega arith))) (place_at c (suc k) (k + 1) 34 (omega arith) (b 1 (omega arith))) (place_at c (suc (suc k)) (k + 2) 58 (omega arith) (b 2 (omega arith)))
+      (place_at c (suc (suc (suc k))) (k + 3) 48 (omega arith) (b 3 (omega arith))) r);
+}
+
+finish_tree : (k p : ℕ) (ks : List ℕ) (ts : List Token) → AllContainers ks ts → Finish (idle After ks ts k p)
+finish_tree k p ks ts all = record {
+  rest = [];
+  stack = ks;
+  tokens = ts;
+  containers = all;
+  goes = λ c r b. arrives_at c ks ts k (k + 0) p (omega arith) (arrived c start After ks ts k p r);
+}
+
+finish_colon : (k p : ℕ) (ks : List ℕ) (ts : List Token) → AllContainers ks ts → Finish (idle AfterName ks ts k p)
+finish_colon k p ks ts all = record {
+  rest = 58 ∷ 48 ∷ [];
+  stack = ks;
+  tokens = ts ++ token_at (suc k) (suc (suc k)) (length ks) Number ∷ [];
+  containers = containers_more ks ts _ all;
+  goes = λ c r b. arrives_at c ks _ (suc (suc k)) (k + 2) p (omega arith)
+      (read_value c ks ts k p (place_at c k (k + 0) 58 (omega arith) (b 0 (omega arith))) (place_at c (suc k) (k + 1) 48 (omega arith) (b 1 (omega arith))) (arrived c start AfterName ks ts k p r));
+}
+
+finish_scalar : (e k p : ℕ) (ks : List ℕ) (ts : List Token) (x : Lex) → AllContainers ks ts → Finish (state (in_atom After e x) ks ts k p)
+finish_scalar e k p ks ts x all =
+    let z = can_end x in
+    record {
+      rest = z.rest;
+      stack = ks;
+      tokens = ts ++ token_at e (k + length z.rest) (length ks) z.kind ∷ [];
+      containers = containers_more ks ts _ all;
+      goes = λ c r b. record {
+        at = state (in_atom After e z.last) ks ts (k + length z.rest) p;
+        reached = continues_reaches (continues_run z.rest c k k x x z.last still z.run b) start After e ks ts p r;
+        settles = ap (λ q. end_atom After e q (state (in_atom After e z.last) ks ts (k + length z.rest) p)) z.done;
+      };
+    }
+
+seam_byte : (xs ys : List ℕ) (n : ℕ) → get_or (xs ++ ys) (length xs + n) 0 ≡ get_or ys n 0
+seam_byte [] ys n = let e : 0 + n ≡ n = omega arith in ap (λ z. get_or ys z 0) e
+seam_byte (x ∷ xs) ys n = let e : suc (length xs) + n ≡ suc (length xs + n) = omega arith in ap (λ z. get_or (x ∷ (xs ++ ys)) z 0) e ∙ seam_byte xs ys n
+
+front_byte : (xs ys : List ℕ) (n : ℕ) → n < length xs → get_or (xs ++ ys) n 0 ≡ get_or xs n 0
+front_byte [] ys n h = absurd (omega arith)
+front_byte (x ∷ xs) ys zero h = refl
+front_byte (x ∷ xs) ys (suc n) h = front_byte xs ys n (omega arith)
+
+finish_in_name : {b : List ℕ} (l k p : ℕ) (ks : List ℕ) (ts : List Token) (x : Lex) → InAtom b l k x → byte b l ≡ 34 → AllContainers ks ts → Finish (state (in_atom AfterName l x) ks ts k p)
+finish_in_name l k p ks ts x w q all =
+    let z = text_end x (in_text w q) in
+    let n = length z.rest in
+    let us = ts ++ token_at l (k + n) (length ks) Text ∷ [] in
+    let w2 = length-append z.rest (58 ∷ 48 ∷ []) in
+    record {
+      rest = z.rest ++ 58 ∷ 48 ∷ [];
+      stack = ks;
+      tokens = us ++ token_at (suc (k + n)) (suc (suc (k + n))) (length ks) Number ∷ [];
+      containers = containers_more ks us _ (containers_more ks ts _ all);
+      goes = λ c r b.
+          let f = continues_run z.rest c k k x x TextDone still z.run (λ i h. b i (omega arith) ∙ front_byte z.rest (58 ∷ 48 ∷ []) i h) in
+          let s = state (in_atom AfterName l TextDone) ks ts (k + n) p in
+          let a : Arrives c start (idle AfterName ks us (k + n) p) = record { at = s; reached = continues_reaches f start AfterName l ks ts p r; settles = refl } in
+          arrives_at c ks _ (suc (suc (k + n))) (k + length (z.rest ++ 58 ∷ 48 ∷ [])) p (omega arith)
+          (read_value c ks us (k + n) p
+          (place_at c (k + n) (k + (n + 0)) 58 (omega arith) (b (n + 0) (omega arith) ∙ seam_byte z.rest (58 ∷ 48 ∷ []) 0))
+          (place_at c (suc (k + n)) (k + (n + 1)) 48 (omega arith) (b (n + 1) (omega arith) ∙ seam_byte z.rest (58 ∷ 48 ∷ []) 1)) a);
+    }
+
+-- inside a container whose token comes after ts, with more tokens behind it
+inside : (ks : List ℕ) (ts : List Token) (t : Token) (us : List Token) → IsContainer (Some t.kind) → AllContainers ks ts → AllContainers (length ts ∷ ks) ((ts ++ t ∷ []) ++ us)
+inside ks ts t us h all = containers_more (length ts ∷ ks) (ts ++ t ∷ []) us (container_last ts t h, containers_more ks ts (t ∷ []) all)
+
+just_inside : (ks : List ℕ) (ts : List Token) (t : Token) → IsContainer (Some t.kind) → AllContainers ks ts → AllContainers (length ts ∷ ks) (ts ++ t ∷ [])
+just_inside ks ts t h all = (container_last ts t h, containers_more ks ts (t ∷ []) all)
+
+finish : {b : List ℕ} (s : State) → Inv b s → Finish s
+finish s (ready k p ks ts c) = finish_value Ready k p ks ts tt (context_containers c)
+finish s (first_item e k p ks ts c o w) = let t = token_at e 0 (length ks) Array in finish_value FirstItem k p (length ts ∷ ks) (ts ++ t ∷ []) tt (just_inside ks ts t tt (context_containers c))
+finish s (after_tree e j k p ks ts t c v w) = finish_tree k p ks (ts ++ flatten (length ks) t) (containers_more ks ts (flatten (length ks) t) (context_containers c))
+finish s (first_name e k p ks ts c o w) = let t = token_at e 0 (length ks) Object in finish_name FirstName k p (length ts ∷ ks) (ts ++ t ∷ []) tt (just_inside ks ts t tt (context_containers c))
+finish s (next_name e j k p ks ts us c o l w) =
+    let t = token_at e 0 (length ks) Object in let fs = flatten_members (suc (length ks)) us in
+    finish_name NextName k p (length ts ∷ ks) ((ts ++ t ∷ []) ++ fs) tt (inside ks ts t fs tt (context_containers c))
+finish s (after_name e j l m k p ks ts us c o ld w0 wd w) =
+    let t = token_at e 0 (length ks) Object in let fs = flatten_members (suc (length ks)) us in let n = token_at l m (suc (length ks)) Text in
+    finish_colon k p (length ts ∷ ks) (((ts ++ t ∷ []) ++ fs) ++ n ∷ []) (containers_more (length ts ∷ ks) ((ts ++ t ∷ []) ++ fs) (n ∷ []) (inside ks ts t fs tt (context_containers c)))
+finish s (in_scalar e k p ks ts x c w) = finish_scalar e k p ks ts x (context_containers c)
+finish s (in_name e j l k p ks ts us x c o ld w0 q w) =
+    let t = token_at e 0 (length ks) Object in let fs = flatten_members (suc (length ks)) us in
+    finish_in_name l k p (length ts ∷ ks) ((ts ++ t ∷ []) ++ fs) x w q (inside ks ts t fs tt (context_containers c))
+
+-- ---- fronts and texts
+
+-- a text that begins so, and its nest
+record TextOf (b : List ℕ) (i p : ℕ) : Type 0 where
+  text : BeginsText b i
+  nest_is : p ≡ nest text.tree
+
+state_text : (b : List ℕ) (i : ℕ) → i ≤ length b → (s : State) → Reaches b start s → s.place ≡ i → TextOf b i s.deepest
+state_text b i l s reached e =
+    let z = finish s (inv_reaches b s reached) in
+    let cs = closers z.stack z.tokens in
+    let rest = z.rest ++ cs in
+    let c = take i b ++ rest in
+    let r = transfer c i (λ k h. same_byte b rest i k l h) s reached (omega arith) in
+    let m = length z.rest in
+    let a = z.goes c r (λ n h. ap (λ q. byte c (q + n)) e ∙ rest_byte b rest i n l ∙ front_byte z.rest cs n h) in
+    let w1 = length_with b rest i l in
+    let w2 = length-append z.rest cs in
+    let h : Has c (s.place + m) cs = record {
+      whole = omega arith;
+      bytes = λ n g. (let q : (s.place + m) + n ≡ i + (m + n) = omega arith in ap (byte c) q) ∙ rest_byte b rest i (m + n) l ∙ seam_byte z.rest cs n;
+    } in
+    let d = close_all z.stack c cs z.tokens (s.place + m) s.deepest a z.containers refl h in
+    let t = spells d.arrives.at (inv_reaches c d.arrives.at d.arrives.reached) d.tokens s.deepest d.arrives.settles in
+    record {
+      text = record { rest = rest; tree = t.tree; json = t.json };
+      nest_is = nest_of c t.tree d.arrives.at d.tokens s.deepest t.json d.arrives.reached d.arrives.settles;
+    }
+
+pub front_text : (b : List ℕ) (i : ℕ) → i ≤ length b → IsFront b i → BeginsText b i
+front_text b i l f = let v = front_runs f.front start Ready [] [] 0 tt here in (state_text b i l v.at v.reached v.place).text
+
+-- the place of a fault, told by texts
+pub first_fault : (b : List ℕ) (i : ℕ) → SyntaxAt b i → IsFirstFault b i
+first_fault b i s =
+    let w = syntax_within s in
+    record {
+      earlier = λ k h. front_text b (suc k) (omega arith) (fronts_below s k h);
+      here = λ l x. here_not s l x;
+      whole = λ e t j. whole_not s e t j;
+    }
+  where
+    here_not : SyntaxAt b i → i < length b → BeginsText b (suc i) → ⊥
+    here_not (stuck l f n) h x = n (text_front b (suc i) h x)
+    here_not (short e f n) h x = absurd (omega arith)
+
+    whole_not : SyntaxAt b i → i ≡ length b → (t : Tree) → Json b t → ⊥
+    whole_not (stuck l f n) e t j = absurd (omega arith)
+    whole_not (short e f n) h t j = n t j
+
+-- a text that begins so opens as many containers as the line does
+text_nest : (b : List ℕ) (i n : ℕ) → i ≤ length b → Front b 0 i n → (x : BeginsText b i) → n ≤ nest x.tree
+text_nest b i n l f x =
+    let c = take i b ++ x.rest in
+    let u = front_runs f start Ready [] [] 0 tt here in
+    let r = transfer c i (λ k h. same_byte b x.rest i k l h) u.at u.reached (let e = u.place in omega arith) in
+    let v = run_json c x.tree x.json in
+    let e = settled v.at _ v.settles in
+    let p = e.place in let d = e.deepest in
+    let q = length_with b x.rest i l in
+    let w = before c v.at i v.reached (omega arith) in
+    let same : u.at ≡ w.at = same_state c u.at w.at r w.reached (u.place ∙ sym w.place) in
+    let o = u.open_count in let a = (lawful_reaches u.at u.reached).deep in let b2 = w.below in
+    let s : u.at.deepest ≡ w.at.deepest = ap (λ z. z.deepest) same in
+    let g = rise-nest 0 0 x.tree (omega arith) in
+    omega arith
+
+-- the place that is too deep, told by texts
+pub first_too_deep : (b : List ℕ) (d i : ℕ) → SinksAt b d i → IsFirstTooDeep b d i
+first_too_deep b d i a =
+    let k = sinks_deep b d i a in
+    let w = a.within in
+    record {
+      begins = front_text b (suc i) (omega arith) (record { open_count = suc d; front = k.deep });
+      each = λ x. text_nest b (suc i) (suc d) (omega arith) k.deep x;
+      earlier = λ j h. shallow_text j h;
+    }
+  where
+    shallow_text : (j : ℕ) → j < i → (x : BeginsText b (suc j)) × (nest x.tree ≤ d)
+    shallow_text j h =
+        let at = a.at in let w = a.within in
+        let s = before b a.last (suc j) a.reached (omega arith) in
+        let t = state_text b (suc j) (omega arith) s.at s.reached s.place in
+        let n = t.nest_is in let c = s.below in let g = a.shallow in
+        (t.text, omega arith)
+
+-- the clauses of the scan, under the limit that the stack had before it was emptied
+module _ (X : Type 0) (b : List ℕ) (old_stack empty_stack new_stack : BoundedList ℕ) (new : BoundedList Token) (g : Type 0) (d : Cleared old_stack empty_stack) where
+  pub answers_first_too_deep : (r : Result X ScanFault) (i : ℕ) → RunAnswers b empty_stack g r new new_stack → r ≡ Err (TooDeep i) → IsFirstTooDeep b old_stack.limit i
+  answers_first_too_deep r i a e = subst (λ n. IsFirstTooDeep b n i) d.limit (first_too_deep b empty_stack.limit i (subst (λ z. RunAnswers b empty_stack g z new new_stack) e a))
+
+  pub answers_first_fault : (r : Result X ScanFault) (i : ℕ) → RunAnswers b empty_stack g r new new_stack → r ≡ Err (Syntax i) → IsFirstFault b i
+  answers_first_fault r i a e = first_fault b i (run_syntax X b empty_stack g new new_stack r i a e).0
