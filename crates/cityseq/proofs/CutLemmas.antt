@@ -1,19 +1,16 @@
 -- A text that comes in pieces.
-use Rattle.std.proofs.Common.{◌≡◌, ℕ, ◌+◌, ◌<◌, ◌≤◌, ◌⊎◌, inl, inr, List, [], ◌∷◌, ◌++◌, Bool, true, false, cond, ltb, zero, suc, length, take, drop, get_or, map, Option, Some, None, refl, sym, ap, ◌∙◌, arith, append_assoc, length-append, add-one}
+use Rattle.std.proofs.Common.{◌≡◌, ℕ, ◌+◌, ◌<◌, ◌≤◌, ◌⊎◌, inl, inr, List, [], ◌∷◌, ◌++◌, Bool, true, false, cond, ltb, length, take, drop, map, Option, Some, None, refl, sym, ap, ◌∙◌, arith, append_assoc}
 use Rattle.std.specs.Prelude.{is_some}
 use Rattle.std.specs.List.{flat_map}
-use Rattle.std.proofs.lemmas.List.{append-nil, take-append-drop, take_all}
+use Rattle.std.proofs.lemmas.List.{append-nil}
 use Rattle.std.proofs.lemmas.Bool.{ltb-true}
 use Rattle.std.specs.Io.KnownBytes.{Appends}
 use Rattle.cj_budget.specs.Limits.{LimitPair}
-use Rattle.cityseq.specs.declared.reason.Reason.{Reason}
 use Rattle.cityseq.specs.declared.reason.Reason.TheVariants.{LineTooLong}
-use Rattle.cityseq.specs.declared.reason.Verdict.{Verdict}
-use Rattle.cityseq.specs.declared.reason.Verdict.TheVariants.{Refuse, Blank, Valid}
 use Rattle.cityseq.specs.declared.reason.End.{End}
 use Rattle.cityseq.specs.declared.reason.End.TheVariants.{Complete, Refused, ReadFault, ReadLimit, WriteFault, Memory}
-use Rattle.cityseq.specs.Lines.{Line, raw, NoLf, closed, begun, first_of, first_content, ended_line, last_line, lines}
-use Rattle.cityseq.specs.Verdict.{verdict, refusal_of, refusal_from, good_from, kept_from, kept, good, output, ending, judged, long_line}
+use Rattle.cityseq.specs.Lines.{Line, raw, NoLf, closed, begun, first_of, ended_line, last_line, lines}
+use Rattle.cityseq.specs.Verdict.{verdict, refusal_of, refusal_from, good_from, kept_from, output, ending, judged, long_line}
 use Rattle.cityseq.specs.Cut.{joined, Copies, IsUnread}
 use Rattle.cityseq.specs.Engine.{Tells, Concludes}
 use Rattle.cityseq.specs.Run.{Runs}
@@ -21,7 +18,7 @@ use Rattle.cityseq.specs.Sink.{AppendsPart}
 use Rattle.cityseq.proofs.JoinedLemmas.{joined-cut}
 use Rattle.cityseq.proofs.LineLemmas.{closed-then, begun-then, NoLf-begun, first_content-long}
 use Rattle.cityseq.proofs.VerdictLemmas.{refusal-append, verdict-long}
-use Rattle.cityseq.proofs.ReadingLemmas.{length-map_lines, map_lines-append}
+use Rattle.cityseq.proofs.ReadingLemmas.{map_lines-append}
 use Rattle.cityseq.proofs.GoodLemmas.{good-append, good-all}
 use Rattle.cityseq.proofs.RunLemmas.{refusal-stays, ending-refused}
 use Rattle.cityseq.proofs.OutputLemmas.{Writes-runs}

@@ -1,5 +1,5 @@
 -- What an engine holds, tells and delivers, from what its framer did.
-use Rattle.std.proofs.Common.{◌≡◌, ℕ, ◌+◌, ◌-◌, ◌<◌, ◌≤◌, ◌⊎◌, inl, inr, min, suc, List, [], ◌∷◌, ◌++◌, Bool, true, false, cond, ltb, length, take, map, Option, Some, None, arith, rules, refl, sym, ap, ◌∙◌, subst, append_assoc, length-append}
+use Rattle.std.proofs.Common.{◌≡◌, ℕ, ◌+◌, ◌<◌, ◌≤◌, ◌⊎◌, inl, inr, List, [], ◌∷◌, ◌++◌, Bool, true, false, cond, ltb, length, take, map, Option, Some, None, arith, refl, sym, ap, ◌∙◌, append_assoc, length-append}
 use Rattle.std.specs.Prelude.{nat_lt, slice_get}
 use Rattle.std.proofs.lemmas.List.{append-nil}
 use Rattle.std.proofs.lemmas.Bool.Decides.{nat_tests}
@@ -7,12 +7,11 @@ use Rattle.cj_budget.specs.Limits.{LimitPair}
 use Rattle.cityseq.specs.declared.reason.Verdict.TheVariants.{Refuse}
 use Rattle.cityseq.specs.declared.reason.End.{End}
 use Rattle.cityseq.specs.declared.reason.End.TheVariants.{Complete, Refused, ReadFault, ReadLimit, WriteFault, Memory}
-use Rattle.cityseq.specs.Lines.{Line, closed, begun, begun_later, ended_line, last_line, later_of, first_content, lines, whole}
-use Rattle.cityseq.specs.Verdict.{verdict, is_kept, refusal_from, kept_from, judged, long_line, kept_first, features_first}
+use Rattle.cityseq.specs.Lines.{Line, closed, begun, ended_line, last_line, lines}
+use Rattle.cityseq.specs.Verdict.{verdict, refusal_from, kept_from, judged, kept_first}
 use Rattle.cityseq.specs.Bound.{bytes_bound}
-use Rattle.cityseq.specs.Reading.{Reading, begun_of, IsSound, Reads, kept_closed, Puts, Advances, IsNext, HasCause, Stops}
-use Rattle.cityseq.specs.Engine.{State, StandsFor, Counts, Going, held_bytes, peak_bytes, limits_of, lines_of, Faults, Delivers, Tells}
-use Rattle.cityseq.specs.Sink.{Took}
+use Rattle.cityseq.specs.Reading.{Reading, IsSound, Reads, kept_closed, Advances, IsNext, HasCause, Stops}
+use Rattle.cityseq.specs.Engine.{State, StandsFor, Counts, Going, Faults, Delivers, Tells}
 use Rattle.cityseq.proofs.LineLemmas.{closed-then, first_content-grows}
 use Rattle.cityseq.proofs.IsLinesLemmas.{lines-whole}
 use Rattle.cityseq.proofs.VerdictLemmas.{refusal-append}

@@ -1,6 +1,6 @@
 -- What the end of a text makes of an engine.
-use Rattle.std.proofs.Common.{◌≡◌, ℕ, ◌+◌, ◌<◌, ◌≤◌, ◌⊎◌, inl, inr, suc, max, List, [], ◌∷◌, ◌++◌, Bool, true, false, cond, eqb, length, take, map, Option, Some, None, Result, Ok, Err, arith, refl, sym, ap, ◌∙◌, length-append}
-use Rattle.std.specs.Prelude.{if◌then◌else◌, unwrap_or, slice_get}
+use Rattle.std.proofs.Common.{◌≡◌, ℕ, ◌+◌, ◌<◌, ◌≤◌, ◌⊎◌, inl, inr, max, List, [], ◌∷◌, ◌++◌, Bool, true, false, eqb, length, take, map, Some, None, Result, Ok, Err, arith, refl, sym, ap, ◌∙◌, length-append}
+use Rattle.std.specs.Prelude.{unwrap_or}
 use Rattle.std.proofs.lemmas.List.{append-nil}
 use Rattle.std.proofs.lemmas.Bool.Decides.{nat_tests}
 use Rattle.cj_budget.specs.Limits.{LimitPair}
@@ -10,12 +10,11 @@ use Rattle.cityseq.specs.declared.reason.Verdict.{Verdict}
 use Rattle.cityseq.specs.declared.reason.Verdict.TheVariants.{Refuse, Blank, Valid}
 use Rattle.cityseq.specs.declared.reason.End.{End}
 use Rattle.cityseq.specs.declared.reason.End.TheVariants.{Complete, Refused, ReadFault, ReadLimit, WriteFault, Memory}
-use Rattle.cityseq.specs.Lines.{Line, closed, begun, begun_after, first_content, ended_line, last_line, later_of, lines}
+use Rattle.cityseq.specs.Lines.{Line, closed, begun, begun_after, first_content, ended_line, later_of, lines}
 use Rattle.cityseq.specs.Verdict.{verdict, refusal_of, is_kept, refusal_from, kept_from, ending, ending_of, kept_first}
 use Rattle.cityseq.specs.Bound.{bytes_bound, longest, exact_bytes}
 use Rattle.cityseq.specs.Reading.{Reading, Deals, Reads, Finishes, FinishesWith, Passes}
-use Rattle.cityseq.specs.Engine.{State, StandsFor, Counts, held_bytes, peak_bytes, limits_of, Faults, Delivers, Concludes}
-use Rattle.cityseq.specs.Sink.{Took}
+use Rattle.cityseq.specs.Engine.{StandsFor, Counts, Faults, Delivers, Concludes}
 use Rattle.cityseq.proofs.LineLemmas.{none-from_length, begun_after-empty}
 use Rattle.cityseq.proofs.VerdictLemmas.{refusal-append, kept-append}
 use Rattle.cityseq.proofs.ReadingLemmas.{length-map_lines, zero_or, kept-next, longest-later}

@@ -1,5 +1,5 @@
 -- The good lines of a text, and what is kept of them.
-use Rattle.std.proofs.Common.{◌≡◌, ℕ, ◌+◌, ◌≤◌, List, [], ◌∷◌, ◌++◌, Bool, true, false, cond, zero, suc, length, take, drop, Option, Some, None, refl, sym, ap, ◌∙◌, arith, rules, add-zero, add-suc, length-take}
+use Rattle.std.proofs.Common.{◌≡◌, ℕ, ◌+◌, ◌≤◌, List, [], ◌∷◌, ◌++◌, true, false, cond, zero, suc, length, take, drop, Option, Some, None, refl, sym, ap, ◌∙◌, arith, add-zero, length-take}
 use Rattle.std.specs.Prelude.{unwrap_or, is_some, slice_get}
 use Rattle.std.proofs.lemmas.List.{take-append-drop}
 use Rattle.cj_budget.specs.Limits.{LimitPair}
@@ -11,7 +11,7 @@ use Rattle.cityseq.specs.declared.reason.End.{End}
 use Rattle.cityseq.specs.declared.reason.End.TheVariants.{Complete, Refused}
 use Rattle.cityseq.specs.Lines.{Line, lines}
 use Rattle.cityseq.specs.Verdict.{verdict, refusal_of, is_kept, refusal_from, good_from, kept_from, good, kept, kept_first, ending, ending_of}
-use Rattle.cityseq.proofs.VerdictLemmas.{kept-append, refusal-append}
+use Rattle.cityseq.proofs.VerdictLemmas.{kept-append}
 
 -- good lines are a front
 pub good-take : (limits : LimitPair) (n : ℕ) (ls : List Line) → take (length (good_from limits n ls)) ls ≡ good_from limits n ls

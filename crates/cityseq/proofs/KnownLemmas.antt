@@ -1,6 +1,6 @@
 -- Known bytes that grow twice.
-use Rattle.std.proofs.Common.{◌≡◌, ℕ, Result, Ok, Err, Bool, true, false, ◌∷◌, List, [], ◌++◌, ◌-◌, ◌≤◌, length, take, drop, arith, length-drop, Option, Some, None, refl, sym, ap, ◌∙◌, append_assoc}
-use Rattle.std.specs.Prelude.{⊤, OnErr, OnOk}
+use Rattle.std.proofs.Common.{◌≡◌, ℕ, Result, Ok, Err, Bool, true, false, ◌∷◌, List, [], ◌++◌, ◌-◌, ◌≤◌, length, take, drop, arith, length-drop, Option, Some, None, sym, ap, ◌∙◌, append_assoc}
+use Rattle.std.specs.Prelude.{OnErr, OnOk}
 use Rattle.cityseq.specs.Lines.{raw}
 use Rattle.std.proofs.lemmas.List.{append-nil, take-append-drop, take_all}
 use Rattle.std.specs.Io.KnownBytes.{Appends, Keeps}

@@ -1,5 +1,5 @@
 -- The lines of a text that goes on.
-use Rattle.std.proofs.Common.{◌≡◌, ◌≢◌, ℕ, List, [], ◌∷◌, ◌++◌, Bool, true, false, eqb, cond, suc, ◌<◌, ◌≤◌, length, get_or, arith, refl, sym, ap, ◌∙◌, append_assoc}
+use Rattle.std.proofs.Common.{◌≡◌, ℕ, List, [], ◌∷◌, ◌++◌, Bool, true, false, eqb, cond, suc, ◌<◌, ◌≤◌, length, get_or, arith, refl, ap, ◌∙◌}
 use Rattle.std.proofs.lemmas.List.{append-nil}
 use Rattle.cityseq.specs.Lines.{closed, begun, begun_with, begun_after, onto_first, first_of, first_content, NoLf}
 

@@ -1,15 +1,13 @@
 -- The bytes that a writer gets in a run.
-use Rattle.std.proofs.Common.{◌≡◌, ℕ, ◌+◌, ◌<◌, ◌≤◌, ◌⊎◌, inl, inr, List, [], ◌∷◌, ◌++◌, Bool, true, false, cond, ltb, suc, length, take, drop, map, Option, Some, None, refl, sym, ap, ◌∙◌, arith, append_assoc, length-append}
-use Rattle.std.specs.Prelude.{unwrap_or, is_some}
+use Rattle.std.proofs.Common.{◌≡◌, ℕ, ◌+◌, List, [], ◌∷◌, ◌++◌, length, drop, Option, Some, None, refl, sym, ap, ◌∙◌, append_assoc}
 use Rattle.std.specs.List.{flat_map}
 use Rattle.std.proofs.lemmas.List.{append-nil}
-use Rattle.std.proofs.lemmas.Bool.Decides.{nat_tests}
 use Rattle.std.specs.Io.KnownBytes.{Appends, Keeps}
 use Rattle.cj_budget.specs.Limits.{LimitPair}
 use Rattle.cityseq.specs.declared.reason.End.{End}
 use Rattle.cityseq.specs.declared.reason.End.TheVariants.{Complete, Refused, ReadFault, ReadLimit, WriteFault, Memory}
-use Rattle.cityseq.specs.Lines.{Line, raw, lines, whole, closed, ended_line}
-use Rattle.cityseq.specs.Verdict.{refusal_from, good_from, kept_from, good, kept, kept_first, output}
+use Rattle.cityseq.specs.Lines.{Line, raw, lines, whole, closed}
+use Rattle.cityseq.specs.Verdict.{refusal_from, good_from, kept_from, kept, kept_first}
 use Rattle.cityseq.specs.Engine.{Faults}
 use Rattle.cityseq.specs.Run.{Runs, Writes}
 use Rattle.cityseq.specs.Sink.{Took, AppendsPart}

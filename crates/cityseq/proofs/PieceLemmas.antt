@@ -1,24 +1,21 @@
 -- How a framer advances over a piece, and where it stops.
-use Rattle.std.proofs.Common.{◌≡◌, ℕ, ◌+◌, ◌-◌, ◌<◌, ◌≤◌, ◌⊎◌, inl, inr, suc, List, [], ◌∷◌, ◌++◌, Bool, true, false, cond, eqb, ltb, length, take, drop, get_or, map, Option, Some, None, Result, Ok, Err, arith, rules, refl, sym, ap, ◌∙◌, subst, append_assoc, length-append, length-take, length-drop, drop-cons, add-one}
-use Rattle.std.specs.Prelude.{nat_lt, if◌then◌else◌, OnOk, IfErr}
-use Rattle.std.proofs.lemmas.List.{append-nil, get_or-take, take-append-drop, take_all}
-use Rattle.std.proofs.lemmas.Bool.{eqb-true}
+use Rattle.std.proofs.Common.{◌≡◌, ℕ, ◌+◌, ◌<◌, ◌⊎◌, inl, inr, List, [], ◌∷◌, ◌++◌, Bool, true, false, ltb, length, map, None, Result, Ok, Err, arith, refl, sym, ap, ◌∙◌, subst, append_assoc, length-append}
+use Rattle.std.specs.Prelude.{if◌then◌else◌}
+use Rattle.std.proofs.lemmas.List.{append-nil}
 use Rattle.std.proofs.lemmas.Bool.Decides.{nat_tests}
-use Rattle.cj_budget.specs.Bounded.{BoundedList, IsWithin, Becomes}
 use Rattle.cj_budget.specs.Limits.{LimitPair}
 use Rattle.cityseq.specs.declared.reason.Reason.TheVariants.{LineTooLong}
 use Rattle.cityseq.specs.declared.reason.Verdict.{Verdict}
 use Rattle.cityseq.specs.declared.reason.Verdict.TheVariants.{Refuse, Blank, Valid}
 use Rattle.cityseq.specs.declared.reason.End.{End}
 use Rattle.cityseq.specs.declared.reason.End.TheVariants.{Refused, WriteFault, Memory}
-use Rattle.cityseq.specs.Lines.{Line, closed, begun, ended_line, last_line, NoLf}
-use Rattle.cityseq.specs.Verdict.{verdict, refusal_of, is_kept, judged, long_line}
-use Rattle.cityseq.specs.Reading.{Reading, begun_of, IsSound, Stays, Stores, Passes, Deals, Reads, kept_closed, Puts, Advances, IsNext, HasCause, Stops}
+use Rattle.cityseq.specs.Lines.{Line, closed, begun, ended_line, NoLf}
+use Rattle.cityseq.specs.Verdict.{verdict, refusal_of, is_kept, long_line}
+use Rattle.cityseq.specs.Reading.{Reading, begun_of, Stores, Passes, Deals, Reads, kept_closed, Puts, Advances, IsNext, HasCause, Stops}
 use Rattle.cityseq.specs.Sink.{Took}
-use Rattle.memchr.specs.Find.{IsFirstByte, is_byte}
-use Rattle.cityseq.proofs.LineLemmas.{NoLf-from_places, closed-more, begun-more, closed-lf, begun-lf}
+use Rattle.cityseq.proofs.LineLemmas.{closed-more, begun-more, closed-lf, begun-lf}
 use Rattle.cityseq.proofs.VerdictLemmas.{verdict-long}
-use Rattle.cityseq.proofs.ReadingLemmas.{Reads-stored, Reads-passed, kept_closed-lf, map_lines-append, begun_of-first, begun_of-later, begun_of-stored, zero_or}
+use Rattle.cityseq.proofs.ReadingLemmas.{Reads-stored, Reads-passed, kept_closed-lf, map_lines-append}
 
 -- steps, and then others
 pub Took-append : {S X : Type 0} (step : S → X → S → Type 0) (a b c : S) (xs ys : List X) → Took step a xs b → Took step b ys c → Took step a (xs ++ ys) c

@@ -1,14 +1,12 @@
 -- What a framer has read after it stored a part, and after it dealt with a line.
-use Rattle.std.proofs.Common.{◌≡◌, ℕ, ◌+◌, ◌<◌, ◌≤◌, ◌⊎◌, inl, inr, max, zero, suc, List, [], ◌∷◌, ◌++◌, Bool, true, false, cond, eqb, ltb, length, map, Option, Some, None, Result, Ok, Err, arith, rules, refl, sym, ap, ◌∙◌, subst, append_assoc, length-append, add-zero, add-suc, add-one}
-use Rattle.std.specs.Prelude.{◌&&◌, nat_lt, if◌then◌else◌, is_some}
+use Rattle.std.proofs.Common.{◌≡◌, ℕ, ◌+◌, ◌<◌, ◌⊎◌, inl, inr, max, zero, suc, List, [], ◌∷◌, ◌++◌, Bool, true, false, cond, eqb, length, map, None, arith, refl, sym, ap, ◌∙◌, length-append}
+use Rattle.std.specs.Prelude.{◌&&◌, nat_lt, if◌then◌else◌}
 use Rattle.std.proofs.lemmas.List.{append-nil}
 use Rattle.std.proofs.lemmas.Bool.Decides.{nat_tests}
-use Rattle.cj_budget.specs.Bounded.{BoundedList, IsWithin, Becomes}
+use Rattle.cj_budget.specs.Bounded.{IsWithin}
 use Rattle.cj_budget.specs.Limits.{LimitPair}
-use Rattle.cityseq.specs.declared.reason.Verdict.{Verdict}
-use Rattle.cityseq.specs.declared.reason.End.{End}
 use Rattle.cityseq.specs.Lines.{Line, closed, begun, begun_after, begun_later, ended_line, first_of, first_content, later_of, NoLf}
-use Rattle.cityseq.specs.Verdict.{verdict, refusal_of, is_kept, refusal_from, kept_from}
+use Rattle.cityseq.specs.Verdict.{verdict, refusal_of, is_kept, kept_from}
 use Rattle.cityseq.specs.Bound.{longest}
 use Rattle.cityseq.specs.Reading.{Reading, begun_of, Stores, Passes, Reads, kept_closed}
 use Rattle.cityseq.proofs.LineLemmas.{closed-more, begun-more, closed-lf, begun-lf, first_of-some, first_of-lf, begun_after-some, begun_after-empty, none-from_length}

@@ -1,15 +1,15 @@
 -- How the calls of a run add up.
-use Rattle.std.proofs.Common.{◌≡◌, inl, inr, ℕ, ◌+◌, ◌-◌, ◌⊎◌, ◌<◌, ◌≤◌, List, [], ◌∷◌, ◌++◌, Bool, true, false, cond, length, take, map, Option, Some, None, refl, sym, ap, ◌∙◌, subst, append_assoc, arith}
-use Rattle.std.specs.Prelude.{unwrap_or, is_some, if◌then◌else◌}
+use Rattle.std.proofs.Common.{◌≡◌, inl, inr, ℕ, ◌+◌, ◌-◌, ◌⊎◌, ◌<◌, ◌≤◌, List, [], ◌∷◌, ◌++◌, cond, length, Option, Some, None, refl, sym, ap, ◌∙◌, subst, append_assoc, arith}
+use Rattle.std.specs.Prelude.{is_some}
 use Rattle.std.proofs.lemmas.List.{append-nil}
 use Rattle.std.specs.Io.KnownBytes.{Consumes, Keeps}
 use Rattle.cityseq.specs.declared.reason.End.{End}
 use Rattle.cityseq.specs.declared.reason.End.TheVariants.{Complete, Refused, ReadFault, ReadLimit, WriteFault, Memory}
 use Rattle.cj_budget.specs.Limits.{LimitPair}
-use Rattle.cityseq.specs.Lines.{Line, closed, ended_line, lines, whole}
+use Rattle.cityseq.specs.Lines.{Line, closed, lines, whole}
 use Rattle.cityseq.specs.Verdict.{verdict, refusal_of, refusal_from, judged, ending, ending_of}
-use Rattle.cityseq.specs.Verdict.{good, kept_first}
-use Rattle.cityseq.specs.Engine.{State, StandsFor, Counts, Delivers, Faults, Concludes, Tells, limits_of, lines_of}
+use Rattle.cityseq.specs.Verdict.{kept_first}
+use Rattle.cityseq.specs.Engine.{State, Delivers, Faults, Concludes, Tells, limits_of, lines_of}
 use Rattle.cityseq.specs.Reading.{Reads}
 use Rattle.cityseq.specs.Run.{Ends}
 use Rattle.cityseq.specs.Sink.{HasRisen, Took}

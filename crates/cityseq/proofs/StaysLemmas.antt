@@ -1,6 +1,5 @@
 -- What stays of a reading, whatever comes of some bytes.
-use Rattle.std.proofs.Common.{◌≡◌, ℕ, ◌+◌, ◌<◌, ◌≤◌, ◌⊎◌, inl, inr, List, [], Bool, true, false, cond, length, Result, Ok, Err, arith, refl, sym, ap, ◌∙◌}
-use Rattle.cj_budget.specs.Bounded.{BoundedList, IsWithin, Becomes}
+use Rattle.std.proofs.Common.{◌≡◌, ℕ, ◌+◌, ◌<◌, ◌≤◌, ◌⊎◌, inl, inr, List, Bool, true, false, cond, length, Result, Ok, Err, arith, refl, sym, ap, ◌∙◌}
 use Rattle.cityseq.specs.declared.reason.Verdict.{Verdict}
 use Rattle.cityseq.specs.declared.reason.Verdict.TheVariants.{Refuse, Blank, Valid}
 use Rattle.cityseq.specs.declared.reason.End.{End}

@@ -1,5 +1,5 @@
 -- The verdict case by case, and the refusals and kept lines of lines that follow one another.
-use Rattle.std.proofs.Common.{◌≡◌, ℕ, ◌+◌, ◌<◌, ◌≤◌, suc, List, [], ◌∷◌, ◌++◌, Bool, true, false, cond, ltb, length, Option, Some, None, arith, refl, sym, ap, ◌∙◌, add-zero, add-suc, add-one}
+use Rattle.std.proofs.Common.{◌≡◌, ℕ, ◌+◌, ◌<◌, ◌≤◌, suc, List, [], ◌∷◌, ◌++◌, Bool, true, false, cond, ltb, length, Option, Some, None, arith, refl, ap, ◌∙◌, add-zero}
 use Rattle.std.specs.Prelude.{◌&&◌, nat_lt, if◌then◌else◌, is_some}
 use Rattle.std.specs.List.{list_all}
 use Rattle.std.specs.Str.{IsUtf8, is_utf8}
@@ -8,7 +8,6 @@ use Rattle.std.proofs.lemmas.Str.{IsUtf8-from_is_utf8, is_utf8-from_IsUtf8}
 use Rattle.std.proofs.lemmas.Bool.Decides.{nat_tests}
 use Rattle.cj_budget.specs.Limits.{LimitPair}
 use Rattle.cityseq.specs.declared.reason.Reason.TheVariants.{LineTooLong, NotUtf8}
-use Rattle.cityseq.specs.declared.reason.Verdict.{Verdict}
 use Rattle.cityseq.specs.declared.reason.Verdict.TheVariants.{Refuse, Blank, Valid}
 use Rattle.cityseq.specs.declared.reason.End.{End}
 use Rattle.cityseq.specs.Lines.{Line}

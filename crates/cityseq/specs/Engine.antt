@@ -1,9 +1,9 @@
 -- Which bytes an engine stands for, and what it answers.
-use Rattle.std.specs.Prelude.{◌≡◌, ℕ, ◌+◌, ◌≤◌, List, [], ◌∷◌, ◌++◌, Bool, true, Option, Some, None, is_none, if◌then◌else◌, length, take, map, slice_get}
+use Rattle.std.specs.Prelude.{◌≡◌, ℕ, ◌+◌, ◌≤◌, List, ◌++◌, true, Option, Some, None, is_none, if◌then◌else◌, length, take, slice_get}
 use Rattle.cj_budget.specs.Limits.{LimitPair}
 use Rattle.cityseq.specs.declared.reason.End.{End}
 use Rattle.cityseq.specs.declared.reason.End.TheVariants.{Complete, Refused, ReadFault, ReadLimit, WriteFault, Memory}
-use Rattle.cityseq.specs.Lines.{Line, closed, lines, whole, first_content, begun_later}
+use Rattle.cityseq.specs.Lines.{Line, lines, whole, first_content, begun_later}
 use Rattle.cityseq.specs.Verdict.{refusal_from, judged, verdict, is_kept, good, ending, kept_first, features_first}
 use Rattle.cityseq.specs.Bound.{bytes_bound}
 use Rattle.cityseq.specs.Reading.{Reading, Reads}

@@ -1,7 +1,7 @@
 -- What it means to be the lines of a text.
 use Rattle.std.specs.Prelude.{◌≡◌, ◌⊎◌, ℕ, List, [], ◌∷◌, ◌++◌, true, false}
 use Rattle.std.specs.List.{flat_map}
-use Rattle.cityseq.specs.Lines.{Line, raw, NoLf, lines, whole, begun}
+use Rattle.cityseq.specs.Lines.{Line, raw, NoLf}
 
 -- LF ended each line but perhaps the last, which is then not empty
 abbrev pub AreEnded : List Line → Type 0

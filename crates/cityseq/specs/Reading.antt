@@ -1,5 +1,5 @@
 -- What is held of a stream while its lines are read, and which bytes it stands for.
-use Rattle.std.specs.Prelude.{◌≡◌, ℕ, ◌+◌, ◌<◌, ◌≤◌, ◌⊎◌, List, [], ◌∷◌, ◌++◌, Bool, true, false, ◌&&◌, ◌==◌, nat_lt, if◌then◌else◌, Option, Some, None, Result, Ok, Err, length, map, max, MatchResult}
+use Rattle.std.specs.Prelude.{◌≡◌, ℕ, ◌+◌, ◌<◌, ◌≤◌, List, [], ◌∷◌, ◌++◌, Bool, true, false, ◌&&◌, ◌==◌, nat_lt, if◌then◌else◌, None, Result, Ok, Err, length, map, max, MatchResult}
 use Rattle.cj_budget.specs.Bounded.{BoundedList, IsWithin, Becomes}
 use Rattle.cj_budget.specs.Limits.{LimitPair, InLine}
 use Rattle.cityseq.specs.declared.framer.Framer.{Framer}

@@ -1,5 +1,5 @@
 -- Worked rows, which compute.
-use Rattle.std.specs.Prelude.{◌≡◌, ℕ, List, [], ◌∷◌, ◌++◌, codes, length}
+use Rattle.std.specs.Prelude.{◌≡◌, ℕ, List, [], ◌∷◌, ◌++◌, codes}
 use Rattle.cj_budget.specs.Limits.{LimitPair}
 use Rattle.cityseq.specs.declared.reason.Reason.TheVariants.{NoHeader, LineTooLong, NotUtf8}
 use Rattle.cityseq.specs.declared.reason.End.{End}

@@ -1,5 +1,5 @@
 -- Each line is a JSON text within the depth limit, or has the place of a fault: the machine finds out which.
-use Rattle.std.proofs.Common.{◌≡◌, ℕ, zero, suc, ◌+◌, ◌<◌, ◌≤◌, List, [], ◌∷◌, length, max, drop, Bool, true, false, cond, nat_eq, Option, Some, None, refl, sym, ap, subst, arith, ◌∙◌, ◌⊎◌, inl, inr, ltb}
+use Rattle.std.proofs.Common.{◌≡◌, ℕ, zero, suc, ◌+◌, ◌<◌, ◌≤◌, List, [], ◌∷◌, length, drop, Bool, true, false, cond, nat_eq, Option, Some, None, refl, sym, ap, subst, arith, ◌∙◌, ◌⊎◌, inl, inr, ltb}
 use Rattle.std.specs.Prelude.{IsSomeAnd, IsOk, IsErrOf, Result, option_and_then, option_map, slice_get}
 use Rattle.std.proofs.lemmas.Bool.{ltb-true}
 use Rattle.std.proofs.lemmas.Bool.Decides.{nat_tests}
@@ -16,7 +16,7 @@ use Rattle.cj_spans.specs.Front.{SyntaxAt, DeepAt, NowhereDeep}
 use Rattle.cj_spans.specs.Judgement.{Judgement, spelled, broken, sunk, IsAnswerOf}
 use Rattle.cj_spans.specs.declared.fault.ScanFault.{ScanFault}
 use Rattle.cj_spans.specs.declared.fault.ScanFault.TheVariants.{Syntax, TooDeep, Memory}
-use Rattle.cj_spans.specs.Machine.{Phase, State, state, between, in_atom, start, moved, opened, closed, step, step_by, read, read_in, begin_value, begin_name, after_value, after_top, after_token, after_in, close_by, close_empty, close_top, close_token, colon_step, end_atom, go_on, settle, lex_start, lex_step, lex_kind, Reaches, here, on, Sticks, SticksAt, SinksAt}
+use Rattle.cj_spans.specs.Machine.{Phase, State, state, between, in_atom, start, moved, step, step_by, read, read_in, begin_value, begin_name, after_top, after_token, after_in, close_by, close_top, close_token, end_atom, go_on, settle, lex_start, lex_step, lex_kind, Reaches, here, on, Sticks}
 use Rattle.cj_spans.proofs.Spellings.{none_some, some_same}
 use Rattle.cj_spans.proofs.Facts.{next_place, lawful_reaches, goes}
 use Rattle.cj_spans.proofs.Runs.{settled}

@@ -1,5 +1,4 @@
-use Rattle.std.proofs.Common.{◌≡◌, ◌⊎◌, inl, inr, refl}
-use Rattle.cityseq.specs.declared.reason.End.TheVariants.{WriteFault}
+use Rattle.std.proofs.Common.{inl, inr}
 use Rattle.cityseq.specs.Report.{fault_line}
 use Rattle.cityseq.proofs.KnownLemmas.{AppendsPart-either}
 use Rattle.cityseq.proofs.OutputLemmas.{Writes-kept}

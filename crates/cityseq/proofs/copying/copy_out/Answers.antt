@@ -1,7 +1,4 @@
 use Rattle.std.proofs.Common.{◌≡◌, ◌∙◌, sym}
-use Rattle.std.specs.Io.KnownBytes.{Appends}
-use Rattle.cityseq.specs.Lines.{raw}
-use Rattle.cityseq.specs.Sink.{AppendsPart}
 use Rattle.cityseq.specs.LentSink.{lent_writer, lent_name}
 use Rattle.cityseq.proofs.OutputLemmas.{Writes-runs, Runs-less, Runs-keeps}
 use Rattle.cityseq.proofs.copying.copy_out.Goals as goal

@@ -1,4 +1,4 @@
-use Rattle.std.proofs.Common.{◌≡◌, [], ◌+◌, ◌++◌, ◌∙◌, ◌<◌, ◌≤◌, length, take, map, get_or, refl, sym, ap, arith}
+use Rattle.std.proofs.Common.{[], ◌+◌, ◌++◌, ◌∙◌, take, map, get_or, refl, arith}
 use Rattle.std.proofs.lemmas.List.{length-map}
 use Rattle.cityseq.specs.Engine.{limits_of, lines_of}
 use Rattle.cityseq.specs.Cut.{joined}

@@ -1,4 +1,4 @@
-use Rattle.std.proofs.Common.{◌≡◌, ◌∙◌, sym, refl, arith, true, false}
+use Rattle.std.proofs.Common.{◌≡◌, refl, arith, true, false}
 use Rattle.std.specs.Prelude.{nat_lt}
 use Rattle.std.proofs.lemmas.Bool.Decides.{nat_tests}
 use Rattle.cityseq.proofs.VerdictLemmas.{verdict-bytes, verdict-text}

@@ -1,4 +1,4 @@
-use Rattle.std.proofs.Common.{◌≡◌, [], ◌+◌, ◌++◌, ◌<◌, take, drop, map, get_or, arith}
+use Rattle.std.proofs.Common.{[], ◌+◌, ◌++◌, take, drop, map, get_or, arith}
 use Rattle.cityseq.specs.Cut.{joined}
 use Rattle.cityseq.proofs.JoinedLemmas.{joined-more, joined-at}
 use Rattle.cityseq.proofs.KnownLemmas.{Appends-then, AppendsPart-after, AppendsPart-front, on_err_any}

@@ -1,4 +1,4 @@
-use Rattle.std.proofs.Common.{◌≡◌, ◌+◌, ◌*◌, ◌++◌, ◌∙◌, [], List, length, length-take, take, refl, sym, ap, arith, Some, None, Err}
+use Rattle.std.proofs.Common.{◌++◌, ◌∙◌, length-take, take, refl, ap, arith, Err}
 use Rattle.std.proofs.lemmas.List.{append-nil}
 use Rattle.cityseq.specs.declared.reason.End.TheVariants.{ReadFault, ReadLimit}
 use Rattle.cityseq.specs.Engine.{limits_of, lines_of}

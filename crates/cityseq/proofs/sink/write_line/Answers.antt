@@ -1,5 +1,5 @@
-use Rattle.std.proofs.Common.{rules, ◌≡◌, ◌∷◌, []}
-use Rattle.cityseq.proofs.KnownLemmas.{AppendsPart-after, AppendsPart-raw, on_err_any}
+use Rattle.std.proofs.Common.{◌∷◌, []}
+use Rattle.cityseq.proofs.KnownLemmas.{AppendsPart-after, on_err_any}
 use Rattle.cityseq.proofs.sink.write_line.Goals as goal
 
 pub returns-in_err-write_whole-2-clause-fault : goal.returns-in_err-write_whole-2-clause-fault

@@ -1,5 +1,4 @@
-use Rattle.std.proofs.Common.{rules, ◌≡◌, ◌++◌, take, drop, arith}
-use Rattle.std.proofs.lemmas.Grind.{common_steps}
+use Rattle.std.proofs.Common.{◌++◌, take}
 use Rattle.cityseq.proofs.KnownLemmas.{Appends-then, taken_more}
 use Rattle.cityseq.proofs.sink.write_whole.Goals as goal
 

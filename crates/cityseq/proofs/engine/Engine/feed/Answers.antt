@@ -1,4 +1,4 @@
-use Rattle.std.proofs.Common.{◌≡◌, ◌++◌, ◌+◌, ◌∙◌, length, length-append, arith, refl, sym, ap, Some, None}
+use Rattle.std.proofs.Common.{◌≡◌, ◌++◌, refl, None}
 use Rattle.cityseq.specs.Reading.{reading}
 use Rattle.cityseq.proofs.EngineLemmas.{Tells-stops, Delivers-advances, Delivers-stops, StandsFor-stops, Going-reads, none_from_not_some}
 use Rattle.cityseq.proofs.engine.Engine.feed.Goals as goal

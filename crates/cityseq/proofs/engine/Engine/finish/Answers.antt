@@ -1,4 +1,4 @@
-use Rattle.std.proofs.Common.{◌≡◌, ◌++◌, ◌∙◌, refl, sym, ap, Some, None}
+use Rattle.std.proofs.Common.{◌≡◌, ◌∙◌, sym, ap, None}
 use Rattle.cityseq.specs.Reading.{reading}
 use Rattle.cityseq.proofs.EngineLemmas.{none_from_not_some}
 use Rattle.cityseq.proofs.FinishLemmas.{end_of, Finishes-concludes, Finishes-delivers, StandsFor-finished, peak-finished}

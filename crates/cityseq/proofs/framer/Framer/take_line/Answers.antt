@@ -1,4 +1,3 @@
-use Rattle.std.proofs.Common.{◌≡◌, ◌∷◌, ◌++◌, refl, ap}
 use Rattle.std.proofs.lemmas.Result.{err_from_is_err_and}
 use Rattle.cityseq.specs.Reading.{reading}
 use Rattle.cityseq.proofs.PieceLemmas.{Stops-unstored, Stops-undealt, Advances-line}

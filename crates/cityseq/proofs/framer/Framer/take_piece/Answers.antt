@@ -1,9 +1,9 @@
-use Rattle.std.proofs.Common.{◌≡◌, ◌∷◌, [], ◌++◌, ◌+◌, ◌∙◌, take, drop, length, ap, sym, append_assoc, refl, arith, rules}
+use Rattle.std.proofs.Common.{◌∷◌, [], ◌++◌, ◌+◌, take, drop, refl, arith}
 use Rattle.std.proofs.lemmas.Result.{err_from_is_err_and}
 use Rattle.cityseq.specs.Reading.{reading}
 use Rattle.cityseq.proofs.PieceSlices.{lf_found, NoLf-before, NoLf-not_found, left_length, piece_more}
 use Rattle.cityseq.proofs.PieceLemmas.{Stops-later, Stops-unstored_last, Advances-none, Advances-then, Advances-stored}
-use Rattle.cityseq.proofs.StaysLemmas.{Stays-then, Stays-same, Stays-stored}
+use Rattle.cityseq.proofs.StaysLemmas.{Stays-then, Stays-same}
 use Rattle.cityseq.proofs.framer.Framer.take_piece.Goals as goal
 
 pub take_line-requires-clause-one : goal.take_line-requires-clause-one
