@@ -5,4 +5,3 @@ mod command_rows;
 mod devices;
 mod faults;
 mod rows;
-mod sample;
