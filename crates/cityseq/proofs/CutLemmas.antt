@@ -118,14 +118,14 @@ module _ {S : Type 0} (contents : S → Option (List ℕ)) (limits : LimitPair) 
       (joined (take n pieces)) (joined (take n pieces) ≡ joined pieces) s t count features bytes e → IsUnread e → Copies limits pieces e (contents s) (contents t)
   Copies-runs Complete h u =
       let w = Writes-runs contents limits (joined (take n pieces)) _ s t count features bytes Complete h in
-      rw (← h.ends.2) (h.ends.0, w)
-  Copies-runs (Refused number place reason) h u = go h.ends.2
+      rw (← h.account.ends.2) (h.account.ends.0, w)
+  Copies-runs (Refused number place reason) h u = go h.account.ends.2
     where
       w : Appends (contents s) (contents t) (output limits (joined (take n pieces)))
       w = Writes-runs contents limits (joined (take n pieces)) _ s t count features bytes (Refused number place reason) h
 
       go : (joined (take n pieces) ≡ joined pieces) ⊎ (refusal_from limits 1 (judged limits (joined (take n pieces))) ≡ Some (Refused number place reason)) → Copies limits pieces (Refused number place reason) (contents s) (contents t)
-      go (inl same) = rw (← same) (h.ends.0, w)
+      go (inl same) = rw (← same) (h.account.ends.0, w)
       go (inr told) =
           let more = refused-more limits (joined (take n pieces)) (joined (drop n pieces)) (Refused number place reason) told in
           let out : output limits (joined (take n pieces)) ≡ output limits (joined (take n pieces) ++ joined (drop n pieces)) = sym more.1 in

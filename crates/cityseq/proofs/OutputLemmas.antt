@@ -71,9 +71,7 @@ module _ {S N : Type 0} (name : S → N) (takes leaves : S → Line → S → Ty
   -- a run whose steps keep a name, without it, and that the whole run keeps it
   pub Runs-less : (at_end : Type 0) (s t : S) (n features bytes : ℕ) (e : End) → Runs named_takes named_leaves limits r at_end s t n features bytes e → Runs takes leaves limits r at_end s t n features bytes e
   Runs-less at_end s t n features bytes e h = record {
-    bounded = h.bounded;
-    exact = h.exact;
-    counts = h.counts;
+    account = h.account;
     sink = record {
       added = h.sink.added;
       middle = h.sink.middle;
@@ -81,7 +79,6 @@ module _ {S N : Type 0} (name : S → N) (takes leaves : S → Line → S → Ty
       took = Took-less named_takes takes (λ a l b x. x.1) s h.sink.middle h.sink.added h.sink.took;
       fault = Faults-less n h.sink.middle t e h.sink.fault;
     };
-    ends = h.ends;
   }
 
   pub Runs-keeps : (at_end : Type 0) (s t : S) (n features bytes : ℕ) (e : End) → Runs named_takes named_leaves limits r at_end s t n features bytes e → name t ≡ name s
@@ -98,21 +95,21 @@ module _ {S : Type 0} (contents : S → Option (List ℕ)) (limits : LimitPair) 
   -- the bytes that a writer got, by the end of the run
   pub Writes-runs : (e : End) → Runs takes leaves limits r at_end s t n features bytes e → Writes limits r e (contents s) (contents t)
   Writes-runs Complete h =
-      let k : h.sink.added ≡ kept limits r = sym h.sink.kept ∙ kept_first-good limits n r h.ends.1 in
+      let k : h.sink.added ≡ kept limits r = sym h.sink.kept ∙ kept_first-good limits n r h.account.ends.1 in
       rw (← k, h.sink.fault) (Took-appends contents s h.sink.middle h.sink.added h.sink.took)
   Writes-runs (Refused number place reason) h =
-      let k : h.sink.added ≡ kept limits r = sym h.sink.kept ∙ kept_first-good limits n r h.ends.1 in
+      let k : h.sink.added ≡ kept limits r = sym h.sink.kept ∙ kept_first-good limits n r h.account.ends.1 in
       rw (← k, h.sink.fault) (Took-appends contents s h.sink.middle h.sink.added h.sink.took)
   Writes-runs ReadFault h =
-      let k : h.sink.added ≡ kept limits (whole r) = sym h.sink.kept ∙ kept-whole limits n r h.ends.0 h.ends.1 in
+      let k : h.sink.added ≡ kept limits (whole r) = sym h.sink.kept ∙ kept-whole limits n r h.account.ends.0 h.account.ends.1 in
       rw (← k, h.sink.fault) (Took-appends contents s h.sink.middle h.sink.added h.sink.took)
   Writes-runs ReadLimit h =
-      let k : h.sink.added ≡ kept limits (whole r) = sym h.sink.kept ∙ kept-whole limits n r h.ends.0 h.ends.1 in
+      let k : h.sink.added ≡ kept limits (whole r) = sym h.sink.kept ∙ kept-whole limits n r h.account.ends.0 h.account.ends.1 in
       rw (← k, h.sink.fault) (Took-appends contents s h.sink.middle h.sink.added h.sink.took)
   Writes-runs WriteFault h =
       let fault = h.sink.fault in
       let l = fault.0 in
-      let next = kept-next_line limits n r l h.counts.few h.counts.good fault.1 fault.2 in
+      let next = kept-next_line limits n r l h.account.counts.few h.account.counts.good fault.1 fault.2 in
       let k : kept limits r ≡ h.sink.added ++ l ∷ next.0 = next.1 ∙ ap (λ z. z ++ l ∷ next.0) h.sink.kept in
       let front = AppendsPart-after (contents s) (contents h.sink.middle) (contents t) (flat_map raw h.sink.added) (raw l) (Took-appends contents s h.sink.middle h.sink.added h.sink.took) fault.3 in
       let all = AppendsPart-front (contents s) (contents t) (flat_map raw h.sink.added ++ raw l) (flat_map raw next.0) front in
@@ -120,7 +117,7 @@ module _ {S : Type 0} (contents : S → Option (List ℕ)) (limits : LimitPair) 
   Writes-runs Memory h =
       let others : List Line = kept_from limits (n + 1) (good_from limits (n + 1) (drop n (lines r))) in
       let k : kept limits r ≡ h.sink.added ++ kept_from limits (n + 1) (good_from limits (n + 1) (drop n (lines r))) =
-      kept-split limits n r h.counts.few h.counts.good ∙ ap (λ z. z ++ kept_from limits (n + 1) (good_from limits (n + 1) (drop n (lines r)))) h.sink.kept in
+      kept-split limits n r h.account.counts.few h.account.counts.good ∙ ap (λ z. z ++ kept_from limits (n + 1) (good_from limits (n + 1) (drop n (lines r)))) h.sink.kept in
       rw (k, raw-append h.sink.added others, h.sink.fault)
       (AppendsPart-whole (contents s) (contents h.sink.middle) (flat_map raw h.sink.added) (flat_map raw others) (Took-appends contents s h.sink.middle h.sink.added h.sink.took))
 

@@ -21,14 +21,18 @@ Ends limits r n at_end ReadLimit = (refusal_from limits 1 (lines (whole r)) ≡ 
 Ends limits r n at_end WriteFault = Unit {0}
 Ends limits r n at_end Memory = Unit {0}
 
--- a run read these bytes, dealt with n lines, kept some features, held at most so many bytes, and ended so; what it
--- held at most is exact where it is complete
-pub record Runs {S : Type 0} (takes leaves : S → Line → S → Type 0) (limits : LimitPair) (r : List ℕ) (at_end : Type 0) (s t : S) (n features bytes : ℕ) (e : End) : Type 0 where
+-- the account of a run over these bytes: it dealt with n lines, kept some features, held at most so many bytes, and
+-- ended so; what it held at most is exact where it is complete
+pub record Account (limits : LimitPair) (r : List ℕ) (at_end : Type 0) (n features bytes : ℕ) (e : End) : Type 0 where
   pub bounded : bytes ≤ bytes_bound limits r
   pub exact : e ≡ Complete → bytes ≡ exact_bytes r
   pub counts : Counts limits r n features
-  pub sink : Delivers takes leaves limits r 0 n s t (Some e)
   pub ends : Ends limits r n at_end e
+
+-- a run over these bytes: its account, and what the sink took
+pub record Runs {S : Type 0} (takes leaves : S → Line → S → Type 0) (limits : LimitPair) (r : List ℕ) (at_end : Type 0) (s t : S) (n features bytes : ℕ) (e : End) : Type 0 where
+  pub account : Account limits r at_end n features bytes e
+  pub sink : Delivers takes leaves limits r 0 n s t (Some e)
 
 -- the bytes that a writer got of r, by the end of the run: the output of r, or of its whole lines where a read
 -- failed, or a front of the output where a write failed or memory was refused

@@ -1,11 +1,11 @@
 //! The command line.
 ghost use Rattle.std.specs.Prelude.{◌≡◌, ℕ, List, map, string_bytes};
 ghost use Rattle.cityseq.specs.Command.{AsksFilter};
-ghost use Rattle.std.specs.Io.KnownBytes.{Consumes};
+ghost use Rattle.std.specs.Io.KnownBytes.{Consumes, IsAtEnd};
 ghost use Rattle.cityseq.specs.Rows.{usual_limits};
 ghost use Rattle.cityseq.specs.declared.reason.End.{End};
 ghost use Rattle.cityseq.specs.Report.{Reports};
-ghost use Rattle.cityseq.specs.Run.{Writes};
+ghost use Rattle.cityseq.specs.Run.{Account, Writes};
 
 use crate::copying::copy_out;
 use crate::reason::End;
@@ -32,7 +32,8 @@ pub fn filter<R: Read, W: Write, E: Write>(
     out: &mut W,
     err: &mut E,
 ) -> u8
-    ensures { (r : List ℕ) × (e : End) × Consumes (R.remaining reader.old) (R.remaining reader.new) r
+    ensures { (r : List ℕ) × (n features bytes : ℕ) × (e : End) × Consumes (R.remaining reader.old) (R.remaining reader.new) r
+        × Account limits r (IsAtEnd (R.remaining reader.new)) n features bytes e
         × Writes limits r e (W.contents out.old) (W.contents out.new)
         × Reports e result (E.contents err.old) (E.contents err.new) }
 {
@@ -53,7 +54,8 @@ pub fn command<R: Read, W: Write, E: Write>(
     out: &mut W,
     err: &mut E,
 ) -> u8
-    ensures filter { AsksFilter (map string_bytes words.now) → (r : List ℕ) × (e : End) × Consumes (R.remaining reader.old) (R.remaining reader.new) r
+    ensures filter { AsksFilter (map string_bytes words.now) → (r : List ℕ) × (n features bytes : ℕ) × (e : End) × Consumes (R.remaining reader.old) (R.remaining reader.new) r
+        × Account usual_limits r (IsAtEnd (R.remaining reader.new)) n features bytes e
         × Writes usual_limits r e (W.contents out.old) (W.contents out.new)
         × Reports e result (E.contents err.old) (E.contents err.new) }
     ensures other { (AsksFilter (map string_bytes words.now) → ⊥) → (result ≡ 2)

@@ -1,9 +1,9 @@
 //! Copies of the kept lines to a writer.
 ghost use Rattle.std.specs.Prelude.{◌≡◌, ◌≤◌, ◌^◌, ℕ, List, [], None, length, map, take};
-ghost use Rattle.std.specs.Io.KnownBytes.{Consumes};
+ghost use Rattle.std.specs.Io.KnownBytes.{Consumes, IsAtEnd};
 ghost use Rattle.cityseq.specs.Cut.{joined, Copies, IsUnread};
 ghost use Rattle.cityseq.specs.Engine.{StandsFor, limits_of, lines_of, peak_bytes};
-ghost use Rattle.cityseq.specs.Run.{Runs, Writes};
+ghost use Rattle.cityseq.specs.Run.{Account, Runs, Writes};
 ghost use Rattle.cityseq.specs.WriteSink.{writer_of};
 
 use crate::engine::Engine;
@@ -23,6 +23,7 @@ pub fn copy<R: Read, W: Write + Drop>(
     limits: Limits,
 ) -> Outcome
     ensures { (r : List ℕ) × Consumes (R.remaining reader.old) (R.remaining reader.new) r
+        × Account limits r (IsAtEnd (R.remaining reader.new)) result.lines result.kept result.peaks.bytes result.ended
         × Writes limits r result.ended (W.contents (writer_of sink.old)) (W.contents (writer_of sink.new)) }
 {
     run(alloc, reader, sink, limits)
@@ -36,6 +37,7 @@ pub fn copy_out<R: Read, W: Write>(
     limits: Limits,
 ) -> Outcome
     ensures { (r : List ℕ) × Consumes (R.remaining reader.old) (R.remaining reader.new) r
+        × Account limits r (IsAtEnd (R.remaining reader.new)) result.lines result.kept result.peaks.bytes result.ended
         × Writes limits r result.ended (W.contents writer.old) (W.contents writer.new) }
 {
     let mut sink = LentSink::new(writer);

@@ -1,5 +1,5 @@
 //! The verdict on a line.
-ghost use Rattle.std.specs.Prelude.{◌≡◌, ◌≤◌, length, IsUtf8};
+ghost use Rattle.std.specs.Prelude.{◌≡◌, ◌≤◌, ◌↔◌, length, IsTrue, IsUtf8};
 ghost use Rattle.std.specs.List.{list_all};
 ghost use Rattle.std.specs.Str.Lossy.{utf8_valid_len};
 ghost use Rattle.cj_budget.specs.Limits.{LimitPair};
@@ -7,6 +7,9 @@ ghost use Rattle.cityseq.specs.Verdict.{is_blank_byte, verdict};
 
 use crate::reason::{Reason, Verdict};
 use simdutf8::{basic, compat};
+
+/// The length in bytes from which vectors pay.
+const SHORT_LINE: usize = 1_024;
 
 fn is_blank(content: &[u8]) -> bool
     ensures { result ≡ list_all is_blank_byte content.now }
@@ -28,6 +31,18 @@ fn valid_prefix(content: &[u8]) -> u64
     }
 }
 
+// Whether these bytes are UTF-8. In a short line most of the time of a test by vectors goes into its
+// start and its end.
+fn is_text(content: &[u8]) -> bool
+    ensures { IsTrue result ↔ IsUtf8 content.now }
+{
+    if content.len() < SHORT_LINE {
+        std::str::from_utf8(content).is_ok()
+    } else {
+        basic::from_utf8(content).is_ok()
+    }
+}
+
 /// The verdict on a content that is within the line limit, by the line's number.
 ///
 /// The place of a fault is looked for in a second pass, so that lines without one need not keep
@@ -35,17 +50,14 @@ fn valid_prefix(content: &[u8]) -> u64
 pub fn judge(number: u64, content: &[u8]) -> Verdict
     ensures { (limits : LimitPair) → length content.now ≤ limits.line → result ≡ verdict limits number content.now }
 {
-    match basic::from_utf8(content) {
-        Err(_) => Verdict::Refuse {
+    if !is_text(content) {
+        Verdict::Refuse {
             place: valid_prefix(content),
             reason: Reason::NotUtf8,
-        },
-        Ok(_) => {
-            if number > 1 && is_blank(content) {
-                Verdict::Blank
-            } else {
-                Verdict::Valid
-            }
         }
+    } else if number > 1 && is_blank(content) {
+        Verdict::Blank
+    } else {
+        Verdict::Valid
     }
 }

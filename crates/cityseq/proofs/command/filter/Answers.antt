@@ -9,9 +9,13 @@ pub returns : goal.returns
 returns g c =
     let e = c.copy_out-outcome.ensures in (
       e.0,
+      c.copy_out-outcome.result.lines,
+      c.copy_out-outcome.result.kept,
+      c.copy_out-outcome.result.peaks.bytes,
       c.copy_out-outcome.result.ended,
       e.1,
-      Writes-kept c.args.limits e.0 c.copy_out-outcome.result.ended _ _ _ e.2 c.flush.ensures.bytes,
+      e.2,
+      Writes-kept c.args.limits e.0 c.copy_out-outcome.result.ended _ _ _ e.3 c.flush.ensures.bytes,
       record {
         shown = c.match-flush.end;
         cause = elim c.match-flush.branch [ in-Ok w ↦ inl w.end-is | in-Err w ↦ inr w.end-is ];

@@ -10,4 +10,4 @@ returns g c =
     let keeps = Runs-keeps lent_name _ _ c.args.limits e.0 _ c.new-sink.result c.run.new.sink _ _ _ c.run.result.ended e.2 in
     let back : c.writer-1.given.0 ≡ lent_writer c.run.new.sink = c.writer-1.given.1 (sym c.new-sink.ensures.same_reference ∙ sym keeps) in
     let runs = Runs-less lent_name _ _ c.args.limits e.0 _ c.new-sink.result c.run.new.sink _ _ _ c.run.result.ended e.2 in
-    (e.0, e.1, rw (back, ← c.new-sink.ensures.writer) (Writes-runs (λ s. g.W.Write.contents (lent_writer s)) c.args.limits e.0 _ c.new-sink.result c.run.new.sink _ _ _ c.run.result.ended runs))
+    (e.0, e.1, e.2.account, rw (back, ← c.new-sink.ensures.writer) (Writes-runs (λ s. g.W.Write.contents (lent_writer s)) c.args.limits e.0 _ c.new-sink.result c.run.new.sink _ _ _ c.run.result.ended runs))

@@ -22,14 +22,16 @@ returns-in-Err-clause-runs g c =
     let stands = c.feed.ensures.stands r i.2 in (
       k + 1,
       rw more (record {
-        bounded = let x = stands.bounded in rw (i.0, c.feed.ensures.limits, i.1) at x;
-        exact = λ h. absurd (told-not_complete (limits_of c.loop-piece.engine) (r ++ piece.now) (lines_of c.feed.new.self) c.in-Err.end (c.in-Err.ensures.told r i.2 i.0) h);
-        counts = let x = stands.counts in rw (i.0, c.feed.ensures.limits, i.1) at x;
+        account = record {
+          bounded = let x = stands.bounded in rw (i.0, c.feed.ensures.limits, i.1) at x;
+          exact = λ h. absurd (told-not_complete (limits_of c.loop-piece.engine) (r ++ piece.now) (lines_of c.feed.new.self) c.in-Err.end (c.in-Err.ensures.told r i.2 i.0) h);
+          counts = let x = stands.counts in rw (i.0, c.feed.ensures.limits, i.1) at x;
+          ends = Ends-fed _ (r ++ piece.now) _ _ c.in-Err.end (let x = c.in-Err.ensures.told r i.2 i.0 in rw i.1 at x);
+        };
         sink =
             let x = c.feed.ensures.sink r i.2 i.0 in
             let y = rw (i.1, c.in-Err.ensures.ended) at x in
             Delivers-then g.S.LineSink.takes g.S.LineSink.leaves _ r (r ++ piece.now) _ _ _ _ _ _ (kept_first-same _ (lines_of c.loop-piece.engine) r piece.now (i.2.going i.0).0.lines) i.3 y;
-        ends = Ends-fed _ (r ++ piece.now) _ _ c.in-Err.end (let x = c.in-Err.ensures.told r i.2 i.0 in rw i.1 at x);
       }),
     )
 
@@ -63,14 +65,16 @@ returns-clause-runs g c =
     let stands = c.finish.ensures.stands r i.2 in (
       k,
       record {
-        bounded = let x = stands.bounded in rw (c.finish.ensures.limits, i.1) at x;
-        exact = λ h. c.finish.ensures.exact r i.2 i.0 h;
-        counts = let x = stands.counts in rw (c.finish.ensures.limits, i.1) at x;
+        account = record {
+          bounded = let x = stands.bounded in rw (c.finish.ensures.limits, i.1) at x;
+          exact = λ h. c.finish.ensures.exact r i.2 i.0 h;
+          counts = let x = stands.counts in rw (c.finish.ensures.limits, i.1) at x;
+          ends = Ends-finished _ r _ _ c.finish.result (joined-all k _ (omega (arith, length-map c.args.pieces.now (λ piece. piece.now)))) (let x = c.finish.ensures.answer r i.2 i.0 in rw i.1 at x);
+        };
         sink =
             let x = c.finish.ensures.sink r i.2 i.0 in
             let y = rw (i.1, c.finish.ensures.ended) at x in
             Delivers-then g.S.LineSink.takes g.S.LineSink.leaves _ r r _ _ _ _ _ _ refl i.3 y;
-        ends = Ends-finished _ r _ _ c.finish.result (joined-all k _ (omega (arith, length-map c.args.pieces.now (λ piece. piece.now)))) (let x = c.finish.ensures.answer r i.2 i.0 in rw i.1 at x);
       },
     )
 

@@ -13,11 +13,13 @@ returns-in-Err-clause-runs g c =
       r,
       Consumes-kept _ _ _ r i.5.1 c.in-Err.ensures.bytes,
       rw (← i.3) (record {
-        bounded = stands.bounded;
-        exact = λ h. absurd (fault-not_complete h);
-        counts = stands.counts;
+        account = record {
+          bounded = stands.bounded;
+          exact = λ h. absurd (fault-not_complete h);
+          counts = stands.counts;
+          ends = whole-good c.loop-i.engine r (stands.going i.2).0;
+        };
         sink = let k = rw (← i.3) at i.5.3 in Delivers-ended _ _ _ r _ _ _ ReadFault (λ m u e. e) k;
-        ends = whole-good c.loop-i.engine r (stands.going i.2).0;
       }),
     )
 
@@ -29,14 +31,16 @@ returns-in-Ok-eq0-clause-runs g c =
       r,
       let k = Consumes-then _ _ _ r (take c.in-Ok-eq0.field-0 c.read.new.buf) i.5.1 c.in-Ok-eq0.ensures.bytes.0 in rw (c.in-Ok-eq0.field-0-test, append-nil r) at k,
       record {
-        bounded = let k = stands.bounded in rw (c.finish.ensures.limits, i.3) at k;
-        exact = λ h. c.finish.ensures.exact r i.5.2 i.2 h;
-        counts = let k = stands.counts in rw (c.finish.ensures.limits, i.3) at k;
+        account = record {
+          bounded = let k = stands.bounded in rw (c.finish.ensures.limits, i.3) at k;
+          exact = λ h. c.finish.ensures.exact r i.5.2 i.2 h;
+          counts = let k = stands.counts in rw (c.finish.ensures.limits, i.3) at k;
+          ends = Ends-finished _ r _ _ c.finish.result (c.in-Ok-eq0.ensures.bytes.1 c.in-Ok-eq0.field-0-test (omega (arith, c.read.auto.buf, i.0))) (let k = c.finish.ensures.answer r i.5.2 i.2 in rw i.3 at k);
+        };
         sink =
             let k = c.finish.ensures.sink r i.5.2 i.2 in
             let j = rw (i.3, c.finish.ensures.ended) at k in
             Delivers-then g.S.LineSink.takes g.S.LineSink.leaves _ r r _ _ _ _ _ _ refl i.5.3 j;
-        ends = Ends-finished _ r _ _ c.finish.result (c.in-Ok-eq0.ensures.bytes.1 c.in-Ok-eq0.field-0-test (omega (arith, c.read.auto.buf, i.0))) (let k = c.finish.ensures.answer r i.5.2 i.2 in rw i.3 at k);
       },
     )
 
@@ -53,14 +57,16 @@ returns-in-Err-feed-clause-runs g c =
       r ++ piece,
       Consumes-then _ _ _ r piece i.5.1 c.in-Ok.ensures.bytes.0,
       record {
-        bounded = let k = stands.bounded in rw (i.2, c.feed.ensures.limits, i.3) at k;
-        exact = λ h. absurd (told-not_complete (limits_of e) (r ++ piece) (lines_of c.feed.new.self) c.in-Err-feed.end (c.in-Err-feed.ensures.told r i.5.2 i.2) h);
-        counts = let k = stands.counts in rw (i.2, c.feed.ensures.limits, i.3) at k;
+        account = record {
+          bounded = let k = stands.bounded in rw (i.2, c.feed.ensures.limits, i.3) at k;
+          exact = λ h. absurd (told-not_complete (limits_of e) (r ++ piece) (lines_of c.feed.new.self) c.in-Err-feed.end (c.in-Err-feed.ensures.told r i.5.2 i.2) h);
+          counts = let k = stands.counts in rw (i.2, c.feed.ensures.limits, i.3) at k;
+          ends = Ends-fed _ (r ++ piece) _ _ c.in-Err-feed.end (let k = c.in-Err-feed.ensures.told r i.5.2 i.2 in rw i.3 at k);
+        };
         sink =
             let k = c.feed.ensures.sink r i.5.2 i.2 in
             let j = rw (i.3, c.in-Err-feed.ensures.ended) at k in
             Delivers-then g.S.LineSink.takes g.S.LineSink.leaves _ r (r ++ piece) _ _ _ _ _ _ (kept_first-same _ (lines_of e) r piece (i.5.2.going i.2).0.lines) i.5.3 j;
-        ends = Ends-fed _ (r ++ piece) _ _ c.in-Err-feed.end (let k = c.in-Err-feed.ensures.told r i.5.2 i.2 in rw i.3 at k);
       },
     )
 
@@ -96,10 +102,12 @@ returns-clause-runs g c =
       r,
       i.5.1,
       rw (← i.3) (record {
-        bounded = stands.bounded;
-        exact = λ h. absurd (limit-not_complete h);
-        counts = stands.counts;
+        account = record {
+          bounded = stands.bounded;
+          exact = λ h. absurd (limit-not_complete h);
+          counts = stands.counts;
+          ends = whole-good c.loop-i.engine r (stands.going i.2).0;
+        };
         sink = let k = rw (← i.3) at i.5.3 in Delivers-ended _ _ _ r _ _ _ ReadLimit (λ m u e. e) k;
-        ends = whole-good c.loop-i.engine r (stands.going i.2).0;
       }),
     )
