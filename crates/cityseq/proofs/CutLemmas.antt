@@ -6,7 +6,8 @@ use Rattle.std.proofs.lemmas.List.{append-nil}
 use Rattle.std.proofs.lemmas.Bool.{ltb-true}
 use Rattle.std.specs.Io.KnownBytes.{Appends}
 use Rattle.cj_budget.specs.Limits.{LimitPair}
-use Rattle.cityseq.specs.declared.reason.Reason.TheVariants.{LineTooLong}
+use Rattle.cj_budget.specs.declared.limits.Peaks.{Peaks}
+use Rattle.cj_spans.specs.declared.reason.Reason.TheVariants.{LineTooLong}
 use Rattle.cityseq.specs.declared.reason.End.{End}
 use Rattle.cityseq.specs.declared.reason.End.TheVariants.{Complete, Refused, ReadFault, ReadLimit, WriteFault, Memory}
 use Rattle.cityseq.specs.Lines.{Line, raw, NoLf, closed, begun, first_of, ended_line, last_line, lines}
@@ -112,17 +113,17 @@ refused-more limits q more e k =
     let same : good_from limits 1 (lines q) ≡ good_from limits 1 (map ended_line (closed q)) = let z = front.1 in rw (append-nil q) at z in
     (ending-refused limits (lines (q ++ more)) e all.0, ap (λ z. flat_map raw (kept_from limits 1 z)) (all.1 ∙ sym same))
 
-module _ {S : Type 0} (contents : S → Option (List ℕ)) (limits : LimitPair) (pieces : List (List ℕ)) (n : ℕ) (s t : S) (count features bytes : ℕ) where
+module _ {S : Type 0} (contents : S → Option (List ℕ)) (limits : LimitPair) (pieces : List (List ℕ)) (n : ℕ) (s t : S) (count features : ℕ) (peaks : Peaks) where
   -- what a run over pieces has written
   pub Copies-runs : (e : End) → Runs (λ a l b. Appends (contents a) (contents b) (raw l)) (λ a l b. AppendsPart (contents a) (contents b) (raw l)) limits
-      (joined (take n pieces)) (joined (take n pieces) ≡ joined pieces) s t count features bytes e → IsUnread e → Copies limits pieces e (contents s) (contents t)
+      (joined (take n pieces)) (joined (take n pieces) ≡ joined pieces) s t count features peaks e → IsUnread e → Copies limits pieces e (contents s) (contents t)
   Copies-runs Complete h u =
-      let w = Writes-runs contents limits (joined (take n pieces)) _ s t count features bytes Complete h in
+      let w = Writes-runs contents limits (joined (take n pieces)) _ s t count features peaks Complete h in
       rw (← h.account.ends.2) (h.account.ends.0, w)
   Copies-runs (Refused number place reason) h u = go h.account.ends.2
     where
       w : Appends (contents s) (contents t) (output limits (joined (take n pieces)))
-      w = Writes-runs contents limits (joined (take n pieces)) _ s t count features bytes (Refused number place reason) h
+      w = Writes-runs contents limits (joined (take n pieces)) _ s t count features peaks (Refused number place reason) h
 
       go : (joined (take n pieces) ≡ joined pieces) ⊎ (refusal_from limits 1 (judged limits (joined (take n pieces))) ≡ Some (Refused number place reason)) → Copies limits pieces (Refused number place reason) (contents s) (contents t)
       go (inl same) = rw (← same) (h.account.ends.0, w)
@@ -133,8 +134,8 @@ module _ {S : Type 0} (contents : S → Option (List ℕ)) (limits : LimitPair) 
           rw (← joined-cut n pieces) (more.0, v)
   Copies-runs ReadFault h u = absurd u
   Copies-runs ReadLimit h u = absurd u
-  Copies-runs WriteFault h u = (n, Writes-runs contents limits (joined (take n pieces)) _ s t count features bytes WriteFault h)
-  Copies-runs Memory h u = (n, Writes-runs contents limits (joined (take n pieces)) _ s t count features bytes Memory h)
+  Copies-runs WriteFault h u = (n, Writes-runs contents limits (joined (take n pieces)) _ s t count features peaks WriteFault h)
+  Copies-runs Memory h u = (n, Writes-runs contents limits (joined (take n pieces)) _ s t count features peaks Memory h)
 
 pub unread-told : (limits : LimitPair) (q : List ℕ) (n : ℕ) (e : End) → Tells limits q n e → IsUnread e
 unread-told limits q n Complete h = tt

@@ -7,19 +7,39 @@ use Rattle.cj_budget.specs.Limits.{LimitPair}
 use Rattle.cityseq.specs.declared.reason.Verdict.TheVariants.{Refuse}
 use Rattle.cityseq.specs.declared.reason.End.{End}
 use Rattle.cityseq.specs.declared.reason.End.TheVariants.{Complete, Refused, ReadFault, ReadLimit, WriteFault, Memory}
-use Rattle.cityseq.specs.Lines.{Line, closed, begun, ended_line, last_line, lines}
+use Rattle.cityseq.specs.Lines.{Line, closed, begun, ended_line, last_line, lines, first_content}
 use Rattle.cityseq.specs.Verdict.{verdict, refusal_from, kept_from, judged, kept_first}
-use Rattle.cityseq.specs.Bound.{bytes_bound}
+use Rattle.cj_budget.specs.Bounded.{IsWithin}
+use Rattle.cj_budget.specs.declared.limits.Peaks.{Peaks}
+use Rattle.cityseq.specs.Bound.{bytes_bound, IsBelow, IsBounded}
+use Rattle.cityseq.specs.Scanning.{Scanning, HasRoom, Scanned, HoldsFew}
 use Rattle.cityseq.specs.Reading.{Reading, IsSound, Reads, kept_closed, Advances, IsNext, HasCause, Stops}
-use Rattle.cityseq.specs.Engine.{State, StandsFor, Counts, Going, Faults, Delivers, Tells}
+use Rattle.cityseq.specs.Engine.{State, StandsFor, Counts, Going, Faults, Delivers, Tells, limits_of, held_by, peaks_of}
 use Rattle.cityseq.proofs.LineLemmas.{closed-then, first_content-grows}
 use Rattle.cityseq.proofs.IsLinesLemmas.{lines-whole}
 use Rattle.cityseq.proofs.VerdictLemmas.{refusal-append}
+use Rattle.cityseq.proofs.ScanningLemmas.{few-scanned, first-closed}
 use Rattle.cityseq.proofs.ReadingLemmas.{length-map_lines, map_lines-append, begun_of-first, begun_of-later, zero_or}
 
--- each list's length is within its peak
-pub held-le : (f : Reading) (p : List ℕ) → Reads f p → length f.header.elements + length f.line.elements ≤ f.header.peak + f.line.peak
-held-le f p h = omega (arith, h.header_within.below_peak, h.line_within.below_peak)
+-- what is held is within the peaks
+pub held-below : (e : State) → IsWithin e.reading.header → IsWithin e.reading.line → HasRoom (limits_of e) e.scanning → IsBelow (held_by e) (peaks_of e)
+held-below e header line room = record {
+  bytes = omega (arith, header.below_peak, line.below_peak);
+  tokens = omega (arith, room.header_within.below_peak, room.line_within.below_peak);
+  depth = room.opened_within.below_peak;
+}
+
+-- the peaks of lists that hold few tokens are within the bound
+pub peaks-bounded : (limits : LimitPair) (s : List ℕ) (bytes : ℕ) (f : Scanning) → bytes ≤ bytes_bound limits s → HasRoom limits f → HoldsFew limits (length (first_content s)) f
+    → IsBounded limits s (record { bytes = bytes; tokens = f.header.peak + f.line.peak; depth = f.opened.peak })
+peaks-bounded limits s bytes f h room few = record {
+  bytes = h;
+  tokens = omega (arith, few);
+  depth = omega (arith, room.opened_within.below_limit, room.opened);
+}
+
+pub same-peaks : (a b c x y z : ℕ) → a ≡ x → b ≡ y → c ≡ z → ◌≡◌ {A = Peaks} (record { bytes = a; tokens = b; depth = c }) (record { bytes = x; tokens = y; depth = z })
+same-peaks a b c x y z e f g = rw (e, f, g) refl
 
 pub peak-le : (f : Reading) (p more : List ℕ) → IsSound f → Reads f p → f.header.peak + f.line.peak ≤ bytes_bound f.limits (p ++ more)
 peak-le f p more s h =
@@ -112,21 +132,25 @@ begun-within f p s h = go (zero_or f.lines)
     go (inl z) = rw (← h.begun, begun_of-first f z) (omega (arith, h.header_within.below_peak, h.header_within.below_limit, s.header))
     go (inr z) = rw (← h.begun, begun_of-later f z) (omega (arith, h.line_within.below_peak, h.line_within.below_limit, s.line))
 
-pub Going-reads : (e : State) (q : List ℕ) → IsSound e.reading → Reads e.reading q → Going e q
-Going-reads e q s h = record {
+pub Going-reads : (e : State) (q : List ℕ) → IsSound e.reading → Reads e.reading q → Scanned (limits_of e) (closed q) e.scanning → Going e q
+Going-reads e q s h sc = record {
   good =
       let short : ltb e.reading.limits.line (length (begun q)) ≡ false = let w = begun-within e.reading q s h in grind (arith, nat_tests) in
       rw (short, append-nil (map ended_line (closed q))) h.good;
   lines = rw (lines-whole q) (h.lines ∙ sym (length-map_lines (closed q)));
-  held = rw (h.header, h.line) refl;
+  held = same-peaks _ _ _ _ _ _ (rw (h.header, h.line) refl) (omega (arith, sc.header, ap length sc.line)) (ap length sc.opened);
 }
 
-pub StandsFor-reads : (e : State) (p : List ℕ) → e.taken ≡ length p → IsSound e.reading → Reads e.reading p → StandsFor e p
-StandsFor-reads e p taken s h = record {
-  held = held-le e.reading p h;
-  bounded = let k = peak-le e.reading p [] s h in rw (append-nil p) at k;
+pub StandsFor-reads : (e : State) (p : List ℕ) → e.taken ≡ length p → IsSound e.reading → HasRoom (limits_of e) e.scanning → Reads e.reading p → Scanned (limits_of e) (closed p) e.scanning
+    → StandsFor e p
+StandsFor-reads e p taken s room h sc = record {
+  held = held-below e h.header_within h.line_within room;
+  bounded =
+      let bytes = let k = peak-le e.reading p [] s h in rw (append-nil p) at k in
+      let first = let k = first-closed p [] in rw (append-nil p) at k in
+      peaks-bounded (limits_of e) p (e.reading.header.peak + e.reading.line.peak) e.scanning bytes room (few-scanned (limits_of e) (closed p) e.scanning (length (first_content p)) sc first);
   counts = let k = Counts-front e.reading p [] h in rw (append-nil p) at k;
-  going = λ _. (h, taken);
+  going = λ _. (h, sc, taken);
 }
 
 pub some_not_none : (x : End) → ◌≡◌ {A = Option End} (Some x) None → ⊥
@@ -168,13 +192,13 @@ module _ {S : Type 0} (takes leaves : S → Line → S → Type 0) where
         fault = (Faults-cause leaves limits (p ++ h.done) (p ++ more) g.lines h.middle t e h.reads.lines h.cause);
       }
 
-  pub StandsFor-stops : (old new : State) (s t : S) (p more : List ℕ) (e : End) → new.ended ≡ Some e → IsSound new.reading → Stops takes leaves old.reading s p more e new.reading t
-      → StandsFor new (p ++ more)
-  StandsFor-stops old new s t p more e ended sound h =
+  pub StandsFor-stops : (old new : State) (s t : S) (p more : List ℕ) (e : End) → new.ended ≡ Some e → IsSound new.reading → HasRoom (limits_of new) new.scanning
+      → HoldsFew (limits_of new) (length (first_content (p ++ more))) new.scanning → Stops takes leaves old.reading s p more e new.reading t → StandsFor new (p ++ more)
+  StandsFor-stops old new s t p more e ended sound room few h =
       let whole : p ++ more ≡ (p ++ h.done) ++ h.left = ap (λ z. p ++ z) h.cut ∙ sym (append_assoc p h.done h.left) in
       record {
-        held = held-le new.reading (p ++ h.done) h.reads;
-        bounded = rw whole (peak-le new.reading (p ++ h.done) h.left sound h.reads);
+        held = held-below new h.reads.header_within h.reads.line_within room;
+        bounded = peaks-bounded (limits_of new) (p ++ more) (new.reading.header.peak + new.reading.line.peak) new.scanning (rw whole (peak-le new.reading (p ++ h.done) h.left sound h.reads)) room few;
         counts = rw whole (Counts-front new.reading (p ++ h.done) h.left h.reads);
         going = λ none. absurd (some_not_none e (sym ended ∙ none));
       }

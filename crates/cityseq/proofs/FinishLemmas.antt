@@ -1,25 +1,28 @@
 -- What the end of a text makes of an engine.
 use Rattle.std.proofs.Common.{◌≡◌, ℕ, ◌+◌, ◌<◌, ◌≤◌, ◌⊎◌, inl, inr, max, List, [], ◌∷◌, ◌++◌, Bool, true, false, eqb, length, take, map, Some, None, Result, Ok, Err, arith, refl, sym, ap, ◌∙◌, length-append}
-use Rattle.std.specs.Prelude.{unwrap_or}
+use Rattle.std.specs.Prelude.{unwrap_or, OnOk, if◌then◌else◌}
 use Rattle.std.proofs.lemmas.List.{append-nil}
 use Rattle.std.proofs.lemmas.Bool.Decides.{nat_tests}
 use Rattle.cj_budget.specs.Limits.{LimitPair}
 use Rattle.cj_budget.specs.Bounded.{IsWithin}
-use Rattle.cityseq.specs.declared.reason.Reason.TheVariants.{NoHeader}
+use Rattle.cj_budget.specs.declared.limits.Peaks.{Peaks}
+use Rattle.cj_spans.specs.declared.reason.Reason.{Reason}
+use Rattle.cj_spans.specs.declared.reason.Reason.TheVariants.{NoHeader}
 use Rattle.cityseq.specs.declared.reason.Verdict.{Verdict}
 use Rattle.cityseq.specs.declared.reason.Verdict.TheVariants.{Refuse, Blank, Valid}
 use Rattle.cityseq.specs.declared.reason.End.{End}
 use Rattle.cityseq.specs.declared.reason.End.TheVariants.{Complete, Refused, ReadFault, ReadLimit, WriteFault, Memory}
-use Rattle.cityseq.specs.Lines.{Line, closed, begun, begun_after, first_content, ended_line, later_of, lines}
+use Rattle.cityseq.specs.Lines.{Line, closed, begun, begun_after, first_content, ended_line, last_line, later_of, lines}
 use Rattle.cityseq.specs.Verdict.{verdict, refusal_of, is_kept, refusal_from, kept_from, ending, ending_of, kept_first}
-use Rattle.cityseq.specs.Bound.{bytes_bound, longest, exact_bytes}
-use Rattle.cityseq.specs.Reading.{Reading, Deals, Reads, Finishes, FinishesWith, Passes}
+use Rattle.cityseq.specs.Bound.{bytes_bound, greatest, contents, exact_peaks}
+use Rattle.cityseq.specs.Reading.{Reading, begun_of, Deals, Reads, Finishes, FinishesWith, Passes}
+use Rattle.cityseq.specs.Scanning.{Scanning, Scanned, HasRoom, HoldsFew}
 use Rattle.cityseq.specs.Engine.{StandsFor, Counts, Faults, Delivers, Concludes}
 use Rattle.cityseq.proofs.LineLemmas.{none-from_length, begun_after-empty}
 use Rattle.cityseq.proofs.VerdictLemmas.{refusal-append, kept-append}
 use Rattle.cityseq.proofs.ReadingLemmas.{length-map_lines, zero_or, kept-next, longest-later}
 use Rattle.cityseq.proofs.GoodLemmas.{good-complete, good-refused}
-use Rattle.cityseq.proofs.EngineLemmas.{take-front, get-next, lines-front, Counts-front, some_not_none}
+use Rattle.cityseq.proofs.EngineLemmas.{held-below, peaks-bounded, same-peaks, take-front, get-next, lines-front, Counts-front, some_not_none}
 
 -- the end that a result makes
 abbrev pub end_of : Result (Unit {0}) End → End
@@ -33,7 +36,7 @@ Concluded limits p n (Refused number place reason) = (ending limits p ≡ Refuse
 Concluded limits p n ReadFault = ⊥
 Concluded limits p n ReadLimit = ⊥
 Concluded limits p n WriteFault = Unit {0}
-Concluded limits p n Memory = ⊥
+Concluded limits p n Memory = Unit {0}
 
 pub Concludes-concluded : (limits : LimitPair) (p : List ℕ) (n : ℕ) (e : End) → Concluded limits p n e → Concludes limits p n e
 Concludes-concluded limits p n Complete h = (h.0, h.1 ∙ ap length (sym (good-complete limits p h.0)))
@@ -52,16 +55,33 @@ ending-last limits [] l = refl
 ending-last limits (x ∷ xs) l = refl
 
 -- the contents of lines
-contents-closed : (cs : List (List ℕ)) → map (λ l. l.content) (map ended_line cs ++ []) ≡ cs
+pub contents-closed : (cs : List (List ℕ)) → map (λ l. l.content) (map ended_line cs ++ []) ≡ cs
 contents-closed [] = refl
 contents-closed (c ∷ cs) = ap (λ z. c ∷ z) (contents-closed cs)
 
-contents-last : (cs : List (List ℕ)) (c : List ℕ) → map (λ l. l.content) (map ended_line cs ++ record { content = c; lf = false } ∷ []) ≡ cs ++ c ∷ []
+pub contents-last : (cs : List (List ℕ)) (c : List ℕ) → map (λ l. l.content) (map ended_line cs ++ record { content = c; lf = false } ∷ []) ≡ cs ++ c ∷ []
 contents-last [] c = refl
 contents-last (d ∷ cs) c = ap (λ z. d ∷ z) (contents-last cs c)
 
 max-zero : (n : ℕ) → max n 0 ≡ n
 max-zero n = omega arith
+
+-- what follows of an answer Ok
+pub ok-then : {T E : Type 0} (P Q : Type 0) (r : Result T E) → (P → Q) → OnOk r P → OnOk r Q
+ok-then P Q (Ok x) f h = f h
+ok-then P Q (Err x) f h = h
+
+-- the lists after a last line was dealt with, and of a text without one
+pub scanned-last : (f : Reading) (p : List ℕ) (a b : Scanning) → Reads f p → 0 < length (begun_of f) → Scanned f.limits (closed p) a
+    → ((cs : List (List ℕ)) → length cs ≡ f.lines → Scanned f.limits cs a → Scanned f.limits (cs ++ begun_of f ∷ []) b) → Scanned f.limits (contents p) b
+scanned-last f p a b reads some s deal = go (begun p) (rw reads.begun at some) (let k = deal (closed p) (sym reads.lines) s in rw reads.begun at k)
+  where
+    go : (c : List ℕ) → 0 < length c → Scanned f.limits (closed p ++ c ∷ []) b → Scanned f.limits (map (λ l. l.content) (map ended_line (closed p) ++ last_line c)) b
+    go [] some k = absurd (omega arith)
+    go (x ∷ c) some k = rw (contents-last (closed p) (x ∷ c)) k
+
+pub scanned-closed : (limits : LimitPair) (p : List ℕ) (a : Scanning) → begun p ≡ [] → Scanned limits (closed p) a → Scanned limits (contents p) a
+scanned-closed limits p a e s = rw (e, contents-closed (closed p)) s
 
 -- a last line of these bytes
 abbrev unended : ℕ → List ℕ → Line
@@ -120,7 +140,8 @@ module _ {S : Type 0} (takes leaves : S → Line → S → Type 0) (f g : Readin
     where
       go : (x : List ℕ) → begun p ≡ x → FinishesWith takes leaves x f s r g t → Concluded f.limits p g.lines (end_of r)
       go [] e d = concluded-none r e d
-      go (b ∷ c) e d = concluded-last b c _ r e refl d
+      go (b ∷ c) e (inl d) = concluded-last b c _ r e refl d
+      go (b ∷ c) e (inr m) = rw m.0 tt
 
   -- the counts are those of f where nothing was dealt with
   counts-same : g ≡ f → Counts f.limits p g.lines g.kept
@@ -149,7 +170,8 @@ module _ {S : Type 0} (takes leaves : S → Line → S → Type 0) (f g : Readin
     where
       go : (x : List ℕ) → begun p ≡ x → FinishesWith takes leaves x f s r g t → Counts f.limits p g.lines g.kept
       go [] e d = counts-same d.1
-      go (b ∷ c) e d = counts-last b c _ r e refl d
+      go (b ∷ c) e (inl d) = counts-last b c _ r e refl d
+      go (b ∷ c) e (inr m) = counts-same m.1
 
   -- the lists are within their peaks, and those have not changed
   record Settled : Type 0 where
@@ -180,37 +202,38 @@ module _ {S : Type 0} (takes leaves : S → Line → S → Type 0) (f g : Readin
     where
       go : (x : List ℕ) → FinishesWith takes leaves x f s r g t → Settled
       go [] d = settled-same d.1
-      go (b ∷ c) d = settled-dealt (unended b c) _ r d
+      go (b ∷ c) (inl d) = settled-dealt (unended b c) _ r d
+      go (b ∷ c) (inr m) = settled-same m.1
 
-  pub StandsFor-finished : (r : Result (Unit {0}) End) (n : ℕ) (e : End) → f.header.peak + f.line.peak ≤ bytes_bound f.limits p → Finishes takes leaves f s p r g t
-      → StandsFor (record { reading = g; taken = n; ended = Some e }) p
-  StandsFor-finished r n e bounded d =
+  pub StandsFor-finished : (r : Result (Unit {0}) End) (sc : Scanning) (n : ℕ) (e : End) → f.header.peak + f.line.peak ≤ bytes_bound f.limits p → HasRoom f.limits sc
+      → HoldsFew f.limits (length (first_content p)) sc → Finishes takes leaves f s p r g t → StandsFor (record { reading = g; scanning = sc; taken = n; ended = Some e }) p
+  StandsFor-finished r sc n e bounded room few d =
       let k = Settled-finished r d in
       let counts = Counts-finished r d in
       record {
-        held = omega (arith, k.header.below_peak, k.line.below_peak);
-        bounded = rw k.limits (omega (arith, k.peaks, bounded));
+        held = held-below (record { reading = g; scanning = sc; taken = n; ended = Some e }) k.header k.line (rw k.limits room);
+        bounded = rw k.limits (peaks-bounded f.limits p (g.header.peak + g.line.peak) sc (omega (arith, k.peaks, bounded)) room few);
         counts = rw k.limits counts;
         going = λ none. absurd (some_not_none e none);
       }
 
   -- what was held at most, of all lines
-  peak-all : (put : Bool) (b : ℕ) (c : List ℕ) → begun p ≡ b ∷ c → Passes put f g → g.header.peak + g.line.peak ≡ exact_bytes p
+  peak-all : (put : Bool) (b : ℕ) (c : List ℕ) → begun p ≡ b ∷ c → Passes put f g → g.header.peak + g.line.peak ≡ (exact_peaks f.limits p).bytes
   peak-all put b c e d =
-      let later : longest (later_of (map (λ l. l.content) (lines p))) ≡ max (longest (later_of (closed p))) (length (begun_after (closed p) (begun p))) =
+      let later : greatest length (later_of (contents p)) ≡ max (greatest length (later_of (closed p))) (length (begun_after (closed p) (begun p))) =
       rw (lines-last b c e, contents-last (closed p) (b ∷ c), ← e) (sym (max-zero _) ∙ longest-later (closed p) (begun p)) in
       let first : g.header.peak ≡ length (first_content p) = ap (λ x. x.peak) d.header ∙ (reads.peak ∙ ap length reads.header) in
       omega (arith, later, first, d.line.peak, reads.line_peak)
 
-  peak-closed : g ≡ f → begun p ≡ [] → g.header.peak + g.line.peak ≡ exact_bytes p
+  peak-closed : g ≡ f → begun p ≡ [] → g.header.peak + g.line.peak ≡ (exact_peaks f.limits p).bytes
   peak-closed same e =
-      let later : longest (later_of (map (λ l. l.content) (lines p))) ≡ longest (later_of (closed p)) = rw (e, contents-closed (closed p)) refl in
+      let later : greatest length (later_of (contents p)) ≡ greatest length (later_of (closed p)) = rw (e, contents-closed (closed p)) refl in
       let first : f.header.peak ≡ length (first_content p) = reads.peak ∙ ap length reads.header in
       let line = rw (e, begun_after-empty (closed p)) at reads.line_peak in
       rw same (omega (arith, later, first, line))
 
   peak-dealt : (b : ℕ) (c : List ℕ) (v : Verdict) (r : Result (Unit {0}) End) → begun p ≡ b ∷ c → Deals takes leaves v (unended b c) f s r g t → end_of r ≡ Complete
-      → g.header.peak + g.line.peak ≡ exact_bytes p
+      → g.header.peak + g.line.peak ≡ (exact_peaks f.limits p).bytes
   peak-dealt b c (Refuse place reason) r e d done = absurd (clash (sym (ap end_of d.0) ∙ done))
     where
       clash : Refused (f.lines + 1) place reason ≡ Complete → ⊥
@@ -222,12 +245,48 @@ module _ {S : Type 0} (takes leaves : S → Line → S → Type 0) (f g : Readin
       clash : WriteFault ≡ Complete → ⊥
       clash x = cc
 
-  pub peak-finished : (r : Result (Unit {0}) End) → Finishes takes leaves f s p r g t → end_of r ≡ Complete → g.header.peak + g.line.peak ≡ exact_bytes p
+  pub peak-finished : (r : Result (Unit {0}) End) → Finishes takes leaves f s p r g t → end_of r ≡ Complete → g.header.peak + g.line.peak ≡ (exact_peaks f.limits p).bytes
   peak-finished r d done = go (begun p) refl d
     where
-      go : (x : List ℕ) → begun p ≡ x → FinishesWith takes leaves x f s r g t → g.header.peak + g.line.peak ≡ exact_bytes p
+      go : (x : List ℕ) → begun p ≡ x → FinishesWith takes leaves x f s r g t → g.header.peak + g.line.peak ≡ (exact_peaks f.limits p).bytes
       go [] e d = peak-closed d.1 e
-      go (b ∷ c) e d = peak-dealt b c _ r e d done
+      go (b ∷ c) e (inl d) = peak-dealt b c _ r e d done
+      go (b ∷ c) e (inr m) = absurd (clash (sym (ap end_of m.0) ∙ done))
+        where
+          clash : Memory ≡ Complete → ⊥
+          clash x = cc
+
+  -- only an answer Ok makes a text complete
+  pub finished-ok : (r : Result (Unit {0}) End) → Finishes takes leaves f s p r g t → end_of r ≡ Complete → r ≡ Ok tt
+  finished-ok r d done = go (begun p) r d done
+    where
+      refused : (n place : ℕ) (reason : Reason) (r : Result (Unit {0}) End) → r ≡ Err (Refused n place reason) → end_of r ≡ Complete → r ≡ Ok tt
+      refused n place reason (Ok x) e h = refl
+      refused n place reason (Err x) e h = cc
+
+      none : (first : Bool) (r : Result (Unit {0}) End) → r ≡ (if first then Err (Refused 1 0 NoHeader) else Ok tt) → end_of r ≡ Complete → r ≡ Ok tt
+      none true r e h = refused 1 0 NoHeader r e h
+      none false r e h = e
+
+      dealt : (v : Verdict) (l : Line) (r : Result (Unit {0}) End) → Deals takes leaves v l f s r g t → end_of r ≡ Complete → r ≡ Ok tt
+      dealt (Refuse place reason) l r d h = refused (f.lines + 1) place reason r d.0 h
+      dealt Blank l r d h = d.0
+      dealt Valid l (Ok x) d h = refl
+      dealt Valid l (Err x) d h = cc
+
+      memory : (r : Result (Unit {0}) End) → r ≡ Err Memory → end_of r ≡ Complete → r ≡ Ok tt
+      memory (Ok x) e h = refl
+      memory (Err x) e h = cc
+
+      go : (x : List ℕ) (r : Result (Unit {0}) End) → FinishesWith takes leaves x f s r g t → end_of r ≡ Complete → r ≡ Ok tt
+      go [] r d h = none (eqb f.lines 0) r d.0 h
+      go (b ∷ c) r (inl d) h = dealt _ (unended b c) r d h
+      go (b ∷ c) r (inr m) h = memory r m.0 h
+
+  -- and of all three counts
+  pub peaks-finished : (r : Result (Unit {0}) End) (sc : Scanning) → Finishes takes leaves f s p r g t → end_of r ≡ Complete → Scanned f.limits (contents p) sc
+      → ◌≡◌ {A = Peaks} (record { bytes = g.header.peak + g.line.peak; tokens = sc.header.peak + sc.line.peak; depth = sc.opened.peak }) (exact_peaks f.limits p)
+  peaks-finished r sc d done k = same-peaks _ _ _ _ _ _ (peak-finished r d done) (rw (k.header_peak, k.line_peak) refl) k.opened_peak
 
   kept-last : (b : ℕ) (c : List ℕ) → begun p ≡ b ∷ c
       → kept_first f.limits (f.lines + 1) p ≡ kept_first f.limits f.lines p ++ kept_from f.limits (f.lines + 1) (unended b c ∷ [])
@@ -277,4 +336,5 @@ module _ {S : Type 0} (takes leaves : S → Line → S → Type 0) (f g : Readin
     where
       go : (x : List ℕ) → begun p ≡ x → FinishesWith takes leaves x f s r g t → Delivers takes leaves f.limits p f.lines g.lines s t (Some (end_of r))
       go [] e d = delivers-none r d
-      go (b ∷ c) e d = delivers-last b c _ r e refl d
+      go (b ∷ c) e (inl d) = delivers-last b c _ r e refl d
+      go (b ∷ c) e (inr m) = rw m.0 (quiet Memory (ap (λ x. x.lines) m.1) m.2)

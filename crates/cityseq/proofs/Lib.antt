@@ -1,9 +1,11 @@
+pub mod BlankLemmas
 pub mod CutLemmas
 pub mod EngineLemmas
 pub mod FinishLemmas
 pub mod GoodLemmas
 pub mod IsLinesLemmas
 pub mod JoinedLemmas
+pub mod JudgeLemmas
 pub mod KnownLemmas
 pub mod LineLemmas
 pub mod OutputLemmas
@@ -11,5 +13,6 @@ pub mod PieceLemmas
 pub mod PieceSlices
 pub mod ReadingLemmas
 pub mod RunLemmas
+pub mod ScanningLemmas
 pub mod StaysLemmas
 pub mod VerdictLemmas

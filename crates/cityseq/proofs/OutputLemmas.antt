@@ -4,6 +4,7 @@ use Rattle.std.specs.List.{flat_map}
 use Rattle.std.proofs.lemmas.List.{append-nil}
 use Rattle.std.specs.Io.KnownBytes.{Appends, Keeps}
 use Rattle.cj_budget.specs.Limits.{LimitPair}
+use Rattle.cj_budget.specs.declared.limits.Peaks.{Peaks}
 use Rattle.cityseq.specs.declared.reason.End.{End}
 use Rattle.cityseq.specs.declared.reason.End.TheVariants.{Complete, Refused, ReadFault, ReadLimit, WriteFault, Memory}
 use Rattle.cityseq.specs.Lines.{Line, raw, lines, whole, closed}
@@ -69,8 +70,8 @@ module _ {S N : Type 0} (name : S → N) (takes leaves : S → Line → S → Ty
   Faults-keeps n s t Memory h = ap name h
 
   -- a run whose steps keep a name, without it, and that the whole run keeps it
-  pub Runs-less : (at_end : Type 0) (s t : S) (n features bytes : ℕ) (e : End) → Runs named_takes named_leaves limits r at_end s t n features bytes e → Runs takes leaves limits r at_end s t n features bytes e
-  Runs-less at_end s t n features bytes e h = record {
+  pub Runs-less : (at_end : Type 0) (s t : S) (n features : ℕ) (peaks : Peaks) (e : End) → Runs named_takes named_leaves limits r at_end s t n features peaks e → Runs takes leaves limits r at_end s t n features peaks e
+  Runs-less at_end s t n features peaks e h = record {
     account = h.account;
     sink = record {
       added = h.sink.added;
@@ -81,11 +82,11 @@ module _ {S N : Type 0} (name : S → N) (takes leaves : S → Line → S → Ty
     };
   }
 
-  pub Runs-keeps : (at_end : Type 0) (s t : S) (n features bytes : ℕ) (e : End) → Runs named_takes named_leaves limits r at_end s t n features bytes e → name t ≡ name s
-  Runs-keeps at_end s t n features bytes e h =
+  pub Runs-keeps : (at_end : Type 0) (s t : S) (n features : ℕ) (peaks : Peaks) (e : End) → Runs named_takes named_leaves limits r at_end s t n features peaks e → name t ≡ name s
+  Runs-keeps at_end s t n features peaks e h =
       Faults-keeps n h.sink.middle t e h.sink.fault ∙ Took-keeps named_takes name (λ a l b x. x.0) s h.sink.middle h.sink.added h.sink.took
 
-module _ {S : Type 0} (contents : S → Option (List ℕ)) (limits : LimitPair) (r : List ℕ) (at_end : Type 0) (s t : S) (n features bytes : ℕ) where
+module _ {S : Type 0} (contents : S → Option (List ℕ)) (limits : LimitPair) (r : List ℕ) (at_end : Type 0) (s t : S) (n features : ℕ) (peaks : Peaks) where
   abbrev takes : S → Line → S → Type 0
   takes a l b = Appends (contents a) (contents b) (raw l)
 
@@ -93,7 +94,7 @@ module _ {S : Type 0} (contents : S → Option (List ℕ)) (limits : LimitPair) 
   leaves a l b = AppendsPart (contents a) (contents b) (raw l)
 
   -- the bytes that a writer got, by the end of the run
-  pub Writes-runs : (e : End) → Runs takes leaves limits r at_end s t n features bytes e → Writes limits r e (contents s) (contents t)
+  pub Writes-runs : (e : End) → Runs takes leaves limits r at_end s t n features peaks e → Writes limits r e (contents s) (contents t)
   Writes-runs Complete h =
       let k : h.sink.added ≡ kept limits r = sym h.sink.kept ∙ kept_first-good limits n r h.account.ends.1 in
       rw (← k, h.sink.fault) (Took-appends contents s h.sink.middle h.sink.added h.sink.took)

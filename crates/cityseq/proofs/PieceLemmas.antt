@@ -4,14 +4,14 @@ use Rattle.std.specs.Prelude.{if◌then◌else◌}
 use Rattle.std.proofs.lemmas.List.{append-nil}
 use Rattle.std.proofs.lemmas.Bool.Decides.{nat_tests}
 use Rattle.cj_budget.specs.Limits.{LimitPair}
-use Rattle.cityseq.specs.declared.reason.Reason.TheVariants.{LineTooLong}
+use Rattle.cj_spans.specs.declared.reason.Reason.TheVariants.{LineTooLong}
 use Rattle.cityseq.specs.declared.reason.Verdict.{Verdict}
 use Rattle.cityseq.specs.declared.reason.Verdict.TheVariants.{Refuse, Blank, Valid}
 use Rattle.cityseq.specs.declared.reason.End.{End}
 use Rattle.cityseq.specs.declared.reason.End.TheVariants.{Refused, WriteFault, Memory}
 use Rattle.cityseq.specs.Lines.{Line, closed, begun, ended_line, NoLf}
 use Rattle.cityseq.specs.Verdict.{verdict, refusal_of, is_kept, long_line}
-use Rattle.cityseq.specs.Reading.{Reading, begun_of, Stores, Passes, Deals, Reads, kept_closed, Puts, Advances, IsNext, HasCause, Stops}
+use Rattle.cityseq.specs.Reading.{Reading, begun_of, Stores, Passes, Deals, Settles, Reads, kept_closed, Puts, Advances, IsNext, HasCause, Stops}
 use Rattle.cityseq.specs.Sink.{Took}
 use Rattle.cityseq.proofs.LineLemmas.{closed-more, begun-more, closed-lf, begun-lf}
 use Rattle.cityseq.proofs.VerdictLemmas.{verdict-long}
@@ -76,13 +76,21 @@ module _ {S : Type 0} (takes leaves : S → Line → S → Type 0) where
   dealt g h s t p Valid (Ok x) reads e d ok =
       passed g h s t p true reads d.0 (rw e refl) (rw e refl) (t, rw (← reads.begun) d.1, refl)
 
+  settled : (g h : Reading) (s t : S) (p : List ℕ) (r : Result (Unit {0}) End) → Reads g p
+      → Settles takes leaves (verdict g.limits (g.lines + 1) (begun_of g)) (record { content = begun_of g; lf = true }) g s r h t → r ≡ Ok tt → Advances takes g s p (10 ∷ []) h t
+  settled g h s t p r reads (inl d) ok = dealt g h s t p _ r reads refl d ok
+  settled g h s t p r reads (inr m) ok = absurd (clash r m.0 ok)
+    where
+      clash : (r : Result (Unit {0}) End) → r ≡ Err Memory → r ≡ Ok tt → ⊥
+      clash r a b = cc
+
   -- a part and an LF
   pub Advances-line : (f g h : Reading) (s t : S) (p part : List ℕ) (r : Result (Unit {0}) End) → Reads f p → NoLf part → Stores f part g
-      → Deals takes leaves (verdict g.limits (g.lines + 1) (begun_of g)) (record { content = begun_of g; lf = true }) g s r h t → r ≡ Ok tt
+      → Settles takes leaves (verdict g.limits (g.lines + 1) (begun_of g)) (record { content = begun_of g; lf = true }) g s r h t → r ≡ Ok tt
       → Advances takes f s p (part ++ 10 ∷ []) h t
   Advances-line f g h s t p part r reads n st d ok =
       let a = Advances-stored f g s p part reads n st in
-      Advances-then f g h s s t p part (10 ∷ []) a (dealt g h s t (p ++ part) _ r a.reads refl d ok)
+      Advances-then f g h s s t p part (10 ∷ []) a (settled g h s t (p ++ part) r a.reads d ok)
 
   pub Stops-later : (f g h : Reading) (s t u : S) (p a b : List ℕ) (e : End) → Advances takes f s p a g t → Stops takes leaves g t (p ++ a) b e h u → Stops takes leaves f s p (a ++ b) e h u
   Stops-later f g h s t u p a b e x y = record {
@@ -168,14 +176,20 @@ module _ {S : Type 0} (takes leaves : S → Line → S → Type 0) where
       let same : e ≡ WriteFault = cc in
       (d.1, rw same (ended_line (begun p ++ part), IsNext-ended g.limits p part more n, rw (← b, is) refl, rw (← b) d.2))
 
+  unsettled : (g h : Reading) (s t : S) (p part more : List ℕ) (r : Result (Unit {0}) End) (e : End) → NoLf part → begun_of g ≡ begun p ++ part
+      → Settles takes leaves (verdict g.limits (g.lines + 1) (begun_of g)) (record { content = begun_of g; lf = true }) g s r h t → r ≡ Err e
+      → (h ≡ g) × HasCause leaves g.limits (p ++ part) (p ++ (part ++ 10 ∷ more)) g.lines s t e
+  unsettled g h s t p part more r e n b (inl d) err = undealt g h s t p part more _ r e n b refl d err
+  unsettled g h s t p part more r e n b (inr m) err = let same : e ≡ Memory = cc in (m.1, rw same m.2)
+
   -- a part that is stored, and a line that is not dealt with
   pub Stops-undealt : (f g h : Reading) (s t : S) (p part more : List ℕ) (r : Result (Unit {0}) End) (e : End) → Reads f p → NoLf part → Stores f part g
-      → Deals takes leaves (verdict g.limits (g.lines + 1) (begun_of g)) (record { content = begun_of g; lf = true }) g s r h t → r ≡ Err e
+      → Settles takes leaves (verdict g.limits (g.lines + 1) (begun_of g)) (record { content = begun_of g; lf = true }) g s r h t → r ≡ Err e
       → Stops takes leaves f s p (part ++ 10 ∷ more) e h t
   Stops-undealt f g h s t p part more r e reads n st d err =
       let a = Advances-stored f g s p part reads n st in
       let b : begun_of g ≡ begun p ++ part = a.reads.begun ∙ begun-more p part n in
-      let u = undealt g h s t p part more _ r e n b refl d err in
+      let u = unsettled g h s t p part more r e n b d err in
       record {
         done = part;
         left = 10 ∷ more;

@@ -7,7 +7,7 @@ use Rattle.cj_budget.specs.Bounded.{IsWithin}
 use Rattle.cj_budget.specs.Limits.{LimitPair}
 use Rattle.cityseq.specs.Lines.{Line, closed, begun, begun_after, begun_later, ended_line, first_of, first_content, later_of, NoLf}
 use Rattle.cityseq.specs.Verdict.{verdict, refusal_of, is_kept, kept_from}
-use Rattle.cityseq.specs.Bound.{longest}
+use Rattle.cityseq.specs.Bound.{greatest}
 use Rattle.cityseq.specs.Reading.{Reading, begun_of, Stores, Passes, Reads, kept_closed}
 use Rattle.cityseq.proofs.LineLemmas.{closed-more, begun-more, closed-lf, begun-lf, first_of-some, first_of-lf, begun_after-some, begun_after-empty, none-from_length}
 use Rattle.cityseq.proofs.VerdictLemmas.{refusal-append, kept-append}
@@ -66,7 +66,7 @@ Reads-stored f g p part h n s = record {
     peak (inl z) = let b = (s.first z).0 in rw (b.peak, b.elements, h.peak) (omega (arith, length-append f.header.elements part))
     peak (inr z) = rw (s.later z).1 h.peak
 
-    line_peak : (f.lines ≡ 0) ⊎ (0 < f.lines) → g.line.peak ≡ max (longest (later_of (closed (p ++ part)))) (length (begun_later (p ++ part)))
+    line_peak : (f.lines ≡ 0) ⊎ (0 < f.lines) → g.line.peak ≡ max (greatest length (later_of (closed (p ++ part)))) (length (begun_later (p ++ part)))
     line_peak (inl z) =
         let none : closed p ≡ [] = none-from_length (closed p) (sym h.lines ∙ z) in
         let before = rw none at h.line_peak in
@@ -135,17 +135,17 @@ kept-next f g xs l put n k s e = go (zero_or f.lines)
         rw (s.kept, more, later_of-later xs l (omega (arith, n)), kept-append f.limits 2 (later_of xs) (l ∷ []), there, ← e)
         (count_more put f.kept (kept_from f.limits 2 (later_of xs)) l k)
 
+pub greatest-append : (measure : List ℕ → ℕ) (cs : List (List ℕ)) (c : List ℕ) → greatest measure (cs ++ c ∷ []) ≡ max (greatest measure cs) (measure c)
+greatest-append measure [] c = omega arith
+greatest-append measure (d ∷ cs) c = omega (arith, greatest-append measure cs c)
+
 max-zero : (n : ℕ) → max n 0 ≡ n
 max-zero n = omega arith
 
-longest-append : (cs : List (List ℕ)) (c : List ℕ) → longest (cs ++ c ∷ []) ≡ max (longest cs) (length c)
-longest-append [] c = omega arith
-longest-append (d ∷ cs) c = omega (arith, longest-append cs c)
-
 -- the longest later content, after one line more
-pub longest-later : (cs : List (List ℕ)) (b : List ℕ) → max (longest (later_of (cs ++ b ∷ []))) 0 ≡ max (longest (later_of cs)) (length (begun_after cs b))
+pub longest-later : (cs : List (List ℕ)) (b : List ℕ) → max (greatest length (later_of (cs ++ b ∷ []))) 0 ≡ max (greatest length (later_of cs)) (length (begun_after cs b))
 longest-later [] b = refl
-longest-later (c ∷ cs) b = omega (arith, longest-append cs b)
+longest-later (c ∷ cs) b = omega (arith, greatest-append length cs b)
 
 pub Reads-passed : (f g : Reading) (p : List ℕ) (put : Bool) → Reads f p → Passes put f g
     → refusal_of (f.lines + 1) (verdict f.limits (f.lines + 1) (begun_of f)) ≡ None → put ≡ is_kept (verdict f.limits (f.lines + 1) (begun_of f))

@@ -4,7 +4,7 @@ use Rattle.cityseq.specs.declared.reason.Verdict.{Verdict}
 use Rattle.cityseq.specs.declared.reason.Verdict.TheVariants.{Refuse, Blank, Valid}
 use Rattle.cityseq.specs.declared.reason.End.{End}
 use Rattle.cityseq.specs.Lines.{Line}
-use Rattle.cityseq.specs.Reading.{Reading, begun_of, IsSound, Stays, Stores, Passes, Deals}
+use Rattle.cityseq.specs.Reading.{Reading, begun_of, IsSound, Stays, Stores, Passes, Deals, Settles}
 use Rattle.cityseq.proofs.ReadingLemmas.{begun_of-first, begun_of-later, zero_or}
 
 pub Stays-same : (f g : Reading) → IsSound f → g ≡ f → Stays f g
@@ -80,3 +80,11 @@ module _ {S : Type 0} (takes leaves : S → Line → S → Type 0) (l : Line) (f
   few-dealt Blank r d = omega (arith, d.1.lines)
   few-dealt Valid (Ok x) d = omega (arith, d.0.lines)
   few-dealt Valid (Err x) d = rw d.1 (omega arith)
+
+  pub Stays-settled : (v : Verdict) (r : Result (Unit {0}) End) → IsSound f → Settles takes leaves v l f s r g t → Stays f g
+  Stays-settled v r h (inl d) = Stays-dealt v r h d
+  Stays-settled v r h (inr m) = Stays-same f g h m.1
+
+  pub few-settled : (v : Verdict) (r : Result (Unit {0}) End) → Settles takes leaves v l f s r g t → g.lines ≤ f.lines + 1
+  few-settled v r (inl d) = few-dealt v r d
+  few-settled v r (inr m) = rw m.1 (omega arith)

@@ -1,17 +1,21 @@
 -- Which bytes an engine stands for, and what it answers.
 use Rattle.std.specs.Prelude.{◌≡◌, ℕ, ◌+◌, ◌≤◌, List, ◌++◌, true, Option, Some, None, is_none, if◌then◌else◌, length, take, slice_get}
 use Rattle.cj_budget.specs.Limits.{LimitPair}
+use Rattle.cj_budget.specs.declared.limits.Peaks.{Peaks}
 use Rattle.cityseq.specs.declared.reason.End.{End}
 use Rattle.cityseq.specs.declared.reason.End.TheVariants.{Complete, Refused, ReadFault, ReadLimit, WriteFault, Memory}
-use Rattle.cityseq.specs.Lines.{Line, lines, whole, first_content, begun_later}
+use Rattle.cityseq.specs.Lines.{Line, closed, lines, whole, first_content, begun_later}
 use Rattle.cityseq.specs.Verdict.{refusal_from, judged, verdict, is_kept, good, ending, kept_first, features_first}
-use Rattle.cityseq.specs.Bound.{bytes_bound}
+use Rattle.cityseq.specs.Bound.{IsBounded, IsBelow, of_first, tree_size}
 use Rattle.cityseq.specs.Reading.{Reading, Reads}
+use Rattle.cityseq.specs.Scanning.{Scanning, Scanned}
 use Rattle.cityseq.specs.Sink.{Took}
 
--- what a contract sees of an engine: what it holds of a stream, the bytes it has taken, and the end it has come to
+-- what a contract sees of an engine: the bytes and the tokens that it holds of a stream, the bytes it has taken, and
+-- the end it has come to
 pub record State : Type 0 where
   pub reading : Reading
+  pub scanning : Scanning
   pub taken : ℕ
   pub ended : Option End
 
@@ -23,13 +27,21 @@ limits_of e = e.reading.limits
 abbrev pub lines_of : State → ℕ
 lines_of e = e.reading.lines
 
--- the bytes that are held now
-abbrev pub held_bytes : State → ℕ
-held_bytes e = length e.reading.header.elements + length e.reading.line.elements
+-- what is held now
+abbrev pub held_by : State → Peaks
+held_by e = record {
+  bytes = length e.reading.header.elements + length e.reading.line.elements;
+  tokens = length e.scanning.header.elements + length e.scanning.line.elements;
+  depth = length e.scanning.opened.elements;
+}
 
--- the most bytes that its lists have held, added up
-abbrev pub peak_bytes : State → ℕ
-peak_bytes e = e.reading.header.peak + e.reading.line.peak
+-- the most that its lists have held, added up
+abbrev pub peaks_of : State → Peaks
+peaks_of e = record {
+  bytes = e.reading.header.peak + e.reading.line.peak;
+  tokens = e.scanning.header.peak + e.scanning.line.peak;
+  depth = e.scanning.opened.peak;
+}
 
 -- the first n lines of p are good, and this many features are kept of them
 pub record Counts (limits : LimitPair) (p : List ℕ) (n features : ℕ) : Type 0 where
@@ -40,10 +52,10 @@ pub record Counts (limits : LimitPair) (p : List ℕ) (n features : ℕ) : Type 
 -- the engine stands for these bytes: what it holds is within their bound, its counts are of their lines, and
 -- before an end it has read them all
 pub record StandsFor (e : State) (p : List ℕ) : Type 0 where
-  pub held : held_bytes e ≤ peak_bytes e
-  pub bounded : peak_bytes e ≤ bytes_bound (limits_of e) p
+  pub held : IsBelow (held_by e) (peaks_of e)
+  pub bounded : IsBounded (limits_of e) p (peaks_of e)
   pub counts : Counts (limits_of e) p (lines_of e) e.reading.kept
-  pub going : e.ended ≡ None → Reads e.reading p × (e.taken ≡ length p)
+  pub going : e.ended ≡ None → Reads e.reading p × Scanned (limits_of e) (closed p) e.scanning × (e.taken ≡ length p)
 
 -- the bytes given so far, after a piece: those after an end do not count
 abbrev pub given : State → List ℕ → List ℕ → List ℕ
@@ -67,12 +79,16 @@ pub record Delivers {S : Type 0} (takes leaves : S → Line → S → Type 0) (l
   pub took : Took takes s added middle
   pub fault : Faults leaves limits q to middle t ended
 
--- nothing that could be judged of these bytes was refused: all whole lines are dealt with, and the bytes held are
--- those of the first line and of the begun one
+-- nothing that could be judged of these bytes was refused: all whole lines are dealt with, and what is held are the
+-- bytes of the first line and of the begun one, and the tokens of the first line if it is whole
 pub record Going (e : State) (q : List ℕ) : Type 0 where
   pub good : refusal_from (limits_of e) 1 (judged (limits_of e) q) ≡ None
   pub lines : lines_of e ≡ length (lines (whole q))
-  pub held : held_bytes e ≡ length (first_content q) + length (begun_later q)
+  pub held : held_by e ≡ record {
+    bytes = length (first_content q) + length (begun_later q);
+    tokens = of_first (tree_size (limits_of e)) (closed q);
+    depth = 0;
+  }
 
 -- what an end tells of the lines of q that can be judged, after n of them
 abbrev pub Tells : LimitPair → List ℕ → ℕ → End → Type 0
@@ -90,4 +106,4 @@ Concludes limits p n (Refused number place reason) = (ending limits p ≡ Refuse
 Concludes limits p n ReadFault = ⊥
 Concludes limits p n ReadLimit = ⊥
 Concludes limits p n WriteFault = Unit {0}
-Concludes limits p n Memory = ⊥
+Concludes limits p n Memory = Unit {0}

@@ -9,6 +9,7 @@ pub mod Reading
 pub mod Report
 pub mod Rows
 pub mod Run
+pub mod Scanning
 pub mod Sink
 pub mod Verdict
 pub mod WriteSink

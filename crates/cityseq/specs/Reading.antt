@@ -1,16 +1,16 @@
 -- What is held of a stream while its lines are read, and which bytes it stands for.
-use Rattle.std.specs.Prelude.{◌≡◌, ℕ, ◌+◌, ◌<◌, ◌≤◌, List, [], ◌∷◌, ◌++◌, Bool, true, false, ◌&&◌, ◌==◌, nat_lt, if◌then◌else◌, None, Result, Ok, Err, length, map, max, MatchResult}
+use Rattle.std.specs.Prelude.{◌≡◌, ◌⊎◌, ℕ, ◌+◌, ◌<◌, ◌≤◌, List, [], ◌∷◌, ◌++◌, Bool, true, false, ◌&&◌, ◌==◌, nat_lt, if◌then◌else◌, None, Result, Ok, Err, length, map, max, MatchResult}
 use Rattle.cj_budget.specs.Bounded.{BoundedList, IsWithin, Becomes}
 use Rattle.cj_budget.specs.Limits.{LimitPair, InLine}
 use Rattle.cityseq.specs.declared.framer.Framer.{Framer}
 use Rattle.cityseq.specs.declared.reason.Verdict.{Verdict}
 use Rattle.cityseq.specs.declared.reason.Verdict.TheVariants.{Refuse, Blank, Valid}
-use Rattle.cityseq.specs.declared.reason.Reason.TheVariants.{NoHeader}
+use Rattle.cj_spans.specs.declared.reason.Reason.TheVariants.{NoHeader}
 use Rattle.cityseq.specs.declared.reason.End.{End}
 use Rattle.cityseq.specs.declared.reason.End.TheVariants.{Complete, Refused, ReadFault, ReadLimit, WriteFault, Memory}
 use Rattle.cityseq.specs.Lines.{Line, closed, begun, begun_later, ended_line, first_content, later_of}
 use Rattle.cityseq.specs.Verdict.{verdict, is_kept, refusal_from, kept_from, judged}
-use Rattle.cityseq.specs.Bound.{longest}
+use Rattle.cityseq.specs.Bound.{greatest}
 use Rattle.cityseq.specs.Sink.{Took}
 
 -- the limits, the content of the first line, the content of a later line that has begun, and how many lines
@@ -59,6 +59,10 @@ Deals takes leaves (Refuse place reason) line f s r g t = (r ≡ Err (Refused (f
 Deals takes leaves Blank line f s r g t = (r ≡ Ok tt) × Passes false f g × (t ≡ s)
 Deals takes leaves Valid line f s r g t = MatchResult r (λ _. Passes true f g × takes s line t) (λ e. (e ≡ WriteFault) × (g ≡ f) × leaves s line t)
 
+-- what comes of a line with this verdict, or no memory was granted for its tokens, and nothing comes of it
+abbrev pub Settles : {S : Type 0} → (S → Line → S → Type 0) → (S → Line → S → Type 0) → Verdict → Line → Reading → S → Result (Unit {0}) End → Reading → S → Type 0
+Settles takes leaves v line f s r g t = Deals takes leaves v line f s r g t ⊎ ((r ≡ Err Memory) × (g ≡ f) × (t ≡ s))
+
 -- these bytes have been read, and no line of them was refused
 pub record Reads (f : Reading) (p : List ℕ) : Type 0 where
   pub lines : f.lines ≡ length (closed p)
@@ -68,7 +72,7 @@ pub record Reads (f : Reading) (p : List ℕ) : Type 0 where
   pub good : refusal_from f.limits 1 (map ended_line (closed p)) ≡ None
   pub kept : f.kept ≡ length (kept_from f.limits 2 (later_of (map ended_line (closed p))))
   pub peak : f.header.peak ≡ length f.header.elements
-  pub line_peak : f.line.peak ≡ max (longest (later_of (closed p))) (length (begun_later p))
+  pub line_peak : f.line.peak ≡ max (greatest length (later_of (closed p))) (length (begun_later p))
   pub header_within : IsWithin f.header
   pub line_within : IsWithin f.line
 
@@ -123,7 +127,7 @@ pub record Stays (f g : Reading) : Type 0 where
 abbrev pub FinishesWith : {S : Type 0} → (S → Line → S → Type 0) → (S → Line → S → Type 0) → List ℕ → Reading → S → Result (Unit {0}) End → Reading → S → Type 0
 FinishesWith takes leaves [] f s r g t = (r ≡ (if f.lines == 0 then Err (Refused 1 0 NoHeader) else Ok tt)) × (g ≡ f) × (t ≡ s)
 FinishesWith takes leaves (b ∷ c) f s r g t =
-    Deals takes leaves (verdict f.limits (f.lines + 1) (b ∷ c)) (record { content = b ∷ c; lf = false }) f s r g t
+    Settles takes leaves (verdict f.limits (f.lines + 1) (b ∷ c)) (record { content = b ∷ c; lf = false }) f s r g t
 
 abbrev pub Finishes : {S : Type 0} → (S → Line → S → Type 0) → (S → Line → S → Type 0) → Reading → S → List ℕ → Result (Unit {0}) End → Reading → S → Type 0
 Finishes takes leaves f s p r g t = FinishesWith takes leaves (begun p) f s r g t

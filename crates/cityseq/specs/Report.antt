@@ -2,22 +2,9 @@
 use Rattle.std.specs.Prelude.{◌≡◌, ◌⊎◌, ℕ, List, [], ◌∷◌, Option, codes, decimal}
 use Rattle.cityseq.specs.Cut.{joined}
 use Rattle.cityseq.specs.Sink.{AppendsPart}
-use Rattle.cityseq.specs.declared.reason.Reason.{Reason}
-use Rattle.cityseq.specs.declared.reason.Reason.TheVariants.{NoHeader, LineTooLong, NotUtf8}
+use Rattle.cj_spans.specs.Reason.{code_of, text_of}
 use Rattle.cityseq.specs.declared.reason.End.{End}
 use Rattle.cityseq.specs.declared.reason.End.TheVariants.{Complete, Refused, ReadFault, ReadLimit, WriteFault, Memory}
-
--- the number of a reason
-abbrev pub code_of : Reason → ℕ
-code_of NoHeader = 1
-code_of LineTooLong = 2
-code_of NotUtf8 = 3
-
--- a reason in words
-abbrev pub text_of : Reason → List ℕ
-text_of NoHeader = codes "no header line"
-text_of LineTooLong = codes "line too long"
-text_of NotUtf8 = codes "not UTF-8"
 
 -- the status of the program
 abbrev pub status_of : End → ℕ

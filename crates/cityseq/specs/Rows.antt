@@ -1,7 +1,7 @@
 -- Worked rows, which compute.
-use Rattle.std.specs.Prelude.{◌≡◌, ℕ, List, [], ◌∷◌, ◌++◌, codes}
+use Rattle.std.specs.Prelude.{◌≡◌, ℕ, List, [], ◌∷◌, ◌++◌, take, replicate, codes}
 use Rattle.cj_budget.specs.Limits.{LimitPair}
-use Rattle.cityseq.specs.declared.reason.Reason.TheVariants.{NoHeader, LineTooLong, NotUtf8}
+use Rattle.cj_spans.specs.declared.reason.Reason.TheVariants.{NoHeader, LineTooLong, NotUtf8, Syntax, TooDeep}
 use Rattle.cityseq.specs.declared.reason.End.{End}
 use Rattle.cityseq.specs.declared.reason.End.TheVariants.{Complete, Refused}
 use Rattle.cityseq.specs.Verdict.{output, ending}
@@ -51,3 +51,17 @@ TextRow =
     let front = header_row ++ 10 ∷ codes "{\"a\":\"" in
     Gives usual_limits (front ++ 226 ∷ 130 ∷ 172 ∷ codes "\"}") Complete (front ++ 226 ∷ 130 ∷ 172 ∷ codes "\"}")
     × Gives usual_limits (front ++ 226 ∷ 130 ∷ codes "\"}") (Refused 2 6 NotUtf8) (header_row ++ 10 ∷ [])
+
+-- a comma before a brace, and a text that is cut short
+abbrev pub SyntaxRow : Type 0
+SyntaxRow =
+    let front = header_row ++ 10 ∷ [] in
+    Gives usual_limits (front ++ codes "{\"type\":\"CityJSONFeature\",}") (Refused 2 26 Syntax) front
+    × Gives usual_limits (front ++ take 100 feature_row) (Refused 2 100 Syntax) front
+
+-- more brackets than the depth limit allows, and as many but none closed
+abbrev pub DeepRow : Type 0
+DeepRow =
+    let front = header_row ++ 10 ∷ [] in
+    Gives usual_limits (front ++ replicate 65 91) (Refused 2 64 TooDeep) front
+    × Gives usual_limits (front ++ replicate 64 91) (Refused 2 64 Syntax) front

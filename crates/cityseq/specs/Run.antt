@@ -1,12 +1,13 @@
 -- What a whole run makes of the bytes that it reads.
-use Rattle.std.specs.Prelude.{◌≡◌, ◌⊎◌, ℕ, ◌≤◌, List, Option, Some, None, length}
+use Rattle.std.specs.Prelude.{◌≡◌, ◌⊎◌, ℕ, List, Option, Some, None, length}
 use Rattle.std.specs.Io.KnownBytes.{Appends}
 use Rattle.cj_budget.specs.Limits.{LimitPair}
+use Rattle.cj_budget.specs.declared.limits.Peaks.{Peaks}
 use Rattle.cityseq.specs.declared.reason.End.{End}
 use Rattle.cityseq.specs.declared.reason.End.TheVariants.{Complete, Refused, ReadFault, ReadLimit, WriteFault, Memory}
 use Rattle.cityseq.specs.Lines.{Line, lines, whole}
 use Rattle.cityseq.specs.Verdict.{refusal_from, judged, good, ending, output}
-use Rattle.cityseq.specs.Bound.{bytes_bound, exact_bytes}
+use Rattle.cityseq.specs.Bound.{IsBounded, exact_peaks}
 use Rattle.cityseq.specs.Engine.{Counts, Delivers}
 use Rattle.cityseq.specs.Sink.{AppendsPart}
 
@@ -21,17 +22,17 @@ Ends limits r n at_end ReadLimit = (refusal_from limits 1 (lines (whole r)) ≡ 
 Ends limits r n at_end WriteFault = Unit {0}
 Ends limits r n at_end Memory = Unit {0}
 
--- the account of a run over these bytes: it dealt with n lines, kept some features, held at most so many bytes, and
--- ended so; what it held at most is exact where it is complete
-pub record Account (limits : LimitPair) (r : List ℕ) (at_end : Type 0) (n features bytes : ℕ) (e : End) : Type 0 where
-  pub bounded : bytes ≤ bytes_bound limits r
-  pub exact : e ≡ Complete → bytes ≡ exact_bytes r
+-- the account of a run over these bytes: it dealt with n lines, kept some features, held at most so much, and ended
+-- so; what it held at most is exact where it is complete
+pub record Account (limits : LimitPair) (r : List ℕ) (at_end : Type 0) (n features : ℕ) (peaks : Peaks) (e : End) : Type 0 where
+  pub bounded : IsBounded limits r peaks
+  pub exact : e ≡ Complete → peaks ≡ exact_peaks limits r
   pub counts : Counts limits r n features
   pub ends : Ends limits r n at_end e
 
 -- a run over these bytes: its account, and what the sink took
-pub record Runs {S : Type 0} (takes leaves : S → Line → S → Type 0) (limits : LimitPair) (r : List ℕ) (at_end : Type 0) (s t : S) (n features bytes : ℕ) (e : End) : Type 0 where
-  pub account : Account limits r at_end n features bytes e
+pub record Runs {S : Type 0} (takes leaves : S → Line → S → Type 0) (limits : LimitPair) (r : List ℕ) (at_end : Type 0) (s t : S) (n features : ℕ) (peaks : Peaks) (e : End) : Type 0 where
+  pub account : Account limits r at_end n features peaks e
   pub sink : Delivers takes leaves limits r 0 n s t (Some e)
 
 -- the bytes that a writer got of r, by the end of the run: the output of r, or of its whole lines where a read

@@ -4,7 +4,9 @@ use Rattle.std.specs.List.{flat_map, list_all}
 use Rattle.std.specs.Str.{is_utf8}
 use Rattle.std.specs.Str.Lossy.{utf8_valid_len}
 use Rattle.cj_budget.specs.Limits.{LimitPair}
-use Rattle.cityseq.specs.declared.reason.Reason.TheVariants.{NoHeader, LineTooLong, NotUtf8}
+use Rattle.cj_spans.specs.declared.reason.Reason.TheVariants.{NoHeader, LineTooLong, NotUtf8, Syntax, TooDeep}
+use Rattle.cj_spans.specs.Judgement.{Judgement, spelled, broken, sunk}
+use Rattle.cj_spans.proofs.Judgements.{judgement}
 use Rattle.cityseq.specs.declared.reason.Verdict.{Verdict}
 use Rattle.cityseq.specs.declared.reason.Verdict.TheVariants.{Refuse, Blank, Valid}
 use Rattle.cityseq.specs.declared.reason.End.{End}
@@ -15,13 +17,20 @@ use Rattle.cityseq.specs.Lines.{Line, raw, lines, closed, begun, ended_line, las
 abbrev pub is_blank_byte : ℕ → Bool
 is_blank_byte b = b == 32 || (b == 9 || b == 13)
 
--- The verdict on a content, by the limits and the line's number: too long, no UTF-8, blank, or valid.
+-- the verdict on bytes of UTF-8, by what they are as a JSON text under a depth limit
+abbrev pub text_verdict : {c : List ℕ} {depth : ℕ} → Judgement c depth → Verdict
+text_verdict (spelled tree json shallow) = Valid
+text_verdict (broken place syntax shallow) = Refuse place Syntax
+text_verdict (sunk place deep) = Refuse place TooDeep
+
+-- The verdict on a content, by the limits and the line's number: too long, no UTF-8, blank, or as JSON. Each content
+-- has one judgement, whose type says what it is; the proof that it has one computes it.
 unfoldable pub verdict : LimitPair → ℕ → List ℕ → Verdict
 verdict limits number content =
     if nat_lt limits.line (length content) then Refuse limits.line LineTooLong
     else (if not (is_utf8 content) then Refuse (utf8_valid_len content) NotUtf8
     else (if nat_lt 1 number && list_all is_blank_byte content then Blank
-    else Valid))
+    else text_verdict (judgement content limits.depth)))
 
 -- the end that a refusal makes
 abbrev pub refusal_of : ℕ → Verdict → Option End

@@ -2,6 +2,7 @@
 ghost use Rattle.std.specs.Prelude.{◌≡◌, ℕ, List, map, string_bytes};
 ghost use Rattle.cityseq.specs.Command.{AsksFilter};
 ghost use Rattle.std.specs.Io.KnownBytes.{Consumes, IsAtEnd};
+ghost use Rattle.cj_budget.specs.declared.limits.Peaks.{Peaks};
 ghost use Rattle.cityseq.specs.Rows.{usual_limits};
 ghost use Rattle.cityseq.specs.declared.reason.End.{End};
 ghost use Rattle.cityseq.specs.Report.{Reports};
@@ -32,8 +33,8 @@ pub fn filter<R: Read, W: Write, E: Write>(
     out: &mut W,
     err: &mut E,
 ) -> u8
-    ensures { (r : List ℕ) × (n features bytes : ℕ) × (e : End) × Consumes (R.remaining reader.old) (R.remaining reader.new) r
-        × Account limits r (IsAtEnd (R.remaining reader.new)) n features bytes e
+    ensures { (r : List ℕ) × (n features : ℕ) × (peaks : Peaks) × (e : End) × Consumes (R.remaining reader.old) (R.remaining reader.new) r
+        × Account limits r (IsAtEnd (R.remaining reader.new)) n features peaks e
         × Writes limits r e (W.contents out.old) (W.contents out.new)
         × Reports e result (E.contents err.old) (E.contents err.new) }
 {
@@ -54,8 +55,8 @@ pub fn command<R: Read, W: Write, E: Write>(
     out: &mut W,
     err: &mut E,
 ) -> u8
-    ensures filter { AsksFilter (map string_bytes words.now) → (r : List ℕ) × (n features bytes : ℕ) × (e : End) × Consumes (R.remaining reader.old) (R.remaining reader.new) r
-        × Account usual_limits r (IsAtEnd (R.remaining reader.new)) n features bytes e
+    ensures filter { AsksFilter (map string_bytes words.now) → (r : List ℕ) × (n features : ℕ) × (peaks : Peaks) × (e : End) × Consumes (R.remaining reader.old) (R.remaining reader.new) r
+        × Account usual_limits r (IsAtEnd (R.remaining reader.new)) n features peaks e
         × Writes usual_limits r e (W.contents out.old) (W.contents out.new)
         × Reports e result (E.contents err.old) (E.contents err.new) }
     ensures other { (AsksFilter (map string_bytes words.now) → ⊥) → (result ≡ 2)

@@ -2,7 +2,7 @@
 ghost use Rattle.std.specs.Prelude.{◌≡◌, ◌≤◌, ◌^◌, ℕ, List, [], None, length, map, take};
 ghost use Rattle.std.specs.Io.KnownBytes.{Consumes, IsAtEnd};
 ghost use Rattle.cityseq.specs.Cut.{joined, Copies, IsUnread};
-ghost use Rattle.cityseq.specs.Engine.{StandsFor, limits_of, lines_of, peak_bytes};
+ghost use Rattle.cityseq.specs.Engine.{StandsFor, limits_of, lines_of, peaks_of};
 ghost use Rattle.cityseq.specs.Run.{Account, Runs, Writes};
 ghost use Rattle.cityseq.specs.WriteSink.{writer_of};
 
@@ -23,7 +23,7 @@ pub fn copy<R: Read, W: Write + Drop>(
     limits: Limits,
 ) -> Outcome
     ensures { (r : List ℕ) × Consumes (R.remaining reader.old) (R.remaining reader.new) r
-        × Account limits r (IsAtEnd (R.remaining reader.new)) result.lines result.kept result.peaks.bytes result.ended
+        × Account limits r (IsAtEnd (R.remaining reader.new)) result.lines result.kept result.peaks result.ended
         × Writes limits r result.ended (W.contents (writer_of sink.old)) (W.contents (writer_of sink.new)) }
 {
     run(alloc, reader, sink, limits)
@@ -37,7 +37,7 @@ pub fn copy_out<R: Read, W: Write>(
     limits: Limits,
 ) -> Outcome
     ensures { (r : List ℕ) × Consumes (R.remaining reader.old) (R.remaining reader.new) r
-        × Account limits r (IsAtEnd (R.remaining reader.new)) result.lines result.kept result.peaks.bytes result.ended
+        × Account limits r (IsAtEnd (R.remaining reader.new)) result.lines result.kept result.peaks result.ended
         × Writes limits r result.ended (W.contents writer.old) (W.contents writer.new) }
 {
     let mut sink = LentSink::new(writer);
@@ -52,7 +52,7 @@ fn feed_all<S: LineSink>(engine: &mut Engine, pieces: &[&[u8]], sink: &mut S) ->
     requires short { length (joined (map (λ piece. piece.now) pieces.now)) ≤ 2 ^ 60 }
     ensures runs { (n : ℕ) × Runs S.takes S.leaves (limits_of engine.old) (joined (take n (map (λ piece. piece.now) pieces.now)))
         (joined (take n (map (λ piece. piece.now) pieces.now)) ≡ joined (map (λ piece. piece.now) pieces.now))
-        sink.old sink.new (lines_of engine.new) engine.new.reading.kept (peak_bytes engine.new) result }
+        sink.old sink.new (lines_of engine.new) engine.new.reading.kept (peaks_of engine.new) result }
     ensures unread { IsUnread result }
 {
     for piece in pieces {

@@ -1,8 +1,8 @@
 //! The engine: it takes a stream in pieces, and puts each kept line to a sink.
 ghost use Rattle.std.specs.Prelude.{◌≡◌, ◌+◌, ◌^◌, ◌≤◌, ℕ, List, [], ◌∷◌, ◌++◌, length, OnOk, OnErr, IfOk, IfErr, IsErrOf, IsOk, Some, None, Err};
-ghost use Rattle.cityseq.specs.Bound.{exact_bytes};
+ghost use Rattle.cityseq.specs.Bound.{IsBelow, exact_peaks};
 ghost use Rattle.cityseq.specs.Sink.{HasRisen};
-ghost use Rattle.cityseq.specs.Engine.{StandsFor, given, limits_of, lines_of, held_bytes, peak_bytes, Delivers, Going, Tells, Concludes};
+ghost use Rattle.cityseq.specs.Engine.{StandsFor, given, limits_of, lines_of, held_by, peaks_of, Delivers, Going, Tells, Concludes};
 
 use crate::framer::Framer;
 use crate::reason::End;
@@ -24,13 +24,14 @@ pub struct Engine {
 impl Model for Engine {
     ghost use Rattle.std.specs.Prelude.{◌≡◌, ◌≤◌, ◌^◌, None};
     ghost use Rattle.cityseq.specs.Reading.{reading, IsSound};
+    ghost use Rattle.cityseq.specs.Scanning.{scanning, HasRoom};
     ghost use Rattle.cityseq.specs.Engine.{State};
 
     ghost Value = { State };
 
-    ghost view = { λ e. record { reading = reading e.framer; taken = e.taken; ended = e.ended } };
+    ghost view = { λ e. record { reading = reading e.framer; scanning = scanning e.framer; taken = e.taken; ended = e.ended } };
 
-    ghost invariant = { λ e. IsSound (reading e.framer) × (e.ended ≡ None → e.framer.lines ≤ e.taken) × (e.taken ≤ 2 ^ 60) };
+    ghost invariant = { λ e. IsSound (reading e.framer) × HasRoom e.framer.limits (scanning e.framer) × (e.ended ≡ None → e.framer.lines ≤ e.taken) × (e.taken ≤ 2 ^ 60) };
 }
 
 impl Engine {
@@ -64,7 +65,7 @@ impl Engine {
         // What the engine stands for, and what it may hold.
         ensures limits { limits_of self.new ≡ limits_of self.old }
         ensures stands { (p : List ℕ) → StandsFor self.old p → StandsFor self.new (given self.old p piece.now) }
-        ensures rises { peak_bytes self.old ≤ peak_bytes self.new }
+        ensures rises { IsBelow (peaks_of self.old) (peaks_of self.new) }
         ensures taken { OnOk result (self.new.taken ≡ self.old.taken + length piece.now) }
         ensures untaken { OnErr result (self.new.taken ≡ self.old.taken) }
 
@@ -103,13 +104,13 @@ impl Engine {
 
         ensures limits { limits_of self.new ≡ limits_of self.old }
         ensures stands { (p : List ℕ) → StandsFor self.old p → StandsFor self.new p }
-        ensures rises { peak_bytes self.old ≤ peak_bytes self.new }
+        ensures rises { IsBelow (peaks_of self.old) (peaks_of self.new) }
         ensures untaken { self.new.taken ≡ self.old.taken }
 
         ensures answer { (p : List ℕ) → StandsFor self.old p → self.old.ended ≡ None →
             Concludes (limits_of self.old) p (lines_of self.new) result }
         ensures exact { (p : List ℕ) → StandsFor self.old p → self.old.ended ≡ None →
-            result ≡ End.Complete → peak_bytes self.new ≡ exact_bytes p }
+            result ≡ End.Complete → peaks_of self.new ≡ exact_peaks (limits_of self.old) p }
         ensures sink { (p : List ℕ) → StandsFor self.old p → self.old.ended ≡ None →
             Delivers S.takes S.leaves (limits_of self.old) p
             (lines_of self.old) (lines_of self.new) sink.old sink.new self.new.ended }
@@ -133,26 +134,19 @@ impl Engine {
         self.taken
     }
 
-    /// What is held now. Tokens and open containers are 0 until lines are scanned.
+    /// What is held now: of bytes and tokens those of the first line and of the line that is read, and
+    /// the open containers of a line that was refused.
     pub fn held(&self) -> Peaks
-        ensures { result ≡ record { bytes = held_bytes self.now; tokens = 0; depth = 0 } }
+        ensures { result ≡ held_by self.now }
     {
-        Peaks {
-            bytes: self.framer.held(),
-            tokens: 0,
-            depth: 0,
-        }
+        self.framer.held()
     }
 
     /// The most that was held.
     pub fn peaks(&self) -> Peaks
-        ensures { result ≡ record { bytes = peak_bytes self.now; tokens = 0; depth = 0 } }
+        ensures { result ≡ peaks_of self.now }
     {
-        Peaks {
-            bytes: self.framer.peak(),
-            tokens: 0,
-            depth: 0,
-        }
+        self.framer.peaks()
     }
 
     /// How many lines were dealt with: the header, features and blank lines.

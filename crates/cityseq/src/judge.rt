@@ -1,15 +1,13 @@
 //! The verdict on a line.
-ghost use Rattle.std.specs.Prelude.{◌≡◌, ◌≤◌, ◌↔◌, length, IsTrue, IsUtf8};
+ghost use Rattle.std.specs.Prelude.{◌≡◌, ◌≤◌, ◌+◌, ◌/◌, length, IfOk};
 ghost use Rattle.std.specs.List.{list_all};
-ghost use Rattle.std.specs.Str.Lossy.{utf8_valid_len};
 ghost use Rattle.cj_budget.specs.Limits.{LimitPair};
 ghost use Rattle.cityseq.specs.Verdict.{is_blank_byte, verdict};
+ghost use Rattle.cityseq.specs.Scanning.{Judges};
 
-use crate::reason::{Reason, Verdict};
-use simdutf8::{basic, compat};
-
-/// The length in bytes from which vectors pay.
-const SHORT_LINE: usize = 1_024;
+use crate::reason::Verdict;
+use cj_budget::{Bounded, NoMemory, Stack};
+use cj_spans::{Reason, ScanFault, Token, scan};
 
 fn is_blank(content: &[u8]) -> bool
     ensures { result ≡ list_all is_blank_byte content.now }
@@ -19,45 +17,29 @@ fn is_blank(content: &[u8]) -> bool
         .all(|b| *b == b' ' || *b == b'\t' || *b == b'\r')
 }
 
-// The length of the longest valid prefix of bytes that are no UTF-8.
-#[cold]
-fn valid_prefix(content: &[u8]) -> u64
-    requires { IsUtf8 content.now → ⊥ }
-    ensures { result ≡ utf8_valid_len content.now }
+/// The verdict on a content that is within the line limit, by the line's number. The lists take the
+/// tokens of a content that is not blank.
+pub fn judge(
+    number: u64,
+    content: &[u8],
+    tokens: &mut Bounded<Token>,
+    opened: &mut Stack,
+) -> Result<Verdict, NoMemory>
+    requires short { length content.now ≤ 1073741824 }
+    requires room { (length content.now + opened.old.limit + 1) / 2 ≤ tokens.old.limit }
+    ensures verdict { IfOk result (λ v. (limits : LimitPair) → length content.now ≤ limits.line → limits.depth ≡ opened.old.limit
+        → v ≡ verdict limits number content.now) }
+    ensures lists { Judges content.now tokens.old tokens.new opened.old opened.new result }
 {
-    match compat::from_utf8(content) {
-        Err(fault) => fault.valid_up_to() as u64,
-        Ok(_) => unreachable!(),
+    if number > 1 && is_blank(content) {
+        return Ok(Verdict::Blank);
     }
-}
-
-// Whether these bytes are UTF-8. In a short line most of the time of a test by vectors goes into its
-// start and its end.
-fn is_text(content: &[u8]) -> bool
-    ensures { IsTrue result ↔ IsUtf8 content.now }
-{
-    if content.len() < SHORT_LINE {
-        std::str::from_utf8(content).is_ok()
-    } else {
-        basic::from_utf8(content).is_ok()
-    }
-}
-
-/// The verdict on a content that is within the line limit, by the line's number.
-///
-/// The place of a fault is looked for in a second pass, so that lines without one need not keep
-/// track of it: on short lines that pays.
-pub fn judge(number: u64, content: &[u8]) -> Verdict
-    ensures { (limits : LimitPair) → length content.now ≤ limits.line → result ≡ verdict limits number content.now }
-{
-    if !is_text(content) {
-        Verdict::Refuse {
-            place: valid_prefix(content),
-            reason: Reason::NotUtf8,
-        }
-    } else if number > 1 && is_blank(content) {
-        Verdict::Blank
-    } else {
-        Verdict::Valid
-    }
+    let (place, reason) = match scan(content, tokens, opened) {
+        Ok(()) => return Ok(Verdict::Valid),
+        Err(ScanFault::NotUtf8(place)) => (place, Reason::NotUtf8),
+        Err(ScanFault::Syntax(place)) => (place, Reason::Syntax),
+        Err(ScanFault::TooDeep(place)) => (place, Reason::TooDeep),
+        Err(ScanFault::Memory) => return Err(NoMemory),
+    };
+    Ok(Verdict::Refuse { place, reason })
 }

@@ -2,7 +2,7 @@
 ghost use Rattle.std.specs.Prelude.{◌≡◌, List};
 ghost use Rattle.cityseq.specs.Lines.{Line, lines, whole};
 ghost use Rattle.cityseq.specs.IsLines.{IsLines, IsWhole};
-ghost use Rattle.cityseq.specs.Rows.{EmptyRow, WholeRow, BlankRow, LongRow, TextRow};
+ghost use Rattle.cityseq.specs.Rows.{EmptyRow, WholeRow, BlankRow, LongRow, TextRow, SyntaxRow, DeepRow};
 
 /// The lines of a text are the one list of contents without LF that gives the text when each is
 /// followed by the LF that ended it; LF ends each but perhaps the last, which is then not empty. A
@@ -22,4 +22,6 @@ pub fn rows_compute()
     ensures blank { BlankRow }
     ensures long { LongRow }
     ensures text { TextRow }
+    ensures syntax { SyntaxRow }
+    ensures deep { DeepRow }
 {}

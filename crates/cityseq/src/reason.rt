@@ -1,42 +1,6 @@
-//! Why a line is refused, and how a stream ends.
-ghost use Rattle.std.specs.Prelude.{◌≡◌};
+//! What is said of a line, and how a stream ends.
 
-/// Why a line is refused.
-#[derive(Clone, Copy, Debug, PartialEq, Eq)]
-pub enum Reason {
-    /// There is no line at all.
-    NoHeader,
-    /// The content has more bytes than the line limit.
-    LineTooLong,
-    /// The content is not UTF-8 (RFC 3629).
-    NotUtf8,
-}
-
-impl Reason {
-    ghost use Rattle.cityseq.specs.Report.{code_of, text_of};
-
-    /// The number of the reason.
-    pub fn code(self) -> u8
-        ensures { result ≡ code_of self }
-    {
-        match self {
-            Reason::NoHeader => 1,
-            Reason::LineTooLong => 2,
-            Reason::NotUtf8 => 3,
-        }
-    }
-
-    /// The reason in words.
-    pub fn text(self) -> &'static str
-        ensures { result.now ≡ text_of self }
-    {
-        match self {
-            Reason::NoHeader => "no header line",
-            Reason::LineTooLong => "line too long",
-            Reason::NotUtf8 => "not UTF-8",
-        }
-    }
-}
+use cj_spans::Reason;
 
 /// How a stream ended.
 #[derive(Clone, Copy, Debug, PartialEq, Eq)]

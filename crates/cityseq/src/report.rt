@@ -5,8 +5,9 @@ ghost use Rattle.cityseq.specs.Cut.{joined};
 ghost use Rattle.cityseq.specs.Sink.{AppendsPart};
 ghost use Rattle.cityseq.specs.Report.{fault_line, status_of};
 
-use crate::reason::{End, Reason};
+use crate::reason::End;
 use crate::sink::{WriteFault, write_whole};
+use cj_spans::Reason;
 use itoa::Buffer;
 use std::io::Write;
 

@@ -2,7 +2,7 @@
 ghost use Rattle.std.specs.Prelude.{◌≡◌, ℕ, List, [], None, length};
 ghost use Rattle.std.specs.Io.KnownBytes.{Consumes, IsAtEnd};
 ghost use Rattle.cityseq.specs.Sink.{HasRisen};
-ghost use Rattle.cityseq.specs.Engine.{StandsFor, limits_of, lines_of, peak_bytes};
+ghost use Rattle.cityseq.specs.Engine.{StandsFor, limits_of, lines_of, peaks_of};
 ghost use Rattle.cityseq.specs.Run.{Runs};
 
 use crate::engine::Engine;
@@ -63,7 +63,7 @@ fn drive<R: Read, S: LineSink>(
     ensures limits { limits_of engine.new ≡ limits_of engine.old }
     ensures runs { (r : List ℕ) × Consumes (R.remaining reader.old) (R.remaining reader.new) r
         × Runs S.takes S.leaves (limits_of engine.old) r (IsAtEnd (R.remaining reader.new)) sink.old sink.new
-        (lines_of engine.new) engine.new.reading.kept (peak_bytes engine.new) result }
+        (lines_of engine.new) engine.new.reading.kept (peaks_of engine.new) result }
     ensures cause { result ≡ End.WriteFault → HasRisen (S.failures sink.old) (S.failures sink.new) }
 {
     for _i in 0..MOST_READS {
@@ -89,7 +89,7 @@ pub fn run<R: Read, S: LineSink>(
 ) -> Outcome
     ensures runs { (r : List ℕ) × Consumes (R.remaining reader.old) (R.remaining reader.new) r
         × Runs S.takes S.leaves limits r (IsAtEnd (R.remaining reader.new)) sink.old sink.new
-        result.lines result.kept result.peaks.bytes result.ended }
+        result.lines result.kept result.peaks result.ended }
     ensures cause { result.ended ≡ End.WriteFault → HasRisen (S.failures sink.old) (S.failures sink.new) }
 {
     let mut engine = match Engine::open(alloc, limits) {

@@ -98,31 +98,31 @@ climbs_phase : (f : Phase) (c : ℕ) (s : State) → Climbs (length s.stack) (st
 climbs_phase (between m) c s = climbs_read s m c
 climbs_phase (in_atom m i x) c s = climbs_on m i c x (lex_step x c) s
 
-climbs : (c : ℕ) (s u : State) → step c s ≡ Some u → length u.stack ≤ suc (length s.stack)
+pub climbs : (c : ℕ) (s u : State) → step c s ≡ Some u → length u.stack ≤ suc (length s.stack)
 climbs c s u h = subst (Climbs (length s.stack)) h (climbs_phase s.phase c s)
 
 -- ---- the machine over a whole line
 
 module _ (b : List ℕ) (d : ℕ) where
   -- the machine comes no further
-  ends_at : (i : ℕ) (s : Sticks b start i) → s.last.deepest ≤ d → Judgement b d
+  unfoldable pub ends_at : (i : ℕ) (s : Sticks b start i) → s.last.deepest ≤ d → Judgement b d
   ends_at i s h = broken i (sticks_syntax b i s) (sticks_nowhere b d i (record { sticks = s; shallow = h }))
 
   module _ (s : State) (r : Reaches b start s) (h : s.deepest ≤ d) where
     -- it has read the line, and may not end there
-    no_end : (o : Option State) → settle s ≡ o → s.place ≡ length b → ((ts : List Token) (p : ℕ) → o ≡ Some (state (between After) [] ts (length b) p) → ⊥) → Judgement b d
+    unfoldable pub no_end : (o : Option State) → settle s ≡ o → s.place ≡ length b → ((ts : List Token) (p : ℕ) → o ≡ Some (state (between After) [] ts (length b) p) → ⊥) → Judgement b d
     no_end o k e no_text = ends_at (length b) (record { last = s; reached = r; at = e; within = omega arith; stuck = inr (refl, λ ts p g. no_text ts p (sym k ∙ g)) }) h
 
-    other_phase : (f : Phase) (ks : List ℕ) (ts us : List Token) (i j p q : ℕ) → (f ≡ between After → ⊥) → Some (state f ks ts i p) ≡ Some (state (between After) [] us j q) → ⊥
+    pub other_phase : (f : Phase) (ks : List ℕ) (ts us : List Token) (i j p q : ℕ) → (f ≡ between After → ⊥) → Some (state f ks ts i p) ≡ Some (state (between After) [] us j q) → ⊥
     other_phase f ks ts us i j p q no_text g = no_text (ap (λ u. u.phase) (some_same _ _ g))
 
-    some_open : (k : ℕ) (ks : List ℕ) (ts us : List Token) (i j p q : ℕ) → Some (state (between After) (k ∷ ks) ts i p) ≡ Some (state (between After) [] us j q) → ⊥
+    pub some_open : (k : ℕ) (ks : List ℕ) (ts us : List Token) (i j p q : ℕ) → Some (state (between After) (k ∷ ks) ts i p) ≡ Some (state (between After) [] us j q) → ⊥
     some_open k ks ts us i j p q g = clash (ap (λ u. u.stack) (some_same _ _ g))
       where
         clash : k ∷ ks ≡ [] → ⊥
         clash e = cc
 
-    text_of : (ts : List Token) (i p : ℕ) → settle s ≡ Some (state (between After) [] ts i p) → s.place ≡ length b → Judgement b d
+    unfoldable pub text_of : (ts : List Token) (i p : ℕ) → settle s ≡ Some (state (between After) [] ts i p) → s.place ≡ length b → Judgement b d
     text_of ts i p k e =
         let same = settled s (state (between After) [] ts i p) k in
         let at : i ≡ length b = sym same.place ∙ e in
@@ -132,7 +132,7 @@ module _ (b : List ℕ) (d : ℕ) where
         let deep : s.deepest ≡ p = same.deepest in
         spelled t.tree t.json (omega arith)
 
-    by_end : (f : Phase) (ks : List ℕ) (ts : List Token) (i p : ℕ) → settle s ≡ Some (state f ks ts i p) → s.place ≡ length b → Judgement b d
+    unfoldable pub by_end : (f : Phase) (ks : List ℕ) (ts : List Token) (i p : ℕ) → settle s ≡ Some (state f ks ts i p) → s.place ≡ length b → Judgement b d
     by_end (between After) [] ts i p k e = text_of ts i p k e
     by_end (between After) (x ∷ ks) ts i p k e = no_end _ k e (λ us q g. some_open x ks ts us i (length b) p q g)
     by_end (between Ready) ks ts i p k e = no_end _ k e (λ us q g. other_phase (between Ready) ks ts us i (length b) p q (λ (n : between Ready ≡ between After). cc) g)
@@ -142,12 +142,12 @@ module _ (b : List ℕ) (d : ℕ) where
     by_end (between AfterName) ks ts i p k e = no_end _ k e (λ us q g. other_phase (between AfterName) ks ts us i (length b) p q (λ (n : between AfterName ≡ between After). cc) g)
     by_end (in_atom m a x) ks ts i p k e = no_end _ k e (λ us q g. other_phase (in_atom m a x) ks ts us i (length b) p q (λ (n : in_atom m a x ≡ between After). cc) g)
 
-    at_end : (o : Option State) → settle s ≡ o → s.place ≡ length b → Judgement b d
+    unfoldable pub at_end : (o : Option State) → settle s ≡ o → s.place ≡ length b → Judgement b d
     at_end None k e = no_end None k e (λ ts p g. none_some _ g)
     at_end (Some u) k e = by_end u.phase u.stack u.tokens u.place u.deepest k e
 
     -- one container too many
-    sinks : (u : State) → step (byte b s.place) s ≡ Some u → s.place < length b → d < u.deepest → Judgement b d
+    unfoldable pub sinks : (u : State) → step (byte b s.place) s ≡ Some u → s.place < length b → d < u.deepest → Judgement b d
     sinks u k lt deep =
         let lawful = lawful_reaches s r in
         let g = (goes s u (byte b s.place) lawful k).deepest in
@@ -163,7 +163,7 @@ module _ (b : List ℕ) (d : ℕ) where
           deep = subst (λ o. IsSomeAnd o (λ u. length u.stack ≡ suc d)) (sym k) count;
         }))
 
-    by_depth : (n : ℕ) → ((u : State) → Reaches b start u → u.deepest ≤ d → u.place + n ≡ length b → Judgement b d) → s.place + suc n ≡ length b
+    unfoldable pub by_depth : (n : ℕ) → ((u : State) → Reaches b start u → u.deepest ≤ d → u.place + n ≡ length b → Judgement b d) → s.place + suc n ≡ length b
         → (u : State) → step (byte b s.place) s ≡ Some u → (deep : Bool) → ltb d u.deepest ≡ deep → Judgement b d
     by_depth n later e u k true deep = sinks u k (omega arith) (ltb-true d u.deepest deep)
     by_depth n later e u k false deep =
@@ -171,16 +171,16 @@ module _ (b : List ℕ) (d : ℕ) where
         let shallow : u.deepest ≤ d = grind (arith, nat_tests) in
         later u (on s u r k) shallow (omega arith)
 
-    by_step : (n : ℕ) → ((u : State) → Reaches b start u → u.deepest ≤ d → u.place + n ≡ length b → Judgement b d) → s.place + suc n ≡ length b → (o : Option State) → step (byte b s.place) s ≡ o → Judgement b d
+    unfoldable pub by_step : (n : ℕ) → ((u : State) → Reaches b start u → u.deepest ≤ d → u.place + n ≡ length b → Judgement b d) → s.place + suc n ≡ length b → (o : Option State) → step (byte b s.place) s ≡ o → Judgement b d
     by_step n later e None k = ends_at s.place (record { last = s; reached = r; at = refl; within = omega arith; stuck = inl (omega arith, k) }) h
     by_step n later e (Some u) k = by_depth n later e u k (ltb d u.deepest) refl
 
-  over : (n : ℕ) (s : State) → Reaches b start s → s.deepest ≤ d → s.place + n ≡ length b → Judgement b d
+  unfoldable pub over : (n : ℕ) (s : State) → Reaches b start s → s.deepest ≤ d → s.place + n ≡ length b → Judgement b d
   over zero s r h e = at_end s r h (settle s) refl (omega arith)
   over (suc n) s r h e = by_step s r h n (over n) e (step (byte b s.place) s) refl
 
 -- what a line is under a depth limit
-pub judgement : (b : List ℕ) (d : ℕ) → Judgement b d
+unfoldable pub judgement : (b : List ℕ) (d : ℕ) → Judgement b d
 judgement b d = over b d (length b) start here (omega arith) (omega arith)
 
 -- what is answered, from what is found

@@ -2,9 +2,10 @@
 use super::devices::{SlowReader, SlowWriter};
 use super::rows::{FEATURE, HEADER, joined};
 use crate::command::{command, filter};
-use crate::reason::{End, Reason};
+use crate::reason::End;
 use crate::report::{status, write_fault_line};
 use cj_budget::Limits;
+use cj_spans::Reason;
 use std::alloc::Global;
 use std::test::Fail;
 

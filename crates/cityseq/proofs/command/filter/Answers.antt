@@ -11,7 +11,7 @@ returns g c =
       e.0,
       c.copy_out-outcome.result.lines,
       c.copy_out-outcome.result.kept,
-      c.copy_out-outcome.result.peaks.bytes,
+      c.copy_out-outcome.result.peaks,
       c.copy_out-outcome.result.ended,
       e.1,
       e.2,

@@ -10,7 +10,7 @@ use Rattle.cityseq.proofs.copying.feed_all.Goals as goal
 pub feed-requires : goal.feed-requires
 feed-requires g c =
     let i = c.loop-piece.invariant in
-    omega (arith, (i.2.going i.0).1, joined-short (λ piece. piece.now) c.args.pieces.now c.loop-piece.piece-index (record { ref_ptr = (0, 0); now = [] }) (omega arith), c.requires.short)
+    omega (arith, (i.2.going i.0).2, joined-short (λ piece. piece.now) c.args.pieces.now c.loop-piece.piece-index (record { ref_ptr = (0, 0); now = [] }) (omega arith), c.requires.short)
 
 pub returns-in-Err-clause-runs : goal.returns-in-Err-clause-runs
 returns-in-Err-clause-runs g c =
@@ -67,7 +67,7 @@ returns-clause-runs g c =
       record {
         account = record {
           bounded = let x = stands.bounded in rw (c.finish.ensures.limits, i.1) at x;
-          exact = λ h. c.finish.ensures.exact r i.2 i.0 h;
+          exact = λ h. let x = c.finish.ensures.exact r i.2 i.0 h in rw i.1 at x;
           counts = let x = stands.counts in rw (c.finish.ensures.limits, i.1) at x;
           ends = Ends-finished _ r _ _ c.finish.result (joined-all k _ (omega (arith, length-map c.args.pieces.now (λ piece. piece.now)))) (let x = c.finish.ensures.answer r i.2 i.0 in rw i.1 at x);
         };

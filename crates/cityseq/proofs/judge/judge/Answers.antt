@@ -1,23 +1,59 @@
-use Rattle.std.proofs.Common.{◌≡◌, refl, arith, true, false}
-use Rattle.std.specs.Prelude.{nat_lt, IsTrue}
-use Rattle.std.proofs.lemmas.Bool.Decides.{nat_tests}
-use Rattle.cityseq.proofs.VerdictLemmas.{verdict-bytes, verdict-text}
+use Rattle.std.proofs.Common.{◌≡◌, false, sym, arith, ◌∙◌, ap, Err}
+use Rattle.std.specs.Prelude.{◌&&◌, nat_lt, IsUtf8}
+use Rattle.std.specs.List.{list_all}
+use Rattle.cj_spans.proofs.Judgements.{judgement}
+use Rattle.std.specs.Str.{IsValidUpTo}
+use Rattle.std.proofs.lemmas.Str.{utf8_valid_len-IsValidUpTo}
+use Rattle.cj_spans.specs.declared.fault.ScanFault.TheVariants.{Syntax, TooDeep}
+use Rattle.cj_spans.specs.declared.reason.Reason.TheVariants.{NotUtf8}
+use Rattle.cityseq.specs.declared.reason.Verdict.TheVariants.{Refuse}
+use Rattle.cityseq.specs.Verdict.{is_blank_byte}
+use Rattle.cityseq.proofs.VerdictLemmas.{verdict-bytes, verdict-blank, verdict-json, later-not_blank, first-not_blank}
+use Rattle.cityseq.proofs.JudgeLemmas.{ok-valid, syntax-refused, deep-refused, not_text, syntax-text, deep-text}
 use Rattle.cityseq.proofs.judge.judge.Goals as goal
 use Rattle.cityseq.proofs.judge.judge.Goals.{else-number-gt1-via-then-number-gt1+else-is_blank, else-number-gt1-via-else-number-gt1}
 
-pub returns-then-not-is_text : goal.returns-then-not-is_text
-returns-then-not-is_text c = λ limits le.
-    rw (verdict-bytes limits c.args.number c.args.content.now le (λ text. let false_is : IsTrue false = c.if-not-is_text.ensures.1 text in cc), c.valid_prefix.ensures) refl
+pub returns-then-is_blank-clause-verdict : goal.returns-then-is_blank-clause-verdict
+returns-then-is_blank-clause-verdict c = λ limits le same.
+    sym (verdict-blank limits c.args.number c.args.content.now le c.if-number-gt1.true (sym c.is_blank.ensures ∙ c.if-is_blank.true))
 
-pub returns-then-is_blank : goal.returns-then-is_blank
-returns-then-is_blank c = λ limits le.
-    let more : nat_lt 1 c.args.number ≡ true = grind (arith, nat_tests) in
-    rw (verdict-text limits c.args.number c.args.content.now le (c.if-not-is_text.ensures.0 refl), more, ← c.is_blank.ensures, c.if-is_blank.true) refl
-
-pub returns-else-number-gt1 : goal.returns-else-number-gt1
-returns-else-number-gt1 c = λ limits le.
-    rw (verdict-text limits c.args.number c.args.content.now le (c.if-not-is_text.ensures.0 refl))
+pub returns-in-Ok-clause-verdict : goal.returns-in-Ok-clause-verdict
+returns-in-Ok-clause-verdict c = λ limits le same.
+    let not_blank : nat_lt 1 c.args.number && list_all is_blank_byte c.args.content.now ≡ false =
     (elim c.else-number-gt1.branch [
-      | else-number-gt1-via-then-number-gt1+else-is_blank w ↦ let more : nat_lt 1 c.args.number ≡ true = grind (arith, nat_tests) in rw (more, ← w.is_blank.ensures, w.if-is_blank.false) refl
-      | else-number-gt1-via-else-number-gt1 w ↦ let few : nat_lt 1 c.args.number ≡ false = grind (arith, nat_tests) in rw few refl
-    ])
+      | else-number-gt1-via-then-number-gt1+else-is_blank w ↦ later-not_blank c.args.number c.args.content.now (sym w.is_blank.ensures ∙ w.if-is_blank.false)
+      | else-number-gt1-via-else-number-gt1 w ↦ first-not_blank c.args.number c.args.content.now (omega arith)
+    ]) in
+    let text : IsUtf8 c.args.content.now = c.scan.ensures.utf8 (λ i e. cc) in
+    let tree = c.in-Ok.ensures.tree in
+    let answer = rw c.in-Ok.is at (c.scan.ensures.judged (judgement c.args.content.now c.args.opened.now.limit) text) in
+    rw (verdict-json limits c.args.number c.args.content.now le text not_blank, same) (sym (ok-valid (judgement c.args.content.now c.args.opened.now.limit) c.in-Ok.field-0 tree.0 tree.1.only answer).0)
+
+pub returns-in-Err-NotUtf8-clause-verdict : goal.returns-in-Err-NotUtf8-clause-verdict
+returns-in-Err-NotUtf8-clause-verdict c = λ limits le same.
+    let place : IsValidUpTo c.args.content.now c.in-Err-NotUtf8.place = (c.scan.ensures.not_utf8 c.in-Err-NotUtf8.place).0 (c.in-Err-NotUtf8.is ∙ ap Err c.in-Err-NotUtf8.field-0-is) in
+    sym (verdict-bytes limits c.args.number c.args.content.now le (not_text c.args.content.now c.in-Err-NotUtf8.place place) ∙ ap (λ i. Refuse i NotUtf8) (utf8_valid_len-IsValidUpTo c.args.content.now c.in-Err-NotUtf8.place place))
+
+pub returns-in-Err-Syntax-clause-verdict : goal.returns-in-Err-Syntax-clause-verdict
+returns-in-Err-Syntax-clause-verdict c = λ limits le same.
+    let not_blank : nat_lt 1 c.args.number && list_all is_blank_byte c.args.content.now ≡ false =
+    (elim c.else-number-gt1.branch [
+      | else-number-gt1-via-then-number-gt1+else-is_blank w ↦ later-not_blank c.args.number c.args.content.now (sym w.is_blank.ensures ∙ w.if-is_blank.false)
+      | else-number-gt1-via-else-number-gt1 w ↦ first-not_blank c.args.number c.args.content.now (omega arith)
+    ]) in
+    let is : c.scan.result ≡ Err (Syntax c.in-Err-Syntax.place) = c.in-Err-Syntax.is ∙ ap Err c.in-Err-Syntax.field-0-is in
+    let text : IsUtf8 c.args.content.now = c.scan.ensures.utf8 (syntax-text c.scan.result c.in-Err-Syntax.place is) in
+    let answer = rw is at (c.scan.ensures.judged (judgement c.args.content.now c.args.opened.now.limit) text) in
+    rw (verdict-json limits c.args.number c.args.content.now le text not_blank, same) (sym (syntax-refused (judgement c.args.content.now c.args.opened.now.limit) c.in-Err-Syntax.place answer))
+
+pub returns-in-Err-TooDeep-clause-verdict : goal.returns-in-Err-TooDeep-clause-verdict
+returns-in-Err-TooDeep-clause-verdict c = λ limits le same.
+    let not_blank : nat_lt 1 c.args.number && list_all is_blank_byte c.args.content.now ≡ false =
+    (elim c.else-number-gt1.branch [
+      | else-number-gt1-via-then-number-gt1+else-is_blank w ↦ later-not_blank c.args.number c.args.content.now (sym w.is_blank.ensures ∙ w.if-is_blank.false)
+      | else-number-gt1-via-else-number-gt1 w ↦ first-not_blank c.args.number c.args.content.now (omega arith)
+    ]) in
+    let is : c.scan.result ≡ Err (TooDeep c.in-Err-TooDeep.place) = c.in-Err-TooDeep.is ∙ ap Err c.in-Err-TooDeep.field-0-is in
+    let text : IsUtf8 c.args.content.now = c.scan.ensures.utf8 (deep-text c.scan.result c.in-Err-TooDeep.place is) in
+    let answer = rw is at (c.scan.ensures.judged (judgement c.args.content.now c.args.opened.now.limit) text) in
+    rw (verdict-json limits c.args.number c.args.content.now le text not_blank, same) (sym (deep-refused (judgement c.args.content.now c.args.opened.now.limit) c.in-Err-TooDeep.place answer))

@@ -33,7 +33,7 @@ returns-in-Ok-eq0-clause-runs g c =
       record {
         account = record {
           bounded = let k = stands.bounded in rw (c.finish.ensures.limits, i.3) at k;
-          exact = λ h. c.finish.ensures.exact r i.5.2 i.2 h;
+          exact = λ h. let k = c.finish.ensures.exact r i.5.2 i.2 h in rw i.3 at k;
           counts = let k = stands.counts in rw (c.finish.ensures.limits, i.3) at k;
           ends = Ends-finished _ r _ _ c.finish.result (c.in-Ok-eq0.ensures.bytes.1 c.in-Ok-eq0.field-0-test (omega (arith, c.read.auto.buf, i.0))) (let k = c.finish.ensures.answer r i.5.2 i.2 in rw i.3 at k);
         };

@@ -1,6 +1,10 @@
+use Rattle.std.proofs.Common.{◌∷◌, ◌++◌}
 use Rattle.std.proofs.lemmas.Result.{err_from_is_err_and}
+use Rattle.cityseq.specs.Lines.{closed}
 use Rattle.cityseq.specs.Reading.{reading}
+use Rattle.cityseq.specs.Scanning.{scanning}
 use Rattle.cityseq.proofs.PieceLemmas.{Stops-unstored, Stops-undealt, Advances-line}
+use Rattle.cityseq.proofs.ScanningLemmas.{few-scanned, first-closed, few-line, scanned-line}
 use Rattle.cityseq.proofs.framer.Framer.take_line.Goals as goal
 
 pub returns-in_err-store-clause-err : goal.returns-in_err-store-clause-err
@@ -11,7 +15,22 @@ returns-in_err-store-clause-err g c =
 pub returns-in_err-deal-clause-err : goal.returns-in_err-deal-clause-err
 returns-in_err-deal-clause-err g c =
     let p = err_from_is_err_and c.from_residual-in_err-deal.result c.from_residual-in_err-deal.ensures.1 in
-    rw (p.1, p.2) (λ q more reads. Stops-undealt g.S.LineSink.takes g.S.LineSink.leaves (reading c.args.self.now) (reading c.store.new.self) (reading c.deal.new.self) c.args.sink.now c.deal.new.sink q c.args.part.now more _ _ reads c.requires.one c.in_ok-store.ensures.ok c.deal.ensures.deals c.in_err-deal.was)
+    rw (p.1, p.2) (λ q more reads. Stops-undealt g.S.LineSink.takes g.S.LineSink.leaves (reading c.args.self.now) (reading c.store.new.self) (reading c.deal.new.self) c.args.sink.now c.deal.new.sink q c.args.part.now more _ _ reads c.requires.one c.in_ok-store.ensures.ok c.deal.ensures.settles c.in_err-deal.was)
 
 pub returns-clause-ok : goal.returns-clause-ok
-returns-clause-ok g c = λ q reads. Advances-line g.S.LineSink.takes g.S.LineSink.leaves (reading c.args.self.now) (reading c.store.new.self) (reading c.deal.new.self) c.args.sink.now c.deal.new.sink q c.args.part.now c.deal.result reads c.requires.one c.in_ok-store.ensures.ok c.deal.ensures.deals c.in_ok-deal.was
+returns-clause-ok g c = λ q reads. Advances-line g.S.LineSink.takes g.S.LineSink.leaves (reading c.args.self.now) (reading c.store.new.self) (reading c.deal.new.self) c.args.sink.now c.deal.new.sink q c.args.part.now c.deal.result reads c.requires.one c.in_ok-store.ensures.ok c.deal.ensures.settles c.in_ok-deal.was
+
+pub returns-in_err-store-clause-held : goal.returns-in_err-store-clause-held
+returns-in_err-store-clause-held g c =
+    let p = err_from_is_err_and c.from_residual.result c.from_residual.ensures.1 in
+    rw p.1 (λ q more reads s. rw c.in_err-store.ensures.err (few-scanned c.args.self.now.limits (closed q) (scanning c.args.self.now) _ s (first-closed q (c.args.part.now ++ 10 ∷ more))))
+
+pub returns-in_err-deal-clause-held : goal.returns-in_err-deal-clause-held
+returns-in_err-deal-clause-held g c =
+    let p = err_from_is_err_and c.from_residual-in_err-deal.result c.from_residual-in_err-deal.ensures.1 in
+    rw p.1 (λ q more reads s. few-line (reading c.args.self.now) (reading c.store.new.self) q c.args.part.now (scanning c.args.self.now) (scanning c.store.new.self) (scanning c.deal.new.self)
+    reads c.requires.one c.in_ok-store.ensures.ok c.store.ensures.lists s more c.deal.ensures.few)
+
+pub returns-clause-scanned : goal.returns-clause-scanned
+returns-clause-scanned g c = λ q reads s. scanned-line (reading c.args.self.now) (reading c.store.new.self) q c.args.part.now (scanning c.args.self.now) (scanning c.store.new.self) (scanning c.deal.new.self)
+    reads c.requires.one c.in_ok-store.ensures.ok c.store.ensures.lists s c.in_ok-deal.ensures.scanned
