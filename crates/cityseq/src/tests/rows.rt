@@ -334,6 +334,32 @@ fn bytes_before_syntax(rt: HostRuntime) -> Result<(), Fail> {
     check_refused(&rt, rt.alloc(), b"}\xff", limits, refusal)
 }
 
+// Runs over a header and a line that is no JSON text from a place on, by single bytes.
+fn check_place(rt: &impl Abort, alloc: Global, line: &[u8], place: u64) -> Result<(), Fail> {
+    let text = joined(alloc, &[HEADER, b"\n", line])?;
+    let mut reader = SlowReader::new(&text, 1);
+    let mut sink = WriteSink::new(Vec::new(alloc));
+    let outcome = copy(alloc, &mut reader, &mut sink, Limits::new(8_388_608, 64)?);
+    let ended = End::Refused {
+        line: 2,
+        place,
+        reason: Reason::Syntax,
+    };
+    assert_eq!(rt; outcome.ended, ended, "{place}");
+    Ok(())
+}
+
+#[test]
+fn places_of_syntax(rt: HostRuntime) -> Result<(), Fail> {
+    check_place(&rt, rt.alloc(), b"01", 1)?;
+    check_place(&rt, rt.alloc(), b"-", 1)?;
+    check_place(&rt, rt.alloc(), b"[1,]", 3)?;
+    check_place(&rt, rt.alloc(), b"\"\\q\"", 2)?;
+    check_place(&rt, rt.alloc(), b"tru}", 3)?;
+    check_place(&rt, rt.alloc(), b"{} x", 3)?;
+    check_place(&rt, rt.alloc(), b"[1", 2)
+}
+
 // Runs over a text whose first line is no JSON text from its first byte on.
 fn check_first(rt: &impl Abort, alloc: Global, text: &[u8], bytes: u64) -> Result<(), Fail> {
     let wanted = Wanted {
