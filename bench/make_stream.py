@@ -1,10 +1,11 @@
 #!/usr/bin/env python3
 """Writes a CityJSONSeq stream of a given shape and size to standard output.
 
-    make_stream.py usual|tiny|huge MEGABYTES
+    make_stream.py usual|tiny|huge|text MEGABYTES
 
 usual: features of 5 to 125 KB, about 4 bytes a JSON token, as city models have them;
-tiny: features of about 300 bytes; huge: features of about 6 MB. The same arguments give the same
+tiny: features of about 300 bytes; huge: features of about 6 MB; text: features of 2 to 30 KB, most of
+it long attributes of which half of the letters are not ASCII. The same arguments give the same
 bytes."""
 import random
 import sys
@@ -34,6 +35,26 @@ def tiny(rng, number):
             f'[1000,1000,0],[0,{rng.randrange(1000, 10000)},0]]}}\n')
 
 
+ASCII = "abcdefghijklmnopqrstuvwxyz"
+# letters of two, three and four bytes
+OTHERS = "αβγδεζηθικλμνξοπρστυφχψω", "абвгдежзиклмнопрстуфхцчшщ", "建築物城市街道番地屋根", "🏠🏡🏢🏣🏤"
+
+
+def words(rng, count):
+    """Words of 2 to 12 letters, each in one script; half of them are not ASCII."""
+    scripts = (rng.choice((ASCII, rng.choice(OTHERS))) for _ in range(count))
+    return " ".join("".join(rng.choice(script) for _ in range(rng.randrange(2, 13))) for script in scripts)
+
+
+def text(rng, number):
+    """A building with long attributes and one surface."""
+    attributes = ",".join(
+        f'"note {i}":"{words(rng, rng.randrange(20, 200))}"' for i in range(rng.randrange(4, 12)))
+    return (f'{{"type":"CityJSONFeature","id":"b{number}","CityObjects":{{"b{number}":{{"type":"Building",'
+            f'"attributes":{{{attributes}}},"geometry":[{{"type":"MultiSurface","lod":"2.2",'
+            f'"boundaries":[[[0,1,2,3]]]}}]}}}},"vertices":[[0,0,0],[1000,0,0],[1000,1000,0],[0,1000,0]]}}\n')
+
+
 # about how many bytes one vertex adds to a line
 VERTEX = 72
 
@@ -48,6 +69,8 @@ def main():
         lines = [tiny(rng, i).encode() for i in range(2000)]
     elif shape == "usual":
         lines = [feature(rng, i, rng.randrange(5000, 125000) // VERTEX).encode() for i in range(60)]
+    elif shape == "text":
+        lines = [text(rng, i).encode() for i in range(200)]
     elif shape == "huge":
         lines = [feature(rng, i, 6000000 // VERTEX).encode() for i in range(2)]
     else:

@@ -11,6 +11,7 @@ pub mod Facts
 pub mod Fronts
 pub mod Forests
 pub mod Standing
+pub mod WholeNumbers
 pub mod Verdicts
 pub mod Endings
 pub mod WorkedLines

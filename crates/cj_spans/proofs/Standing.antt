@@ -66,7 +66,7 @@ count_of FirstName ks ts i p l = let c = l.token_count in omega arith
 count_of NextName ks ts i p l = let c = l.token_count in omega arith
 count_of AfterName ks ts i p l = l.token_count
 
-count_before : (m : Mode) (ks : List ℕ) (ts : List Token) (i p : ℕ) → IsLawful (idle m ks ts i p) → BeginsValue m → 2 * length ts ≤ i + length ks
+pub count_before : (m : Mode) (ks : List ℕ) (ts : List Token) (i p : ℕ) → IsLawful (idle m ks ts i p) → BeginsValue m → 2 * length ts ≤ i + length ks
 count_before Ready ks ts i p l h = l.token_count
 count_before FirstItem ks ts i p l h = l.token_count
 count_before _ ks ts i p l h = absurd h
@@ -146,7 +146,7 @@ pub stepped_small : (b : List ℕ) (tokens0 : BoundedList Token) (stack0 : Bound
 stepped_small b tokens0 stack0 tokens stack m i v s h l = let o = (lawful_reaches _ s.reached).open_count in omega arith
 
 -- a run goes on
-settles_both : {b : List ℕ} {s t u : State} → Reaches b s t → Settles b t u → Settles b s u
+pub settles_both : {b : List ℕ} {s t u : State} → Reaches b s t → Settles b t u → Settles b s u
 settles_both r h = record { last = h.last; reached = reaches_both r h.reached; settles = h.settles; same = h.same }
 
 abbrev sticks_both : {b : List ℕ} {s t : State} {i : ℕ} → Reaches b s t → Sticks b t i → Sticks b s i

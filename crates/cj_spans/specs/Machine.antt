@@ -340,6 +340,44 @@ BeginsValue Ready = Unit {0}
 BeginsValue FirstItem = Unit {0}
 BeginsValue _ = ⊥
 
+-- the innermost open container is an array
+pub record InArray (ks : List ℕ) (ts : List Token) : Type 0 where
+  pub top : ℕ
+  pub token : Token
+  pub innermost : slice_get ks 0 ≡ Some top
+  pub there : slice_get ts top ≡ Some token
+  pub array : token.kind ≡ Array
+
+-- the byte c, after which the mode comes, is `[` or the comma of an array
+abbrev pub StaysInArray : ℕ → Mode → Type 0
+StaysInArray c Ready = c ≡ 44
+StaysInArray c FirstItem = c ≡ 91
+StaysInArray c _ = ⊥
+
+-- a value may begin after the move of a sign or a bracket
+abbrev pub BeginsValueNext : Move → Type 0
+BeginsValueNext (To m) = BeginsValue m
+BeginsValueNext (Open m) = BeginsValue m
+BeginsValueNext _ = ⊥
+
+-- the byte c is `[` or the comma of an array, by the move that it makes
+abbrev pub StaysInArrayNext : ℕ → Move → Type 0
+StaysInArrayNext c (To m) = StaysInArray c m
+StaysInArrayNext c (Open m) = StaysInArray c m
+StaysInArrayNext c _ = ⊥
+
+-- the bytes from i to k are a whole number, and a comma or `]` comes after it
+pub record IsNumber (b : List ℕ) (i k : ℕ) : Type 0 where
+  pub first : Lex
+  pub last : Lex
+  pub digit : (48 ≤ byte b i) × (byte b i ≤ 57)
+  pub begins : lex_start (byte b i) ≡ Some first
+  pub goes : Continues b (suc i) first k last
+  pub done : lex_kind last ≡ Some Number
+  pub order : i < k
+  pub within : k < length b
+  pub ended : (byte b k ≡ 44) ⊎ (byte b k ≡ 93)
+
 -- the byte begins a scalar or a name
 abbrev pub BeginsAtom : Move → Type 0
 BeginsAtom (Atom m x) = Unit {0}

@@ -212,7 +212,7 @@ fn skip_plain(line: &[u8], place: usize) -> usize
 
 /// Skips digits, which leave these readings of a number as they are.
 #[inline(always)]
-fn skip_digits(line: &[u8], read: Lex, place: usize) -> usize
+pub fn skip_digits(line: &[u8], read: Lex, place: usize) -> usize
     requires stays { (b : ℕ) → is_digit_of b ≡ true → lex_step_of read b ≡ Some read }
     requires within { place ≤ length line.now }
     ensures same { (i : ℕ) (x : LexOf) → Continues line.now i x place read → Continues line.now i x result read }

@@ -22,6 +22,7 @@ mod bytes;
 mod examples;
 mod fault;
 mod lex;
+mod numbers;
 mod reason;
 mod scanner;
 mod step;

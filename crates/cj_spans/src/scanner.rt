@@ -1,5 +1,5 @@
 //! The pass over a line.
-ghost use Rattle.std.specs.Prelude.{◌≡◌, ◌+◌, ◌/◌, ◌^◌, ◌≤◌, ◌<◌, ◌↔◌, ◌⊎◌, [], length, List, ℕ, suc, OnOk, OnErr, IsOk, IsErrOf, IsTrue, IsUtf8};
+ghost use Rattle.std.specs.Prelude.{◌≡◌, ◌+◌, ◌*◌, ◌/◌, ◌^◌, ◌≤◌, ◌<◌, ◌↔◌, ◌⊎◌, [], length, List, ℕ, suc, OnOk, OnErr, IsOk, IsErrOf, IsTrue, IsUtf8};
 ghost use Rattle.std.specs.Str.{IsValidUpTo};
 ghost use Rattle.cj_budget.specs.Bounded.{IsWithin};
 ghost use Rattle.cj_spans.specs.declared.step.Mode.TheVariants.{After};
@@ -9,10 +9,12 @@ ghost use Rattle.cj_spans.specs.Front.{SyntaxAt, DeepAt, NowhereDeep};
 ghost use Rattle.cj_spans.specs.Begins.{IsFirstFault, IsFirstTooDeep};
 ghost use Rattle.cj_spans.specs.Scan.{IsScanOf, KeepsLaw};
 ghost use Rattle.cj_spans.specs.Judgement.{Judgement, IsAnswerOf};
-ghost use Rattle.cj_spans.specs.Machine.{state, in_atom, phase_after, Ends, Grown, BeginsAtom, RunAnswers};
+ghost use Rattle.cj_spans.specs.Json.{byte as byte_of};
+ghost use Rattle.cj_spans.specs.Machine.{state, in_atom, phase_after, Ends, Grown, BeginsAtom, BeginsValueNext, InArray, StaysInArrayNext, RunAnswers};
 
 use crate::fault::ScanFault;
 use crate::lex::{Lex, lex_kind, read_atom};
+use crate::numbers::go_on;
 use crate::step::{Mode, Move, Next, read_byte};
 use crate::token::Token;
 use cj_budget::{Bounded, Stack};
@@ -71,7 +73,10 @@ fn follow(
     requires within { place < length line.now }
     requires lists { IsWithin tokens.old }
     requires room { BeginsAtom taken → length tokens.old.elements < tokens.old.limit }
-    ensures answer { (ks : List ℕ) (p : ℕ) → length ks ≡ depth → Ends line.now
+    requires numbers { BeginsValueNext taken → (2 * length tokens.old.elements ≤ place + 1 + depth)
+        × ((length line.now + depth + 1) / 2 ≤ tokens.old.limit) }
+    ensures answer { (ks : List ℕ) (p : ℕ) → length ks ≡ depth
+        → (StaysInArrayNext (byte_of line.now place) taken → InArray ks tokens.old.elements) → Ends line.now
         (state (phase_after mode place taken) ks tokens.old.elements (suc place) p)
         (IsTrue tokens.old.reserved) result tokens.new.elements }
     ensures tokens { Grown tokens.old tokens.new }
@@ -82,14 +87,8 @@ fn follow(
             mode,
             place: place + 1,
         }),
-        Move::To(mode) => Ok(Next {
-            mode,
-            place: place + 1,
-        }),
-        Move::Open(mode) => Ok(Next {
-            mode,
-            place: place + 1,
-        }),
+        Move::To(mode) => Ok(go_on(line, place, mode, depth, tokens)),
+        Move::Open(mode) => Ok(go_on(line, place, mode, depth, tokens)),
         Move::Atom(next, first) => end_atom(line, place, next, first, depth, tokens),
     }
 }

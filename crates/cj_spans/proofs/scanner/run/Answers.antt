@@ -1,5 +1,6 @@
-use Rattle.std.proofs.Common.{arith, sym}
+use Rattle.std.proofs.Common.{arith, sym, suc}
 use Rattle.cj_spans.proofs.Standing.{standing_first, standing_small, standing_room, standing_step, standing_law, standing_fault, stepped_small, stepped_room, stepped_on, stepped_law, stepped_fault, ended_law, ended_fault, not_so}
+use Rattle.cj_spans.proofs.WholeNumbers.{array_next, stepped_numbers}
 use Rattle.cj_spans.proofs.scanner.run.Goals as goal
 
 pub loop-place-init : goal.loop-place-init
@@ -30,9 +31,14 @@ follow-requires-clause-room c =
     let s = standing_step c.args.line.now c.args.tokens.now c.args.stack.now c.loop-place.tokens c.read_byte.new.tokens c.loop-place.stack c.read_byte.new.stack c.loop-place.mode c.loop-place.place c.in-Ok.taken c.loop-place.invariant c.loop-place-test.true c.in-Ok.ensures.tokens c.in-Ok.ensures.stack c.in-Ok.ensures.answer in
     stepped_room _ _ _ _ _ _ _ _ s c.requires.room c.loop-place-test.true
 
+pub follow-requires-clause-numbers : goal.follow-requires-clause-numbers
+follow-requires-clause-numbers c =
+    let s = standing_step c.args.line.now c.args.tokens.now c.args.stack.now c.loop-place.tokens c.read_byte.new.tokens c.loop-place.stack c.read_byte.new.stack c.loop-place.mode c.loop-place.place c.in-Ok.taken c.loop-place.invariant c.loop-place-test.true c.in-Ok.ensures.tokens c.in-Ok.ensures.stack c.in-Ok.ensures.answer in
+    stepped_numbers c.args.line.now c.args.tokens.now c.args.stack.now c.read_byte.new.tokens c.read_byte.new.stack c.loop-place.mode c.loop-place.place _ c.in-Ok.taken s c.requires.room c.len.ensures.value
+
 pub loop-place-smaller : goal.loop-place-smaller
 loop-place-smaller c =
-    let a = c.in-Ok-follow.ensures.answer c.read_byte.new.stack.elements 0 (sym c.len.ensures.value) in
+    let a = c.in-Ok-follow.ensures.answer c.read_byte.new.stack.elements 0 (sym c.len.ensures.value) (λ e. array_next c.loop-place.stack.elements c.read_byte.new.stack.elements c.loop-place.tokens.elements c.read_byte.new.tokens.elements c.loop-place.place 0 (suc c.loop-place.place) _ c.loop-place.mode _ c.in-Ok.taken e (c.in-Ok.ensures.answer 0)) in
     let g = a.1 in let l = a.2 in let t = c.loop-place-test.true in
     omega arith
 
@@ -40,13 +46,13 @@ pub loop-place-preserved : goal.loop-place-preserved
 loop-place-preserved c =
     let s = standing_step c.args.line.now c.args.tokens.now c.args.stack.now c.loop-place.tokens c.read_byte.new.tokens c.loop-place.stack c.read_byte.new.stack c.loop-place.mode c.loop-place.place c.in-Ok.taken c.loop-place.invariant c.loop-place-test.true c.in-Ok.ensures.tokens c.in-Ok.ensures.stack c.in-Ok.ensures.answer in
     stepped_on c.args.line.now c.args.tokens.now c.args.stack.now c.read_byte.new.tokens c.follow.new.tokens c.read_byte.new.stack c.loop-place.mode c.loop-place.place c.in-Ok.taken c.in-Ok-follow.next s c.in-Ok-follow.ensures.tokens
-    (λ p. c.in-Ok-follow.ensures.answer c.read_byte.new.stack.elements p (sym c.len.ensures.value))
+    (λ p. c.in-Ok-follow.ensures.answer c.read_byte.new.stack.elements p (sym c.len.ensures.value) (λ e. array_next c.loop-place.stack.elements c.read_byte.new.stack.elements c.loop-place.tokens.elements c.read_byte.new.tokens.elements c.loop-place.place 0 (suc c.loop-place.place) _ c.loop-place.mode _ c.in-Ok.taken e (c.in-Ok.ensures.answer 0)))
 
 pub returns-in-Err-follow-clause-answer : goal.returns-in-Err-follow-clause-answer
 returns-in-Err-follow-clause-answer c =
     let s = standing_step c.args.line.now c.args.tokens.now c.args.stack.now c.loop-place.tokens c.read_byte.new.tokens c.loop-place.stack c.read_byte.new.stack c.loop-place.mode c.loop-place.place c.in-Ok.taken c.loop-place.invariant c.loop-place-test.true c.in-Ok.ensures.tokens c.in-Ok.ensures.stack c.in-Ok.ensures.answer in
     stepped_fault (Unit {0}) c.args.line.now c.args.tokens.now c.args.stack.now c.read_byte.new.tokens c.follow.new.tokens c.read_byte.new.stack c.loop-place.mode c.loop-place.place c.in-Ok.taken c.in-Err-follow.fault s
-    (λ p. c.in-Err-follow.ensures.answer c.read_byte.new.stack.elements p (sym c.len.ensures.value))
+    (λ p. c.in-Err-follow.ensures.answer c.read_byte.new.stack.elements p (sym c.len.ensures.value) (λ e. array_next c.loop-place.stack.elements c.read_byte.new.stack.elements c.loop-place.tokens.elements c.read_byte.new.tokens.elements c.loop-place.place 0 (suc c.loop-place.place) _ c.loop-place.mode _ c.in-Ok.taken e (c.in-Ok.ensures.answer 0)))
 
 pub returns-in-Err-follow-clause-law : goal.returns-in-Err-follow-clause-law
 returns-in-Err-follow-clause-law c =

@@ -1,0 +1,247 @@
+-- Whole numbers in an array: the machine over them.
+use Rattle.std.proofs.Common.{◌≡◌, ℕ, suc, ◌+◌, ◌*◌, ◌/◌, ◌<◌, ◌≤◌, List, [], ◌∷◌, ◌++◌, length, Bool, true, false, nat_eq, Option, Some, None, refl, sym, ap, subst, arith, ◌∙◌, ◌⊎◌, inl, inr, slice_get, max, length-append}
+use Rattle.std.specs.Prelude.{option_map}
+use Rattle.std.proofs.lemmas.Bool.Decides.{nat_tests}
+use Rattle.cj_budget.specs.Bounded.{BoundedList, Becomes}
+use Rattle.cj_spans.specs.declared.token.Kind.{Kind}
+use Rattle.cj_spans.specs.declared.token.Kind.TheVariants.{Null, Truth, Number, Text, Array, Object}
+use Rattle.cj_spans.specs.declared.token.Token.{Token}
+use Rattle.cj_spans.specs.declared.lex.Lex.{Lex}
+use Rattle.cj_spans.specs.declared.lex.Lex.TheVariants.{Whole, Zero}
+use Rattle.cj_spans.specs.declared.step.Mode.{Mode}
+use Rattle.cj_spans.specs.declared.step.Move.{Move}
+use Rattle.cj_spans.specs.declared.step.Move.TheVariants.{To, Open}
+use Rattle.cj_spans.specs.declared.step.Mode.TheVariants.{Ready, FirstItem, After, FirstName, NextName, AfterName}
+use Rattle.cj_spans.specs.Spelling.{is_blank}
+use Rattle.cj_spans.specs.Json.{byte}
+use Rattle.cj_spans.specs.Preorder.{token_at}
+use Rattle.cj_spans.specs.Machine.{State, state, between, in_atom, phase_after, read, after_top, after_token, after_in, moved, step, lex_start, Continues, still, Reaches, here, on, Settles, BeginsValue, InArray, Grown, StaysInArray, StaysInArrayNext, BeginsValueNext, IsNumber, is_digit}
+use Rattle.cj_spans.proofs.Spellings.{some_same, none_some}
+use Rattle.cj_spans.proofs.Lists.{slice_get-append, slice_get-seam}
+use Rattle.cj_spans.proofs.Runs.{idle, settled, atom_ends, IsEnd, comma, bracket, cond_false}
+use Rattle.cj_spans.proofs.Atoms.{ends_ok}
+use Rattle.cj_spans.proofs.Facts.{lawful_reaches, IsLawful}
+use Rattle.cj_spans.proofs.Standing.{settles_both, count_before, Stepped}
+
+-- ---- one step of the machine
+
+-- a step from where a run has settled
+pub step_on : (b : List ℕ) (s t u : State) → Settles b s t → t.place < length b → step (byte b t.place) t ≡ Some u → Reaches b s u
+step_on b s t u h l e =
+    let p : h.last.place ≡ t.place = (settled h.last t h.settles).place in
+    on h.last u h.reached (ap (λ n. step (byte b n) h.last) p ∙ h.same l ∙ e)
+
+not_at : (c n : ℕ) → (c ≡ n → ⊥) → nat_eq c n ≡ false
+not_at c n h = grind (arith, nat_tests)
+
+not_blank : (c : ℕ) → 48 ≤ c → is_blank c ≡ false
+not_blank c h = rw (not_at c 32 (λ e. omega arith), not_at c 9 (λ e. omega arith), not_at c 10 (λ e. omega arith), not_at c 13 (λ e. omega arith)) refl
+
+-- a digit begins a number where a value may begin
+number_begins : (m : Mode) (c : ℕ) (x : Lex) (ks : List ℕ) (ts : List Token) (i p : ℕ) → BeginsValue m → (48 ≤ c) × (c ≤ 57) → lex_start c ≡ Some x → step c (idle m ks ts i p) ≡ Some (state (in_atom After i x) ks ts (suc i) p)
+number_begins Ready c x ks ts i p v d h =
+    let low = d.0 in let high = d.1 in
+    let s = idle Ready ks ts i p in
+    cond_false (is_blank c) _ _ (not_blank c low)
+    ∙ cond_false (nat_eq c 91) _ _ (not_at c 91 (λ e. omega arith))
+    ∙ cond_false (nat_eq c 123) _ _ (not_at c 123 (λ e. omega arith))
+    ∙ ap (option_map (λ y. moved (in_atom After i y) s)) h
+number_begins FirstItem c x ks ts i p v d h =
+    let low = d.0 in let high = d.1 in
+    let s = idle FirstItem ks ts i p in
+    cond_false (is_blank c) _ _ (not_blank c low)
+    ∙ cond_false (nat_eq c 93) _ _ (not_at c 93 (λ e. omega arith))
+    ∙ cond_false (nat_eq c 91) _ _ (not_at c 91 (λ e. omega arith))
+    ∙ cond_false (nat_eq c 123) _ _ (not_at c 123 (λ e. omega arith))
+    ∙ ap (option_map (λ y. moved (in_atom After i y) s)) h
+number_begins _ c x ks ts i p v d h = absurd v
+
+-- a comma between two items
+comma_goes : (c : ℕ) (ks : List ℕ) (ts : List Token) (i p : ℕ) → InArray ks ts → c ≡ 44 → step c (idle After ks ts i p) ≡ Some (idle Ready ks ts (suc i) p)
+comma_goes c ks ts i p a e =
+    let s = idle After ks ts i p in
+    ap (λ n. step n s) e
+    ∙ ap (λ o. after_top 44 o s) a.innermost
+    ∙ ap (λ o. after_token 44 a.top o s) a.there
+    ∙ ap (λ k. after_in k 44 a.top a.token s) a.array
+
+-- ---- one number, and its comma
+
+pub in_array_more : (ks : List ℕ) (ts us vs : List Token) → InArray ks ts → us ≡ ts ++ vs → InArray ks us
+in_array_more ks ts us vs a e = record {
+  top = a.top;
+  token = a.token;
+  innermost = a.innermost;
+  there = subst (λ z. slice_get z a.top ≡ Some a.token) (sym e) (slice_get-append ts vs a.top a.token a.there);
+  array = a.array;
+}
+
+ended : (c : ℕ) → (c ≡ 44) ⊎ (c ≡ 93) → IsEnd c
+ended c (inl e) = subst IsEnd (sym e) comma
+ended c (inr e) = subst IsEnd (sym e) bracket
+
+-- the machine has read a number
+pub number_read : (b : List ℕ) (s : State) (m : Mode) (ks : List ℕ) (ts us : List Token) (i k d p : ℕ) → IsNumber b i k → BeginsValue m → length ks ≡ d → us ≡ ts ++ token_at i k d Number ∷ []
+    → Settles b s (idle m ks ts i p) → Settles b s (idle After ks us k p)
+number_read b s m ks ts us i k d p n v e q h =
+    let below = n.order in let inside = n.within in
+    let r = step_on b s (idle m ks ts i p) (state (in_atom After i n.first) ks ts (suc i) p) h (omega arith) (number_begins m (byte b i) n.first ks ts i p v n.digit n.begins) in
+    settles_both r (ends_ok b i k d p n.first n.last Number After ks ts us n.goes (inr (atom_ends n.last (byte b k) Number n.done (ended (byte b k) n.ended))) n.done e q)
+
+-- and the comma after it
+pub comma_read : (b : List ℕ) (s : State) (ks : List ℕ) (us : List Token) (k p : ℕ) → InArray ks us → k < length b → byte b k ≡ 44 → Settles b s (idle After ks us k p) → Settles b s (idle Ready ks us (k + 1) p)
+comma_read b s ks us k p a l e h =
+    let r = step_on b s (idle After ks us k p) (idle Ready ks us (suc k) p) h l (comma_goes (byte b k) ks us k p a e) in
+    let f : suc k ≡ k + 1 = omega arith in
+    subst (λ n. Settles b s (idle Ready ks us n p)) f (record { last = idle Ready ks us (suc k) p; reached = r; settles = refl; same = λ _. refl })
+
+-- ---- what the code's tests say
+
+first_zero : (c : ℕ) → c ≡ 48 → lex_start c ≡ Some Zero
+first_zero c e = ap lex_start e
+
+first_whole : (c : ℕ) → 49 ≤ c → c ≤ 57 → lex_start c ≡ Some Whole
+first_whole c l h = grind (arith, nat_tests)
+
+-- digits alone, of which the first is `0` only if it stands alone
+pub number_is : (b : List ℕ) (i k : ℕ) → (48 ≤ byte b i) × (byte b i ≤ 57) → (byte b i ≡ 48 → k ≡ i + 1) → ((j : ℕ) (x : Lex) → Continues b j x (i + 1) Whole → Continues b j x k Whole) → i + 1 ≤ k → k < length b → (byte b k ≡ 44) ⊎ (byte b k ≡ 93) → IsNumber b i k
+number_is b i k d z same l h e = choose (split (byte b i))
+  where
+    split : (c : ℕ) → (c ≡ 48) ⊎ (c ≡ 48 → ⊥)
+    split c = grind arith
+
+    choose : (byte b i ≡ 48) ⊎ (byte b i ≡ 48 → ⊥) → IsNumber b i k
+    choose (inl q) =
+        let f : suc i ≡ k = let g = z q in omega arith in
+        record { first = Zero; last = Zero; digit = d; begins = first_zero (byte b i) q; goes = subst (λ n. Continues b (suc i) Zero n Zero) f still; done = refl; order = omega arith; within = h; ended = e }
+    choose (inr q) =
+        let f : suc i ≡ i + 1 = omega arith in
+        let low = d.0 in let high = d.1 in
+        record { first = Whole; last = Whole; digit = d; begins = first_whole (byte b i) (omega arith) high; goes = same (suc i) Whole (subst (λ n. Continues b (suc i) Whole n Whole) f still); done = refl; order = omega arith; within = h; ended = e }
+
+pub stays_begins : (c : ℕ) (m : Mode) → StaysInArray c m → BeginsValue m
+stays_begins c Ready h = tt
+stays_begins c FirstItem h = tt
+stays_begins c _ h = absurd h
+
+-- ---- the list of tokens
+
+pub grown_more : (x y z : BoundedList Token) (t : Token) → Grown x y → Becomes y (y.elements ++ t ∷ []) z → Grown x z
+grown_more x y z t g e =
+    let a = g.kept.peak in let c = e.peak in let d = g.longer in
+    let n : length z.elements ≡ length y.elements + 1 = ap length e.elements ∙ length-append y.elements (t ∷ []) in
+    let f = length-append y.elements (t ∷ []) in
+    record {
+      kept = record { limit = e.limit ∙ g.kept.limit; peak = omega arith; room = λ r. e.room (g.kept.room r); within = e.within };
+      longer = omega arith;
+    }
+
+-- ---- what a test says
+
+pub in_digits : (c : ℕ) (r : Bool) → r ≡ is_digit c → r ≡ true → (48 ≤ c) × (c ≤ 57)
+in_digits c r e h = let f = sym e ∙ h in (low c f, high c f)
+  where
+    low : (c : ℕ) → is_digit c ≡ true → 48 ≤ c
+    low c f = grind (arith, nat_tests)
+
+    high : (c : ℕ) → is_digit c ≡ true → c ≤ 57
+    high c f = grind (arith, nat_tests)
+
+pub settled_here : (b : List ℕ) (m : Mode) (ks : List ℕ) (ts : List Token) (i p : ℕ) → Settles b (idle m ks ts i p) (idle m ks ts i p)
+settled_here b m ks ts i p = record { last = idle m ks ts i p; reached = here; settles = refl; same = λ _. refl }
+
+-- ---- an array is innermost after `[`, and after a comma behind which a value comes
+
+in_array_same : (ks ls : List ℕ) (ts us : List Token) → ks ≡ ls → ts ≡ us → InArray ks ts → InArray ls us
+in_array_same ks ls ts us e f a = subst (λ z. InArray ls z) f (subst (λ z. InArray z ts) e a)
+
+next_name : {A : Type 0} → between NextName ≡ between Ready → A
+next_name h = cc
+
+module _ (ks ls : List ℕ) (ts us : List Token) (i p j q : ℕ) where
+  comma_kind : (k : ℕ) (t : Token) (d : Kind) → t.kind ≡ d → slice_get ts k ≡ Some t → slice_get ks 0 ≡ Some k → after_in d 44 k t (idle After ks ts i p) ≡ Some (idle Ready ls us j q) → InArray ls us
+  comma_kind k t Array d f g h =
+      let e = some_same _ _ h in
+      in_array_same ks ls ts us (ap (λ u. u.stack) e) (ap (λ u. u.tokens) e) (record { top = k; token = t; innermost = g; there = f; array = d })
+  comma_kind k t Object d f g h = let e = some_same _ _ h in next_name (ap (λ u. u.phase) e)
+  comma_kind k t Null d f g h = none_some _ h
+  comma_kind k t Truth d f g h = none_some _ h
+  comma_kind k t Number d f g h = none_some _ h
+  comma_kind k t Text d f g h = none_some _ h
+
+  comma_token : (k : ℕ) (o : Option Token) → slice_get ts k ≡ o → slice_get ks 0 ≡ Some k → after_token 44 k o (idle After ks ts i p) ≡ Some (idle Ready ls us j q) → InArray ls us
+  comma_token k None f g h = none_some _ h
+  comma_token k (Some t) f g h = comma_kind k t t.kind refl f g h
+
+  comma_top : (o : Option ℕ) → slice_get ks 0 ≡ o → after_top 44 o (idle After ks ts i p) ≡ Some (idle Ready ls us j q) → InArray ls us
+  comma_top None g h = none_some _ h
+  comma_top (Some k) g h = comma_token k (slice_get ts k) refl g h
+
+  comma_array : (m : Mode) → read m 44 (idle m ks ts i p) ≡ Some (idle Ready ls us j q) → InArray ls us
+  comma_array After h = comma_top (slice_get ks 0) refl h
+  comma_array Ready h = none_some _ h
+  comma_array FirstItem h = none_some _ h
+  comma_array FirstName h = none_some _ h
+  comma_array NextName h = none_some _ h
+  comma_array AfterName h = none_some _ h
+
+  bracket_kind : {A : Type 0} (k : ℕ) (t : Token) (d : Kind) (u : State) → after_in d 91 k t (idle After ks ts i p) ≡ Some u → A
+  bracket_kind k t Array u h = none_some _ h
+  bracket_kind k t Object u h = none_some _ h
+  bracket_kind k t Null u h = none_some _ h
+  bracket_kind k t Truth u h = none_some _ h
+  bracket_kind k t Number u h = none_some _ h
+  bracket_kind k t Text u h = none_some _ h
+
+  bracket_token : {A : Type 0} (k : ℕ) (o : Option Token) (u : State) → after_token 91 k o (idle After ks ts i p) ≡ Some u → A
+  bracket_token k None u h = none_some _ h
+  bracket_token k (Some t) u h = bracket_kind k t t.kind u h
+
+  bracket_top : {A : Type 0} (o : Option ℕ) (u : State) → after_top 91 o (idle After ks ts i p) ≡ Some u → A
+  bracket_top None u h = none_some _ h
+  bracket_top (Some k) u h = bracket_token k (slice_get ts k) u h
+
+  opened_array : idle FirstItem (length ts ∷ ks) (ts ++ token_at i 0 (length ks) Array ∷ []) (suc i) (max p (suc (length ks))) ≡ idle FirstItem ls us j q → InArray ls us
+  opened_array e =
+      let t = token_at i 0 (length ks) Array in
+      in_array_same (length ts ∷ ks) ls (ts ++ t ∷ []) us (ap (λ u. u.stack) e) (ap (λ u. u.tokens) e) (record { top = length ts; token = t; innermost = refl; there = slice_get-seam ts [] t; array = refl })
+
+  bracket_array : (m : Mode) → read m 91 (idle m ks ts i p) ≡ Some (idle FirstItem ls us j q) → InArray ls us
+  bracket_array After h = bracket_top (slice_get ks 0) _ h
+  bracket_array Ready h = opened_array (some_same _ _ h)
+  bracket_array FirstItem h = opened_array (some_same _ _ h)
+  bracket_array FirstName h = none_some _ h
+  bracket_array NextName h = none_some _ h
+  bracket_array AfterName h = none_some _ h
+
+  array_mode : (m n : Mode) (c : ℕ) → StaysInArray c n → read m c (idle m ks ts i p) ≡ Some (idle n ls us j q) → InArray ls us
+  array_mode m Ready c e h = comma_array m (subst (λ z. read m z (idle m ks ts i p) ≡ Some (idle Ready ls us j q)) e h)
+  array_mode m FirstItem c e h = bracket_array m (subst (λ z. read m z (idle m ks ts i p) ≡ Some (idle FirstItem ls us j q)) e h)
+  array_mode m _ c e h = absurd e
+
+  pub array_next : (m : Mode) (c : ℕ) (v : Move) → StaysInArrayNext c v → read m c (idle m ks ts i p) ≡ Some (state (phase_after m i v) ls us j q) → InArray ls us
+  array_next m c (To n) e h = array_mode m n c e h
+  array_next m c (Open n) e h = array_mode m n c e h
+  array_next m c _ e h = absurd e
+
+-- the state after the move of a sign or a bracket
+pub moved_on : (b : List ℕ) (m n : Mode) (i p : ℕ) (v w : Move) (ks : List ℕ) (ts : List Token) (u : State) → v ≡ w → phase_after m i w ≡ between n → Settles b (idle n ks ts (i + 1) p) u → Settles b (state (phase_after m i v) ks ts (suc i) p) u
+moved_on b m n i p v w ks ts u e f h =
+    let g : i + 1 ≡ suc i = omega arith in
+    let q : between n ≡ phase_after m i v = sym (ap (phase_after m i) e ∙ f) in
+    subst (λ z. Settles b (state z ks ts (suc i) p) u) q (subst (λ z. Settles b (idle n ks ts z p) u) g h)
+
+-- ---- room for the numbers
+
+numbers_count : (m : Mode) (i p : ℕ) (v : Move) (ks : List ℕ) (ts : List Token) → IsLawful (state (phase_after m i v) ks ts (suc i) p) → BeginsValueNext v → 2 * length ts ≤ suc i + length ks
+numbers_count m i p (To n) ks ts l h = count_before n ks ts (suc i) p l h
+numbers_count m i p (Open n) ks ts l h = count_before n ks ts (suc i) p l h
+numbers_count m i p _ ks ts l h = absurd h
+
+pub stepped_numbers : (b : List ℕ) (tokens0 : BoundedList Token) (stack0 : BoundedList ℕ) (tokens : BoundedList Token) (stack : BoundedList ℕ) (m : Mode) (i d : ℕ) (v : Move) → Stepped b tokens0 stack0 tokens stack m i v → (length b + stack0.limit + 1) / 2 ≤ tokens0.limit → d ≡ length stack.elements
+    → BeginsValueNext v → (2 * length tokens.elements ≤ i + 1 + d) × ((length b + d + 1) / 2 ≤ tokens.limit)
+stepped_numbers b tokens0 stack0 tokens stack m i d v s r e h =
+    let c = numbers_count m i s.deepest v stack.elements tokens.elements (lawful_reaches _ s.reached) h in
+    let g : length stack.elements ≤ stack0.limit = let p = s.stack_within.below_peak in let q = s.stack_within.below_limit in let f = s.stack_limit in omega arith in
+    let k = s.kept.limit in
+    (omega arith, omega arith)
