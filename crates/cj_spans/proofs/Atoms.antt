@@ -1,5 +1,5 @@
 -- Scalars and names in a line: what has been read of one, and the machine over it.
-use Rattle.std.proofs.Common.{◌≡◌, ℕ, suc, ◌+◌, ◌<◌, ◌≤◌, List, [], ◌∷◌, ◌++◌, length, true, Option, Some, None, refl, sym, ap, subst, arith, ◌∙◌, ◌⊎◌, inl, inr}
+use Rattle.std.proofs.Common.{◌≡◌, ℕ, zero, suc, ◌+◌, ◌<◌, ◌≤◌, List, [], ◌∷◌, ◌++◌, length, true, Option, Some, None, refl, sym, ap, subst, arith, ◌∙◌, ◌⊎◌, inl, inr}
 use Rattle.std.specs.Prelude.{option_and_then}
 use Rattle.cj_spans.specs.declared.token.Kind.{Kind}
 use Rattle.cj_spans.specs.declared.token.Token.{Token}
@@ -30,6 +30,17 @@ read_same b i k x y r h = let e : suc k ≡ k + 1 = omega arith in subst (λ n. 
 
 pub read_plain : (b : List ℕ) (i k : ℕ) (x : Lex) → Continues b i x k InText → is_plain (byte b k) ≡ true → Continues b i x (k + 1) InText
 read_plain b i k x r h = read_same b i k x InText r (plain_goes (byte b k) h)
+
+-- n bytes that leave the reading as it is
+pub read_run : (n : ℕ) (b : List ℕ) (i k : ℕ) (x y : Lex) → ((j : ℕ) → k ≤ j → j < k + n → lex_step y (byte b j) ≡ Some y) → Continues b i x k y → Continues b i x (k + n) y
+read_run zero b i k x y each r = let e : k ≡ k + 0 = omega arith in subst (λ j. Continues b i x j y) e r
+read_run (suc n) b i k x y each r =
+    let e : k + 1 + n ≡ k + suc n = omega arith in
+    subst (λ j. Continues b i x j y) e (read_run n b i (k + 1) x y (λ j a c. each j (omega arith) (omega arith)) (read_same b i k x y r (each k (omega arith) (omega arith))))
+
+-- n bytes of a string that stand for themselves
+pub read_plain_run : (n : ℕ) (b : List ℕ) (i k : ℕ) (x : Lex) → ((j : ℕ) → k ≤ j → j < k + n → is_plain (byte b j) ≡ true) → Continues b i x k InText → Continues b i x (k + n) InText
+read_plain_run n b i k x each r = read_run n b i k x InText (λ j a c. plain_goes (byte b j) (each j a c)) r
 
 -- ---- the machine
 

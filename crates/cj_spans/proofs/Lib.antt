@@ -12,6 +12,7 @@ pub mod Fronts
 pub mod Forests
 pub mod Standing
 pub mod WholeNumbers
+pub mod Vectors
 pub mod Verdicts
 pub mod Endings
 pub mod WorkedLines

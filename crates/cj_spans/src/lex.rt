@@ -5,6 +5,7 @@ ghost use Rattle.cj_spans.specs.declared.lex.Lex.TheVariants.{InText};
 ghost use Rattle.cj_spans.specs.Machine.{is_digit as is_digit_of, lex_start as lex_start_of, lex_step as lex_step_of, lex_kind as lex_kind_of, one as one_of, hex as hex_of, mark as mark_of, point_or_mark as point_or_mark_of, zero_or_whole as zero_or_whole_of, sign_mark as sign_mark_of, text_step as text_step_of, escape_step as escape_step_of, digit_or as digit_or_of, Continues, Halts};
 
 use crate::bytes::{is_digit, is_escape, is_hex, is_plain};
+use crate::lanes::{digits_ahead, plain_ahead};
 use crate::token::Kind;
 
 /// What has been read of a scalar: letters of a literal, a part of a number, or a part of a string.
@@ -195,9 +196,9 @@ pub fn lex_step(read: Lex, byte: u8) -> Option<Lex>
     }
 }
 
-/// Skips the bytes of a string that stand for themselves.
+/// Skips the bytes of a string that stand for themselves, one by one.
 #[inline(always)]
-fn skip_plain(line: &[u8], place: usize) -> usize
+fn skip_plain_singly(line: &[u8], place: usize) -> usize
     requires { place ≤ length line.now }
     ensures same { (i : ℕ) (x : LexOf) → Continues line.now i x place InText → Continues line.now i x result InText }
     ensures order { place ≤ result }
@@ -210,9 +211,28 @@ fn skip_plain(line: &[u8], place: usize) -> usize
     stop
 }
 
-/// Skips digits, which leave these readings of a number as they are.
+/// Skips the bytes of a string that stand for themselves, 16 at once while the line has so many.
 #[inline(always)]
-pub fn skip_digits(line: &[u8], read: Lex, place: usize) -> usize
+fn skip_plain(line: &[u8], place: usize) -> usize
+    requires { place ≤ length line.now }
+    ensures same { (i : ℕ) (x : LexOf) → Continues line.now i x place InText → Continues line.now i x result InText }
+    ensures order { place ≤ result }
+    ensures end { result ≤ length line.now }
+{
+    let mut stop = place;
+    while line.len() - stop >= 16 {
+        let count = plain_ahead(line, stop);
+        stop += count;
+        if count < 16 {
+            return stop;
+        }
+    }
+    skip_plain_singly(line, stop)
+}
+
+/// Skips digits, which leave these readings of a number as they are, one by one.
+#[inline(always)]
+fn skip_digits_singly(line: &[u8], read: Lex, place: usize) -> usize
     requires stays { (b : ℕ) → is_digit_of b ≡ true → lex_step_of read b ≡ Some read }
     requires within { place ≤ length line.now }
     ensures same { (i : ℕ) (x : LexOf) → Continues line.now i x place read → Continues line.now i x result read }
@@ -224,6 +244,27 @@ pub fn skip_digits(line: &[u8], read: Lex, place: usize) -> usize
         stop += 1;
     }
     stop
+}
+
+/// Skips digits, which leave these readings of a number as they are. Up to 16 are read at once, so that
+/// numbers of other lengths than the last take no longer.
+#[inline(always)]
+pub fn skip_digits(line: &[u8], read: Lex, place: usize) -> usize
+    requires stays { (b : ℕ) → is_digit_of b ≡ true → lex_step_of read b ≡ Some read }
+    requires within { place ≤ length line.now }
+    ensures same { (i : ℕ) (x : LexOf) → Continues line.now i x place read → Continues line.now i x result read }
+    ensures order { place ≤ result }
+    ensures end { result ≤ length line.now }
+{
+    if line.len() - place < 16 {
+        return skip_digits_singly(line, read, place);
+    }
+    let count = digits_ahead(line, place);
+    if count < 16 {
+        place + count
+    } else {
+        skip_digits_singly(line, read, place + 16)
+    }
 }
 
 /// Skips the bytes that leave the reading as it is, where there may be many.

@@ -21,6 +21,7 @@ mod bytes;
 #[cfg(test)]
 mod examples;
 mod fault;
+mod lanes;
 mod lex;
 mod numbers;
 mod reason;

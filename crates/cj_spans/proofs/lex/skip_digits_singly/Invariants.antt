@@ -1,7 +1,7 @@
 use Rattle.std.proofs.Common.{ℕ, ◌-◌, ◌≤◌, length}
 use Rattle.cj_spans.specs.declared.lex.Lex.{Lex}
 use Rattle.cj_spans.specs.Machine.{Continues}
-use Rattle.cj_spans.proofs.lex.skip_digits.Given as goal
+use Rattle.cj_spans.proofs.lex.skip_digits_singly.Given as goal
 
 abbrev pub invariant-loop-stop : goal.invariant-loop-stop
 invariant-loop-stop l = ((i : ℕ) (x : Lex) → Continues l.line i x l.place l.fn.read → Continues l.line i x l.stop l.fn.read) × (l.place ≤ l.stop) × (l.stop ≤ length l.line)

@@ -1,0 +1,115 @@
+-- Bytes of a line, 16 at a time: what the marks of a vector say of the bytes.
+use Rattle.std.proofs.Common.{◌≡◌, ℕ, zero, suc, ◌+◌, ◌-◌, ◌%◌, ◌^◌, ◌<◌, ◌≤◌, List, [], ◌∷◌, length, map, Bool, true, false, cond, not, eqb, ltb, replicate, refl, sym, ap, subst, arith, ◌∙◌, w8}
+use Rattle.std.proofs.lemmas.Bool.Decides.{nat_tests}
+use Rattle.std.specs.Simd.Lanes.{zip2, mask_l, sel_l, top, chunk}
+use Rattle.std.specs.List.{prefix_len}
+use Rattle.std.specs.Int.Count.{count_trailing_zeros}
+use Rattle.std.proofs.lemmas.Simd.{tops_compared, bitmask_splat, zip2_splat, zip2_splat_left, mask_l-mod, map-map, length-chunk, none_from_empty_mask, trailing_mask_l, run_in_chunk_le, run_in_chunk_fails}
+use Rattle.std.proofs.lemmas.List.{length-map}
+use Rattle.cj_spans.specs.Spelling.{is_plain}
+use Rattle.cj_spans.specs.Json.{byte}
+use Rattle.cj_spans.specs.Machine.{is_digit}
+
+-- how far a byte is above `0`, where bytes below it come last
+abbrev above : ℕ → ℕ
+above x = (x + 208) % 256
+
+-- a byte that is no digit
+abbrev other : ℕ → Bool
+other x = ltb 9 (above x)
+
+digit_from : (x : ℕ) → x < 256 → other x ≡ false → is_digit x ≡ true
+digit_from x l h = let e : (x + 208) % 256 ≤ 9 = grind (arith, nat_tests) in test x (omega arith) (omega arith)
+  where
+    test : (x : ℕ) → 48 ≤ x → x ≤ 57 → is_digit x ≡ true
+    test x a b = grind (arith, nat_tests)
+
+-- the marks of the lanes above n
+marks_over : (n : ℕ) (v : List ℕ) → length v ≡ 16 → mask_l (map (top 7) (zip2 (λ a c. cond (ltb a c) 255 0) (replicate 16 n) v)) % 2 ^ 64 ≡ mask_l (map (λ y. ltb n y) v)
+marks_over n v long =
+    ap (λ ms. mask_l ms % 2 ^ 64) (tops_compared w8 ltb (replicate 16 n) v ∙ zip2_splat_left ltb n 16 v long)
+    ∙ mask_l-mod (map (λ y. ltb n y) v) 64 (omega (arith, length-map v (λ y. ltb n y)))
+
+-- the marks of the bytes from i on that are no digits
+abbrev pub digit_marks : List ℕ → ℕ → ℕ
+digit_marks b i = mask_l (map (top 7) (zip2 (λ a c. cond (ltb a c) 255 0) (replicate 16 9) (zip2 (λ a c. (a + (256 - c)) % 256) (chunk i 16 b) (replicate 16 48)))) % 2 ^ 64
+
+digit_marks_are : (b : List ℕ) (i : ℕ) → i + 16 ≤ length b → digit_marks b i ≡ mask_l (map other (chunk i 16 b))
+digit_marks_are b i room =
+    let v = chunk i 16 b in
+    let long : length v ≡ 16 = length-chunk i 16 b room in
+    ap (λ w. mask_l (map (top 7) (zip2 (λ a c. cond (ltb a c) 255 0) (replicate 16 9) w)) % 2 ^ 64) (zip2_splat (λ a c. (a + (256 - c)) % 256) v 16 48 long)
+    ∙ marks_over 9 (map above v) (length-map v above ∙ long)
+    ∙ ap mask_l (map-map (λ y. ltb 9 y) above v)
+
+pub all_digits : (b : List ℕ) (i : ℕ) → i + 16 ≤ length b → ((k : ℕ) → byte b k < 256) → digit_marks b i ≡ 0 → (k : ℕ) → i ≤ k → k < i + 16 → is_digit (byte b k) ≡ true
+all_digits b i room small e k l h = digit_from (byte b k) (small k) (none_from_empty_mask other b i 16 0 room (sym (digit_marks_are b i room) ∙ e) k l h)
+
+digits_counted : (b : List ℕ) (i : ℕ) → i + 16 ≤ length b → (digit_marks b i ≡ 0 → ⊥) → count_trailing_zeros 64 (digit_marks b i) ≡ prefix_len (λ x. not (other x)) (chunk i 16 b)
+digits_counted b i room n =
+    let e = digit_marks_are b i room in
+    let long = length-chunk i 16 b room in
+    let some : 0 < digit_marks b i = omega arith in
+    ap (count_trailing_zeros 64) e ∙ trailing_mask_l other 64 (chunk i 16 b) (omega arith) (subst (λ m. 0 < m) e some)
+
+pub digits_within : (b : List ℕ) (i : ℕ) → i + 16 ≤ length b → (digit_marks b i ≡ 0 → ⊥) → count_trailing_zeros 64 (digit_marks b i) ≤ 16
+digits_within b i room n = run_in_chunk_le other b i 16 (count_trailing_zeros 64 (digit_marks b i)) 0 room (digits_counted b i room n)
+
+pub digits_before : (b : List ℕ) (i : ℕ) → i + 16 ≤ length b → ((k : ℕ) → byte b k < 256) → (digit_marks b i ≡ 0 → ⊥) → (k : ℕ) → i ≤ k → k < i + count_trailing_zeros 64 (digit_marks b i) → is_digit (byte b k) ≡ true
+digits_before b i room small n k l h = digit_from (byte b k) (small k) (run_in_chunk_fails other b i 16 (count_trailing_zeros 64 (digit_marks b i)) 0 room (digits_counted b i room n) k l h)
+
+-- ---- bytes of a string
+
+-- the byte, or 0 in the place of n
+abbrev dropped : ℕ → ℕ → ℕ
+dropped n x = cond (eqb x n) 0 x
+
+-- a byte that does not stand for itself in a string
+abbrev special : ℕ → Bool
+special x = ltb (dropped 92 (dropped 34 x)) 32
+
+plain_from : (x : ℕ) → special x ≡ false → is_plain x ≡ true
+plain_from x h = grind (arith, nat_tests)
+
+chosen : (p : ℕ → Bool) (n : ℕ) (v : List ℕ) → length v ≡ n → sel_l (map p v) (replicate n 0) v ≡ map (λ x. cond (p x) 0 x) v
+chosen p n [] h = refl
+chosen p zero (x ∷ v) h = absurd (omega arith)
+chosen p (suc n) (x ∷ v) h = ap (λ z. cond (p x) 0 x ∷ z) (chosen p n v (omega arith))
+
+-- the vector v with 0 in the place of n
+abbrev without : ℕ → List ℕ → List ℕ
+without n v = sel_l (map (top 7) (zip2 (λ a c. cond (eqb a c) 255 0) v (replicate 16 n))) (replicate 16 0) v
+
+without_is : (n : ℕ) (v : List ℕ) → length v ≡ 16 → without n v ≡ map (dropped n) v
+without_is n v long = ap (λ ms. sel_l ms (replicate 16 0) v) (tops_compared w8 eqb v (replicate 16 n) ∙ zip2_splat eqb v 16 n long) ∙ chosen (λ x. eqb x n) 16 v long
+
+-- the marks of the bytes from i on that do not stand for themselves
+abbrev pub plain_marks : List ℕ → ℕ → ℕ
+plain_marks b i = mask_l (map (top 7) (zip2 (λ a c. cond (ltb a c) 255 0) (without 92 (without 34 (chunk i 16 b))) (replicate 16 32))) % 2 ^ 64
+
+plain_marks_are : (b : List ℕ) (i : ℕ) → i + 16 ≤ length b → plain_marks b i ≡ mask_l (map special (chunk i 16 b))
+plain_marks_are b i room =
+    let v = chunk i 16 b in
+    let long : length v ≡ 16 = length-chunk i 16 b room in
+    let long1 : length (map (dropped 34) v) ≡ 16 = length-map v (dropped 34) ∙ long in
+    let w = map (dropped 92) (map (dropped 34) v) in
+    let long2 : length w ≡ 16 = length-map (map (dropped 34) v) (dropped 92) ∙ long1 in
+    ap (λ u. mask_l (map (top 7) (zip2 (λ a c. cond (ltb a c) 255 0) u (replicate 16 32))) % 2 ^ 64) (ap (without 92) (without_is 34 v long) ∙ without_is 92 (map (dropped 34) v) long1)
+    ∙ bitmask_splat w8 ltb w 16 32 long2 (omega arith)
+    ∙ ap mask_l (map-map (λ x. ltb x 32) (dropped 92) (map (dropped 34) v) ∙ map-map (λ x. ltb (dropped 92 x) 32) (dropped 34) v)
+
+pub all_plain : (b : List ℕ) (i : ℕ) → i + 16 ≤ length b → plain_marks b i ≡ 0 → (k : ℕ) → i ≤ k → k < i + 16 → is_plain (byte b k) ≡ true
+all_plain b i room e k l h = plain_from (byte b k) (none_from_empty_mask special b i 16 0 room (sym (plain_marks_are b i room) ∙ e) k l h)
+
+plain_counted : (b : List ℕ) (i : ℕ) → i + 16 ≤ length b → (plain_marks b i ≡ 0 → ⊥) → count_trailing_zeros 64 (plain_marks b i) ≡ prefix_len (λ x. not (special x)) (chunk i 16 b)
+plain_counted b i room n =
+    let e = plain_marks_are b i room in
+    let long = length-chunk i 16 b room in
+    let some : 0 < plain_marks b i = omega arith in
+    ap (count_trailing_zeros 64) e ∙ trailing_mask_l special 64 (chunk i 16 b) (omega arith) (subst (λ m. 0 < m) e some)
+
+pub plain_within : (b : List ℕ) (i : ℕ) → i + 16 ≤ length b → (plain_marks b i ≡ 0 → ⊥) → count_trailing_zeros 64 (plain_marks b i) ≤ 16
+plain_within b i room n = run_in_chunk_le special b i 16 (count_trailing_zeros 64 (plain_marks b i)) 0 room (plain_counted b i room n)
+
+pub plain_before : (b : List ℕ) (i : ℕ) → i + 16 ≤ length b → (plain_marks b i ≡ 0 → ⊥) → (k : ℕ) → i ≤ k → k < i + count_trailing_zeros 64 (plain_marks b i) → is_plain (byte b k) ≡ true
+plain_before b i room n k l h = plain_from (byte b k) (run_in_chunk_fails special b i 16 (count_trailing_zeros 64 (plain_marks b i)) 0 room (plain_counted b i room n) k l h)
