@@ -1,5 +1,5 @@
-//! Lines of standard input read as JSON by serde_json, as values that are thrown away, and copied;
-//! and the same by the number of words: `parse` reads them alone, with no copy.
+//! Reads the lines of standard input as JSON values that are thrown away, by serde_json, many times
+//! over, and prints megabytes a second: with no copy of the line, and with one.
 use serde::de::IgnoredAny;
 use std::io::Read;
 use std::time::Instant;
@@ -15,7 +15,7 @@ fn is_json(line: &[u8]) -> bool {
 fn report(name: &str, bytes: usize, rounds: u32, start: Instant, good: usize) {
     let seconds = start.elapsed().as_secs_f64();
     let megabytes = bytes as f64 * f64::from(rounds) / 1e6;
-    println!("{name} {:.0} MB/s ({good} lines)", megabytes / seconds);
+    println!("{name} {:.0} MB/s {good} lines", megabytes / seconds);
 }
 
 fn main() -> std::io::Result<()> {
@@ -44,9 +44,6 @@ fn main() -> std::io::Result<()> {
             }
         }
     }
-    report("serde_json-and-copy", input.len(), rounds, start, good);
-    if good > 0 && copy.len() + 1 < lines.len() {
-        println!("{}", copy.len());
-    }
+    report("serde_json-and-copy", std::hint::black_box(&copy).len(), rounds, start, good);
     Ok(())
 }
