@@ -1,5 +1,5 @@
 -- The machine that reads a line byte by byte. Only private clauses cite it.
-use Rattle.std.specs.Prelude.{◌≡◌, ℕ, suc, ◌<◌, ◌≤◌, List, [], ◌∷◌, ◌++◌, length, drop, max, slice_get, slice_set, Bool, cond, ◌⊎◌, ◌||◌, ◌&&◌, nat_eq, nat_le, Option, Some, None, IsSomeAnd, option_map, option_and_then, Result, Ok, Err, IsTrue}
+use Rattle.std.specs.Prelude.{◌≡◌, ℕ, suc, ◌<◌, ◌≤◌, List, [], ◌∷◌, ◌++◌, length, drop, max, slice_get, slice_set, Bool, cond, ◌⊎◌, ◌||◌, ◌&&◌, nat_eq, nat_le, Option, Some, None, IsSomeAnd, option_map, option_and_then, Result, Ok, Err, OnErr, IsTrue}
 use Rattle.cj_budget.specs.Bounded.{BoundedList, IsWithin}
 use Rattle.cj_spans.specs.declared.fault.ScanFault.{ScanFault}
 use Rattle.cj_spans.specs.declared.fault.ScanFault.TheVariants.{NotUtf8, Syntax, TooDeep, Memory}
@@ -333,6 +333,13 @@ pub record Kept {T : Type 0} (old new : BoundedList T) : Type 0 where
 pub record Grown (old new : BoundedList Token) : Type 0 where
   pub kept : Kept old new
   pub longer : length old.elements ≤ length new.elements
+
+-- what a call does with the lists that reads the byte at the place i, where the machine does f, from whatever mode
+pub record Reads (f : State → Option State) (i : ℕ) (result : Result Move ScanFault) (old_tokens new_tokens : BoundedList Token) (old_stack new_stack : BoundedList ℕ) : Type 0 where
+  pub answer : (m : Mode) (p : ℕ) → Answers (f (state (between m) old_stack.elements old_tokens.elements i p)) m i p old_stack.limit (IsTrue old_tokens.reserved × IsTrue old_stack.reserved) result new_stack.elements new_tokens.elements
+  pub tokens : Grown old_tokens new_tokens
+  pub stack : Kept old_stack new_stack
+  pub err : OnErr result ((new_tokens ≡ old_tokens) × (length old_stack.elements ≤ length new_stack.elements))
 
 -- a value may begin in the mode
 abbrev pub BeginsValue : Mode → Type 0

@@ -3,7 +3,7 @@ ghost use Rattle.std.specs.Prelude.{◌≡◌, ◌^◌, ◌≤◌, ◌<◌, ◌+
 ghost use Rattle.cj_budget.specs.Bounded.{IsWithin};
 ghost use Rattle.cj_spans.specs.declared.token.Token.{Token as TokenOf};
 ghost use Rattle.cj_spans.specs.declared.step.Mode.{Mode as ModeOf};
-ghost use Rattle.cj_spans.specs.Machine.{state, between, read as read_of, begin_value as begin_value_of, begin_name as begin_name_of, after_value as after_value_of, after_in as after_in_of, close_token as close_token_of, close_empty as close_empty_of, colon_step as colon_step_of, opened, Answers, Grown, Kept, BeginsValue};
+ghost use Rattle.cj_spans.specs.Machine.{state, between, read as read_of, begin_value as begin_value_of, begin_name as begin_name_of, after_value as after_value_of, after_in as after_in_of, close_token as close_token_of, close_empty as close_empty_of, colon_step as colon_step_of, opened, Answers, Grown, Kept, Reads, BeginsValue};
 
 use crate::bytes::is_blank;
 use crate::fault::ScanFault;
@@ -62,14 +62,7 @@ fn open(
         × (length tokens.old.elements < 2 ^ 31) × (length stack.old.elements < 2 ^ 31) }
     requires lists { IsWithin tokens.old × IsWithin stack.old }
     requires room { length tokens.old.elements < tokens.old.limit }
-    ensures answer { (m : ModeOf) (p : ℕ) → Answers
-        (Some (opened kind next (state (between m) stack.old.elements tokens.old.elements place p)))
-        m place p stack.old.limit (IsTrue tokens.old.reserved × IsTrue stack.old.reserved)
-        result stack.new.elements tokens.new.elements }
-    ensures tokens { Grown tokens.old tokens.new }
-    ensures stack { Kept stack.old stack.new }
-    ensures err { OnErr result ((tokens.new ≡ tokens.old)
-        × (length stack.old.elements ≤ length stack.new.elements)) }
+    ensures { Reads (λ s. Some (opened kind next s)) place result tokens.old tokens.new stack.old stack.new }
 {
     let depth = stack.len();
     match stack.push(tokens.len() as u32) {
@@ -101,14 +94,7 @@ fn begin_value(
         × (length tokens.old.elements < 2 ^ 31) × (length stack.old.elements < 2 ^ 31) }
     requires lists { IsWithin tokens.old × IsWithin stack.old }
     requires room { length tokens.old.elements < tokens.old.limit }
-    ensures answer { (m : ModeOf) (p : ℕ) → Answers
-        (begin_value_of byte (state (between m) stack.old.elements tokens.old.elements place p))
-        m place p stack.old.limit (IsTrue tokens.old.reserved × IsTrue stack.old.reserved)
-        result stack.new.elements tokens.new.elements }
-    ensures tokens { Grown tokens.old tokens.new }
-    ensures stack { Kept stack.old stack.new }
-    ensures err { OnErr result ((tokens.new ≡ tokens.old)
-        × (length stack.old.elements ≤ length stack.new.elements)) }
+    ensures { Reads (begin_value_of byte) place result tokens.old tokens.new stack.old stack.new }
 {
     if byte == b'[' {
         return open(Kind::Array, Mode::FirstItem, place, tokens, stack);
@@ -132,15 +118,7 @@ fn close(
 ) -> Result<Move, ScanFault>
     requires small { place < 2 ^ 31 }
     requires lists { IsWithin tokens.old × IsWithin stack.old }
-    ensures answer { (m : ModeOf) (p : ℕ) → Answers
-        (close_token_of number (slice_get tokens.old.elements number)
-        (state (between m) stack.old.elements tokens.old.elements place p))
-        m place p stack.old.limit (IsTrue tokens.old.reserved × IsTrue stack.old.reserved)
-        result stack.new.elements tokens.new.elements }
-    ensures tokens { Grown tokens.old tokens.new }
-    ensures stack { Kept stack.old stack.new }
-    ensures err { OnErr result ((tokens.new ≡ tokens.old)
-        × (length stack.old.elements ≤ length stack.new.elements)) }
+    ensures { Reads (λ s. close_token_of number (slice_get s.tokens number) s) place result tokens.old tokens.new stack.old stack.new }
 {
     match token_of(tokens.as_slice(), number) {
         None => Err(ScanFault::Syntax(place as u64)),
@@ -164,14 +142,7 @@ fn close_empty(
 ) -> Result<Move, ScanFault>
     requires small { place < 2 ^ 31 }
     requires lists { IsWithin tokens.old × IsWithin stack.old }
-    ensures answer { (m : ModeOf) (p : ℕ) → Answers
-        (close_empty_of (state (between m) stack.old.elements tokens.old.elements place p))
-        m place p stack.old.limit (IsTrue tokens.old.reserved × IsTrue stack.old.reserved)
-        result stack.new.elements tokens.new.elements }
-    ensures tokens { Grown tokens.old tokens.new }
-    ensures stack { Kept stack.old stack.new }
-    ensures err { OnErr result ((tokens.new ≡ tokens.old)
-        × (length stack.old.elements ≤ length stack.new.elements)) }
+    ensures { Reads close_empty_of place result tokens.old tokens.new stack.old stack.new }
 {
     match stack.top() {
         None => Err(ScanFault::Syntax(place as u64)),
@@ -191,14 +162,8 @@ fn after_in(
 ) -> Result<Move, ScanFault>
     requires small { place < 2 ^ 31 }
     requires lists { IsWithin tokens.old × IsWithin stack.old }
-    ensures answer { (m : ModeOf) (p : ℕ) (t : TokenOf) → slice_get tokens.old.elements number ≡ Some t → Answers
-        (after_in_of kind byte number t (state (between m) stack.old.elements tokens.old.elements place p))
-        m place p stack.old.limit (IsTrue tokens.old.reserved × IsTrue stack.old.reserved)
-        result stack.new.elements tokens.new.elements }
-    ensures tokens { Grown tokens.old tokens.new }
-    ensures stack { Kept stack.old stack.new }
-    ensures err { OnErr result ((tokens.new ≡ tokens.old)
-        × (length stack.old.elements ≤ length stack.new.elements)) }
+    ensures { (t : TokenOf) → slice_get tokens.old.elements number ≡ Some t
+        → Reads (after_in_of kind byte number t) place result tokens.old tokens.new stack.old stack.new }
 {
     match kind {
         Kind::Array => {
@@ -233,14 +198,7 @@ fn after_value(
 ) -> Result<Move, ScanFault>
     requires small { place < 2 ^ 31 }
     requires lists { IsWithin tokens.old × IsWithin stack.old }
-    ensures answer { (m : ModeOf) (p : ℕ) → Answers
-        (after_value_of byte (state (between m) stack.old.elements tokens.old.elements place p))
-        m place p stack.old.limit (IsTrue tokens.old.reserved × IsTrue stack.old.reserved)
-        result stack.new.elements tokens.new.elements }
-    ensures tokens { Grown tokens.old tokens.new }
-    ensures stack { Kept stack.old stack.new }
-    ensures err { OnErr result ((tokens.new ≡ tokens.old)
-        × (length stack.old.elements ≤ length stack.new.elements)) }
+    ensures { Reads (after_value_of byte) place result tokens.old tokens.new stack.old stack.new }
 {
     match stack.top() {
         None => Err(ScanFault::Syntax(place as u64)),
