@@ -1,5 +1,5 @@
 -- Scalars and names in a line: what has been read of one, and the machine over it.
-use Rattle.std.proofs.Common.{◌≡◌, ℕ, zero, suc, ◌+◌, ◌<◌, ◌≤◌, List, [], ◌∷◌, ◌++◌, length, true, Option, Some, None, refl, sym, ap, subst, arith, ◌∙◌, ◌⊎◌, inl, inr}
+use Rattle.std.proofs.Common.{◌≡◌, ℕ, zero, suc, ◌+◌, ◌-◌, ◌<◌, ◌≤◌, List, [], ◌∷◌, ◌++◌, length, true, Option, Some, None, refl, sym, ap, subst, arith, ◌∙◌, ◌⊎◌, inl, inr}
 use Rattle.std.specs.Prelude.{option_and_then}
 use Rattle.cj_spans.specs.declared.token.Kind.{Kind}
 use Rattle.cj_spans.specs.declared.token.Token.{Token}
@@ -38,9 +38,18 @@ read_run (suc n) b i k x y each r =
     let e : k + 1 + n ≡ k + suc n = omega arith in
     subst (λ j. Continues b i x j y) e (read_run n b i (k + 1) x y (λ j a c. each j (omega arith) (omega arith)) (read_same b i k x y r (each k (omega arith) (omega arith))))
 
--- n bytes of a string that stand for themselves
-pub read_plain_run : (n : ℕ) (b : List ℕ) (i k : ℕ) (x : Lex) → ((j : ℕ) → k ≤ j → j < k + n → is_plain (byte b j) ≡ true) → Continues b i x k InText → Continues b i x (k + n) InText
-read_plain_run n b i k x each r = read_run n b i k x InText (λ j a c. plain_goes (byte b j) (each j a c)) r
+-- the same of the bytes up to a place
+pub read_to : (b : List ℕ) (i k n : ℕ) (x y : Lex) → k ≤ n → ((j : ℕ) → k ≤ j → j < n → lex_step y (byte b j) ≡ Some y) → Continues b i x k y → Continues b i x n y
+read_to b i k n x y l each r =
+    let e : k + (n - k) ≡ n = omega arith in
+    subst (λ j. Continues b i x j y) e (read_run (n - k) b i k x y (λ j a c. each j a (omega arith)) r)
+
+-- bytes of a string that stand for themselves
+pub plain_run : (n : ℕ) (b : List ℕ) (i k : ℕ) (x : Lex) → ((j : ℕ) → k ≤ j → j < k + n → is_plain (byte b j) ≡ true) → Continues b i x k InText → Continues b i x (k + n) InText
+plain_run n b i k x each r = read_run n b i k x InText (λ j a c. plain_goes (byte b j) (each j a c)) r
+
+pub plain_to : (b : List ℕ) (i k n : ℕ) (x : Lex) → k ≤ n → ((j : ℕ) → k ≤ j → j < n → is_plain (byte b j) ≡ true) → Continues b i x k InText → Continues b i x n InText
+plain_to b i k n x l each r = read_to b i k n x InText l (λ j a c. plain_goes (byte b j) (each j a c)) r
 
 -- ---- the machine
 

@@ -5,7 +5,7 @@ ghost use Rattle.cj_spans.specs.declared.lex.Lex.TheVariants.{InText};
 ghost use Rattle.cj_spans.specs.Machine.{is_digit as is_digit_of, lex_start as lex_start_of, lex_step as lex_step_of, lex_kind as lex_kind_of, one as one_of, hex as hex_of, mark as mark_of, point_or_mark as point_or_mark_of, zero_or_whole as zero_or_whole_of, sign_mark as sign_mark_of, text_step as text_step_of, escape_step as escape_step_of, digit_or as digit_or_of, Continues, Halts};
 
 use crate::bytes::{is_digit, is_escape, is_hex, is_plain};
-use crate::lanes::{digits_ahead, plain_ahead};
+use crate::lanes::{find_other, find_special};
 use crate::token::Kind;
 
 /// What has been read of a scalar: letters of a literal, a part of a number, or a part of a string.
@@ -221,10 +221,9 @@ fn skip_plain(line: &[u8], place: usize) -> usize
 {
     let mut stop = place;
     while line.len() - stop >= 16 {
-        let count = plain_ahead(line, stop);
-        stop += count;
-        if count < 16 {
-            return stop;
+        match find_special(line, stop) {
+            Some(place) => return place,
+            None => stop += 16,
         }
     }
     skip_plain_singly(line, stop)
@@ -259,11 +258,9 @@ pub fn skip_digits(line: &[u8], read: Lex, place: usize) -> usize
     if line.len() - place < 16 {
         return skip_digits_singly(line, read, place);
     }
-    let count = digits_ahead(line, place);
-    if count < 16 {
-        place + count
-    } else {
-        skip_digits_singly(line, read, place + 16)
+    match find_other(line, place) {
+        Some(stop) => stop,
+        None => skip_digits_singly(line, read, place + 16),
     }
 }
 

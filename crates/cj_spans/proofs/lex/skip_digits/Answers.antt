@@ -1,14 +1,11 @@
-use Rattle.std.proofs.Common.{arith}
-use Rattle.cj_spans.proofs.Atoms.{read_run}
+use Rattle.cj_spans.proofs.Atoms.{read_run, read_to}
 use Rattle.cj_spans.proofs.lex.skip_digits.Goals as goal
 
-pub returns-then-count-lt16-clause-same : goal.returns-then-count-lt16-clause-same
-returns-then-count-lt16-clause-same c = λ i x r.
-    let n = c.digits_ahead-count in
-    read_run n.result c.args.line.now i c.args.place x c.args.read (λ j low high. c.requires.stays _ (n.ensures.digits j low high)) r
+pub returns-in-Some-clause-same : goal.returns-in-Some-clause-same
+returns-in-Some-clause-same c = λ i x r.
+    let f = c.in-Some.ensures.found in
+    read_to c.args.line.now i c.args.place c.in-Some.stop x c.args.read f.0 (λ j low high. c.requires.stays _ (f.2 j low high)) r
 
-pub returns-else-count-lt16-clause-same : goal.returns-else-count-lt16-clause-same
-returns-else-count-lt16-clause-same c = λ i x r.
-    let n = c.digits_ahead-count in
-    let all = c.if-count-lt16.false in
-    c.skip_digits_singly-else-count-lt16.ensures.same i x (read_run 16 c.args.line.now i c.args.place x c.args.read (λ j low high. c.requires.stays _ (n.ensures.digits j low (omega arith))) r)
+pub returns-in-None-clause-same : goal.returns-in-None-clause-same
+returns-in-None-clause-same c = λ i x r.
+    c.skip_digits_singly-in-None.ensures.same i x (read_run 16 c.args.line.now i c.args.place x c.args.read (λ j low high. c.requires.stays _ (c.in-None.ensures.none j low high)) r)

@@ -1,15 +1,13 @@
 use Rattle.std.proofs.Common.{arith}
-use Rattle.cj_spans.proofs.Atoms.{read_plain_run}
+use Rattle.cj_spans.proofs.Atoms.{plain_run, plain_to}
 use Rattle.cj_spans.proofs.lex.skip_plain.Goals as goal
 
-pub returns-then-count-lt16-clause-same : goal.returns-then-count-lt16-clause-same
-returns-then-count-lt16-clause-same c = λ i x r.
-    let n = c.plain_ahead-count in
-    read_plain_run n.result c.args.line.now i c.loop-stop.stop x n.ensures.plain (c.loop-stop.invariant.0 i x r)
+pub returns-in-Some-clause-same : goal.returns-in-Some-clause-same
+returns-in-Some-clause-same c = λ i x r.
+    let f = c.in-Some.ensures.found in
+    plain_to c.args.line.now i c.loop-stop.stop c.in-Some.place x f.0 f.2 (c.loop-stop.invariant.0 i x r)
 
 pub loop-stop-preserved : goal.loop-stop-preserved
 loop-stop-preserved c =
-    let n = c.plain_ahead-count in
-    let most = n.ensures.within in
     let order = c.loop-stop.invariant.1 in
-    (λ i x r. read_plain_run n.result c.args.line.now i c.loop-stop.stop x n.ensures.plain (c.loop-stop.invariant.0 i x r), omega arith, omega arith)
+    (λ i x r. plain_run 16 c.args.line.now i c.loop-stop.stop x c.in-None.ensures.none (c.loop-stop.invariant.0 i x r), omega arith, omega arith)
