@@ -36,6 +36,7 @@ def main():
     if twin:
         programs["Rust twin"] = [twin]
         programs["twin, SSE alone"] = [narrow]
+        programs["twin, no JSON"] = [twin, "copy"]
     print(f"{'input':<16}{'program':<18}{'MB/s':>8}{'of the twin':>13}{'resident KB':>13}")
     for path in paths:
         size = os.path.getsize(path) / 1e6
