@@ -100,10 +100,10 @@ fn stays_in_array(byte: u8, mode: Mode) -> bool
     }
 }
 
-/// Goes on behind the byte at `place`, after which the mode comes: past numbers, where it left an array
-/// innermost.
+/// Goes on behind the byte at `place`, after which the mode comes: past the numbers that follow, where
+/// the byte left an array innermost.
 #[inline(always)]
-pub fn go_on(
+pub fn pass_numbers(
     line: &[u8],
     place: usize,
     mode: Mode,

@@ -14,7 +14,7 @@ ghost use Rattle.cj_spans.specs.Machine.{state, in_atom, phase_after, Ends, Grow
 
 use crate::fault::ScanFault;
 use crate::lex::{Lex, lex_kind, read_atom};
-use crate::numbers::go_on;
+use crate::numbers::pass_numbers;
 use crate::step::{Mode, Move, Next, read_byte};
 use crate::token::Token;
 use cj_budget::{Bounded, Stack};
@@ -59,7 +59,7 @@ fn end_atom(
     }
 }
 
-/// Goes on after a move: past a scalar or a name, or to the next byte.
+/// Goes on after a move: past a scalar or a name, past the numbers of an array, or to the next byte.
 #[inline(always)]
 fn follow(
     line: &[u8],
@@ -87,8 +87,8 @@ fn follow(
             mode,
             place: place + 1,
         }),
-        Move::To(mode) => Ok(go_on(line, place, mode, depth, tokens)),
-        Move::Open(mode) => Ok(go_on(line, place, mode, depth, tokens)),
+        Move::To(mode) => Ok(pass_numbers(line, place, mode, depth, tokens)),
+        Move::Open(mode) => Ok(pass_numbers(line, place, mode, depth, tokens)),
         Move::Atom(next, first) => end_atom(line, place, next, first, depth, tokens),
     }
 }

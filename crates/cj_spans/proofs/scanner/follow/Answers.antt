@@ -9,20 +9,20 @@ use Rattle.cj_spans.proofs.scanner.follow.Goals as goal
 pub returns-in-Stay-clause-answer : goal.returns-in-Stay-clause-answer
 returns-in-Stay-clause-answer c = λ ks p h a. (settles_at c.args.line.now c.args.mode c.args.mode c.args.place _ p _ Stay ks c.args.tokens.now.elements c.in-Stay.is refl refl, omega arith, omega arith)
 
-pub go_on-requires-clause-room : goal.go_on-requires-clause-room
-go_on-requires-clause-room c = subst (λ v. BeginsValueNext v → (2 * length c.args.tokens.now.elements ≤ c.args.place + 1 + c.args.depth) × ((length c.args.line.now + c.args.depth + 1) / 2 ≤ c.args.tokens.now.limit)) c.in-To.is c.requires.numbers
+pub pass_numbers-requires-clause-room : goal.pass_numbers-requires-clause-room
+pass_numbers-requires-clause-room c = subst (λ v. BeginsValueNext v → (2 * length c.args.tokens.now.elements ≤ c.args.place + 1 + c.args.depth) × ((length c.args.line.now + c.args.depth + 1) / 2 ≤ c.args.tokens.now.limit)) c.in-To.is c.requires.numbers
 
 pub returns-in-To-clause-answer : goal.returns-in-To-clause-answer
 returns-in-To-clause-answer c = λ ks p h a.
-    let n = c.go_on in
+    let n = c.pass_numbers in
     let order = n.ensures.order in
     (moved_on c.args.line.now c.args.mode c.in-To.mode c.args.place p _ (To c.in-To.mode) ks c.args.tokens.now.elements _ c.in-To.is refl (n.ensures.answer ks p h (λ e. a (subst (λ v. StaysInArrayNext (byte c.args.line.now c.args.place) v) (sym c.in-To.is) e))), omega arith, n.ensures.end)
 
-pub go_on-requires-in-Open-clause-room : goal.go_on-requires-in-Open-clause-room
-go_on-requires-in-Open-clause-room c = subst (λ v. BeginsValueNext v → (2 * length c.args.tokens.now.elements ≤ c.args.place + 1 + c.args.depth) × ((length c.args.line.now + c.args.depth + 1) / 2 ≤ c.args.tokens.now.limit)) c.in-Open.is c.requires.numbers
+pub pass_numbers-requires-in-Open-clause-room : goal.pass_numbers-requires-in-Open-clause-room
+pass_numbers-requires-in-Open-clause-room c = subst (λ v. BeginsValueNext v → (2 * length c.args.tokens.now.elements ≤ c.args.place + 1 + c.args.depth) × ((length c.args.line.now + c.args.depth + 1) / 2 ≤ c.args.tokens.now.limit)) c.in-Open.is c.requires.numbers
 
 pub returns-in-Open-clause-answer : goal.returns-in-Open-clause-answer
 returns-in-Open-clause-answer c = λ ks p h a.
-    let n = c.go_on-in-Open in
+    let n = c.pass_numbers-in-Open in
     let order = n.ensures.order in
     (moved_on c.args.line.now c.args.mode c.in-Open.mode c.args.place p _ (Open c.in-Open.mode) ks c.args.tokens.now.elements _ c.in-Open.is refl (n.ensures.answer ks p h (λ e. a (subst (λ v. StaysInArrayNext (byte c.args.line.now c.args.place) v) (sym c.in-Open.is) e))), omega arith, n.ensures.end)

@@ -1,7 +1,7 @@
 use Rattle.std.proofs.Common.{◌+◌, refl}
 use Rattle.cj_spans.specs.Machine.{state, between}
 use Rattle.cj_spans.proofs.WholeNumbers.{stays_begins, settled_here}
-use Rattle.cj_spans.proofs.numbers.go_on.Goals as goal
+use Rattle.cj_spans.proofs.numbers.pass_numbers.Goals as goal
 
 pub read_numbers-requires-clause-begins : goal.read_numbers-requires-clause-begins
 read_numbers-requires-clause-begins c = stays_begins _ _ (c.if-stays_in_array.ensures.0 refl)
