@@ -14,3 +14,4 @@ pub mod Standing
 pub mod Verdicts
 pub mod Endings
 pub mod WorkedLines
+pub mod Findings

@@ -10,3 +10,4 @@ pub mod Begins
 pub mod Reason
 pub mod Machine
 pub mod Examples
+pub mod Finding

@@ -21,6 +21,8 @@ mod bytes;
 #[cfg(test)]
 mod examples;
 mod fault;
+mod finding;
+mod least;
 mod lex;
 mod reason;
 mod scanner;
@@ -30,6 +32,8 @@ mod tests;
 mod token;
 
 pub use fault::ScanFault;
+pub use finding::Finding;
+pub use least::Least;
 pub use reason::Reason;
 pub use scanner::scan;
 pub use token::{Kind, Token};
