@@ -15,3 +15,4 @@ pub mod Verdicts
 pub mod Endings
 pub mod WorkedLines
 pub mod Findings
+pub mod Texts

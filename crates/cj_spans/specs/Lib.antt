@@ -11,3 +11,5 @@ pub mod Reason
 pub mod Machine
 pub mod Examples
 pub mod Finding
+pub mod Text
+pub mod Decoding

@@ -29,6 +29,7 @@ mod scanner;
 mod step;
 #[cfg(test)]
 mod tests;
+mod text;
 mod token;
 
 pub use fault::ScanFault;
