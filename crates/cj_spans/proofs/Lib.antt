@@ -16,3 +16,4 @@ pub mod Endings
 pub mod WorkedLines
 pub mod Findings
 pub mod Texts
+pub mod Views

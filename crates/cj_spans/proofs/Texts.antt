@@ -1,11 +1,11 @@
 -- Characters and code points, read one at a time.
-use Rattle.std.proofs.Common.{◌≡◌, ℕ, zero, suc, ◌+◌, ◌-◌, ◌*◌, ◌<◌, ◌≤◌, List, [], ◌∷◌, length, drop, get_or, Bool, true, false, cond, ◌&&◌, nat_eq, nat_lt, Option, Some, None, refl, sym, ap, subst, arith, ◌∙◌, add-one, drop-cons}
-use Rattle.std.proofs.lemmas.List.{get_or-drop, drop-drop}
+use Rattle.std.proofs.Common.{◌≡◌, ℕ, zero, suc, ◌+◌, ◌-◌, ◌*◌, ◌<◌, ◌≤◌, List, [], ◌∷◌, length, take, drop, get_or, Bool, true, false, cond, ◌&&◌, nat_eq, nat_lt, Option, Some, None, refl, sym, ap, subst, arith, ◌∙◌, add-one, drop-cons}
+use Rattle.std.proofs.lemmas.List.{get_or-drop, drop-drop, drop-take}
 use Rattle.std.proofs.lemmas.Bool.Decides.{nat_tests}
 use Rattle.std.proofs.lemmas.Grind.{common_steps}
 use Rattle.cj_spans.specs.declared.text.Point.{Point}
 use Rattle.cj_spans.specs.Decoding.{left, after_read, Takes}
-use Rattle.cj_spans.specs.Text.{char_of, four_digits, unit, is_unicode, is_escaped, is_pair, escaped, first_point, first_width, points_after, are_same}
+use Rattle.cj_spans.specs.Text.{char_of, four_digits, unit, is_unicode, is_escaped, is_pair, escaped, first_point, first_width, points_after, text}
 use Rattle.std.specs.Char.{digit_value}
 use Rattle.std.specs.Char.Utf16.{is_high_surrogate, is_low_surrogate, surrogate_pair_char}
 use Rattle.std.specs.Str.{chars, chars_after, continuation_len, lead_bits}
@@ -246,3 +246,16 @@ points_done bs i h = ap (points_after 0) h ∙ points_nil
 
 pub characters_step : (bs : List ℕ) (i : ℕ) (f : Point) → left bs i ≡ after_read bs 0 (Some f) → left bs i ≡ f.code ∷ left bs f.stop
 characters_step bs i f h = h ∙ chars_end f.code (drop f.stop bs)
+
+-- ---- between the quotes
+
+body_place : (s : List ℕ) (n : ℕ) → drop 1 (take n s) ≡ take (n - 1) (drop 1 s)
+body_place s zero = refl
+body_place s (suc n) =
+    let e : 1 + n ≡ suc n = omega arith in
+    let f : suc n - 1 ≡ n = omega arith in
+    ap (λ k. drop 1 (take k s)) (sym e) ∙ drop-take 1 n s ∙ ap (λ k. take k (drop 1 s)) (sym f)
+
+pub points_between : (s : List ℕ) → points_after 0 (left (take (length s - 1) s) 1) ≡ text s
+unfolding text
+points_between s = ap (λ bs. points_after 0 (chars bs)) (body_place s (length s - 1))

@@ -13,3 +13,6 @@ pub mod Examples
 pub mod Finding
 pub mod Text
 pub mod Decoding
+pub mod Parts
+pub mod Sound
+pub mod View

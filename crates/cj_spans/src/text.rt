@@ -4,7 +4,7 @@ ghost use Rattle.std.specs.Str.{chars, chars_after};
 ghost use Rattle.std.specs.Char.{digit_value as digit_value_of};
 ghost use Rattle.std.specs.Char.Utf16.{is_high_surrogate as is_high_of, is_low_surrogate as is_low_of};
 ghost use Rattle.cj_spans.specs.Decoding.{left, after_read, Takes, points_left, characters_left};
-ghost use Rattle.cj_spans.specs.Text.{char_of, four_digits, escaped as escaped_of, is_escaped, is_unicode, unit, first_point, first_width, points_after, are_same};
+ghost use Rattle.cj_spans.specs.Text.{char_of, four_digits, escaped as escaped_of, is_escaped, is_unicode, unit, first_point, first_width, text, are_same};
 
 #[cfg(test)]
 mod examples;
@@ -237,13 +237,14 @@ pub(crate) struct Points<'a> {
 }
 
 impl<'a> Points<'a> {
-    /// The code points between quotes.
-    pub(crate) fn between(body: &'a [u8]) -> Points<'a>
-        ensures { points_left result ≡ points_after 0 (chars body.now) }
+    /// The code points of a string, given with its quotes.
+    pub(crate) fn of(spelling: &'a [u8]) -> Points<'a>
+        requires { 0 < length spelling.now }
+        ensures { points_left result ≡ text spelling.now }
     {
         Points {
-            bytes: body,
-            place: 0,
+            bytes: &spelling[..spelling.len() - 1],
+            place: 1,
         }
     }
 }
