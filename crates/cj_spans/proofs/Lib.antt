@@ -17,3 +17,4 @@ pub mod WorkedLines
 pub mod Findings
 pub mod Texts
 pub mod Views
+pub mod Scanned

@@ -133,6 +133,40 @@ impl<'a> Source<'a> {
     }
 }
 
+impl<'a> Doc<'a> {
+    ghost use Rattle.cj_spans.specs.View.{document, document_line, tree, line_of};
+
+    /// Views a line by the tokens that a scan of it has left.
+    pub fn of(line: &'a [u8], tokens: &'a [Token]) -> Doc<'a>
+        requires { AreOf line.now tokens.now }
+        ensures json { Json line.now (document result) }
+        ensures only { (t : Tree) → Json line.now t → document result ≡ t }
+        ensures line { document_line result ≡ line.now }
+    {
+        Doc {
+            source: Source { line, tokens },
+        }
+    }
+
+    /// The value that the line is.
+    pub fn root(self) -> Node<'a>
+        ensures tree { tree result ≡ document self.entry }
+        ensures line { line_of result ≡ document_line self.entry }
+    {
+        Node {
+            source: self.source,
+            number: 0,
+        }
+    }
+
+    /// The line, lent for as long as it was lent to [`Doc::of`].
+    pub fn line(self) -> &'a [u8]
+        ensures { result.now ≡ document_line self.entry }
+    {
+        self.source.line
+    }
+}
+
 impl<'a> Node<'a> {
     ghost use Rattle.cj_spans.specs.Parts.{kind_of, spelling_of, items_of, members_of};
     ghost use Rattle.cj_spans.specs.Tree.{start_of};
