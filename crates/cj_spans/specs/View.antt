@@ -1,5 +1,6 @@
 -- What views of a line show: trees that are told by the spans of the tokens and the bytes of the line alone.
-use Rattle.std.specs.Prelude.{ℕ, zero, suc, List, [], ◌∷◌, drop}
+use Rattle.std.specs.Prelude.{◌≡◌, ℕ, zero, suc, List, [], ◌∷◌, drop, Option, IfSome}
+use Rattle.std.specs.Iterator.{YieldsFirstBy}
 use Rattle.cj_spans.specs.declared.token.Kind.TheVariants.{Null}
 use Rattle.cj_spans.specs.declared.node.Doc.{Doc}
 use Rattle.cj_spans.specs.declared.node.Node.{Node}
@@ -48,3 +49,18 @@ document d = tree_at d.source.line.now (spans_of d.source.tokens.now) 0
 
 unfoldable pub document_line : Doc → List ℕ
 document_line d = d.source.line.now
+
+-- the line that a walk goes over
+unfoldable pub items_line : Items → List ℕ
+items_line w = w.source.line.now
+
+unfoldable pub members_line : Members → List ℕ
+members_line w = w.source.line.now
+
+-- a step of a walk gives the next item, of the line that the walk goes over
+abbrev pub YieldsItem : Items → Option Node → Items → Type 0
+YieldsItem s r t = YieldsFirstBy tree items_left s r t × (items_line t ≡ items_line s) × IfSome r (λ n. line_of n ≡ items_line s)
+
+-- a step of a walk gives the next member
+abbrev pub YieldsMember : Members → Option (Node × Node) → Members → Type 0
+YieldsMember s r t = YieldsFirstBy trees members_left s r t × (members_line t ≡ members_line s) × IfSome r (λ p. (line_of p.0 ≡ members_line s) × (line_of p.1 ≡ members_line s))

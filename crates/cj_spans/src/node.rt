@@ -170,7 +170,7 @@ impl<'a> Doc<'a> {
 impl<'a> Node<'a> {
     ghost use Rattle.cj_spans.specs.Parts.{kind_of, spelling_of, items_of, members_of};
     ghost use Rattle.cj_spans.specs.Tree.{start_of};
-    ghost use Rattle.cj_spans.specs.View.{tree, line_of, items_left, members_left};
+    ghost use Rattle.cj_spans.specs.View.{tree, line_of, items_left, items_line, members_left, members_line};
 
     /// What kind of value it is. A member name is a `Text`.
     pub fn kind(self) -> Kind
@@ -199,7 +199,8 @@ impl<'a> Node<'a> {
 
     /// The items of an array, in order (RFC 8259, section 5); none of any other value.
     pub fn items(self) -> Items<'a>
-        ensures { items_left result ≡ items_of (tree self.entry) }
+        ensures items { items_left result ≡ items_of (tree self.entry) }
+        ensures line { items_line result ≡ line_of self.entry }
     {
         let token = token_at(self.source.tokens, self.number);
         let stop = items_end(self.kind(), token.stop as usize);
@@ -213,7 +214,8 @@ impl<'a> Node<'a> {
     /// The members of an object, names with values, in order (RFC 8259, section 4); none of any other
     /// value.
     pub fn members(self) -> Members<'a>
-        ensures { members_left result ≡ members_of (tree self.entry) }
+        ensures members { members_left result ≡ members_of (tree self.entry) }
+        ensures line { members_line result ≡ line_of self.entry }
     {
         let token = token_at(self.source.tokens, self.number);
         let stop = members_end(self.kind(), token.stop as usize);
@@ -226,11 +228,11 @@ impl<'a> Node<'a> {
 }
 
 impl<'a> Node<'a> {
-    ghost use Rattle.std.specs.Prelude.{option_map, ◌↔◌, IsTrue};
+    ghost use Rattle.std.specs.Prelude.{option_map, IfSome, IsTrue, List, ◌↔◌};
     ghost use Rattle.std.specs.Str.{chars};
     ghost use Rattle.cj_spans.specs.Parts.{text_of, are_same_texts, has_text, first_code_of, member_of};
     ghost use Rattle.cj_spans.specs.Decoding.{points_left};
-    ghost use Rattle.cj_spans.specs.View.{tree};
+    ghost use Rattle.cj_spans.specs.View.{tree, line_of};
 
     /// The code points of a string or a name, one at a time; None for any other value.
     fn points(self) -> Option<Points<'a>>
@@ -259,7 +261,8 @@ impl<'a> Node<'a> {
     /// Whether it is a string or a name with this text. Texts are compared by code points, with the
     /// escapes undone (RFC 8259, sections 7 and 8.3).
     pub fn text_is(self, text: &str) -> bool
-        ensures { result ≡ has_text (chars text.now) (tree self.entry) }
+        ensures test { result ≡ has_text (chars text.now) (tree self.entry) }
+        ensures means { IsTrue result ↔ (text_of (tree self.entry) ≡ Some (chars text.now)) }
     {
         match self.points() {
             Some(points) => is_text(points, Characters::of(text)),
@@ -269,7 +272,9 @@ impl<'a> Node<'a> {
 
     /// Whether both are strings or names and have the same text.
     pub fn same_text(self, other: Node) -> bool
-        ensures { result ≡ are_same_texts (text_of (tree self.entry)) (text_of (tree other.entry)) }
+        ensures test { result ≡ are_same_texts (text_of (tree self.entry)) (text_of (tree other.entry)) }
+        ensures means { IsTrue result ↔ ((t : List ℕ) × (text_of (tree self.entry) ≡ Some t)
+            × (text_of (tree other.entry) ≡ Some t)) }
     {
         match self.points() {
             Some(points) => match other.points() {
@@ -283,7 +288,8 @@ impl<'a> Node<'a> {
     /// The value of the first member whose name has this text; None where there is none, and for any
     /// value that is no object.
     pub fn get(self, name: &str) -> Option<Node<'a>>
-        ensures { option_map tree result ≡ member_of (chars name.now) (tree self.entry) }
+        ensures value { option_map tree result ≡ member_of (chars name.now) (tree self.entry) }
+        ensures line { IfSome result (λ n. line_of n ≡ line_of self.entry) }
     {
         for (key, value) in self.members() {
             if key.text_is(name) {
@@ -295,12 +301,12 @@ impl<'a> Node<'a> {
 }
 
 impl<'a> Iterator for Items<'a> {
-    ghost use Rattle.std.specs.Iterator.{YieldsFirstBy, item_count};
-    ghost use Rattle.cj_spans.specs.View.{tree, items_left};
+    ghost use Rattle.std.specs.Iterator.{item_count};
+    ghost use Rattle.cj_spans.specs.View.{items_left, YieldsItem};
 
     type Item = Node<'a>;
 
-    ghost next_gives = { YieldsFirstBy tree items_left };
+    ghost next_gives = { YieldsItem };
 
     ghost remaining = { item_count items_left };
 
@@ -319,12 +325,12 @@ impl<'a> Iterator for Items<'a> {
 }
 
 impl<'a> Iterator for Members<'a> {
-    ghost use Rattle.std.specs.Iterator.{YieldsFirstBy, item_count};
-    ghost use Rattle.cj_spans.specs.View.{trees, members_left};
+    ghost use Rattle.std.specs.Iterator.{item_count};
+    ghost use Rattle.cj_spans.specs.View.{members_left, YieldsMember};
 
     type Item = (Node<'a>, Node<'a>);
 
-    ghost next_gives = { YieldsFirstBy trees members_left };
+    ghost next_gives = { YieldsMember };
 
     ghost remaining = { item_count members_left };
 
