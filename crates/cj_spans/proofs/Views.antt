@@ -224,3 +224,40 @@ pair_lone n xs ys h e = ap pairs_of h ∙ ap (λ zs. pairs_of (n ∷ zs)) e
 
 pub pair_both : (n t : Tree) (xs ys zs : List Tree) → xs ≡ n ∷ ys → ys ≡ t ∷ zs → pairs_of xs ≡ (n, t) ∷ pairs_of zs
 pair_both n t xs ys zs h e = ap pairs_of h ∙ ap (λ us. pairs_of (n ∷ us)) e
+
+-- ---- no more trees than tokens
+
+length-held : (j : ℕ) (ts : List Tree) → length (held j ts) ≤ length ts
+length-held j [] = omega arith
+length-held j (t ∷ ts) =
+    let l = length-held j ts in
+    elim (split (start_of t) j) [ inl h ↦ let e = ap (λ (us : List Tree). length us) (held_on t ts j h) in omega arith | inr h ↦ let e = ap (λ (us : List Tree). length us) (held_none t ts j h) in omega arith ]
+
+length-past : (j : ℕ) (ts : List Tree) → length (past j ts) ≤ length ts
+length-past j [] = omega arith
+length-past j (t ∷ ts) =
+    let l = length-past j ts in
+    elim (split (start_of t) j) [ inl h ↦ let e = ap (λ (us : List Tree). length us) (past_on t ts j h) in omega arith | inr h ↦ let e = ap (λ (us : List Tree). length us) (past_here t ts j h) in omega arith ]
+
+length-forest : (b : List ℕ) (ss : List Span) → length (forest b ss) ≤ length ss
+unfolding forest
+length-forest b [] = omega arith
+length-forest b (s ∷ ss) = let l = length-forest b ss in let m = length-past s.stop (forest b ss) in omega arith
+
+length-spans : (ts : List Token) (k : ℕ) → length (drop k (spans_of ts)) ≤ length ts
+length-spans [] zero = omega arith
+length-spans [] (suc k) = omega arith
+length-spans (t ∷ ts) zero = let l = length-spans ts zero in omega arith
+length-spans (t ∷ ts) (suc k) = let l = length-spans ts k in omega arith
+
+pub few_trees : (b : List ℕ) (ts : List Token) (k j : ℕ) → length (held j (forest b (drop k (spans_of ts)))) ≤ length ts
+few_trees b ts k j =
+    let l = length-held j (forest b (drop k (spans_of ts))) in let m = length-forest b (drop k (spans_of ts)) in let n = length-spans ts k in omega arith
+
+length-pairs : (ts : List Tree) → length (pairs_of ts) ≤ length ts
+length-pairs [] = omega arith
+length-pairs (n ∷ []) = omega arith
+length-pairs (n ∷ t ∷ ts) = let l = length-pairs ts in omega arith
+
+pub few_pairs : (b : List ℕ) (ts : List Token) (k j : ℕ) → length (pairs_of (held j (forest b (drop k (spans_of ts))))) ≤ length ts
+few_pairs b ts k j = let l = length-pairs (held j (forest b (drop k (spans_of ts)))) in let m = few_trees b ts k j in omega arith

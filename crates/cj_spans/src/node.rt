@@ -2,7 +2,7 @@
 //!
 //! A [`Doc`] shows the tree of a line that a scan has accepted, a [`Node`] one value or name of it. They
 //! take no memory and none of their calls can fail; what is asked is looked up in the line.
-ghost use Rattle.std.specs.Prelude.{◌≡◌, ◌<◌, ◌≤◌, ◌+◌, ℕ, length, slice_get, Some, drop};
+ghost use Rattle.std.specs.Prelude.{◌≡◌, ◌<◌, ◌≤◌, ◌+◌, ◌^◌, ℕ, length, slice_get, Some, drop};
 ghost use Rattle.cj_spans.specs.Sound.{AreOf, AreWithin, AreNested, AreNamed, StopBefore};
 ghost use Rattle.cj_spans.specs.Tree.{Tree};
 ghost use Rattle.cj_spans.specs.declared.token.Token.{Token as TokenOf};
@@ -10,6 +10,9 @@ ghost use Rattle.cj_spans.specs.Json.{Json, byte};
 ghost use Rattle.cj_spans.specs.Preorder.{spans_of};
 ghost use Rattle.cj_spans.specs.Forest.{forest, past, kind_by};
 ghost use Rattle.cj_spans.specs.Sound.{items_end as items_end_of, members_end as members_end_of};
+
+#[cfg(test)]
+mod tests;
 
 use crate::text::{Characters, Points, is_same_text, is_text};
 use crate::token::{Kind, Token};
@@ -201,6 +204,7 @@ impl<'a> Node<'a> {
     pub fn items(self) -> Items<'a>
         ensures items { items_left result ≡ items_of (tree self.entry) }
         ensures line { items_line result ≡ line_of self.entry }
+        ensures few { length (items_left result) < 2 ^ 63 }
     {
         let token = token_at(self.source.tokens, self.number);
         let stop = items_end(self.kind(), token.stop as usize);
@@ -216,6 +220,7 @@ impl<'a> Node<'a> {
     pub fn members(self) -> Members<'a>
         ensures members { members_left result ≡ members_of (tree self.entry) }
         ensures line { members_line result ≡ line_of self.entry }
+        ensures few { length (members_left result) < 2 ^ 63 }
     {
         let token = token_at(self.source.tokens, self.number);
         let stop = members_end(self.kind(), token.stop as usize);

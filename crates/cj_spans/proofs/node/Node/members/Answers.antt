@@ -1,6 +1,6 @@
-use Rattle.std.proofs.Common.{refl}
+use Rattle.std.proofs.Common.{refl, arith, ◌+◌}
 use Rattle.cj_spans.specs.View.{tree, line_of, members_line, members_left}
-use Rattle.cj_spans.proofs.Views.{members_shown}
+use Rattle.cj_spans.proofs.Views.{members_shown, few_pairs}
 use Rattle.cj_spans.proofs.node.Node.members.Goals as goal
 
 pub returns-clause-members : goal.returns-clause-members
@@ -12,3 +12,7 @@ returns-clause-members c =
 pub returns-clause-line : goal.returns-clause-line
 unfolding line_of members_line
 returns-clause-line c = refl
+
+pub returns-clause-few : goal.returns-clause-few
+unfolding members_left
+returns-clause-few c = let s = c.args.self.source in let l = few_pairs s.line.now s.tokens.now (c.args.self.number + 1) c.members_end-stop.result in omega arith
