@@ -166,7 +166,8 @@ impl<'a> Doc<'a> {
     pub fn line(self) -> &'a [u8]
         ensures { result.now ≡ document_line self.entry }
     {
-        self.source.line
+        let line = self.source.line;
+        line
     }
 }
 

@@ -331,9 +331,9 @@ pub(crate) fn is_text(points: Points, characters: Characters) -> bool
 pub(crate) fn is_same_text(points: Points, others: Points) -> bool
     ensures { result ≡ are_same (points_left points.entry) (points_left others.entry) }
 {
-    let mut rest = others;
+    let mut later = others;
     for point in points {
-        match rest.next() {
+        match later.next() {
             Some(other) => {
                 if other != point {
                     return false;
@@ -342,5 +342,5 @@ pub(crate) fn is_same_text(points: Points, others: Points) -> bool
             None => return false,
         }
     }
-    rest.next().is_none()
+    later.next().is_none()
 }

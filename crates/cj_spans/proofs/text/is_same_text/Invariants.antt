@@ -4,4 +4,4 @@ use Rattle.cj_spans.specs.Decoding.{points_left}
 use Rattle.cj_spans.proofs.text.is_same_text.Given as goal
 
 abbrev pub invariant-loop-point : goal.invariant-loop-point
-invariant-loop-point l = are_same (points_left l.point-iterator) (points_left l.rest) ≡ are_same (points_left l.fn.points) (points_left l.fn.others)
+invariant-loop-point l = are_same (points_left l.point-iterator) (points_left l.later) ≡ are_same (points_left l.fn.points) (points_left l.fn.others)
