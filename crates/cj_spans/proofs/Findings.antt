@@ -1,6 +1,6 @@
 -- The least of findings.
 use Rattle.std.proofs.Common.{◌≡◌, ℕ, zero, suc, ◌+◌, ◌<◌, ◌≤◌, ◌⊎◌, inl, inr, ◌↔◌, ◌||◌, ◌&&◌, nat_lt, nat_eq, Bool, true, false, cond, List, [], ◌∷◌, ◌++◌, length, get_or, Option, Some, None, refl, sym, ap, subst, arith, ◌∙◌, append_assoc}
-use Rattle.std.specs.Prelude.{All, Contains}
+use Rattle.std.specs.Prelude.{All, Contains, flat_map}
 use Rattle.std.proofs.lemmas.List.{append-nil}
 use Rattle.std.proofs.lemmas.List.Elements.{All-contains, Contains-get_or, Contains-append_left, Contains-append_right, Contains-append_cases}
 use Rattle.std.proofs.lemmas.Bool.Decides.{nat_tests}
@@ -175,3 +175,7 @@ fold_least o fs = least_after (kept o) o fs (kept_least o)
 pub least-append : (o : Option Finding) (fs gs : List Finding) → least o (fs ++ gs) ≡ least (least o fs) gs
 least-append o [] gs = refl
 least-append o (f ∷ fs) gs = least-append (lesser o f) fs gs
+
+-- one part of a list more: its findings are added, and those of the rest are left
+pub least_on : {A : Type 0} (f : A → List Finding) (all rest : List A) (t : A) (o p total : Option Finding) → least o (flat_map f all) ≡ total → all ≡ t ∷ rest → p ≡ least o (f t) → least p (flat_map f rest) ≡ total
+least_on f all rest t o p total h e q = ap (λ x. least x (flat_map f rest)) q ∙ sym (least-append o (f t) (flat_map f rest)) ∙ sym (ap (λ xs. least o (flat_map f xs)) e) ∙ h

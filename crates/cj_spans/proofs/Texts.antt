@@ -5,7 +5,7 @@ use Rattle.std.proofs.lemmas.Bool.Decides.{nat_tests}
 use Rattle.std.proofs.lemmas.Grind.{common_steps}
 use Rattle.cj_spans.specs.declared.text.Point.{Point}
 use Rattle.cj_spans.specs.Decoding.{left, after_read, Takes}
-use Rattle.cj_spans.specs.Text.{char_of, four_digits, unit, is_unicode, is_escaped, is_pair, escaped, first_point, first_width, points_after, text}
+use Rattle.cj_spans.specs.Text.{char_of, four_digits, unit, is_unicode, is_escaped, is_pair, escaped, first_point, first_width, points_after, text, StandFor, done, plain, letter, single, pair}
 use Rattle.std.specs.Char.{digit_value}
 use Rattle.std.specs.Char.Utf16.{is_high_surrogate, is_low_surrogate, surrogate_pair_char}
 use Rattle.std.specs.Str.{chars, chars_after, continuation_len, lead_bits}
@@ -136,39 +136,47 @@ not_escaped : (cs : List ℕ) → is_escaped cs ≡ false → is_unicode cs ≡ 
 not_escaped cs h = ap (λ v. v && nat_eq (char_of cs 1) 117) h
 
 -- the point and the width, by cases
-by_pair : {A : Type 0} (s t : Bool) (x y z w : A) → s ≡ true → cond s x (cond t y z) ≡ x
-by_pair s t x y z w h = ap (λ v. cond v x (cond t y z)) h
+first_pair : (cs : List ℕ) → is_pair cs ≡ true → (first_point cs ≡ surrogate_pair_char (unit cs) (unit (drop 6 cs))) × (first_width cs ≡ 12)
+unfolding first_point first_width
+first_pair cs h =
+    (ap (λ v. cond v (surrogate_pair_char (unit cs) (unit (drop 6 cs))) (cond (is_unicode cs) (unit cs) (cond (is_escaped cs) (escaped (char_of cs 1)) (char_of cs 0)))) h, ap (λ v. cond v 12 (cond (is_unicode cs) 6 (cond (is_escaped cs) 2 1))) h)
+
+first_unit : (cs : List ℕ) → is_pair cs ≡ false → is_unicode cs ≡ true → (first_point cs ≡ unit cs) × (first_width cs ≡ 6)
+unfolding first_point first_width
+first_unit cs h g = (
+  ap (λ v. cond v (surrogate_pair_char (unit cs) (unit (drop 6 cs))) (cond (is_unicode cs) (unit cs) (cond (is_escaped cs) (escaped (char_of cs 1)) (char_of cs 0)))) h ∙ ap (λ v. cond v (unit cs) (cond (is_escaped cs) (escaped (char_of cs 1)) (char_of cs 0))) g,
+  ap (λ v. cond v 12 (cond (is_unicode cs) 6 (cond (is_escaped cs) 2 1))) h ∙ ap (λ v. cond v 6 (cond (is_escaped cs) 2 1)) g,
+)
+
+-- where no unit is at the front
+no_unit : (cs : List ℕ) → is_unicode cs ≡ false → (first_point cs ≡ cond (is_escaped cs) (escaped (char_of cs 1)) (char_of cs 0)) × (first_width cs ≡ cond (is_escaped cs) 2 1)
+unfolding first_point first_width
+no_unit cs g =
+    let h = not_unicode cs g in (
+      ap (λ v. cond v (surrogate_pair_char (unit cs) (unit (drop 6 cs))) (cond (is_unicode cs) (unit cs) (cond (is_escaped cs) (escaped (char_of cs 1)) (char_of cs 0)))) h ∙ ap (λ v. cond v (unit cs) (cond (is_escaped cs) (escaped (char_of cs 1)) (char_of cs 0))) g,
+      ap (λ v. cond v 12 (cond (is_unicode cs) 6 (cond (is_escaped cs) 2 1))) h ∙ ap (λ v. cond v 6 (cond (is_escaped cs) 2 1)) g,
+    )
+
+first_letter : (cs : List ℕ) → is_unicode cs ≡ false → is_escaped cs ≡ true → (first_point cs ≡ escaped (char_of cs 1)) × (first_width cs ≡ 2)
+first_letter cs g a = let e = no_unit cs g in (e.0 ∙ ap (λ v. cond v (escaped (char_of cs 1)) (char_of cs 0)) a, e.1 ∙ ap (λ v. cond v 2 1) a)
+
+first_plain : (cs : List ℕ) → is_escaped cs ≡ false → (first_point cs ≡ char_of cs 0) × (first_width cs ≡ 1)
+first_plain cs a = let e = no_unit cs (not_escaped cs a) in (e.0 ∙ ap (λ v. cond v (escaped (char_of cs 1)) (char_of cs 0)) a, e.1 ∙ ap (λ v. cond v 2 1) a)
+
+taken : (bs cs : List ℕ) (p : Point) (x n : ℕ) → (first_point cs ≡ x) × (first_width cs ≡ n) → Takes bs cs x n p → Takes bs cs (first_point cs) (first_width cs) p
+taken bs cs p x n e t = record { code = t.code ∙ sym e.0; rest = t.rest ∙ ap (λ m. drop m cs) (sym e.1) }
 
 pub pair_taken : (bs cs : List ℕ) (p : Point) → is_pair cs ≡ true → Takes bs cs (surrogate_pair_char (unit cs) (unit (drop 6 cs))) 12 p → Takes bs cs (first_point cs) (first_width cs) p
-unfolding first_point first_width
-pair_taken bs cs p h t =
-    let e = ap (λ v. cond v (surrogate_pair_char (unit cs) (unit (drop 6 cs))) (cond (is_unicode cs) (unit cs) (cond (is_escaped cs) (escaped (char_of cs 1)) (char_of cs 0)))) h in
-    let f = ap (λ v. cond v 12 (cond (is_unicode cs) 6 (cond (is_escaped cs) 2 1))) h in
-    record { code = t.code ∙ sym e; rest = t.rest ∙ ap (λ n. drop n cs) (sym f) }
+pair_taken bs cs p h t = taken bs cs p _ _ (first_pair cs h) t
 
 pub unit_taken : (bs cs : List ℕ) (p : Point) → is_pair cs ≡ false → is_unicode cs ≡ true → Takes bs cs (unit cs) 6 p → Takes bs cs (first_point cs) (first_width cs) p
-unfolding first_point first_width
-unit_taken bs cs p h g t =
-    let e = ap (λ v. cond v (surrogate_pair_char (unit cs) (unit (drop 6 cs))) (cond (is_unicode cs) (unit cs) (cond (is_escaped cs) (escaped (char_of cs 1)) (char_of cs 0)))) h ∙ ap (λ v. cond v (unit cs) (cond (is_escaped cs) (escaped (char_of cs 1)) (char_of cs 0))) g in
-    let f = ap (λ v. cond v 12 (cond (is_unicode cs) 6 (cond (is_escaped cs) 2 1))) h ∙ ap (λ v. cond v 6 (cond (is_escaped cs) 2 1)) g in
-    record { code = t.code ∙ sym e; rest = t.rest ∙ ap (λ n. drop n cs) (sym f) }
+unit_taken bs cs p h g t = taken bs cs p _ _ (first_unit cs h g) t
 
 pub letter_taken : (bs cs : List ℕ) (p : Point) → is_unicode cs ≡ false → is_escaped cs ≡ true → Takes bs cs (escaped (char_of cs 1)) 2 p → Takes bs cs (first_point cs) (first_width cs) p
-unfolding first_point first_width
-letter_taken bs cs p g a t =
-    let h = not_unicode cs g in
-    let e = ap (λ v. cond v (surrogate_pair_char (unit cs) (unit (drop 6 cs))) (cond (is_unicode cs) (unit cs) (cond (is_escaped cs) (escaped (char_of cs 1)) (char_of cs 0)))) h ∙ ap (λ v. cond v (unit cs) (cond (is_escaped cs) (escaped (char_of cs 1)) (char_of cs 0))) g ∙ ap (λ v. cond v (escaped (char_of cs 1)) (char_of cs 0)) a in
-    let f = ap (λ v. cond v 12 (cond (is_unicode cs) 6 (cond (is_escaped cs) 2 1))) h ∙ ap (λ v. cond v 6 (cond (is_escaped cs) 2 1)) g ∙ ap (λ v. cond v 2 1) a in
-    record { code = t.code ∙ sym e; rest = t.rest ∙ ap (λ n. drop n cs) (sym f) }
+letter_taken bs cs p g a t = taken bs cs p _ _ (first_letter cs g a) t
 
 pub plain_taken : (bs cs : List ℕ) (p : Point) → is_escaped cs ≡ false → Takes bs cs (char_of cs 0) 1 p → Takes bs cs (first_point cs) (first_width cs) p
-unfolding first_point first_width
-plain_taken bs cs p a t =
-    let g = not_escaped cs a in
-    let h = not_unicode cs g in
-    let e = ap (λ v. cond v (surrogate_pair_char (unit cs) (unit (drop 6 cs))) (cond (is_unicode cs) (unit cs) (cond (is_escaped cs) (escaped (char_of cs 1)) (char_of cs 0)))) h ∙ ap (λ v. cond v (unit cs) (cond (is_escaped cs) (escaped (char_of cs 1)) (char_of cs 0))) g ∙ ap (λ v. cond v (escaped (char_of cs 1)) (char_of cs 0)) a in
-    let f = ap (λ v. cond v 12 (cond (is_unicode cs) 6 (cond (is_escaped cs) 2 1))) h ∙ ap (λ v. cond v 6 (cond (is_escaped cs) 2 1)) g ∙ ap (λ v. cond v 2 1) a in
-    record { code = t.code ∙ sym e; rest = t.rest ∙ ap (λ n. drop n cs) (sym f) }
+plain_taken bs cs p a t = taken bs cs p _ _ (first_plain cs a) t
 
 -- the text goes on after its first point
 points_drop : (n : ℕ) (cs : List ℕ) → points_after n cs ≡ points_after 0 (drop n cs)
@@ -259,3 +267,18 @@ body_place s (suc n) =
 pub points_between : (s : List ℕ) → points_after 0 (left (take (length s - 1) s) 1) ≡ text s
 unfolding text
 points_between s = ap (λ bs. points_after 0 (chars bs)) (body_place s (length s - 1))
+
+-- ---- the relation has one answer, the function's
+
+goes_on : (c : ℕ) (cs ds ps : List ℕ) (x n : ℕ) → (first_point (c ∷ cs) ≡ x) × (first_width (c ∷ cs) ≡ n) → drop n (c ∷ cs) ≡ ds → points_after 0 ds ≡ ps → points_after 0 (c ∷ cs) ≡ x ∷ ps
+goes_on c cs ds ps x n e d h =
+    points_cons c cs ∙ ap (λ y. y ∷ points_after 0 (drop (first_width (c ∷ cs)) (c ∷ cs))) e.0 ∙ ap (λ m. x ∷ points_after 0 (drop m (c ∷ cs))) e.1 ∙ ap (λ us. x ∷ points_after 0 us) d ∙ ap (λ us. x ∷ us) h
+
+pub stands_once : {cs ps : List ℕ} → StandFor cs ps → points_after 0 cs ≡ ps
+stands_once done = points_nil
+stands_once (plain c cs ps e s) = goes_on c cs cs ps c 1 (first_plain (c ∷ cs) e) refl (stands_once s)
+stands_once (letter c cs ps e s) = goes_on 92 (c ∷ cs) cs ps (escaped c) 2 (first_letter (92 ∷ c ∷ cs) e refl) refl (stands_once s)
+stands_once (single h i j k cs ps e s) = goes_on 92 (117 ∷ h ∷ i ∷ j ∷ k ∷ cs) cs ps _ 6 (first_unit (92 ∷ 117 ∷ h ∷ i ∷ j ∷ k ∷ cs) e refl) refl (stands_once s)
+stands_once (pair h i j k l m n o cs ps e f s) =
+    let cs0 = 92 ∷ 117 ∷ h ∷ i ∷ j ∷ k ∷ 92 ∷ 117 ∷ l ∷ m ∷ n ∷ o ∷ cs in
+    goes_on 92 (117 ∷ h ∷ i ∷ j ∷ k ∷ 92 ∷ 117 ∷ l ∷ m ∷ n ∷ o ∷ cs) cs ps _ 12 (first_pair cs0 (pair_shown cs0 refl e refl f)) refl (stands_once s)

@@ -1,7 +1,12 @@
 -- Findings, each a place and a reason, and the least of them by place and code.
 use Rattle.std.specs.Prelude.{◌≡◌, ℕ, ◌<◌, ◌≤◌, ◌⊎◌, ◌↔◌, ◌||◌, ◌&&◌, nat_lt, nat_eq, Bool, cond, List, [], ◌∷◌, Option, Some, None, All, Contains}
+use Rattle.cj_spans.specs.declared.reason.Reason.{Reason}
 use Rattle.cj_spans.specs.declared.finding.Finding.{Finding}
 use Rattle.cj_spans.specs.Reason.{code_of}
+
+-- a reason at a place
+abbrev pub found_at : ℕ → Reason → Finding
+found_at p r = record { place = p; reason = r }
 
 -- f comes before g or is as g: at a lower place, or at the same one with no greater code
 abbrev pub IsNoLater : Finding → Finding → Type 0

@@ -1,6 +1,6 @@
 -- The texts of strings (RFC 8259, section 7): the code points between the quotes, with the escapes undone. An escaped
 -- surrogate that is in no pair stands for itself.
-use Rattle.std.specs.Prelude.{◌≡◌, ℕ, zero, suc, ◌+◌, ◌-◌, ◌*◌, List, [], ◌∷◌, length, drop, get_or, slice_range, Bool, cond, ◌&&◌, nat_eq}
+use Rattle.std.specs.Prelude.{◌≡◌, ℕ, zero, suc, ◌+◌, ◌-◌, ◌*◌, List, [], ◌∷◌, length, drop, get_or, slice_range, Bool, true, false, cond, ◌&&◌, nat_eq}
 use Rattle.std.specs.Cmp.Lexicographic.{pointwise}
 use Rattle.std.specs.Str.{chars}
 use Rattle.std.specs.Char.{digit_value}
@@ -47,6 +47,16 @@ unfoldable pub points_after : ℕ → List ℕ → List ℕ
 points_after n [] = []
 points_after zero (c ∷ cs) = first_point (c ∷ cs) ∷ points_after (first_width (c ∷ cs) - 1) cs
 points_after (suc n) (c ∷ cs) = points_after n cs
+
+-- the same as a relation, by the cases of a string's grammar: a character that stands for itself, a backslash and a
+-- letter, an escaped surrogate pair, and any other backslash and `u` with four digits
+pub data StandFor : List ℕ → List ℕ → Type 0 where
+  done : StandFor [] []
+  plain : (c : ℕ) (cs ps : List ℕ) → nat_eq c 92 ≡ false → StandFor cs ps → StandFor (c ∷ cs) (c ∷ ps)
+  letter : (c : ℕ) (cs ps : List ℕ) → nat_eq c 117 ≡ false → StandFor cs ps → StandFor (92 ∷ c ∷ cs) (escaped c ∷ ps)
+  pair : (h i j k l m n o : ℕ) (cs ps : List ℕ) → is_high_surrogate (four_digits (h ∷ i ∷ j ∷ k ∷ [])) ≡ true → is_low_surrogate (four_digits (l ∷ m ∷ n ∷ o ∷ [])) ≡ true → StandFor cs ps
+      → StandFor (92 ∷ 117 ∷ h ∷ i ∷ j ∷ k ∷ 92 ∷ 117 ∷ l ∷ m ∷ n ∷ o ∷ cs) (surrogate_pair_char (four_digits (h ∷ i ∷ j ∷ k ∷ [])) (four_digits (l ∷ m ∷ n ∷ o ∷ [])) ∷ ps)
+  single : (h i j k : ℕ) (cs ps : List ℕ) → is_pair (92 ∷ 117 ∷ h ∷ i ∷ j ∷ k ∷ cs) ≡ false → StandFor cs ps → StandFor (92 ∷ 117 ∷ h ∷ i ∷ j ∷ k ∷ cs) (four_digits (h ∷ i ∷ j ∷ k ∷ []) ∷ ps)
 
 -- the bytes between the quotes
 abbrev pub body_of : List ℕ → List ℕ

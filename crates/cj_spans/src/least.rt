@@ -4,6 +4,8 @@ ghost use Rattle.cj_spans.specs.declared.finding.Finding.{Finding as FindingOf};
 ghost use Rattle.cj_spans.specs.Finding.{lesser, least, kept, is_before as is_before_of, IsLeast, HaveSame};
 
 #[cfg(test)]
+mod examples;
+#[cfg(test)]
 mod tests;
 
 use crate::finding::Finding;

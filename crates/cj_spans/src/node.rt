@@ -2,7 +2,16 @@
 //!
 //! A [`Doc`] shows the tree of a line that a scan has accepted, a [`Node`] one value or name of it. They
 //! take no memory and none of their calls can fail; what is asked is looked up in the line.
-ghost use Rattle.std.specs.Prelude.{◌≡◌, ◌<◌, ◌≤◌, ◌+◌, ◌^◌, ℕ, length, slice_get, Some, drop};
+//!
+//! ```text
+//! let root = Doc::of(line, tokens.as_slice()).root();
+//! for (name, value) in root.members() {} // in order, also names that come again
+//! match root.get("type") {               // the first member of that name, however it is spelled
+//!     Some(value) => value.text_is("CityJSON"),
+//!     None => false,
+//! }
+//! ```
+ghost use Rattle.std.specs.Prelude.{◌≡◌, ◌<◌, ◌≤◌, ◌+◌, ◌^◌, ℕ, length, slice_get, Some, List, drop};
 ghost use Rattle.cj_spans.specs.Sound.{AreOf, AreWithin, AreNested, AreNamed, StopBefore};
 ghost use Rattle.cj_spans.specs.Tree.{Tree};
 ghost use Rattle.cj_spans.specs.declared.token.Token.{Token as TokenOf};
@@ -11,6 +20,10 @@ ghost use Rattle.cj_spans.specs.Preorder.{spans_of};
 ghost use Rattle.cj_spans.specs.Forest.{forest, past, kind_by};
 ghost use Rattle.cj_spans.specs.Sound.{items_end as items_end_of, members_end as members_end_of};
 
+#[cfg(test)]
+mod callers;
+#[cfg(test)]
+mod examples;
 #[cfg(test)]
 mod tests;
 
@@ -103,12 +116,12 @@ fn members_end(kind: Kind, stop: usize) -> usize
 }
 
 /// The first token from `from` on that does not start before `stop`, or the number of tokens.
-fn skip(line: &[u8], tokens: &[Token], from: usize, stop: usize) -> usize
+fn skip(tokens: &[Token], from: usize, stop: usize) -> usize
     requires nested { StopBefore tokens.now from stop }
     requires order { from ≤ length tokens.now }
     ensures order { (from ≤ result) × (result ≤ length tokens.now) }
-    ensures rest { forest line.now (drop result (spans_of tokens.now))
-        ≡ past stop (forest line.now (drop from (spans_of tokens.now))) }
+    ensures rest { (line : List ℕ) → forest line (drop result (spans_of tokens.now))
+        ≡ past stop (forest line (drop from (spans_of tokens.now))) }
 {
     let mut number = from;
     while number < tokens.len() {
@@ -122,24 +135,24 @@ fn skip(line: &[u8], tokens: &[Token], from: usize, stop: usize) -> usize
 }
 
 impl<'a> Source<'a> {
-    /// The first token from `from` on that does not start before the end of the token `number`.
-    fn after(self, number: usize, from: usize) -> usize
-        requires known { number < length self.tokens.now }
-        requires next { from ≡ number + 1 }
-        ensures order { (from ≤ result) × (result ≤ length self.entry.tokens.now) }
+    /// The first later token that does not start before the end of the token of this number.
+    fn after(self, number: usize) -> usize
+        requires { number < length self.tokens.now }
+        ensures order { (number < result) × (result ≤ length self.entry.tokens.now) }
         ensures rest { (t : TokenOf) → slice_get self.entry.tokens.now number ≡ Some t
             → forest self.entry.line.now (drop result (spans_of self.entry.tokens.now))
-            ≡ past t.stop (forest self.entry.line.now (drop from (spans_of self.entry.tokens.now))) }
+            ≡ past t.stop (forest self.entry.line.now (drop (number + 1) (spans_of self.entry.tokens.now))) }
     {
         let token = token_at(self.tokens, number);
-        skip(self.line, self.tokens, from, token.stop as usize)
+        skip(self.tokens, number + 1, token.stop as usize)
     }
 }
 
 impl<'a> Doc<'a> {
     ghost use Rattle.cj_spans.specs.View.{document, document_line, tree, line_of};
 
-    /// Views a line by the tokens that a scan of it has left.
+    /// Views a line by the tokens that a scan of it has left with `Ok`. A copy of the line and the tokens
+    /// serves as well, also later.
     pub fn of(line: &'a [u8], tokens: &'a [Token]) -> Doc<'a>
         requires { AreOf line.now tokens.now }
         ensures json { Json line.now (document result) }
@@ -234,7 +247,7 @@ impl<'a> Node<'a> {
 }
 
 impl<'a> Node<'a> {
-    ghost use Rattle.std.specs.Prelude.{option_map, IfSome, IsTrue, List, ◌↔◌};
+    ghost use Rattle.std.specs.Prelude.{option_map, IfSome, IsTrue, ◌↔◌};
     ghost use Rattle.std.specs.Str.{chars};
     ghost use Rattle.cj_spans.specs.Parts.{text_of, are_same_texts, has_text, first_code_of, member_of};
     ghost use Rattle.cj_spans.specs.Decoding.{points_left};
@@ -325,7 +338,7 @@ impl<'a> Iterator for Items<'a> {
         if token_at(source.tokens, number).start as usize >= self.stop {
             return None;
         }
-        self.next = source.after(number, number + 1);
+        self.next = source.after(number);
         Some(Node { source, number })
     }
 }
@@ -349,14 +362,14 @@ impl<'a> Iterator for Members<'a> {
         if token_at(source.tokens, name).start as usize >= self.stop {
             return None;
         }
-        let value = source.after(name, name + 1);
+        let value = source.after(name);
         if value >= source.tokens.len() {
             return None;
         }
         if token_at(source.tokens, value).start as usize >= self.stop {
             return None;
         }
-        self.next = source.after(value, value + 1);
+        self.next = source.after(value);
         Some((
             Node {
                 source,

@@ -1,6 +1,7 @@
 //! The texts of worked spellings: each contract is a theorem on one spelling.
-ghost use Rattle.std.specs.Prelude.{◌≡◌, ◌∷◌, [], codes};
-ghost use Rattle.cj_spans.specs.Text.{text};
+ghost use Rattle.std.specs.Prelude.{◌≡◌, ◌∷◌, [], codes, List, ℕ};
+ghost use Rattle.std.specs.Str.{chars};
+ghost use Rattle.cj_spans.specs.Text.{text, body_of, StandFor};
 
 /// Two quotes alone.
 pub fn empty_text()
@@ -50,4 +51,10 @@ pub fn escaped_backslash()
 /// Characters of two, three and four bytes in UTF-8 (RFC 3629).
 pub fn longer_characters()
     ensures { text (34 ∷ 195 ∷ 169 ∷ 226 ∷ 130 ∷ 172 ∷ 240 ∷ 159 ∷ 152 ∷ 128 ∷ 34 ∷ []) ≡ 233 ∷ 8364 ∷ 128512 ∷ [] }
+{}
+
+/// The text of a string is what the characters between its quotes stand for, by the cases of the
+/// grammar, and nothing else.
+pub fn one_text()
+    ensures { (s ps : List ℕ) → StandFor (chars (body_of s)) ps → text s ≡ ps }
 {}
