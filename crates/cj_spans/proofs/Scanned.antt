@@ -1,21 +1,20 @@
 -- Tokens that show the tree of a line: what is known of each.
-use Rattle.std.proofs.Common.{◌≡◌, ℕ, zero, suc, ◌+◌, ◌<◌, ◌≤◌, List, [], ◌∷◌, ◌++◌, length, drop, get_or, slice_get, slice_range, Bool, true, false, ◌⊎◌, inl, inr, Some, refl, sym, ap, subst, arith, ◌∙◌, append_assoc}
+use Rattle.std.proofs.Common.{◌≡◌, ℕ, zero, suc, ◌+◌, ◌<◌, ◌≤◌, List, [], ◌∷◌, ◌++◌, length, drop, slice_get, slice_range, true, ◌⊎◌, inl, inr, Some, refl, sym, ap, subst, arith, ◌∙◌, append_assoc}
 use Rattle.std.proofs.lemmas.List.{append-nil}
-use Rattle.std.proofs.lemmas.Grind.{common_steps}
 use Rattle.std.proofs.lemmas.Bool.Decides.{nat_tests}
 use Rattle.cj_spans.specs.declared.token.Token.{Token}
 use Rattle.cj_spans.specs.declared.token.Kind.{Kind}
 use Rattle.cj_spans.specs.declared.token.Kind.TheVariants.{Null, Truth, Number, Text, Array, Object}
 use Rattle.cj_spans.specs.Tree.{Atom, Tree, scalar, array, object, Items, no_items, item, Members, no_members, member, add_item, add_member, start_of, size, items_size, members_size}
 use Rattle.cj_spans.specs.Spelling.{IsScalar}
-use Rattle.cj_spans.specs.Json.{byte, atom_at, IsAtom, Value, atom, empty_array, full_array, empty_object, full_object, Padded, padded, LedItems, no_led, led, LedMembers, no_led_members, led_member, Named, named, Json}
+use Rattle.cj_spans.specs.Json.{byte, IsAtom, Value, atom, empty_array, full_array, empty_object, full_object, Padded, padded, LedItems, no_led, led, LedMembers, no_led_members, led_member, Named, named, Json}
 use Rattle.cj_spans.specs.Preorder.{Span, span_at, preorder, items_preorder, members_preorder, spans_of}
 use Rattle.cj_spans.specs.Forest.{kind_by, held, past, atom_of, items_from, members_from, node, forest}
-use Rattle.cj_spans.specs.Sound.{AreOf, AreWithin, AreNested, AreNamed, StopBefore, is_name, are_members}
+use Rattle.cj_spans.specs.Sound.{AreOf, AreWithin, AreNested, AreNamed, are_members}
 use Rattle.cj_spans.specs.View.{tree_at}
 use Rattle.cj_spans.proofs.Lists.{items_preorder-add, members_preorder-add}
 use Rattle.cj_spans.proofs.Verdicts.{json_only}
-use Rattle.cj_spans.proofs.Forests.{atom_kind, Beyond, AllIn, held_all, names_and_values, padded_order, led_order, led_members_order, named_order, Shows, shows_more, shows_add_member, shows_led_members, shows_padded, json_shown}
+use Rattle.cj_spans.proofs.Forests.{atom_kind, Beyond, held_all, names_and_values, padded_order, led_order, led_members_order, named_order, Shows, shows_more, shows_add_member, shows_led_members, shows_padded}
 
 -- ---- as many spans as the trees have values and names: none is left out
 

@@ -1,6 +1,6 @@
 -- Characters and code points, read one at a time.
-use Rattle.std.proofs.Common.{◌≡◌, ℕ, zero, suc, ◌+◌, ◌-◌, ◌*◌, ◌<◌, ◌≤◌, List, [], ◌∷◌, length, take, drop, get_or, Bool, true, false, cond, ◌&&◌, nat_eq, nat_lt, Option, Some, None, refl, sym, ap, subst, arith, ◌∙◌, add-one, drop-cons}
-use Rattle.std.proofs.lemmas.List.{get_or-drop, drop-drop, drop-take}
+use Rattle.std.proofs.Common.{◌≡◌, ℕ, zero, suc, ◌+◌, ◌-◌, ◌*◌, ◌<◌, ◌≤◌, List, [], ◌∷◌, length, take, drop, get_or, Bool, true, false, cond, ◌&&◌, nat_eq, Option, Some, refl, sym, ap, arith, ◌∙◌, add-one, drop-cons}
+use Rattle.std.proofs.lemmas.List.{drop-drop, drop-take}
 use Rattle.std.proofs.lemmas.Bool.Decides.{nat_tests}
 use Rattle.std.proofs.lemmas.Grind.{common_steps}
 use Rattle.cj_spans.specs.declared.text.Point.{Point}

@@ -1,14 +1,13 @@
 -- Walks over tokens, and the trees that they show.
-use Rattle.std.proofs.Common.{◌≡◌, ℕ, zero, suc, ◌+◌, ◌<◌, ◌≤◌, List, [], ◌∷◌, length, drop, get_or, slice_get, slice_range, Bool, ◌⊎◌, inl, inr, true, false, cond, ◌&&◌, nat_eq, nat_lt, Option, Some, None, refl, sym, ap, subst, arith, ◌∙◌}
+use Rattle.std.proofs.Common.{◌≡◌, ℕ, zero, suc, ◌+◌, ◌<◌, ◌≤◌, List, [], ◌∷◌, length, drop, slice_get, slice_range, Bool, ◌⊎◌, inl, inr, true, ◌&&◌, Some, refl, sym, ap, subst, arith, ◌∙◌}
 use Rattle.std.proofs.lemmas.Option.{slice_get_within}
-use Rattle.std.proofs.lemmas.Grind.{common_steps}
 use Rattle.std.proofs.lemmas.Bool.Decides.{nat_tests}
 use Rattle.cj_spans.specs.declared.token.Token.{Token}
 use Rattle.cj_spans.specs.declared.token.Kind.{Kind}
 use Rattle.cj_spans.specs.declared.token.Kind.TheVariants.{Null, Truth, Number, Text, Array, Object}
-use Rattle.cj_spans.specs.Tree.{Atom, Tree, scalar, array, object, Items, no_items, item, Members, no_members, member, start_of}
-use Rattle.cj_spans.specs.Json.{byte, atom_at}
-use Rattle.cj_spans.specs.Preorder.{Span, span_at, spans_of}
+use Rattle.cj_spans.specs.Tree.{Tree, scalar, array, object, start_of}
+use Rattle.cj_spans.specs.Json.{byte}
+use Rattle.cj_spans.specs.Preorder.{Span, spans_of}
 use Rattle.cj_spans.specs.Forest.{kind_by, held, past, atom_of, items_from, members_from, node, forest}
 use Rattle.cj_spans.specs.Parts.{kind_of, spelling_of, list_items, items_of, list_members, members_of}
 use Rattle.cj_spans.specs.Sound.{is_kind_text, is_name, are_members, items_end, members_end}

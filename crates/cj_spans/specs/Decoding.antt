@@ -1,5 +1,5 @@
 -- What is read of a text, and what is left. Only private clauses cite it.
-use Rattle.std.specs.Prelude.{◌≡◌, ℕ, List, [], ◌∷◌, drop, get_or, Option, Some, None}
+use Rattle.std.specs.Prelude.{◌≡◌, ℕ, List, [], drop, Option, Some, None}
 use Rattle.std.specs.Str.{chars, chars_after}
 use Rattle.cj_spans.specs.declared.text.Point.{Point}
 use Rattle.cj_spans.specs.declared.text.Points.{Points}

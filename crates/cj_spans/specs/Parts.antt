@@ -2,7 +2,7 @@
 use Rattle.std.specs.Prelude.{ℕ, List, [], ◌∷◌, slice_range, Bool, false, cond, Option, Some, None, option_and_then}
 use Rattle.cj_spans.specs.declared.token.Kind.{Kind}
 use Rattle.cj_spans.specs.declared.token.Kind.TheVariants.{Null, Truth, Number, Text, Array, Object}
-use Rattle.cj_spans.specs.Tree.{Atom, Tree, scalar, array, object, Items, no_items, item, Members, no_members, member}
+use Rattle.cj_spans.specs.Tree.{Tree, scalar, array, object, Items, no_items, item, Members, no_members, member}
 use Rattle.cj_spans.specs.Text.{text, are_same}
 
 -- the kind of a value or a name

@@ -1,4 +1,4 @@
-use Rattle.std.proofs.Common.{rules, refl, ap, length, arith, ◌<◌, ◌≤◌}
+use Rattle.std.proofs.Common.{rules, refl, ap, length, arith}
 use Rattle.cj_spans.specs.View.{tree, line_of, items_left, items_line}
 use Rattle.cj_spans.proofs.Views.{below_at, walk_one, walk_end, walk_out}
 use Rattle.cj_spans.proofs.node.ItemsIterator.next.Goals as goal

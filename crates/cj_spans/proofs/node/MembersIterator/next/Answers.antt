@@ -1,4 +1,4 @@
-use Rattle.std.proofs.Common.{rules, refl, ap, length, arith, ◌<◌, ◌≤◌}
+use Rattle.std.proofs.Common.{rules, refl, ap, length, arith}
 use Rattle.cj_spans.specs.View.{tree, line_of, members_left, members_line}
 use Rattle.cj_spans.proofs.Views.{below_at, walk_one, walk_end, walk_out, pair_none, pair_lone, pair_both}
 use Rattle.cj_spans.proofs.node.MembersIterator.next.Goals as goal
