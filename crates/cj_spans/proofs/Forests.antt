@@ -35,16 +35,16 @@ kind_first Text s h = ap (λ z. kind_by (get_or z 0 0)) h.joined
 kind_first Array s h = absurd h
 kind_first Object s h = absurd h
 
-atom_kind : (b : List ℕ) (k : Kind) (i j : ℕ) → IsAtom b k i j → kind_by (byte b i) ≡ k
+pub atom_kind : (b : List ℕ) (k : Kind) (i j : ℕ) → IsAtom b k i j → kind_by (byte b i) ≡ k
 atom_kind b k i j w = ap kind_by (first_byte b i j w.order w.within) ∙ kind_first k (slice_range b i j) w.spelled
 
 -- ---- trees up to a place, and past it
 
-abbrev Beyond : ℕ → List Tree → Type 0
+abbrev pub Beyond : ℕ → List Tree → Type 0
 Beyond j [] = Unit {0}
 Beyond j (t ∷ ts) = j ≤ start_of t
 
-abbrev AllIn : ℕ → List Tree → Type 0
+abbrev pub AllIn : ℕ → List Tree → Type 0
 AllIn j [] = Unit {0}
 AllIn j (t ∷ ts) = (start_of t < j) × AllIn j ts
 
@@ -74,7 +74,7 @@ past_beyond : (j : ℕ) (ts : List Tree) → Beyond j ts → past j ts ≡ ts
 past_beyond j [] h = refl
 past_beyond j (t ∷ ts) h = grind (arith)
 
-held_all : (j : ℕ) (xs ys : List Tree) → AllIn j xs → Beyond j ys → held j (xs ++ ys) ≡ xs
+pub held_all : (j : ℕ) (xs ys : List Tree) → AllIn j xs → Beyond j ys → held j (xs ++ ys) ≡ xs
 held_all j [] ys a b = held_beyond j ys b
 held_all j (x ∷ xs) ys a b = held_on x (xs ++ ys) j a.0 ∙ ap (λ z. x ∷ z) (held_all j xs ys a.1 b)
 
@@ -87,7 +87,7 @@ abbrev list_of_items : Items → List Tree
 list_of_items no_items = []
 list_of_items (item t ts) = t ∷ list_of_items ts
 
-abbrev names_and_values : Members → List Tree
+abbrev pub names_and_values : Members → List Tree
 names_and_values no_members = []
 names_and_values (member n t ms) = scalar Text n ∷ t ∷ names_and_values ms
 
@@ -109,30 +109,30 @@ names-add (member m u us) n t = ap (λ z. scalar Text m ∷ u ∷ z) (names-add 
 
 -- ---- places in the grammar
 
-record Within (i j : ℕ) (t : Tree) : Type 0 where
-  start : start_of t ≡ i
-  order : i < j
+pub record Within (i j : ℕ) (t : Tree) : Type 0 where
+  pub start : start_of t ≡ i
+  pub order : i < j
 
 mutual
-  within : {b : List ℕ} {i j : ℕ} {t : Tree} → Value b i j t → Within i j t
+  pub within : {b : List ℕ} {i j : ℕ} {t : Tree} → Value b i j t → Within i j t
   within (atom k i j w) = record { start = refl; order = w.order }
   within (empty_array i j o w c) = let h = w.order in record { start = refl; order = omega arith }
   within (full_array i j k us u o l p c) = let a = led_order l in let q = padded_order p in record { start = refl; order = omega arith }
   within (empty_object i j o w c) = let h = w.order in record { start = refl; order = omega arith }
   within (full_object i j k l us n u o ld nm p c) = let a = led_members_order ld in let q = padded_order p in let r = named_order nm in record { start = refl; order = omega arith }
 
-  padded_order : {b : List ℕ} {i j : ℕ} {t : Tree} → Padded b i j t → (i ≤ start_of t) × (start_of t < j)
+  pub padded_order : {b : List ℕ} {i j : ℕ} {t : Tree} → Padded b i j t → (i ≤ start_of t) × (start_of t < j)
   padded_order (padded i j k l t w v x) = let a = within v in let e = a.start in let f = a.order in let g = w.order in let h = x.order in (omega arith, omega arith)
 
-  led_order : {b : List ℕ} {i j : ℕ} {us : Items} → LedItems b i j us → i ≤ j
+  pub led_order : {b : List ℕ} {i j : ℕ} {us : Items} → LedItems b i j us → i ≤ j
   led_order (no_led i) = omega arith
   led_order (led i j k us u l p c) = let a = led_order l in let q = padded_order p in omega arith
 
-  led_members_order : {b : List ℕ} {i j : ℕ} {us : Members} → LedMembers b i j us → i ≤ j
+  pub led_members_order : {b : List ℕ} {i j : ℕ} {us : Members} → LedMembers b i j us → i ≤ j
   led_members_order (no_led_members i) = omega arith
   led_members_order (led_member i j k l us n u ld nm p c) = let a = led_members_order ld in let q = padded_order p in let r = named_order nm in omega arith
 
-  named_order : {b : List ℕ} {i j : ℕ} {n : Atom} → Named b i j n → (i ≤ n.start) × (n.start < n.stop) × (n.stop < j)
+  pub named_order : {b : List ℕ} {i j : ℕ} {n : Atom} → Named b i j n → (i ≤ n.start) × (n.start < n.stop) × (n.stop < j)
   named_order (named i j k l w x y c) = let a = w.order in let d = y.order in let e = x.order in (omega arith, omega arith, omega arith)
 
 -- ---- spans that show trees
@@ -153,9 +153,9 @@ scalar_node b Array i j w = absurd w.spelled
 scalar_node b Object i j w = absurd w.spelled
 
 -- the trees all start before the place j, and are shown before what follows
-record Shows (b : List ℕ) (j : ℕ) (ss : List Span) (xs : List Tree) : Type 0 where
-  all : AllIn j xs
-  shows : (rest : List Span) → Beyond j (forest b rest) → forest b (ss ++ rest) ≡ xs ++ forest b rest
+pub record Shows (b : List ℕ) (j : ℕ) (ss : List Span) (xs : List Tree) : Type 0 where
+  pub all : AllIn j xs
+  pub shows : (rest : List Span) → Beyond j (forest b rest) → forest b (ss ++ rest) ≡ xs ++ forest b rest
 
 shows_none : (b : List ℕ) (j : ℕ) → Shows b j [] []
 shows_none b j = record { all = tt; shows = λ rest h. refl }
@@ -175,7 +175,7 @@ shows_atom b k i j w = record {
   shows = λ rest h. shown b i j k rest [] (forest b rest) (atom_kind b k i j w) refl tt h ∙ ap (λ z. z ∷ forest b rest) (scalar_node b k i j w);
 }
 
-shows_named : {b : List ℕ} {i j : ℕ} {n : Atom} → Named b i j n → Shows b n.stop (span_at n.start n.stop ∷ []) (scalar Text n ∷ [])
+pub shows_named : {b : List ℕ} {i j : ℕ} {n : Atom} → Named b i j n → Shows b n.stop (span_at n.start n.stop ∷ []) (scalar Text n ∷ [])
 shows_named {b} (named i j k l w x y c) = shows_atom b Text j k x
 
 -- a container that holds these
@@ -185,16 +185,16 @@ shows_container b i j k ss xs t o kd a e s = record {
   shows = λ rest h. shown b i j k (ss ++ rest) xs (forest b rest) kd (a.shows rest h) a.all h ∙ ap (λ z. z ∷ forest b rest) e;
 }
 
-shows_more : (b : List ℕ) (i j : ℕ) (ss : List Span) (xs : List Tree) → i ≤ j → Shows b i ss xs → Shows b j ss xs
+pub shows_more : (b : List ℕ) (i j : ℕ) (ss : List Span) (xs : List Tree) → i ≤ j → Shows b i ss xs → Shows b j ss xs
 shows_more b i j ss xs o a = record { all = all_more i j xs o a.all; shows = λ rest h. a.shows rest (beyond_less i j (forest b rest) o h) }
 
-shows_add : {b : List ℕ} {i j k : ℕ} {us : Items} {u : Tree} → LedItems b i j us → Padded b j k u → Shows b j (items_preorder us) (list_of_items us) → Shows b k (preorder u) (u ∷ []) → Shows b k (items_preorder (add_item us u)) (list_of_items (add_item us u))
+pub shows_add : {b : List ℕ} {i j k : ℕ} {us : Items} {u : Tree} → LedItems b i j us → Padded b j k u → Shows b j (items_preorder us) (list_of_items us) → Shows b k (preorder u) (u ∷ []) → Shows b k (items_preorder (add_item us u)) (list_of_items (add_item us u))
 shows_add {b} {i} {j} {k} {us} {u} l p f g =
     let q = padded_order p in
     let h = shows_both b j k (items_preorder us) (preorder u) (list_of_items us) u [] (omega arith) q.0 f g in
     subst (λ ss. Shows b k ss (list_of_items (add_item us u))) (sym (items_preorder-add us u)) (subst (Shows b k (items_preorder us ++ preorder u)) (sym (list-add us u)) h)
 
-shows_add_member : {b : List ℕ} {i j k l : ℕ} {us : Members} {n : Atom} {u : Tree} → LedMembers b i j us → Named b j k n → Padded b k l u → Shows b j (members_preorder us) (names_and_values us) → Shows b l (preorder u) (u ∷ [])
+pub shows_add_member : {b : List ℕ} {i j k l : ℕ} {us : Members} {n : Atom} {u : Tree} → LedMembers b i j us → Named b j k n → Padded b k l u → Shows b j (members_preorder us) (names_and_values us) → Shows b l (preorder u) (u ∷ [])
     → Shows b l (members_preorder (add_member us n u)) (names_and_values (add_member us n u))
 shows_add_member {b} {i} {j} {k} {l} {us} {n} {u} ld nm p f g =
     let q = padded_order p in let r = named_order nm in
@@ -217,14 +217,14 @@ mutual
       let e = ap (object i (suc l)) (members_from-list v) in
       shows_container b i (suc l) Object (members_preorder v) (names_and_values v) (object i (suc l) v) (omega arith) (ap kind_by o) (shows_more b l (suc l) _ _ (omega arith) (shows_add_member ld nm p (shows_led_members ld) (shows_padded p))) e refl
 
-  shows_padded : {b : List ℕ} {i j : ℕ} {t : Tree} → Padded b i j t → Shows b j (preorder t) (t ∷ [])
+  pub shows_padded : {b : List ℕ} {i j : ℕ} {t : Tree} → Padded b i j t → Shows b j (preorder t) (t ∷ [])
   shows_padded {b} (padded i j k l t w v x) = shows_more b k l (preorder t) (t ∷ []) x.order (shows_value v)
 
-  shows_led : {b : List ℕ} {i j : ℕ} {us : Items} → LedItems b i j us → Shows b j (items_preorder us) (list_of_items us)
+  pub shows_led : {b : List ℕ} {i j : ℕ} {us : Items} → LedItems b i j us → Shows b j (items_preorder us) (list_of_items us)
   shows_led {b} (no_led i) = shows_none b i
   shows_led {b} (led i j k us u l p c) = shows_more b k (suc k) _ _ (omega arith) (shows_add l p (shows_led l) (shows_padded p))
 
-  shows_led_members : {b : List ℕ} {i j : ℕ} {us : Members} → LedMembers b i j us → Shows b j (members_preorder us) (names_and_values us)
+  pub shows_led_members : {b : List ℕ} {i j : ℕ} {us : Members} → LedMembers b i j us → Shows b j (members_preorder us) (names_and_values us)
   shows_led_members {b} (no_led_members i) = shows_none b i
   shows_led_members {b} (led_member i j k l us n u ld nm p c) = shows_more b l (suc l) _ _ (omega arith) (shows_add_member ld nm p (shows_led_members ld) (shows_padded p))
 

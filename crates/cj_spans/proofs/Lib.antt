@@ -16,3 +16,7 @@ pub mod Vectors
 pub mod Verdicts
 pub mod Endings
 pub mod WorkedLines
+pub mod Findings
+pub mod Texts
+pub mod Views
+pub mod Scanned

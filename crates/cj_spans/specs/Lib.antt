@@ -10,3 +10,9 @@ pub mod Begins
 pub mod Reason
 pub mod Machine
 pub mod Examples
+pub mod Finding
+pub mod Text
+pub mod Decoding
+pub mod Parts
+pub mod Sound
+pub mod View

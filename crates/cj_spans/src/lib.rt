@@ -21,17 +21,24 @@ mod bytes;
 #[cfg(test)]
 mod examples;
 mod fault;
+mod finding;
 mod lanes;
+mod least;
 mod lex;
+mod node;
 mod numbers;
 mod reason;
 mod scanner;
 mod step;
 #[cfg(test)]
 mod tests;
+mod text;
 mod token;
 
 pub use fault::ScanFault;
+pub use finding::Finding;
+pub use least::Least;
+pub use node::{Doc, Items, Members, Node};
 pub use reason::Reason;
 pub use scanner::scan;
 pub use token::{Kind, Token};

@@ -1,0 +1,373 @@
+-- Tokens that show the tree of a line: what is known of each.
+use Rattle.std.proofs.Common.{◌≡◌, ℕ, zero, suc, ◌+◌, ◌<◌, ◌≤◌, List, [], ◌∷◌, ◌++◌, length, drop, slice_get, slice_range, true, ◌⊎◌, inl, inr, Some, refl, sym, ap, subst, arith, ◌∙◌, append_assoc}
+use Rattle.std.proofs.lemmas.List.{append-nil}
+use Rattle.std.proofs.lemmas.Bool.Decides.{nat_tests}
+use Rattle.cj_spans.specs.declared.token.Token.{Token}
+use Rattle.cj_spans.specs.declared.token.Kind.{Kind}
+use Rattle.cj_spans.specs.declared.token.Kind.TheVariants.{Null, Truth, Number, Text, Array, Object}
+use Rattle.cj_spans.specs.Tree.{Atom, Tree, scalar, array, object, Items, no_items, item, Members, no_members, member, add_item, add_member, start_of, size, items_size, members_size}
+use Rattle.cj_spans.specs.Spelling.{IsScalar}
+use Rattle.cj_spans.specs.Json.{byte, IsAtom, Value, atom, empty_array, full_array, empty_object, full_object, Padded, padded, LedItems, no_led, led, LedMembers, no_led_members, led_member, Named, named, Json}
+use Rattle.cj_spans.specs.Preorder.{Span, span_at, preorder, items_preorder, members_preorder, spans_of}
+use Rattle.cj_spans.specs.Forest.{kind_by, held, past, atom_of, items_from, members_from, node, forest}
+use Rattle.cj_spans.specs.Sound.{AreOf, AreWithin, AreNested, AreNamed, are_members}
+use Rattle.cj_spans.specs.View.{tree_at}
+use Rattle.cj_spans.proofs.Lists.{items_preorder-add, members_preorder-add}
+use Rattle.cj_spans.proofs.Verdicts.{json_only}
+use Rattle.cj_spans.proofs.Forests.{atom_kind, Beyond, held_all, names_and_values, padded_order, led_order, led_members_order, named_order, Shows, shows_more, shows_add_member, shows_led_members, shows_padded}
+
+-- ---- as many spans as the trees have values and names: none is left out
+
+abbrev sizes : List Tree → ℕ
+sizes [] = 0
+sizes (t ∷ ts) = size t + sizes ts
+
+abbrev preorders : List Tree → List Span
+preorders [] = []
+preorders (t ∷ ts) = preorder t ++ preorders ts
+
+size_some : (t : Tree) → 0 < size t
+size_some (scalar k a) = omega arith
+size_some (array i j ts) = omega arith
+size_some (object i j ms) = omega arith
+
+sizes_none : (ts : List Tree) → sizes ts ≡ 0 → preorders ts ≡ []
+sizes_none [] h = refl
+sizes_none (t ∷ ts) h = let s = size_some t in absurd (omega arith)
+
+items_none : (ts : Items) → items_size ts ≡ 0 → items_preorder ts ≡ []
+items_none no_items h = refl
+items_none (item t ts) h = let s = size_some t in absurd (omega arith)
+
+members_none : (ms : Members) → members_size ms ≡ 0 → members_preorder ms ≡ []
+members_none no_members h = refl
+members_none (member n t ms) h = absurd (omega arith)
+
+alone : (n : Tree) → size n ≡ 1 → preorder n ≡ span_at (atom_of n).start (atom_of n).stop ∷ []
+alone (scalar k a) h = refl
+alone (array i j ts) h = ap (λ ss. span_at i j ∷ ss) (items_none ts (omega arith))
+alone (object i j ms) h = ap (λ ss. span_at i j ∷ ss) (members_none ms (omega arith))
+
+items_size-from : (ts : List Tree) → items_size (items_from ts) ≡ sizes ts
+items_size-from [] = refl
+items_size-from (t ∷ ts) = ap (λ n. size t + n) (items_size-from ts)
+
+items_preorder-from : (ts : List Tree) → items_preorder (items_from ts) ≡ preorders ts
+items_preorder-from [] = refl
+items_preorder-from (t ∷ ts) = ap (λ ss. preorder t ++ ss) (items_preorder-from ts)
+
+members_small : (ts : List Tree) → members_size (members_from ts) ≤ sizes ts
+members_small [] = omega arith
+members_small (n ∷ []) = omega arith
+members_small (n ∷ t ∷ ts) = let s = size_some n in let l = members_small ts in omega arith
+
+members_same : (ts : List Tree) → members_size (members_from ts) ≡ sizes ts → members_preorder (members_from ts) ≡ preorders ts
+members_same [] h = refl
+members_same (n ∷ []) h = let s = size_some n in absurd (omega arith)
+members_same (n ∷ t ∷ ts) h =
+    let s = size_some n in
+    let l = members_small ts in
+    let e : size n ≡ 1 = omega arith in
+    let f : members_size (members_from ts) ≡ sizes ts = omega arith in
+    ap (λ ss. span_at (atom_of n).start (atom_of n).stop ∷ (preorder t ++ ss)) (members_same ts f) ∙ ap (λ ss. ss ++ (preorder t ++ preorders ts)) (sym (alone n e))
+
+node_small : (b : List ℕ) (k : Kind) (i j : ℕ) (ts : List Tree) → size (node b k i j ts) ≤ suc (sizes ts)
+node_small b Null i j ts = omega arith
+node_small b Truth i j ts = omega arith
+node_small b Number i j ts = omega arith
+node_small b Text i j ts = omega arith
+node_small b Array i j ts = let e = items_size-from ts in omega arith
+node_small b Object i j ts = let e = members_small ts in omega arith
+
+node_same : (b : List ℕ) (k : Kind) (i j : ℕ) (ts : List Tree) → size (node b k i j ts) ≡ suc (sizes ts) → preorder (node b k i j ts) ≡ span_at i j ∷ preorders ts
+node_same b Null i j ts h = ap (λ ss. span_at i j ∷ ss) (sym (sizes_none ts (omega arith)))
+node_same b Truth i j ts h = ap (λ ss. span_at i j ∷ ss) (sym (sizes_none ts (omega arith)))
+node_same b Number i j ts h = ap (λ ss. span_at i j ∷ ss) (sym (sizes_none ts (omega arith)))
+node_same b Text i j ts h = ap (λ ss. span_at i j ∷ ss) (sym (sizes_none ts (omega arith)))
+node_same b Array i j ts h = ap (λ ss. span_at i j ∷ ss) (items_preorder-from ts)
+node_same b Object i j ts h = ap (λ ss. span_at i j ∷ ss) (members_same ts (omega arith))
+
+sizes-append : (ts us : List Tree) → sizes (ts ++ us) ≡ sizes ts + sizes us
+sizes-append [] us = omega arith
+sizes-append (t ∷ ts) us = let e = sizes-append ts us in omega arith
+
+preorders-append : (ts us : List Tree) → preorders (ts ++ us) ≡ preorders ts ++ preorders us
+preorders-append [] us = refl
+preorders-append (t ∷ ts) us = ap (λ ss. preorder t ++ ss) (preorders-append ts us) ∙ sym (append_assoc (preorder t) (preorders ts) (preorders us))
+
+split : (m n : ℕ) → (m < n) ⊎ (n ≤ m)
+split m n = grind arith
+
+held_first : (t : Tree) (ts : List Tree) (j : ℕ) → start_of t < j → held j (t ∷ ts) ++ past j (t ∷ ts) ≡ t ∷ (held j ts ++ past j ts)
+held_first t ts j h = grind (arith, nat_tests)
+
+held_none : (t : Tree) (ts : List Tree) (j : ℕ) → j ≤ start_of t → held j (t ∷ ts) ++ past j (t ∷ ts) ≡ t ∷ ts
+held_none t ts j h = grind (arith, nat_tests)
+
+held-past : (j : ℕ) (ts : List Tree) → held j ts ++ past j ts ≡ ts
+held-past j [] = refl
+held-past j (t ∷ ts) = elim (split (start_of t) j) [ inl l ↦ held_first t ts j l ∙ ap (λ us. t ∷ us) (held-past j ts) | inr g ↦ held_none t ts j g ]
+
+held_sizes : (j : ℕ) (ts : List Tree) → sizes (held j ts) + sizes (past j ts) ≡ sizes ts
+held_sizes j ts = sym (sizes-append (held j ts) (past j ts)) ∙ ap sizes (held-past j ts)
+
+forest_small : (b : List ℕ) (ss : List Span) → sizes (forest b ss) ≤ length ss
+unfolding forest
+forest_small b [] = omega arith
+forest_small b (s ∷ ss) =
+    let l = forest_small b ss in
+    let e = held_sizes s.stop (forest b ss) in
+    let n = node_small b (kind_by (byte b s.start)) s.start s.stop (held s.stop (forest b ss)) in
+    omega arith
+
+forest_same : (b : List ℕ) (ss : List Span) → sizes (forest b ss) ≡ length ss → preorders (forest b ss) ≡ ss
+unfolding forest
+forest_same b [] h = refl
+forest_same b (s ∷ ss) h =
+    let l = forest_small b ss in
+    let e = held_sizes s.stop (forest b ss) in
+    let n = node_small b (kind_by (byte b s.start)) s.start s.stop (held s.stop (forest b ss)) in
+    let f : size (node b (kind_by (byte b s.start)) s.start s.stop (held s.stop (forest b ss))) ≡ suc (sizes (held s.stop (forest b ss))) = omega arith in
+    let g : sizes (forest b ss) ≡ length ss = omega arith in
+    ap (λ us. us ++ preorders (past s.stop (forest b ss))) (node_same b (kind_by (byte b s.start)) s.start s.stop (held s.stop (forest b ss)) f)
+    ∙ ap (λ us. s ∷ us) (sym (preorders-append (held s.stop (forest b ss)) (past s.stop (forest b ss))) ∙ ap preorders (held-past s.stop (forest b ss)) ∙ forest_same b ss g)
+
+pub all_shown : (b : List ℕ) (ss : List Span) (t : Tree) → forest b ss ≡ t ∷ [] → length ss ≡ size t → preorder t ≡ ss
+all_shown b ss t h e = let f : sizes (forest b ss) ≡ length ss = ap sizes h ∙ omega arith in sym (append-nil (preorder t)) ∙ ap preorders (sym h) ∙ forest_same b ss f
+
+-- ---- what is known of each span
+
+-- what starts before the place stops before it
+abbrev Stops : ℕ → List Span → Type 0
+Stops j [] = Unit {0}
+Stops j (s ∷ ss) = (s.start < j → s.stop ≤ j) × Stops j ss
+
+-- all start at the place or after it
+abbrev From : ℕ → List Span → Type 0
+From j [] = Unit {0}
+From j (s ∷ ss) = (j ≤ s.start) × From j ss
+
+-- all lie between the places
+abbrev Between : ℕ → ℕ → List Span → Type 0
+Between i j [] = Unit {0}
+Between i j (s ∷ ss) = (i ≤ s.start) × (s.stop ≤ j) × Between i j ss
+
+-- the span s of the line b, with those after it
+record IsGood (b : List ℕ) (s : Span) (ss : List Span) : Type 0 where
+  order : s.start < s.stop
+  within : s.stop ≤ length b
+  stops : Stops s.stop ss
+  named : byte b s.start ≡ 123 → are_members (held s.stop (forest b ss)) ≡ true
+
+abbrev AllGood : List ℕ → List Span → Type 0
+AllGood b [] = Unit {0}
+AllGood b (s ∷ ss) = IsGood b s ss × AllGood b ss
+
+-- spans between two places, good before any that are good and start later
+record Good (b : List ℕ) (i j : ℕ) (ss : List Span) : Type 0 where
+  between : Between i j ss
+  good : (rest : List Span) → From j rest → AllGood b rest → AllGood b (ss ++ rest)
+
+stops_from : (j : ℕ) (ss : List Span) → From j ss → Stops j ss
+stops_from j [] h = tt
+stops_from j (s ∷ ss) h = let l = h.0 in ((λ m. absurd (omega arith)), stops_from j ss h.1)
+
+stops_between : (i j : ℕ) (ss us : List Span) → Between i j ss → Stops j us → Stops j (ss ++ us)
+stops_between i j [] us h g = g
+stops_between i j (s ∷ ss) us h g = ((λ m. h.1), stops_between i j ss us h.2 g)
+
+from_append : (j : ℕ) (ss us : List Span) → From j ss → From j us → From j (ss ++ us)
+from_append j [] us h g = g
+from_append j (s ∷ ss) us h g = (h.0, from_append j ss us h.1 g)
+
+from_more : (i j : ℕ) (ss : List Span) → i ≤ j → From j ss → From i ss
+from_more i j [] l h = tt
+from_more i j (s ∷ ss) l h = let m = h.0 in (omega arith, from_more i j ss l h.1)
+
+between_from : (i j : ℕ) (ss : List Span) → Between i j ss → From i ss
+between_from i j [] h = tt
+between_from i j (s ∷ ss) h = (h.0, between_from i j ss h.2)
+
+between_more : (i j k l : ℕ) (ss : List Span) → k ≤ i → j ≤ l → Between i j ss → Between k l ss
+between_more i j k l [] f g h = tt
+between_more i j k l (s ∷ ss) f g h = let m = h.0 in let n = h.1 in (omega arith, omega arith, between_more i j k l ss f g h.2)
+
+between_append : (i j : ℕ) (ss us : List Span) → Between i j ss → Between i j us → Between i j (ss ++ us)
+between_append i j [] us h g = g
+between_append i j (s ∷ ss) us h g = (h.0, h.1, between_append i j ss us h.2 g)
+
+good_none : (b : List ℕ) (i : ℕ) → Good b i i []
+good_none b i = record { between = tt; good = λ rest f g. g }
+
+good_more : (b : List ℕ) (i j k l : ℕ) (ss : List Span) → k ≤ i → j ≤ l → Good b i j ss → Good b k l ss
+good_more b i j k l ss f g h = record { between = between_more i j k l ss f g h.between; good = λ rest m n. h.good rest (from_more j l rest g m) n }
+
+good_both : (b : List ℕ) (i j k : ℕ) (ss us : List Span) → i ≤ j → j ≤ k → Good b i j ss → Good b j k us → Good b i k (ss ++ us)
+good_both b i j k ss us f g h q = record {
+  between = between_append i k ss us (between_more i j i k ss (omega arith) g h.between) (between_more j k i k us f (omega arith) q.between);
+  good = λ rest m n.
+      subst (AllGood b) (sym (append_assoc ss us rest)) (h.good (us ++ rest) (from_append j us rest (between_from j k us q.between) (from_more j k rest g m)) (q.good rest m n));
+}
+
+-- a span over others
+good_over : (b : List ℕ) (i j : ℕ) (ss : List Span) → i < j → j ≤ length b → Good b (suc i) j ss → ((rest : List Span) → From j rest → byte b i ≡ 123 → are_members (held j (forest b (ss ++ rest))) ≡ true) → Good b i j (span_at i j ∷ ss)
+good_over b i j ss o l h n = record {
+  between = (omega arith, omega arith, between_more (suc i) j i j ss (omega arith) (omega arith) h.between);
+  good = λ rest f g. (record { order = o; within = l; stops = stops_between (suc i) j ss rest h.between (stops_from j rest f); named = n rest f }, h.good rest f g);
+}
+
+-- ---- the grammar
+
+byte_within : (b : List ℕ) (i c : ℕ) → byte b i ≡ suc c → i < length b
+byte_within [] i c h = cc
+byte_within (x ∷ b) zero c h = omega arith
+byte_within (x ∷ b) (suc i) c h = let l = byte_within b i c h in omega arith
+
+not_object : (k : Kind) (s : List ℕ) → IsScalar k s → k ≡ Object → ⊥
+not_object Null s h e = cc
+not_object Truth s h e = cc
+not_object Number s h e = cc
+not_object Text s h e = cc
+not_object Array s h e = cc
+not_object Object s h e = h
+
+good_atom : (b : List ℕ) (k : Kind) (i j : ℕ) → IsAtom b k i j → Good b i j (span_at i j ∷ [])
+good_atom b k i j w =
+    let o = w.order in
+    good_over b i j [] o w.within (record { between = tt; good = λ rest f g. g })
+    (λ rest f e. absurd (not_object k (slice_range b i j) w.spelled (sym (atom_kind b k i j w) ∙ ap kind_by e)))
+
+good_named : {b : List ℕ} {i j : ℕ} {n : Atom} → Named b i j n → Good b i j (span_at n.start n.stop ∷ [])
+good_named {b} (named i j k l w x y c) = let f = w.order in let g = y.order in good_more b j k i (suc l) (span_at j k ∷ []) f (omega arith) (good_atom b Text j k x)
+
+good_add : (b : List ℕ) (i j k : ℕ) (us : Items) (u : Tree) → i ≤ j → j ≤ k → Good b i j (items_preorder us) → Good b j k (preorder u) → Good b i k (items_preorder (add_item us u))
+good_add b i j k us u f g h q = subst (Good b i k) (sym (items_preorder-add us u)) (good_both b i j k (items_preorder us) (preorder u) f g h q)
+
+good_add_member : (b : List ℕ) (i j k l : ℕ) (us : Members) (n : Atom) (u : Tree) → i ≤ j → j ≤ k → k ≤ l → Good b i j (members_preorder us) → Good b j k (span_at n.start n.stop ∷ []) → Good b k l (preorder u) → Good b i l (members_preorder (add_member us n u))
+good_add_member b i j k l us n u f g h p q r =
+    subst (Good b i l) (sym (members_preorder-add us n u))
+    (good_both b i j l (members_preorder us) (span_at n.start n.stop ∷ preorder u) f (omega arith) p (good_both b j k l (span_at n.start n.stop ∷ []) (preorder u) g h q r))
+
+alternate : (ms : Members) → are_members (names_and_values ms) ≡ true
+alternate no_members = refl
+alternate (member n t ms) = alternate ms
+
+start-node : (b : List ℕ) (k : Kind) (i j : ℕ) (ts : List Tree) → start_of (node b k i j ts) ≡ i
+start-node b Null i j ts = refl
+start-node b Truth i j ts = refl
+start-node b Number i j ts = refl
+start-node b Text i j ts = refl
+start-node b Array i j ts = refl
+start-node b Object i j ts = refl
+
+from_beyond : (b : List ℕ) (j : ℕ) (ss : List Span) → From j ss → Beyond j (forest b ss)
+unfolding forest
+from_beyond b j [] h = tt
+from_beyond b j (s ∷ ss) h = let e = start-node b (kind_by (byte b s.start)) s.start s.stop (held s.stop (forest b ss)) in let l = h.0 in omega arith
+
+-- the members of an object, before what starts later
+alternate_held : (b : List ℕ) (j : ℕ) (ms : Members) (rest : List Span) → Shows b j (members_preorder ms) (names_and_values ms) → From j rest → are_members (held j (forest b (members_preorder ms ++ rest))) ≡ true
+alternate_held b j ms rest s f =
+    let o = from_beyond b j rest f in
+    ap (λ ts. are_members (held j ts)) (s.shows rest o) ∙ ap are_members (held_all j (names_and_values ms) (forest b rest) s.all o) ∙ alternate ms
+
+padded_ends : {b : List ℕ} {i j : ℕ} {t : Tree} → Padded b i j t → i ≤ j
+padded_ends p = let q = padded_order p in let f = q.0 in let g = q.1 in omega arith
+
+named_ends : {b : List ℕ} {i j : ℕ} {n : Atom} → Named b i j n → i ≤ j
+named_ends p = let q = named_order p in let f = q.0 in let g = q.1 in let h = q.2 in omega arith
+
+mutual
+  good_value : {b : List ℕ} {i j : ℕ} {t : Tree} → Value b i j t → Good b i j (preorder t)
+  good_value {b} (atom k i j w) = good_atom b k i j w
+  good_value {b} (empty_array i j o w c) =
+      let h = w.order in let l = byte_within b j 92 c in
+      good_over b i (suc j) [] (omega arith) l (good_more b (suc i) (suc i) (suc i) (suc j) [] (omega arith) (omega arith) (good_none b (suc i))) (λ rest f e. absurd (omega arith))
+  good_value {b} (full_array i j k us u o l p c) =
+      let a = led_order l in let q = padded_ends p in let m = byte_within b k 92 c in
+      good_over b i (suc k) (items_preorder (add_item us u)) (omega arith) m
+      (good_more b (suc i) k (suc i) (suc k) (items_preorder (add_item us u)) (omega arith) (omega arith) (good_add b (suc i) j k us u a q (good_led l) (good_padded p))) (λ rest f e. absurd (omega arith))
+  good_value {b} (empty_object i j o w c) =
+      let h = w.order in let l = byte_within b j 124 c in
+      good_over b i (suc j) [] (omega arith) l (good_more b (suc i) (suc i) (suc i) (suc j) [] (omega arith) (omega arith) (good_none b (suc i)))
+      (λ rest f e. alternate_held b (suc j) no_members rest (record { all = tt; shows = λ rest h. refl }) f)
+  good_value {b} (full_object i j k l us n u o ld nm p c) =
+      let a = led_members_order ld in let q = padded_ends p in let r = named_ends nm in let m = byte_within b l 124 c in
+      let v = add_member us n u in
+      good_over b i (suc l) (members_preorder v) (omega arith) m
+      (good_more b (suc i) l (suc i) (suc l) (members_preorder v) (omega arith) (omega arith) (good_add_member b (suc i) j k l us n u a r q (good_led_members ld) (good_named nm) (good_padded p)))
+      (λ rest f e. alternate_held b (suc l) v rest (shows_more b l (suc l) _ _ (omega arith) (shows_add_member ld nm p (shows_led_members ld) (shows_padded p))) f)
+
+  good_padded : {b : List ℕ} {i j : ℕ} {t : Tree} → Padded b i j t → Good b i j (preorder t)
+  good_padded {b} (padded i j k l t w v x) = good_more b j k i l (preorder t) w.order x.order (good_value v)
+
+  good_led : {b : List ℕ} {i j : ℕ} {us : Items} → LedItems b i j us → Good b i j (items_preorder us)
+  good_led {b} (no_led i) = good_none b i
+  good_led {b} (led i j k us u l p c) =
+      let a = led_order l in let q = padded_ends p in
+      good_more b i k i (suc k) (items_preorder (add_item us u)) (omega arith) (omega arith) (good_add b i j k us u a q (good_led l) (good_padded p))
+
+  good_led_members : {b : List ℕ} {i j : ℕ} {us : Members} → LedMembers b i j us → Good b i j (members_preorder us)
+  good_led_members {b} (no_led_members i) = good_none b i
+  good_led_members {b} (led_member i j k l us n u ld nm p c) =
+      let a = led_members_order ld in let q = padded_ends p in let r = named_ends nm in
+      good_more b i l i (suc l) (members_preorder (add_member us n u)) (omega arith) (omega arith) (good_add_member b i j k l us n u a r q (good_led_members ld) (good_named nm) (good_padded p))
+
+json_good : (b : List ℕ) (t : Tree) → Json b t → AllGood b (preorder t)
+json_good b t p = subst (AllGood b) (append-nil (preorder t)) ((good_padded p).good [] tt tt)
+
+-- ---- what is known of each token
+
+good_at : (b : List ℕ) (ts : List Token) (k : ℕ) (t : Token) → AllGood b (spans_of ts) → slice_get ts k ≡ Some t → IsGood b (span_at t.start t.stop) (drop (suc k) (spans_of ts))
+good_at b [] k t g h = cc
+good_at b (u ∷ ts) zero t g h = let e : u ≡ t = cc in subst (λ v. IsGood b (span_at v.start v.stop) (spans_of ts)) e g.0
+good_at b (u ∷ ts) (suc k) t g h = good_at b ts k t g.1 h
+
+stops_at : (ts : List Token) (j n i : ℕ) (u : Token) → Stops j (drop n (spans_of ts)) → n ≤ i → slice_get ts i ≡ Some u → u.start < j → u.stop ≤ j
+stops_at [] j n i u s l h m = cc
+stops_at (v ∷ ts) j zero zero u s l h m = let e : v ≡ u = cc in let f = ap (λ (w : Token). w.start) e in let g = ap (λ (w : Token). w.stop) e in let n = s.0 in omega arith
+stops_at (v ∷ ts) j zero (suc i) u s l h m = stops_at ts j zero i u s.1 (omega arith) h m
+stops_at (v ∷ ts) j (suc n) zero u s l h m = absurd (omega arith)
+stops_at (v ∷ ts) j (suc n) (suc i) u s l h m = stops_at ts j n i u s (omega arith) h m
+
+are_within : (b : List ℕ) (ts : List Token) → AllGood b (spans_of ts) → AreWithin b ts
+are_within b ts g = λ k t h. let w = good_at b ts k t g h in (w.order, w.within)
+
+are_nested : (b : List ℕ) (ts : List Token) → AllGood b (spans_of ts) → AreNested ts
+are_nested b ts g = λ k t h i u l m n. stops_at ts t.stop (suc k) i u (good_at b ts k t g h).stops (omega arith) m n
+
+are_named : (b : List ℕ) (ts : List Token) → AllGood b (spans_of ts) → AreNamed b ts
+are_named b ts g = λ k t h e.
+    let f : suc k ≡ k + 1 = omega arith in
+    subst (λ n. are_members (held t.stop (forest b (drop n (spans_of ts)))) ≡ true) f ((good_at b ts k t g h).named e)
+
+-- what a view of the tokens of a line needs
+pub record Known (b : List ℕ) (ts : List Token) : Type 0 where
+  pub within : AreWithin b ts
+  pub nested : AreNested ts
+  pub named : AreNamed b ts
+  pub some : 0 < length ts
+
+length-spans_of : (ts : List Token) → length (spans_of ts) ≡ length ts
+length-spans_of [] = refl
+length-spans_of (t ∷ ts) = ap suc (length-spans_of ts)
+
+pub known : (b : List ℕ) (ts : List Token) → AreOf b ts → Known b ts
+known b ts a =
+    let e = all_shown b (spans_of ts) a.tree a.shown (length-spans_of ts ∙ a.count) in
+    let g = subst (AllGood b) e (json_good b a.tree a.json) in
+    let s = size_some a.tree in
+    let c = a.count in
+    record { within = are_within b ts g; nested = are_nested b ts g; named = are_named b ts g; some = omega arith }
+
+first_shown : (b : List ℕ) (ss : List Span) (t : Tree) → forest b ss ≡ t ∷ [] → tree_at b ss 0 ≡ t
+unfolding forest tree_at
+first_shown b [] t h = cc
+first_shown b (s ∷ ss) t h = cc
+
+-- the tree that the tokens show is the line's
+pub one_tree : (b : List ℕ) (ts : List Token) → AreOf b ts → (t : Tree) → Json b t → tree_at b (spans_of ts) 0 ≡ t
+one_tree b ts a t j = first_shown b (spans_of ts) a.tree a.shown ∙ json_only b t a.tree j a.json
+
+pub its_tree : (b : List ℕ) (ts : List Token) → AreOf b ts → Json b (tree_at b (spans_of ts) 0)
+its_tree b ts a = subst (Json b) (sym (first_shown b (spans_of ts) a.tree a.shown)) a.json

@@ -1,0 +1,284 @@
+-- Characters and code points, read one at a time.
+use Rattle.std.proofs.Common.{◌≡◌, ℕ, zero, suc, ◌+◌, ◌-◌, ◌*◌, ◌<◌, ◌≤◌, List, [], ◌∷◌, length, take, drop, get_or, Bool, true, false, cond, ◌&&◌, nat_eq, Option, Some, refl, sym, ap, arith, ◌∙◌, add-one, drop-cons}
+use Rattle.std.proofs.lemmas.List.{drop-drop, drop-take}
+use Rattle.std.proofs.lemmas.Bool.Decides.{nat_tests}
+use Rattle.std.proofs.lemmas.Grind.{common_steps}
+use Rattle.cj_spans.specs.declared.text.Point.{Point}
+use Rattle.cj_spans.specs.Decoding.{left, after_read, Takes}
+use Rattle.cj_spans.specs.Text.{char_of, four_digits, unit, is_unicode, is_escaped, is_pair, escaped, first_point, first_width, points_after, text, StandFor, done, plain, letter, single, pair}
+use Rattle.std.specs.Char.{digit_value}
+use Rattle.std.specs.Char.Utf16.{is_high_surrogate, is_low_surrogate, surrogate_pair_char}
+use Rattle.std.specs.Str.{chars, chars_after, continuation_len, lead_bits}
+
+-- ---- characters
+
+first_of : (b : ℕ) (bs : List ℕ) → chars (b ∷ bs) ≡ chars_after (continuation_len b) (lead_bits b) bs
+unfolding chars
+first_of b bs = refl
+
+pub chars_end : (c : ℕ) (bs : List ℕ) → chars_after 0 c bs ≡ c ∷ chars bs
+unfolding chars
+chars_end c [] = refl
+chars_end c (b ∷ bs) = refl
+
+pub chars_past : (bs : List ℕ) (i : ℕ) → length bs ≤ i → chars (drop i bs) ≡ []
+unfolding chars
+chars_past bs i h = let e : drop i bs ≡ [] = grind (arith, common_steps) in ap chars e
+
+at_drop : (bs : List ℕ) (i : ℕ) → i < length bs → drop i bs ≡ get_or bs i 0 ∷ drop (i + 1) bs
+at_drop bs i h = rw (add-one, drop-cons bs i 0)
+
+lead_after : (b n c : ℕ) (bs : List ℕ) → continuation_len b ≡ n → lead_bits b ≡ c → chars (b ∷ bs) ≡ chars_after n c bs
+lead_after b n c bs e f = first_of b bs ∙ ap (λ m. chars_after m (lead_bits b) bs) e ∙ ap (λ d. chars_after n d bs) f
+
+pub lead_one : (bs : List ℕ) (i : ℕ) → i < length bs → get_or bs i 0 < 128 → chars (drop i bs) ≡ chars_after 0 (get_or bs i 0) (drop (i + 1) bs)
+lead_one bs i h l = ap chars (at_drop bs i h) ∙ lead_after (get_or bs i 0) 0 (get_or bs i 0) (drop (i + 1) bs) (grind (arith, nat_tests)) (grind (arith, nat_tests))
+
+pub lead_two : (bs : List ℕ) (i c : ℕ) (o : Option Point) → i < length bs → 128 ≤ get_or bs i 0 → get_or bs i 0 < 224 → c ≡ get_or bs i 0 - 192 → chars_after 1 c (drop (i + 1) bs) ≡ after_read bs 0 o → chars (drop i bs) ≡ after_read bs 0 o
+lead_two bs i c o h l g e f = ap chars (at_drop bs i h) ∙ lead_after (get_or bs i 0) 1 c (drop (i + 1) bs) (grind (arith, nat_tests)) (grind (arith, nat_tests)) ∙ f
+
+pub lead_three : (bs : List ℕ) (i c : ℕ) (o : Option Point) → i < length bs → 224 ≤ get_or bs i 0 → get_or bs i 0 < 240 → c ≡ get_or bs i 0 - 224 → chars_after 2 c (drop (i + 1) bs) ≡ after_read bs 0 o → chars (drop i bs) ≡ after_read bs 0 o
+lead_three bs i c o h l g e f = ap chars (at_drop bs i h) ∙ lead_after (get_or bs i 0) 2 c (drop (i + 1) bs) (grind (arith, nat_tests)) (grind (arith, nat_tests)) ∙ f
+
+pub lead_four : (bs : List ℕ) (i c : ℕ) (o : Option Point) → i < length bs → 240 ≤ get_or bs i 0 → c ≡ get_or bs i 0 - 240 → chars_after 3 c (drop (i + 1) bs) ≡ after_read bs 0 o → chars (drop i bs) ≡ after_read bs 0 o
+lead_four bs i c o h l e f = ap chars (at_drop bs i h) ∙ lead_after (get_or bs i 0) 3 c (drop (i + 1) bs) (grind (arith, nat_tests)) (grind (arith, nat_tests)) ∙ f
+
+-- ---- steps over characters
+
+char_cons : (bs cs : List ℕ) (p : Point) → p.code ∷ left bs p.stop ≡ cs → Takes bs cs (char_of cs 0) 1 p
+char_cons bs [] p h = cc
+char_cons bs (c ∷ cs) p h = let x : p.code ≡ c = cc in let y : left bs p.stop ≡ cs = cc in record { code = x; rest = y }
+
+pub char_some : (bs cs : List ℕ) (i : ℕ) (p : Point) → left bs i ≡ after_read bs 0 (Some p) → left bs i ≡ cs → Takes bs cs (char_of cs 0) 1 p
+char_some bs cs i p h e = char_cons bs cs p (sym (chars_end p.code (drop p.stop bs)) ∙ sym h ∙ e)
+
+char_nil : (bs cs : List ℕ) (p : Point) → [] ≡ cs → p.code ≡ 0 → left bs p.stop ≡ [] → Takes bs cs (char_of cs 0) 1 p
+char_nil bs [] p h z e = record { code = z; rest = e }
+char_nil bs (c ∷ cs) p h z e = cc
+
+pub char_none : (bs cs : List ℕ) (i : ℕ) (p : Point) → left bs i ≡ [] → left bs i ≡ cs → p.code ≡ 0 → p.stop ≡ length bs → Takes bs cs (char_of cs 0) 1 p
+char_none bs cs i p h e z s = char_nil bs cs p (sym h ∙ e) z (ap (left bs) s ∙ chars_past bs (length bs) (omega arith))
+
+at_next : (cs : List ℕ) (k : ℕ) → char_of (drop 1 cs) k ≡ char_of cs (suc k)
+at_next [] k = refl
+at_next (c ∷ cs) k = refl
+
+at_second : (cs : List ℕ) → char_of (drop 1 cs) 0 ≡ char_of cs 1
+at_second cs = at_next cs 0
+
+at_third : (cs : List ℕ) → char_of (drop 2 cs) 0 ≡ char_of cs 2
+at_third cs = ap (λ xs. char_of xs 0) (sym (drop-drop 1 1 cs)) ∙ at_next (drop 1 cs) 0 ∙ at_next cs 1
+
+at_fourth : (cs : List ℕ) → char_of (drop 3 cs) 0 ≡ char_of cs 3
+at_fourth cs = ap (λ xs. char_of xs 0) (sym (drop-drop 1 2 cs)) ∙ at_next (drop 2 cs) 0 ∙ ap (λ xs. char_of xs 1) (sym (drop-drop 1 1 cs)) ∙ at_next (drop 1 cs) 1 ∙ at_next cs 2
+
+-- what comes after two steps
+pub takes_on : (bs cs : List ℕ) (x n m : ℕ) (p : Point) → Takes bs cs x n p → (y : ℕ) (q : Point) → Takes bs (drop n cs) y m q → Takes bs cs y (n + m) q
+takes_on bs cs x n m p t y q u = record { code = u.code; rest = u.rest ∙ drop-drop m n cs }
+
+pub takes_as : (bs cs : List ℕ) (x y n : ℕ) (p : Point) → Takes bs cs x n p → x ≡ y → Takes bs cs y n p
+takes_as bs cs x y n p t e = record { code = t.code ∙ e; rest = t.rest }
+
+digits_same : (a b c d : ℕ) → (a * 16 + b) * 256 + (c * 16 + d) ≡ ((a * 16 + b) * 16 + c) * 16 + d
+digits_same a b c d = omega arith
+
+digits_by : (a b c d e f g h : ℕ) → a ≡ e → b ≡ f → c ≡ g → d ≡ h → (a * 16 + b) * 256 + (c * 16 + d) ≡ ((e * 16 + f) * 16 + g) * 16 + h
+digits_by a b c d e f g h i j k l = digits_same a b c d ∙ (λ n. ((i n * 16 + j n) * 16 + k n) * 16 + l n)
+
+-- four digits after one another
+pub digits_read : (bs cs : List ℕ) (p q r s : Point) (a b c d : ℕ) → Takes bs cs (char_of cs 0) 1 p → Takes bs (drop 1 cs) (char_of (drop 1 cs) 0) 1 q → Takes bs (drop 2 cs) (char_of (drop 2 cs) 0) 1 r → Takes bs (drop 3 cs) (char_of (drop 3 cs) 0) 1 s
+    → a ≡ digit_value p.code → b ≡ digit_value q.code → c ≡ digit_value r.code → d ≡ digit_value s.code
+    → Takes bs cs (four_digits cs) 4 (record { code = (a * 16 + b) * 256 + (c * 16 + d); stop = s.stop })
+digits_read bs cs p q r s a b c d t u v w i j k l = record {
+  code = digits_by a b c d _ _ _ _ (i ∙ ap digit_value t.code) (j ∙ ap digit_value (u.code ∙ at_second cs)) (k ∙ ap digit_value (v.code ∙ at_third cs)) (l ∙ ap digit_value (w.code ∙ at_fourth cs));
+  rest = w.rest ∙ drop-drop 1 3 cs;
+}
+
+pub rest_two : (bs cs : List ℕ) (x y : ℕ) (p q : Point) → Takes bs cs x 1 p → Takes bs (drop 1 cs) y 1 q → left bs q.stop ≡ drop 2 cs
+rest_two bs cs x y p q t u = u.rest ∙ drop-drop 1 1 cs
+
+pub rest_three : (bs cs : List ℕ) (y : ℕ) (r : Point) → Takes bs (drop 2 cs) y 1 r → left bs r.stop ≡ drop 3 cs
+rest_three bs cs y r u = u.rest ∙ drop-drop 1 2 cs
+
+-- ---- code points
+
+both : (a b : Bool) → a ≡ true → b ≡ true → a && b ≡ true
+both a b h e = grind (arith)
+
+pub pair_shown : (cs : List ℕ) → is_unicode cs ≡ true → is_high_surrogate (unit cs) ≡ true → is_unicode (drop 6 cs) ≡ true → is_low_surrogate (unit (drop 6 cs)) ≡ true → is_pair cs ≡ true
+pair_shown cs a b c d = both _ _ (both _ _ (both _ _ a b) c) d
+
+first_not : (a b c d : Bool) → b ≡ false → a && b && c && d ≡ false
+first_not a b c d h = grind (arith)
+
+pub not_high : (cs : List ℕ) → is_high_surrogate (unit cs) ≡ false → is_pair cs ≡ false
+not_high cs h = first_not (is_unicode cs) (is_high_surrogate (unit cs)) (is_unicode (drop 6 cs)) (is_low_surrogate (unit (drop 6 cs))) h
+
+third_not : (a b c d : Bool) → c ≡ false → a && b && c && d ≡ false
+third_not a b c d h = grind (arith)
+
+pub not_followed : (cs : List ℕ) → is_unicode (drop 6 cs) ≡ false → is_pair cs ≡ false
+not_followed cs h = third_not (is_unicode cs) (is_high_surrogate (unit cs)) (is_unicode (drop 6 cs)) (is_low_surrogate (unit (drop 6 cs))) h
+
+fourth_not : (a b c d : Bool) → d ≡ false → a && b && c && d ≡ false
+fourth_not a b c d h = grind (arith)
+
+pub not_low : (cs : List ℕ) → is_low_surrogate (unit (drop 6 cs)) ≡ false → is_pair cs ≡ false
+not_low cs h = fourth_not (is_unicode cs) (is_high_surrogate (unit cs)) (is_unicode (drop 6 cs)) (is_low_surrogate (unit (drop 6 cs))) h
+
+zeroth_not : (a b c d : Bool) → a ≡ false → a && b && c && d ≡ false
+zeroth_not a b c d h = grind (arith)
+
+not_unicode : (cs : List ℕ) → is_unicode cs ≡ false → is_pair cs ≡ false
+not_unicode cs h = zeroth_not (is_unicode cs) (is_high_surrogate (unit cs)) (is_unicode (drop 6 cs)) (is_low_surrogate (unit (drop 6 cs))) h
+
+not_escaped : (cs : List ℕ) → is_escaped cs ≡ false → is_unicode cs ≡ false
+not_escaped cs h = ap (λ v. v && nat_eq (char_of cs 1) 117) h
+
+-- the point and the width, by cases
+first_pair : (cs : List ℕ) → is_pair cs ≡ true → (first_point cs ≡ surrogate_pair_char (unit cs) (unit (drop 6 cs))) × (first_width cs ≡ 12)
+unfolding first_point first_width
+first_pair cs h =
+    (ap (λ v. cond v (surrogate_pair_char (unit cs) (unit (drop 6 cs))) (cond (is_unicode cs) (unit cs) (cond (is_escaped cs) (escaped (char_of cs 1)) (char_of cs 0)))) h, ap (λ v. cond v 12 (cond (is_unicode cs) 6 (cond (is_escaped cs) 2 1))) h)
+
+first_unit : (cs : List ℕ) → is_pair cs ≡ false → is_unicode cs ≡ true → (first_point cs ≡ unit cs) × (first_width cs ≡ 6)
+unfolding first_point first_width
+first_unit cs h g = (
+  ap (λ v. cond v (surrogate_pair_char (unit cs) (unit (drop 6 cs))) (cond (is_unicode cs) (unit cs) (cond (is_escaped cs) (escaped (char_of cs 1)) (char_of cs 0)))) h ∙ ap (λ v. cond v (unit cs) (cond (is_escaped cs) (escaped (char_of cs 1)) (char_of cs 0))) g,
+  ap (λ v. cond v 12 (cond (is_unicode cs) 6 (cond (is_escaped cs) 2 1))) h ∙ ap (λ v. cond v 6 (cond (is_escaped cs) 2 1)) g,
+)
+
+-- where no unit is at the front
+no_unit : (cs : List ℕ) → is_unicode cs ≡ false → (first_point cs ≡ cond (is_escaped cs) (escaped (char_of cs 1)) (char_of cs 0)) × (first_width cs ≡ cond (is_escaped cs) 2 1)
+unfolding first_point first_width
+no_unit cs g =
+    let h = not_unicode cs g in (
+      ap (λ v. cond v (surrogate_pair_char (unit cs) (unit (drop 6 cs))) (cond (is_unicode cs) (unit cs) (cond (is_escaped cs) (escaped (char_of cs 1)) (char_of cs 0)))) h ∙ ap (λ v. cond v (unit cs) (cond (is_escaped cs) (escaped (char_of cs 1)) (char_of cs 0))) g,
+      ap (λ v. cond v 12 (cond (is_unicode cs) 6 (cond (is_escaped cs) 2 1))) h ∙ ap (λ v. cond v 6 (cond (is_escaped cs) 2 1)) g,
+    )
+
+first_letter : (cs : List ℕ) → is_unicode cs ≡ false → is_escaped cs ≡ true → (first_point cs ≡ escaped (char_of cs 1)) × (first_width cs ≡ 2)
+first_letter cs g a = let e = no_unit cs g in (e.0 ∙ ap (λ v. cond v (escaped (char_of cs 1)) (char_of cs 0)) a, e.1 ∙ ap (λ v. cond v 2 1) a)
+
+first_plain : (cs : List ℕ) → is_escaped cs ≡ false → (first_point cs ≡ char_of cs 0) × (first_width cs ≡ 1)
+first_plain cs a = let e = no_unit cs (not_escaped cs a) in (e.0 ∙ ap (λ v. cond v (escaped (char_of cs 1)) (char_of cs 0)) a, e.1 ∙ ap (λ v. cond v 2 1) a)
+
+taken : (bs cs : List ℕ) (p : Point) (x n : ℕ) → (first_point cs ≡ x) × (first_width cs ≡ n) → Takes bs cs x n p → Takes bs cs (first_point cs) (first_width cs) p
+taken bs cs p x n e t = record { code = t.code ∙ sym e.0; rest = t.rest ∙ ap (λ m. drop m cs) (sym e.1) }
+
+pub pair_taken : (bs cs : List ℕ) (p : Point) → is_pair cs ≡ true → Takes bs cs (surrogate_pair_char (unit cs) (unit (drop 6 cs))) 12 p → Takes bs cs (first_point cs) (first_width cs) p
+pair_taken bs cs p h t = taken bs cs p _ _ (first_pair cs h) t
+
+pub unit_taken : (bs cs : List ℕ) (p : Point) → is_pair cs ≡ false → is_unicode cs ≡ true → Takes bs cs (unit cs) 6 p → Takes bs cs (first_point cs) (first_width cs) p
+unit_taken bs cs p h g t = taken bs cs p _ _ (first_unit cs h g) t
+
+pub letter_taken : (bs cs : List ℕ) (p : Point) → is_unicode cs ≡ false → is_escaped cs ≡ true → Takes bs cs (escaped (char_of cs 1)) 2 p → Takes bs cs (first_point cs) (first_width cs) p
+letter_taken bs cs p g a t = taken bs cs p _ _ (first_letter cs g a) t
+
+pub plain_taken : (bs cs : List ℕ) (p : Point) → is_escaped cs ≡ false → Takes bs cs (char_of cs 0) 1 p → Takes bs cs (first_point cs) (first_width cs) p
+plain_taken bs cs p a t = taken bs cs p _ _ (first_plain cs a) t
+
+-- the text goes on after its first point
+points_drop : (n : ℕ) (cs : List ℕ) → points_after n cs ≡ points_after 0 (drop n cs)
+unfolding points_after
+points_drop zero [] = refl
+points_drop zero (c ∷ cs) = refl
+points_drop (suc n) [] = refl
+points_drop (suc n) (c ∷ cs) = points_drop n cs
+
+width_some : (cs : List ℕ) → (n : ℕ) × (first_width cs ≡ suc n)
+unfolding first_width
+width_some cs =
+    elim (is_pair cs) as (λ v. (n : ℕ) × (cond v 12 (cond (is_unicode cs) 6 (cond (is_escaped cs) 2 1)) ≡ suc n)) [
+      | true ↦ (11, refl)
+      | false ↦ elim (is_unicode cs) as (λ v. (n : ℕ) × (cond v 6 (cond (is_escaped cs) 2 1) ≡ suc n)) [
+        | true ↦ (5, refl)
+        | false ↦ elim (is_escaped cs) as (λ v. (n : ℕ) × (cond v 2 1 ≡ suc n)) [ true ↦ (1, refl) | false ↦ (0, refl) ]
+      ]
+    ]
+
+drop_width : (c : ℕ) (cs : List ℕ) (w n : ℕ) → w ≡ suc n → points_after (w - 1) cs ≡ points_after 0 (drop w (c ∷ cs))
+drop_width c cs w n h =
+    let k : w - 1 ≡ n = omega arith in
+    ap (λ m. points_after m cs) k ∙ points_drop n cs ∙ ap (λ m. points_after 0 (drop m (c ∷ cs))) (sym h)
+
+pub points_cons : (c : ℕ) (cs : List ℕ) → points_after 0 (c ∷ cs) ≡ first_point (c ∷ cs) ∷ points_after 0 (drop (first_width (c ∷ cs)) (c ∷ cs))
+unfolding points_after
+points_cons c cs = let w = width_some (c ∷ cs) in ap (λ ps. first_point (c ∷ cs) ∷ ps) (drop_width c cs (first_width (c ∷ cs)) w.0 w.1)
+
+pub points_nil : points_after 0 [] ≡ []
+unfolding points_after
+points_nil = refl
+
+-- ---- a unit and what follows it
+
+pub join_lone : (bs cs : List ℕ) (h : Point) → is_high_surrogate h.code ≡ false → is_unicode cs ≡ true → Takes bs cs (unit cs) 6 h → Takes bs cs (first_point cs) (first_width cs) h
+join_lone bs cs h n u t = unit_taken bs cs h (not_high cs (ap is_high_surrogate (sym t.code) ∙ n)) u t
+
+pub join_other : (bs cs : List ℕ) (h : Point) → is_unicode (drop 6 cs) ≡ false → is_unicode cs ≡ true → Takes bs cs (unit cs) 6 h → Takes bs cs (first_point cs) (first_width cs) h
+join_other bs cs h n u t = unit_taken bs cs h (not_followed cs n) u t
+
+pub join_not_low : (bs cs : List ℕ) (h l : Point) → Takes bs (drop 6 cs) (unit (drop 6 cs)) 6 l → is_low_surrogate l.code ≡ false → is_unicode cs ≡ true → Takes bs cs (unit cs) 6 h → Takes bs cs (first_point cs) (first_width cs) h
+join_not_low bs cs h l s n u t = unit_taken bs cs h (not_low cs (ap is_low_surrogate (sym s.code) ∙ n)) u t
+
+pub join_pair : (bs cs : List ℕ) (h l : Point) → is_high_surrogate h.code ≡ true → is_unicode (drop 6 cs) ≡ true → Takes bs (drop 6 cs) (unit (drop 6 cs)) 6 l → is_low_surrogate l.code ≡ true → is_unicode cs ≡ true → Takes bs cs (unit cs) 6 h
+    → Takes bs cs (first_point cs) (first_width cs) (record { code = surrogate_pair_char h.code l.code; stop = l.stop })
+join_pair bs cs h l m f s n u t =
+    pair_taken bs cs _ (pair_shown cs u (ap is_high_surrogate (sym t.code) ∙ m) f (ap is_low_surrogate (sym s.code) ∙ n))
+    (record { code = ap (λ x. surrogate_pair_char x l.code) t.code ∙ ap (surrogate_pair_char (unit cs)) s.code; rest = s.rest ∙ drop-drop 6 6 cs })
+
+pub letter_read : (bs cs : List ℕ) (p q : Point) (x : ℕ) → is_unicode cs ≡ false → is_escaped cs ≡ true → Takes bs cs (char_of cs 0) 1 p → Takes bs (drop 1 cs) (char_of (drop 1 cs) 0) 1 q → x ≡ escaped q.code → Takes bs cs (first_point cs) (first_width cs) (record { code = x; stop = q.stop })
+letter_read bs cs p q x n a t u e =
+    letter_taken bs cs _ n a (record { code = e ∙ ap escaped (u.code ∙ at_second cs); rest = rest_two bs cs _ _ p q t u })
+
+-- ---- walks over characters and code points
+
+char_first : (bs : List ℕ) (i : ℕ) (f : Point) → left bs i ≡ after_read bs 0 (Some f) → Takes bs (left bs i) (char_of (left bs i) 0) 1 f
+char_first bs i f h = char_some bs (left bs i) i f h refl
+
+pub plain_point : (bs : List ℕ) (i : ℕ) (f : Point) → left bs i ≡ after_read bs 0 (Some f) → nat_eq f.code 92 ≡ false → Takes bs (left bs i) (first_point (left bs i)) (first_width (left bs i)) f
+plain_point bs i f h n = let t = char_first bs i f h in plain_taken bs (left bs i) f (ap (λ x. nat_eq x 92) (sym t.code) ∙ n) t
+
+pub escaped_point : (bs : List ℕ) (i : ℕ) (f : Point) → left bs i ≡ after_read bs 0 (Some f) → nat_eq f.code 92 ≡ true → is_escaped (left bs i) ≡ true
+escaped_point bs i f h n = let t = char_first bs i f h in ap (λ x. nat_eq x 92) (sym t.code) ∙ n
+
+points_at : (bs cs ds : List ℕ) (f p : Point) → cs ≡ f.code ∷ ds → Takes bs cs (first_point cs) (first_width cs) p → points_after 0 cs ≡ p.code ∷ points_after 0 (left bs p.stop)
+points_at bs [] ds f p h t = cc
+points_at bs (c ∷ cs) ds f p h t = points_cons c cs ∙ ap (λ x. x ∷ points_after 0 (drop (first_width (c ∷ cs)) (c ∷ cs))) (sym t.code) ∙ ap (λ xs. p.code ∷ points_after 0 xs) (sym t.rest)
+
+pub points_step : (bs : List ℕ) (i : ℕ) (f p : Point) → left bs i ≡ after_read bs 0 (Some f) → Takes bs (left bs i) (first_point (left bs i)) (first_width (left bs i)) p → points_after 0 (left bs i) ≡ p.code ∷ points_after 0 (left bs p.stop)
+points_step bs i f p h t = points_at bs (left bs i) (left bs f.stop) f p (h ∙ chars_end f.code (drop f.stop bs)) t
+
+pub points_done : (bs : List ℕ) (i : ℕ) → left bs i ≡ [] → points_after 0 (left bs i) ≡ []
+points_done bs i h = ap (points_after 0) h ∙ points_nil
+
+pub characters_step : (bs : List ℕ) (i : ℕ) (f : Point) → left bs i ≡ after_read bs 0 (Some f) → left bs i ≡ f.code ∷ left bs f.stop
+characters_step bs i f h = h ∙ chars_end f.code (drop f.stop bs)
+
+-- ---- between the quotes
+
+body_place : (s : List ℕ) (n : ℕ) → drop 1 (take n s) ≡ take (n - 1) (drop 1 s)
+body_place s zero = refl
+body_place s (suc n) =
+    let e : 1 + n ≡ suc n = omega arith in
+    let f : suc n - 1 ≡ n = omega arith in
+    ap (λ k. drop 1 (take k s)) (sym e) ∙ drop-take 1 n s ∙ ap (λ k. take k (drop 1 s)) (sym f)
+
+pub points_between : (s : List ℕ) → points_after 0 (left (take (length s - 1) s) 1) ≡ text s
+unfolding text
+points_between s = ap (λ bs. points_after 0 (chars bs)) (body_place s (length s - 1))
+
+-- ---- the relation has one answer, the function's
+
+goes_on : (c : ℕ) (cs ds ps : List ℕ) (x n : ℕ) → (first_point (c ∷ cs) ≡ x) × (first_width (c ∷ cs) ≡ n) → drop n (c ∷ cs) ≡ ds → points_after 0 ds ≡ ps → points_after 0 (c ∷ cs) ≡ x ∷ ps
+goes_on c cs ds ps x n e d h =
+    points_cons c cs ∙ ap (λ y. y ∷ points_after 0 (drop (first_width (c ∷ cs)) (c ∷ cs))) e.0 ∙ ap (λ m. x ∷ points_after 0 (drop m (c ∷ cs))) e.1 ∙ ap (λ us. x ∷ points_after 0 us) d ∙ ap (λ us. x ∷ us) h
+
+pub stands_once : {cs ps : List ℕ} → StandFor cs ps → points_after 0 cs ≡ ps
+stands_once done = points_nil
+stands_once (plain c cs ps e s) = goes_on c cs cs ps c 1 (first_plain (c ∷ cs) e) refl (stands_once s)
+stands_once (letter c cs ps e s) = goes_on 92 (c ∷ cs) cs ps (escaped c) 2 (first_letter (92 ∷ c ∷ cs) e refl) refl (stands_once s)
+stands_once (single h i j k cs ps e s) = goes_on 92 (117 ∷ h ∷ i ∷ j ∷ k ∷ cs) cs ps _ 6 (first_unit (92 ∷ 117 ∷ h ∷ i ∷ j ∷ k ∷ cs) e refl) refl (stands_once s)
+stands_once (pair h i j k l m n o cs ps e f s) =
+    let cs0 = 92 ∷ 117 ∷ h ∷ i ∷ j ∷ k ∷ 92 ∷ 117 ∷ l ∷ m ∷ n ∷ o ∷ cs in
+    goes_on 92 (117 ∷ h ∷ i ∷ j ∷ k ∷ 92 ∷ 117 ∷ l ∷ m ∷ n ∷ o ∷ cs) cs ps _ 12 (first_pair cs0 (pair_shown cs0 refl e refl f)) refl (stands_once s)

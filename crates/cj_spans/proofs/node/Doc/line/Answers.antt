@@ -1,0 +1,7 @@
+use Rattle.std.proofs.Common.{refl}
+use Rattle.cj_spans.specs.View.{document_line}
+use Rattle.cj_spans.proofs.node.Doc.line.Goals as goal
+
+pub returns : goal.returns
+unfolding document_line
+returns c = refl

@@ -1,0 +1,22 @@
+use Rattle.std.proofs.Common.{refl}
+use Rattle.cj_spans.specs.View.{document, document_line}
+use Rattle.cj_spans.proofs.Scanned.{known, one_tree, its_tree}
+use Rattle.cj_spans.proofs.node.Doc.of.Goals as goal
+
+pub invariant_of-result : goal.invariant_of-result
+invariant_of-result c = let k = known c.args.line.now c.args.tokens.now c.requires in record { within = k.within; nested = k.nested; named = k.named }
+
+pub invariant_of-result-2 : goal.invariant_of-result-2
+invariant_of-result-2 c = record { known = (known c.args.line.now c.args.tokens.now c.requires).some }
+
+pub returns-clause-json : goal.returns-clause-json
+unfolding document
+returns-clause-json c = its_tree c.args.line.now c.args.tokens.now c.requires
+
+pub returns-clause-only : goal.returns-clause-only
+unfolding document
+returns-clause-only c = one_tree c.args.line.now c.args.tokens.now c.requires
+
+pub returns-clause-line : goal.returns-clause-line
+unfolding document_line
+returns-clause-line c = refl

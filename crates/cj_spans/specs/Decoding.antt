@@ -1,0 +1,29 @@
+-- What is read of a text, and what is left. Only private clauses cite it.
+use Rattle.std.specs.Prelude.{◌≡◌, ℕ, List, [], drop, Option, Some, None}
+use Rattle.std.specs.Str.{chars, chars_after}
+use Rattle.cj_spans.specs.declared.text.Point.{Point}
+use Rattle.cj_spans.specs.declared.text.Points.{Points}
+use Rattle.cj_spans.specs.declared.text.Characters.{Characters}
+use Rattle.cj_spans.specs.Text.{points_after}
+
+-- the characters that are left from a place on
+abbrev pub left : List ℕ → ℕ → List ℕ
+left bytes place = chars (drop place bytes)
+
+-- the characters that come where n bytes of the first are still to be read, or none
+abbrev pub after_read : List ℕ → ℕ → Option Point → List ℕ
+after_read bytes n None = []
+after_read bytes n (Some p) = chars_after n p.code (drop p.stop bytes)
+
+-- the number x stands for the front of the characters cs, of which it takes n
+pub record Takes (bytes cs : List ℕ) (x n : ℕ) (p : Point) : Type 0 where
+  pub code : p.code ≡ x
+  pub rest : left bytes p.stop ≡ drop n cs
+
+-- the code points that are left
+abbrev pub points_left : Points → List ℕ
+points_left p = points_after 0 (left p.bytes.now p.place)
+
+-- the characters that are left
+abbrev pub characters_left : Characters → List ℕ
+characters_left c = left c.bytes.now c.place

@@ -1,0 +1,83 @@
+-- What is asked of a tree: its kind, its spelling, its items and members, its text, the member of a name.
+use Rattle.std.specs.Prelude.{ℕ, List, [], ◌∷◌, slice_range, Bool, false, cond, Option, Some, None, option_and_then}
+use Rattle.cj_spans.specs.declared.token.Kind.{Kind}
+use Rattle.cj_spans.specs.declared.token.Kind.TheVariants.{Null, Truth, Number, Text, Array, Object}
+use Rattle.cj_spans.specs.Tree.{Tree, scalar, array, object, Items, no_items, item, Members, no_members, member}
+use Rattle.cj_spans.specs.Text.{text, are_same}
+
+-- the kind of a value or a name
+abbrev pub kind_of : Tree → Kind
+kind_of (scalar k a) = k
+kind_of (array i j ts) = Array
+kind_of (object i j ms) = Object
+
+-- its bytes in the line
+abbrev pub spelling_of : List ℕ → Tree → List ℕ
+spelling_of line (scalar k a) = a.spelling
+spelling_of line (array i j ts) = slice_range line i j
+spelling_of line (object i j ms) = slice_range line i j
+
+-- items as a list
+abbrev pub list_items : Items → List Tree
+list_items no_items = []
+list_items (item t ts) = t ∷ list_items ts
+
+-- the items of an array, in order; of any other tree none
+abbrev pub items_of : Tree → List Tree
+items_of (scalar k a) = []
+items_of (array i j ts) = list_items ts
+items_of (object i j ms) = []
+
+-- members as a list of names with their values
+abbrev pub list_members : Members → List (Tree × Tree)
+list_members no_members = []
+list_members (member n t ms) = (scalar Text n, t) ∷ list_members ms
+
+-- the members of an object, in order; of any other tree none
+abbrev pub members_of : Tree → List (Tree × Tree)
+members_of (scalar k a) = []
+members_of (array i j ts) = []
+members_of (object i j ms) = list_members ms
+
+-- the text of a scalar of the kind
+abbrev pub text_if : Kind → List ℕ → Option (List ℕ)
+text_if Text s = Some (text s)
+text_if Null s = None
+text_if Truth s = None
+text_if Number s = None
+text_if Array s = None
+text_if Object s = None
+
+-- the text of a string or a name; of any other tree none
+abbrev pub text_of : Tree → Option (List ℕ)
+text_of (scalar k a) = text_if k a.spelling
+text_of (array i j ts) = None
+text_of (object i j ms) = None
+
+-- whether there are two texts, and they are the same
+abbrev pub are_same_texts : Option (List ℕ) → Option (List ℕ) → Bool
+are_same_texts None o = false
+are_same_texts (Some s) None = false
+are_same_texts (Some s) (Some t) = are_same s t
+
+-- whether the tree is a string or a name with this text
+abbrev pub has_text : List ℕ → Tree → Bool
+has_text s t = are_same_texts (text_of t) (Some s)
+
+-- the first of a list
+abbrev pub head : List ℕ → Option ℕ
+head [] = None
+head (c ∷ cs) = Some c
+
+-- the first code point of the text; none where there is no text or it is empty
+abbrev pub first_code_of : Tree → Option ℕ
+first_code_of t = option_and_then head (text_of t)
+
+-- the value of the first member whose name has the text
+abbrev pub first_named : List ℕ → List (Tree × Tree) → Option Tree
+first_named s [] = None
+first_named s (m ∷ ms) = cond (has_text s m.0) (Some m.1) (first_named s ms)
+
+-- the first member of an object that has a name with the text; of any other tree none
+abbrev pub member_of : List ℕ → Tree → Option Tree
+member_of s t = first_named s (members_of t)

@@ -1,0 +1,70 @@
+-- When tokens show the tree of a line.
+use Rattle.std.specs.Prelude.{◌≡◌, ℕ, ◌+◌, ◌<◌, ◌≤◌, List, [], ◌∷◌, length, drop, Bool, true, false, ◌&&◌, Some, slice_get}
+use Rattle.cj_spans.specs.declared.token.Kind.TheVariants.{Text, Null, Truth, Number, Array, Object}
+use Rattle.cj_spans.specs.declared.token.Kind.{Kind}
+use Rattle.cj_spans.specs.declared.token.Token.{Token}
+use Rattle.cj_spans.specs.Tree.{Tree, scalar, array, object, size}
+use Rattle.cj_spans.specs.Json.{Json, byte}
+use Rattle.cj_spans.specs.Preorder.{spans_of}
+use Rattle.cj_spans.specs.Forest.{forest, held}
+
+-- the tokens are what a scan of the line leaves: they show a tree that the line spells, with one token for each of its
+-- values and names
+pub record AreOf (line : List ℕ) (tokens : List Token) : Type 0 where
+  pub tree : Tree
+  pub json : Json line tree
+  pub shown : forest line (spans_of tokens) ≡ tree ∷ []
+  pub count : length tokens ≡ size tree
+
+-- each token has a byte or more, all of the line
+abbrev pub AreWithin : List ℕ → List Token → Type 0
+AreWithin line tokens = (k : ℕ) (t : Token) → slice_get tokens k ≡ Some t → (t.start < t.stop) × (t.stop ≤ length line)
+
+-- from the k-th token on, what starts before the place stops before it
+abbrev pub StopBefore : List Token → ℕ → ℕ → Type 0
+StopBefore tokens k j = (i : ℕ) (t : Token) → k ≤ i → slice_get tokens i ≡ Some t → t.start < j → t.stop ≤ j
+
+-- a token that starts before an earlier one stops, stops before it too
+abbrev pub AreNested : List Token → Type 0
+AreNested tokens = (k : ℕ) (t : Token) → slice_get tokens k ≡ Some t → StopBefore tokens (k + 1) t.stop
+
+-- a name or another string
+abbrev pub is_kind_text : Kind → Bool
+is_kind_text Text = true
+is_kind_text Null = false
+is_kind_text Truth = false
+is_kind_text Number = false
+is_kind_text Array = false
+is_kind_text Object = false
+
+abbrev pub is_name : Tree → Bool
+is_name (scalar k a) = is_kind_text k
+is_name (array i j ts) = false
+is_name (object i j ms) = false
+
+-- names and other trees in turn
+abbrev pub are_members : List Tree → Bool
+are_members [] = true
+are_members (n ∷ []) = false
+are_members (n ∷ t ∷ ts) = is_name n && are_members ts
+
+-- what a token of an object holds are names and values in turn
+abbrev pub AreNamed : List ℕ → List Token → Type 0
+AreNamed line tokens = (k : ℕ) (t : Token) → slice_get tokens k ≡ Some t → byte line t.start ≡ 123 → are_members (held t.stop (forest line (drop (k + 1) (spans_of tokens)))) ≡ true
+
+-- where a walk over the items, or the members, of a value of the kind ends, which stops at j
+abbrev pub items_end : Kind → ℕ → ℕ
+items_end Array j = j
+items_end Null j = 0
+items_end Truth j = 0
+items_end Number j = 0
+items_end Text j = 0
+items_end Object j = 0
+
+abbrev pub members_end : Kind → ℕ → ℕ
+members_end Object j = j
+members_end Null j = 0
+members_end Truth j = 0
+members_end Number j = 0
+members_end Text j = 0
+members_end Array j = 0

@@ -1,0 +1,384 @@
+//! Views of a scanned line: its tree, shown by the line and its tokens.
+//!
+//! A [`Doc`] shows the tree of a line that a scan has accepted, a [`Node`] one value or name of it. They
+//! take no memory and none of their calls can fail; what is asked is looked up in the line.
+//!
+//! ```text
+//! let root = Doc::of(line, tokens.as_slice()).root();
+//! for (name, value) in root.members() {} // in order, also names that come again
+//! match root.get("type") {               // the first member of that name, however it is spelled
+//!     Some(value) => value.text_is("CityJSON"),
+//!     None => false,
+//! }
+//! ```
+ghost use Rattle.std.specs.Prelude.{◌≡◌, ◌<◌, ◌≤◌, ◌+◌, ◌^◌, ℕ, length, slice_get, Some, List, drop};
+ghost use Rattle.cj_spans.specs.Sound.{AreOf, AreWithin, AreNested, AreNamed, StopBefore};
+ghost use Rattle.cj_spans.specs.Tree.{Tree};
+ghost use Rattle.cj_spans.specs.declared.token.Token.{Token as TokenOf};
+ghost use Rattle.cj_spans.specs.Json.{Json, byte};
+ghost use Rattle.cj_spans.specs.Preorder.{spans_of};
+ghost use Rattle.cj_spans.specs.Forest.{forest, past, kind_by};
+ghost use Rattle.cj_spans.specs.Sound.{items_end as items_end_of, members_end as members_end_of};
+
+#[cfg(test)]
+mod callers;
+#[cfg(test)]
+mod examples;
+#[cfg(test)]
+mod tests;
+
+use crate::text::{Characters, Points, is_same_text, is_text};
+use crate::token::{Kind, Token};
+
+/// A line with the tokens that show its tree.
+#[derive(Clone, Copy)]
+struct Source<'a> {
+    line: &'a [u8],
+    tokens: &'a [Token],
+    ghost within: { AreWithin line.now tokens.now },
+    ghost nested: { AreNested tokens.now },
+    ghost named: { AreNamed line.now tokens.now },
+}
+
+/// The tree of a line.
+#[derive(Clone, Copy)]
+pub struct Doc<'a> {
+    source: Source<'a>,
+    ghost known: { 0 < length source.tokens.now },
+}
+
+/// A value or a member name of a line.
+#[derive(Clone, Copy)]
+pub struct Node<'a> {
+    source: Source<'a>,
+    number: usize,
+    ghost known: { number < length source.tokens.now },
+}
+
+/// The items of an array that are left, in order.
+#[derive(Clone, Copy)]
+pub struct Items<'a> {
+    source: Source<'a>,
+    next: usize,
+    stop: usize,
+}
+
+/// The members of an object that are left, in order.
+#[derive(Clone, Copy)]
+pub struct Members<'a> {
+    source: Source<'a>,
+    next: usize,
+    stop: usize,
+}
+
+/// The token of a number.
+fn token_at(tokens: &[Token], number: usize) -> Token
+    requires { number < length tokens.now }
+    ensures { slice_get tokens.now number ≡ Some result }
+{
+    tokens[number]
+}
+
+/// The kind of the value or name that starts here (RFC 8259, section 3).
+fn kind_at(line: &[u8], start: usize) -> Kind
+    requires { start < length line.now }
+    ensures { result ≡ kind_by (byte line.now start) }
+{
+    match line[start] {
+        b'[' => Kind::Array,
+        b'{' => Kind::Object,
+        b'"' => Kind::Text,
+        b'n' => Kind::Null,
+        b't' => Kind::Truth,
+        b'f' => Kind::Truth,
+        _ => Kind::Number,
+    }
+}
+
+/// Where a walk over the items of a value of this kind ends, which stops at `stop`.
+fn items_end(kind: Kind, stop: usize) -> usize
+    ensures { result ≡ items_end_of kind stop }
+{
+    match kind {
+        Kind::Array => stop,
+        _ => 0,
+    }
+}
+
+/// Where a walk over the members of a value of this kind ends, which stops at `stop`.
+fn members_end(kind: Kind, stop: usize) -> usize
+    ensures { result ≡ members_end_of kind stop }
+{
+    match kind {
+        Kind::Object => stop,
+        _ => 0,
+    }
+}
+
+/// The first token from `from` on that does not start before `stop`, or the number of tokens.
+fn skip(tokens: &[Token], from: usize, stop: usize) -> usize
+    requires nested { StopBefore tokens.now from stop }
+    requires order { from ≤ length tokens.now }
+    ensures order { (from ≤ result) × (result ≤ length tokens.now) }
+    ensures rest { (line : List ℕ) → forest line (drop result (spans_of tokens.now))
+        ≡ past stop (forest line (drop from (spans_of tokens.now))) }
+{
+    let mut number = from;
+    while number < tokens.len() {
+        let token = token_at(tokens, number);
+        if token.start as usize >= stop {
+            return number;
+        }
+        number += 1;
+    }
+    number
+}
+
+impl<'a> Source<'a> {
+    /// The first later token that does not start before the end of the token of this number.
+    fn after(self, number: usize) -> usize
+        requires { number < length self.tokens.now }
+        ensures order { (number < result) × (result ≤ length self.entry.tokens.now) }
+        ensures rest { (t : TokenOf) → slice_get self.entry.tokens.now number ≡ Some t
+            → forest self.entry.line.now (drop result (spans_of self.entry.tokens.now))
+            ≡ past t.stop (forest self.entry.line.now (drop (number + 1) (spans_of self.entry.tokens.now))) }
+    {
+        let token = token_at(self.tokens, number);
+        skip(self.tokens, number + 1, token.stop as usize)
+    }
+}
+
+impl<'a> Doc<'a> {
+    ghost use Rattle.cj_spans.specs.View.{document, document_line, tree, line_of};
+
+    /// Views a line by the tokens that a scan of it has left with `Ok`. A copy of the line and the tokens
+    /// serves as well, also later.
+    pub fn of(line: &'a [u8], tokens: &'a [Token]) -> Doc<'a>
+        requires { AreOf line.now tokens.now }
+        ensures json { Json line.now (document result) }
+        ensures only { (t : Tree) → Json line.now t → document result ≡ t }
+        ensures line { document_line result ≡ line.now }
+    {
+        Doc {
+            source: Source { line, tokens },
+        }
+    }
+
+    /// The value that the line is.
+    pub fn root(self) -> Node<'a>
+        ensures tree { tree result ≡ document self.entry }
+        ensures line { line_of result ≡ document_line self.entry }
+    {
+        Node {
+            source: self.source,
+            number: 0,
+        }
+    }
+
+    /// The line, lent for as long as it was lent to [`Doc::of`].
+    pub fn line(self) -> &'a [u8]
+        ensures { result.now ≡ document_line self.entry }
+    {
+        let line = self.source.line;
+        line
+    }
+}
+
+impl<'a> Node<'a> {
+    ghost use Rattle.cj_spans.specs.Parts.{kind_of, spelling_of, items_of, members_of};
+    ghost use Rattle.cj_spans.specs.Tree.{start_of};
+    ghost use Rattle.cj_spans.specs.View.{tree, line_of, items_left, items_line, members_left, members_line};
+
+    /// What kind of value it is. A member name is a `Text`.
+    pub fn kind(self) -> Kind
+        ensures { result ≡ kind_of (tree self.entry) }
+    {
+        let token = token_at(self.source.tokens, self.number);
+        kind_at(self.source.line, token.start as usize)
+    }
+
+    /// Where it starts: the offset of its first byte in the line, from 0. For a string that is its
+    /// opening quote.
+    pub fn start(self) -> u64
+        ensures { result ≡ start_of (tree self.entry) }
+    {
+        token_at(self.source.tokens, self.number).start as u64
+    }
+
+    /// Its bytes in the line, as they are spelled there.
+    pub fn bytes(self) -> &'a [u8]
+        ensures spelling { result.now ≡ spelling_of (line_of self.entry) (tree self.entry) }
+        ensures filled { 0 < length result.now }
+    {
+        let token = token_at(self.source.tokens, self.number);
+        &self.source.line[token.start as usize..token.stop as usize]
+    }
+
+    /// The items of an array, in order (RFC 8259, section 5); none of any other value.
+    pub fn items(self) -> Items<'a>
+        ensures items { items_left result ≡ items_of (tree self.entry) }
+        ensures line { items_line result ≡ line_of self.entry }
+        ensures few { length (items_left result) < 2 ^ 63 }
+    {
+        let token = token_at(self.source.tokens, self.number);
+        let stop = items_end(self.kind(), token.stop as usize);
+        Items {
+            source: self.source,
+            next: self.number + 1,
+            stop,
+        }
+    }
+
+    /// The members of an object, names with values, in order (RFC 8259, section 4); none of any other
+    /// value.
+    pub fn members(self) -> Members<'a>
+        ensures members { members_left result ≡ members_of (tree self.entry) }
+        ensures line { members_line result ≡ line_of self.entry }
+        ensures few { length (members_left result) < 2 ^ 63 }
+    {
+        let token = token_at(self.source.tokens, self.number);
+        let stop = members_end(self.kind(), token.stop as usize);
+        Members {
+            source: self.source,
+            next: self.number + 1,
+            stop,
+        }
+    }
+}
+
+impl<'a> Node<'a> {
+    ghost use Rattle.std.specs.Prelude.{option_map, IfSome, IsTrue, ◌↔◌};
+    ghost use Rattle.std.specs.Str.{chars};
+    ghost use Rattle.cj_spans.specs.Parts.{text_of, are_same_texts, has_text, first_code_of, member_of};
+    ghost use Rattle.cj_spans.specs.Decoding.{points_left};
+    ghost use Rattle.cj_spans.specs.View.{tree, line_of};
+
+    /// The code points of a string or a name, one at a time; None for any other value.
+    fn points(self) -> Option<Points<'a>>
+        ensures { option_map points_left result ≡ text_of (tree self.entry) }
+    {
+        match self.kind() {
+            Kind::Text => Some(Points::of(self.bytes())),
+            _ => None,
+        }
+    }
+
+    /// The first code point of the text of a string or a name, its escapes undone (RFC 8259, section
+    /// 7); None for an empty text and for any other value.
+    pub fn first_code(self) -> Option<u32>
+        ensures { result ≡ first_code_of (tree self.entry) }
+    {
+        match self.points() {
+            Some(points) => {
+                let mut points = points;
+                points.next()
+            }
+            None => None,
+        }
+    }
+
+    /// Whether it is a string or a name with this text. Texts are compared by code points, with the
+    /// escapes undone (RFC 8259, sections 7 and 8.3).
+    pub fn text_is(self, text: &str) -> bool
+        ensures test { result ≡ has_text (chars text.now) (tree self.entry) }
+        ensures means { IsTrue result ↔ (text_of (tree self.entry) ≡ Some (chars text.now)) }
+    {
+        match self.points() {
+            Some(points) => is_text(points, Characters::of(text)),
+            None => false,
+        }
+    }
+
+    /// Whether both are strings or names and have the same text.
+    pub fn same_text(self, other: Node) -> bool
+        ensures test { result ≡ are_same_texts (text_of (tree self.entry)) (text_of (tree other.entry)) }
+        ensures means { IsTrue result ↔ ((t : List ℕ) × (text_of (tree self.entry) ≡ Some t)
+            × (text_of (tree other.entry) ≡ Some t)) }
+    {
+        match self.points() {
+            Some(points) => match other.points() {
+                Some(others) => is_same_text(points, others),
+                None => false,
+            },
+            None => false,
+        }
+    }
+
+    /// The value of the first member whose name has this text; None where there is none, and for any
+    /// value that is no object.
+    pub fn get(self, name: &str) -> Option<Node<'a>>
+        ensures value { option_map tree result ≡ member_of (chars name.now) (tree self.entry) }
+        ensures line { IfSome result (λ n. line_of n ≡ line_of self.entry) }
+    {
+        for (key, value) in self.members() {
+            if key.text_is(name) {
+                return Some(value);
+            }
+        }
+        None
+    }
+}
+
+impl<'a> Iterator for Items<'a> {
+    ghost use Rattle.std.specs.Iterator.{item_count};
+    ghost use Rattle.cj_spans.specs.View.{items_left, YieldsItem};
+
+    type Item = Node<'a>;
+
+    ghost next_gives = { YieldsItem };
+
+    ghost remaining = { item_count items_left };
+
+    fn next(&mut self) -> Option<Node<'a>> {
+        let source = self.source;
+        let number = self.next;
+        if number >= source.tokens.len() {
+            return None;
+        }
+        if token_at(source.tokens, number).start as usize >= self.stop {
+            return None;
+        }
+        self.next = source.after(number);
+        Some(Node { source, number })
+    }
+}
+
+impl<'a> Iterator for Members<'a> {
+    ghost use Rattle.std.specs.Iterator.{item_count};
+    ghost use Rattle.cj_spans.specs.View.{members_left, YieldsMember};
+
+    type Item = (Node<'a>, Node<'a>);
+
+    ghost next_gives = { YieldsMember };
+
+    ghost remaining = { item_count members_left };
+
+    fn next(&mut self) -> Option<(Node<'a>, Node<'a>)> {
+        let source = self.source;
+        let name = self.next;
+        if name >= source.tokens.len() {
+            return None;
+        }
+        if token_at(source.tokens, name).start as usize >= self.stop {
+            return None;
+        }
+        let value = source.after(name);
+        if value >= source.tokens.len() {
+            return None;
+        }
+        if token_at(source.tokens, value).start as usize >= self.stop {
+            return None;
+        }
+        self.next = source.after(value);
+        Some((
+            Node {
+                source,
+                number: name,
+            },
+            Node {
+                source,
+                number: value,
+            },
+        ))
+    }
+}

@@ -1,0 +1,53 @@
+//! Rules as the layers above write them: what is kept of a walk is the least of the findings of a
+//! definition over the tree.
+ghost use Rattle.std.specs.Prelude.{◌≡◌};
+ghost use Rattle.std.specs.Str.{chars};
+ghost use Rattle.cj_spans.specs.Finding.{least};
+ghost use Rattle.cj_spans.specs.View.{tree};
+ghost use Rattle.cj_spans.specs.Examples.{not_number, not_numbers, not_lists_of_numbers, member_no_number};
+
+use crate::{Finding, Kind, Least, Node, Reason};
+
+/// The value is a number, else a finding at it.
+fn is_number(node: Node, found: &mut Least)
+    ensures { found.new ≡ least found.old (not_number (tree node.entry)) }
+{
+    match node.kind() {
+        Kind::Number => {}
+        _ => found.add(Finding {
+            place: node.start(),
+            reason: Reason::WrongKind,
+        }),
+    }
+}
+
+/// Each item is a number, else a finding at the item.
+fn are_numbers(node: Node, found: &mut Least)
+    ensures { found.new ≡ least found.old (not_numbers (tree node.entry)) }
+{
+    for item in node.items() {
+        is_number(item, found);
+    }
+}
+
+/// The same one level down.
+fn are_lists_of_numbers(node: Node, found: &mut Least)
+    ensures { found.new ≡ least found.old (not_lists_of_numbers (tree node.entry)) }
+{
+    for item in node.items() {
+        are_numbers(item, found);
+    }
+}
+
+/// The member of this name is a number, else a finding at it, or at the object where there is none.
+fn has_number(node: Node, name: &str, found: &mut Least)
+    ensures { found.new ≡ least found.old (member_no_number (chars name.now) (tree node.entry)) }
+{
+    match node.get(name) {
+        Some(value) => is_number(value, found),
+        None => found.add(Finding {
+            place: node.start(),
+            reason: Reason::MissingMember,
+        }),
+    }
+}

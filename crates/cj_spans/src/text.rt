@@ -1,0 +1,346 @@
+//! The code points of strings (RFC 8259, section 7), one at a time, without a buffer.
+ghost use Rattle.std.specs.Prelude.{◌≡◌, ◌+◌, ◌-◌, ◌*◌, ◌<◌, ◌≤◌, ◌^◌, ℕ, suc, [], ◌∷◌, length, drop, get_or, nat_eq, IfSome, is_some, Some, List, true};
+ghost use Rattle.std.specs.Str.{chars, chars_after};
+ghost use Rattle.std.specs.Char.{digit_value as digit_value_of};
+ghost use Rattle.std.specs.Char.Utf16.{is_high_surrogate as is_high_of, is_low_surrogate as is_low_of};
+ghost use Rattle.cj_spans.specs.Decoding.{left, after_read, Takes, points_left, characters_left};
+ghost use Rattle.cj_spans.specs.Text.{char_of, four_digits, escaped as escaped_of, is_escaped, is_unicode, unit, first_point, first_width, text, are_same};
+
+#[cfg(test)]
+mod examples;
+
+/// A code point, and the place after it.
+#[derive(Clone, Copy)]
+pub(crate) struct Point {
+    pub(crate) code: u32,
+    pub(crate) stop: usize,
+}
+
+/// Takes one byte more of a character; None where there is none.
+#[inline(always)]
+fn add_byte(bytes: &[u8], read: Point) -> Option<Point>
+    requires { read.code < 2 ^ 25 }
+    ensures more { (n : ℕ) → chars_after (suc n) read.code (drop read.stop bytes.now)
+        ≡ after_read bytes.now n result }
+    ensures size { IfSome result (λ p. p.code ≤ read.code * 64 + 127) }
+    ensures place { IfSome result (λ p. (read.stop < p.stop) × (p.stop ≤ length bytes.now)) }
+{
+    if read.stop >= bytes.len() {
+        return None;
+    }
+    Some(Point {
+        code: read.code * 64 + bytes[read.stop].saturating_sub(128) as u32,
+        stop: read.stop + 1,
+    })
+}
+
+/// Takes two bytes more of a character.
+fn add_two(bytes: &[u8], read: Point) -> Option<Point>
+    requires { read.code < 2 ^ 18 }
+    ensures more { (n : ℕ) → chars_after (suc (suc n)) read.code (drop read.stop bytes.now)
+        ≡ after_read bytes.now n result }
+    ensures size { IfSome result (λ p. p.code ≤ read.code * 4096 + 8255) }
+    ensures place { IfSome result (λ p. (read.stop < p.stop) × (p.stop ≤ length bytes.now)) }
+{
+    match add_byte(bytes, read) {
+        Some(second) => add_byte(bytes, second),
+        None => None,
+    }
+}
+
+/// Takes three bytes more of a character.
+fn add_three(bytes: &[u8], read: Point) -> Option<Point>
+    requires { read.code < 256 }
+    ensures more { (n : ℕ) → chars_after (suc (suc (suc n))) read.code (drop read.stop bytes.now)
+        ≡ after_read bytes.now n result }
+    ensures place { IfSome result (λ p. (read.stop < p.stop) × (p.stop ≤ length bytes.now)) }
+{
+    match add_two(bytes, read) {
+        Some(third) => add_byte(bytes, third),
+        None => None,
+    }
+}
+
+/// The character of UTF-8 at a place (RFC 3629, section 3); None where there is none.
+#[inline(always)]
+fn first_char(bytes: &[u8], place: usize) -> Option<Point>
+    ensures char { left bytes.now place ≡ after_read bytes.now 0 result }
+    ensures place { IfSome result (λ p. (place < p.stop) × (p.stop ≤ length bytes.now)) }
+{
+    if place >= bytes.len() {
+        return None;
+    }
+    let lead = bytes[place];
+    let stop = place + 1;
+    if lead < 128 {
+        let code = lead as u32;
+        Some(Point { code, stop })
+    } else if lead < 224 {
+        let code = lead.saturating_sub(192) as u32;
+        add_byte(bytes, Point { code, stop })
+    } else if lead < 240 {
+        let code = (lead - 224) as u32;
+        add_two(bytes, Point { code, stop })
+    } else {
+        let code = (lead - 240) as u32;
+        add_three(bytes, Point { code, stop })
+    }
+}
+
+/// The character at a place, or 0 at the end where there is none.
+#[inline(always)]
+fn char_at(bytes: &[u8], place: usize) -> Point
+    ensures { (cs : List ℕ) → left bytes.now place ≡ cs → Takes bytes.now cs (char_of cs 0) 1 result }
+{
+    match first_char(bytes, place) {
+        Some(first) => first,
+        None => Point {
+            code: 0,
+            stop: bytes.len(),
+        },
+    }
+}
+
+/// The value of a hexadecimal digit.
+fn digit_value(digit: u32) -> u32
+    ensures value { result ≡ digit_value_of digit }
+    ensures size { result ≤ 36 }
+{
+    match digit {
+        48..=57 => digit - 48,
+        65..=90 => digit - 55,
+        97..=122 => digit - 87,
+        _ => 36,
+    }
+}
+
+/// The number of four hexadecimal digits.
+fn read_digits(bytes: &[u8], place: usize) -> Point
+    ensures reads { (cs : List ℕ) → left bytes.now place ≡ cs → Takes bytes.now cs (four_digits cs) 4 result }
+    ensures size { result.code < 2 ^ 18 }
+{
+    let first = char_at(bytes, place);
+    let second = char_at(bytes, first.stop);
+    let third = char_at(bytes, second.stop);
+    let fourth = char_at(bytes, third.stop);
+    let high = digit_value(first.code) * 16 + digit_value(second.code);
+    let low = digit_value(third.code) * 16 + digit_value(fourth.code);
+    Point {
+        code: high * 256 + low,
+        stop: fourth.stop,
+    }
+}
+
+/// The unit of an escape with `u`; None where another character or escape is at the place.
+fn read_unit(bytes: &[u8], place: usize) -> Option<Point>
+    ensures is { (cs : List ℕ) → left bytes.now place ≡ cs → is_some result ≡ is_unicode cs }
+    ensures reads { IfSome result (λ p. (cs : List ℕ) → left bytes.now place ≡ cs → Takes bytes.now cs (unit cs) 6 p) }
+    ensures size { IfSome result (λ p. p.code < 2 ^ 18) }
+{
+    let slash = char_at(bytes, place);
+    let mark = char_at(bytes, slash.stop);
+    if slash.code == b'\\' as u32 && mark.code == b'u' as u32 {
+        Some(read_digits(bytes, mark.stop))
+    } else {
+        None
+    }
+}
+
+/// What a letter after a backslash stands for.
+fn escaped(letter: u32) -> u32
+    ensures { result ≡ escaped_of letter }
+{
+    match letter {
+        98 => 8,
+        102 => 12,
+        110 => 10,
+        114 => 13,
+        116 => 9,
+        _ => letter,
+    }
+}
+
+/// Whether a unit is the first one of a surrogate pair.
+fn is_high(unit: u32) -> bool
+    ensures { result ≡ is_high_of unit }
+{
+    unit >= 0xD800 && unit < 0xDC00
+}
+
+/// Whether a unit is the second one of a surrogate pair.
+fn is_low(unit: u32) -> bool
+    ensures { result ≡ is_low_of unit }
+{
+    unit >= 0xDC00 && unit < 0xE000
+}
+
+/// The code point of a unit, and of the one that is escaped behind it where the two are a pair.
+fn join(bytes: &[u8], high: Point) -> Point
+    requires { high.code < 2 ^ 18 }
+    ensures { (cs : List ℕ) → is_unicode cs ≡ true → Takes bytes.now cs (unit cs) 6 high
+        → Takes bytes.now cs (first_point cs) (first_width cs) result }
+{
+    if !is_high(high.code) {
+        return high;
+    }
+    match read_unit(bytes, high.stop) {
+        Some(low) => {
+            if is_low(low.code) {
+                Point {
+                    code: 0x1_0000 + (high.code - 0xD800) * 0x400 + (low.code - 0xDC00),
+                    stop: low.stop,
+                }
+            } else {
+                high
+            }
+        }
+        None => high,
+    }
+}
+
+/// The code point of an escape.
+fn read_escape(bytes: &[u8], place: usize) -> Point
+    ensures { (cs : List ℕ) → left bytes.now place ≡ cs → is_escaped cs ≡ true
+        → Takes bytes.now cs (first_point cs) (first_width cs) result }
+{
+    match read_unit(bytes, place) {
+        Some(unit) => join(bytes, unit),
+        None => {
+            let slash = char_at(bytes, place);
+            let letter = char_at(bytes, slash.stop);
+            Point {
+                code: escaped(letter.code),
+                stop: letter.stop,
+            }
+        }
+    }
+}
+
+/// The code point at a place, whose first character has been read.
+#[inline(always)]
+fn point_of(bytes: &[u8], place: usize, first: Point) -> Point
+    requires { left bytes.now place ≡ after_read bytes.now 0 (Some first) }
+    ensures { let cs = left bytes.now place in Takes bytes.now cs (first_point cs) (first_width cs) result }
+{
+    if first.code == b'\\' as u32 {
+        read_escape(bytes, place)
+    } else {
+        first
+    }
+}
+
+/// The code points of a string's body, from a place on.
+#[derive(Clone, Copy)]
+pub(crate) struct Points<'a> {
+    bytes: &'a [u8],
+    place: usize,
+}
+
+impl<'a> Points<'a> {
+    /// The code points of a string, given with its quotes.
+    pub(crate) fn of(spelling: &'a [u8]) -> Points<'a>
+        requires { 0 < length spelling.now }
+        ensures { points_left result ≡ text spelling.now }
+    {
+        Points {
+            bytes: &spelling[..spelling.len() - 1],
+            place: 1,
+        }
+    }
+}
+
+impl<'a> Iterator for Points<'a> {
+    ghost use Rattle.std.specs.Iterator.{YieldsFirst, item_count};
+
+    type Item = u32;
+
+    ghost next_gives = { YieldsFirst points_left };
+
+    ghost remaining = { item_count points_left };
+
+    fn next(&mut self) -> Option<u32> {
+        match first_char(self.bytes, self.place) {
+            Some(first) => {
+                let point = point_of(self.bytes, self.place, first);
+                self.place = point.stop;
+                Some(point.code)
+            }
+            None => None,
+        }
+    }
+}
+
+/// The characters of a text of UTF-8, from a place on.
+#[derive(Clone, Copy)]
+pub(crate) struct Characters<'a> {
+    bytes: &'a [u8],
+    place: usize,
+}
+
+impl<'a> Characters<'a> {
+    /// The characters of a text.
+    pub(crate) fn of(text: &'a str) -> Characters<'a>
+        ensures { characters_left result ≡ chars text.now }
+    {
+        Characters {
+            bytes: text.as_bytes(),
+            place: 0,
+        }
+    }
+}
+
+impl<'a> Iterator for Characters<'a> {
+    ghost use Rattle.std.specs.Iterator.{YieldsFirst, item_count};
+
+    type Item = u32;
+
+    ghost next_gives = { YieldsFirst characters_left };
+
+    ghost remaining = { item_count characters_left };
+
+    fn next(&mut self) -> Option<u32> {
+        match first_char(self.bytes, self.place) {
+            Some(first) => {
+                self.place = first.stop;
+                Some(first.code)
+            }
+            None => None,
+        }
+    }
+}
+
+/// Whether a string's text is these characters.
+pub(crate) fn is_text(points: Points, characters: Characters) -> bool
+    ensures { result ≡ are_same (points_left points.entry) (characters_left characters.entry) }
+{
+    let mut rest = characters;
+    for point in points {
+        match rest.next() {
+            Some(character) => {
+                if character != point {
+                    return false;
+                }
+            }
+            None => return false,
+        }
+    }
+    rest.next().is_none()
+}
+
+/// Whether two strings have one text.
+pub(crate) fn is_same_text(points: Points, others: Points) -> bool
+    ensures { result ≡ are_same (points_left points.entry) (points_left others.entry) }
+{
+    let mut later = others;
+    for point in points {
+        match later.next() {
+            Some(other) => {
+                if other != point {
+                    return false;
+                }
+            }
+            None => return false,
+        }
+    }
+    later.next().is_none()
+}

@@ -1,0 +1,60 @@
+//! The texts of worked spellings: each contract is a theorem on one spelling.
+ghost use Rattle.std.specs.Prelude.{◌≡◌, ◌∷◌, [], codes, List, ℕ};
+ghost use Rattle.std.specs.Str.{chars};
+ghost use Rattle.cj_spans.specs.Text.{text, body_of, StandFor};
+
+/// Two quotes alone.
+pub fn empty_text()
+    ensures { text (codes "\"\"") ≡ [] }
+{}
+
+/// An escaped letter is that letter.
+pub fn escaped_letter()
+    ensures { text (codes "\"\\u0062\"") ≡ codes "b" }
+{}
+
+/// The short escapes.
+pub fn short_escapes()
+    ensures { text (codes "\"\\\"\\\\\\/\\b\\f\\n\\r\\t\"") ≡ 34 ∷ 92 ∷ 47 ∷ 8 ∷ 12 ∷ 10 ∷ 13 ∷ 9 ∷ [] }
+{}
+
+/// Two escaped surrogates that are a pair are one code point, in digits of either case.
+pub fn escaped_pair()
+    ensures { text (codes "\"\\ud83d\\uDE00\"") ≡ 128512 ∷ [] }
+{}
+
+/// A surrogate alone stands for itself.
+pub fn lone_surrogate()
+    ensures { text (codes "\"\\ud83d\"") ≡ 55357 ∷ [] }
+{}
+
+/// Two surrogates in the other order are no pair.
+pub fn turned_pair()
+    ensures { text (codes "\"\\ude00\\ud83d\"") ≡ 56832 ∷ 55357 ∷ [] }
+{}
+
+/// The first of a pair is the one that the second follows at once.
+pub fn pair_after_lone()
+    ensures { text (codes "\"\\ud83d\\ud83d\\ude00\"") ≡ 55357 ∷ 128512 ∷ [] }
+{}
+
+/// A letter between two surrogates keeps them apart.
+pub fn parted_pair()
+    ensures { text (codes "\"\\ud83dx\\ude00\"") ≡ 55357 ∷ 120 ∷ 56832 ∷ [] }
+{}
+
+/// A backslash that is escaped begins no escape.
+pub fn escaped_backslash()
+    ensures { text (codes "\"\\\\u0062\"") ≡ codes "\\u0062" }
+{}
+
+/// Characters of two, three and four bytes in UTF-8 (RFC 3629).
+pub fn longer_characters()
+    ensures { text (34 ∷ 195 ∷ 169 ∷ 226 ∷ 130 ∷ 172 ∷ 240 ∷ 159 ∷ 152 ∷ 128 ∷ 34 ∷ []) ≡ 233 ∷ 8364 ∷ 128512 ∷ [] }
+{}
+
+/// The text of a string is what the characters between its quotes stand for, by the cases of the
+/// grammar, and nothing else.
+pub fn one_text()
+    ensures { (s ps : List ℕ) → StandFor (chars (body_of s)) ps → text s ≡ ps }
+{}
