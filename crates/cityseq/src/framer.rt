@@ -123,7 +123,12 @@ impl Framer {
         ensures lists { JudgesLine self.old.lines (begun_of (reading self.old)) (scanning self.old) (scanning self.new) result }
     {
         if self.lines == 0 {
-            judge(1, self.header.as_slice(), &mut self.header_tokens, &mut self.opened)
+            judge(
+                1,
+                self.header.as_slice(),
+                &mut self.header_tokens,
+                &mut self.opened,
+            )
         } else {
             judge(
                 self.lines + 1,
