@@ -1,5 +1,5 @@
 -- The characters between the quotes of a string stand for code points.
-use Rattle.std.proofs.Common.{◌≡◌, ℕ, zero, suc, ◌+◌, ◌-◌, ◌<◌, ◌≤◌, List, [], ◌∷◌, ◌++◌, length, take, drop, get_or, Bool, true, false, ◌&&◌, ◌⊎◌, inl, inr, nat_eq, refl, sym, ap, subst, arith, ◌∙◌, length-append}
+use Rattle.std.proofs.Common.{◌≡◌, ℕ, zero, suc, ◌-◌, ◌<◌, ◌≤◌, List, [], ◌∷◌, ◌++◌, length, take, get_or, Bool, true, false, ◌&&◌, ◌⊎◌, inl, inr, nat_eq, refl, sym, ap, subst, arith, ◌∙◌, length-append}
 use Rattle.std.proofs.lemmas.List.{append-nil, take-append-le}
 use Rattle.std.proofs.lemmas.Bool.Decides.{nat_tests}
 use Rattle.std.proofs.lemmas.Str.{encode_ascii, inside_one, cons_from_encodes, chars-encodes, IsUtf8-past_char, IsUtf8-take, IsCharBoundary-before_ascii}
@@ -7,7 +7,7 @@ use Rattle.std.specs.Str.{chars, IsUtf8, encode_utf8_all}
 use Rattle.std.specs.Prelude.{encode_utf8}
 use Rattle.std.specs.Char.Utf16.{is_high_surrogate, is_low_surrogate}
 use Rattle.cj_spans.specs.Spelling.{is_plain, is_escape, is_hex, IsBody, nothing, plain as plain_byte, escape, unicode, IsString}
-use Rattle.cj_spans.specs.Text.{char_of, four_digits, unit, is_unicode, is_escaped, is_pair, escaped, body_of, StandFor, done, plain, letter, single, pair}
+use Rattle.cj_spans.specs.Text.{char_of, four_digits, unit, is_unicode, is_pair, body_of, StandFor, done, plain, letter, single, pair}
 
 -- how the bytes b and r of a body begin
 data Begins (b : ℕ) (r : List ℕ) : Type 0 where
