@@ -20,3 +20,4 @@ pub mod Findings
 pub mod Texts
 pub mod Views
 pub mod Scanned
+pub mod Strings

@@ -6,11 +6,19 @@
 //! [`cj_budget::Stack`], so what it takes is bounded by the line's length and the depth limit.
 //! [`Reason`] is the list of all that a line can be refused for.
 //!
+//! [`Doc`] and [`Node`] view a line that was scanned: they read like its tree, and hold no more than
+//! the line and its tokens. A rule of the layers above looks at nodes and adds each [`Finding`] to a
+//! [`Least`], which keeps the one that is told.
+//!
 //! ```text
 //! let mut tokens = Bounded::new(alloc, (line.len() + 64 + 1) / 2);
 //! let mut stack = Stack::new(alloc, 64); // at most 64 open arrays and objects
 //! match scan(line, &mut tokens, &mut stack) {
-//!     Ok(()) => {}                           // tokens.len() values and names
+//!     Ok(()) => {
+//!         let root = Doc::of(line, tokens.as_slice()).root();
+//!         let kind = root.get("type");       // the first member of that name, however it is spelled
+//!         for (name, value) in root.members() {}
+//!     }
 //!     Err(ScanFault::Syntax(place)) => {}    // no JSON text begins with line[..=place]
 //!     Err(fault) => return Err(fault),
 //! }

@@ -308,3 +308,25 @@ fn texts_are_compared_by_code_points(rt: HostRuntime) -> Result<(), Fail> {
     }
     Ok(())
 }
+
+#[test]
+fn a_copy_is_viewed_as_the_line_was(rt: HostRuntime) -> Result<(), Fail> {
+    let line = b"{\"a\":[1,2],\"b\":\"\\u0061\"}";
+    let mut tokens: Bounded<Token> = Bounded::new(rt.alloc(), 64);
+    let mut stack = Stack::new(rt.alloc(), 4);
+    match scan(line, &mut tokens, &mut stack) {
+        Ok(()) => {}
+        Err(fault) => panic!(&rt; "{fault:?}"),
+    }
+    let bytes = line.to_vec(rt.alloc())?;
+    let kept = tokens.as_slice().to_vec(rt.alloc())?;
+    tokens.clear();
+    let doc = Doc::of(bytes.as_slice(), kept.as_slice());
+    assert_eq!(&rt; doc.line(), line.as_slice());
+    assert_eq!(&rt; got(doc.root(), "a"), Some(b"[1,2]".as_slice()));
+    match doc.root().get("b") {
+        Some(value) => assert!(&rt; value.text_is("a")),
+        None => panic!(&rt; "no member"),
+    }
+    Ok(())
+}

@@ -1,0 +1,200 @@
+-- The characters between the quotes of a string stand for code points.
+use Rattle.std.proofs.Common.{◌≡◌, ℕ, zero, suc, ◌-◌, ◌<◌, ◌≤◌, List, [], ◌∷◌, ◌++◌, length, take, get_or, Bool, true, false, ◌&&◌, ◌⊎◌, inl, inr, nat_eq, refl, sym, ap, subst, arith, ◌∙◌, length-append}
+use Rattle.std.proofs.lemmas.List.{append-nil, take-append-le}
+use Rattle.std.proofs.lemmas.Bool.Decides.{nat_tests}
+use Rattle.std.proofs.lemmas.Str.{encode_ascii, inside_one, cons_from_encodes, chars-encodes, IsUtf8-past_char, IsUtf8-take, IsCharBoundary-before_ascii}
+use Rattle.std.specs.Str.{chars, IsUtf8, encode_utf8_all}
+use Rattle.std.specs.Prelude.{encode_utf8}
+use Rattle.std.specs.Char.Utf16.{is_high_surrogate, is_low_surrogate}
+use Rattle.cj_spans.specs.Spelling.{is_plain, is_escape, is_hex, IsBody, nothing, plain as plain_byte, escape, unicode, IsString}
+use Rattle.cj_spans.specs.Text.{char_of, four_digits, unit, is_unicode, is_pair, body_of, StandFor, done, plain, letter, single, pair}
+
+-- how the bytes b and r of a body begin
+data Begins (b : ℕ) (r : List ℕ) : Type 0 where
+  by_plain : is_plain b ≡ true → IsBody r → Begins b r
+  by_escape : b ≡ 92 → (e : ℕ) (s : List ℕ) → r ≡ e ∷ s → is_escape e ≡ true → IsBody s → Begins b r
+  by_unicode : b ≡ 92 → (h i j k : ℕ) (s : List ℕ) → r ≡ 117 ∷ h ∷ i ∷ j ∷ k ∷ s → is_hex h && is_hex i && is_hex j && is_hex k ≡ true → IsBody s → Begins b r
+
+begins : {s : List ℕ} → IsBody s → (b : ℕ) (r : List ℕ) → s ≡ b ∷ r → Begins b r
+begins nothing b r e = cc
+begins (plain_byte c s p y) b r e = let x : c ≡ b = cc in let z : s ≡ r = cc in by_plain (subst (λ d. is_plain d ≡ true) x p) (subst IsBody z y)
+begins (escape c s p y) b r e = let x : 92 ≡ b = cc in let z : c ∷ s ≡ r = cc in by_escape (sym x) c s (sym z) p y
+begins (unicode h i j k s p y) b r e = let x : 92 ≡ b = cc in let z : 117 ∷ h ∷ i ∷ j ∷ k ∷ s ≡ r = cc in by_unicode (sym x) h i j k s (sym z) p y
+
+-- bytes of longer characters are no escapes
+strip : (xs r : List ℕ) → ((k : ℕ) → k < length xs → 128 ≤ get_or xs k 0) → IsBody (xs ++ r) → IsBody r
+strip [] r h y = y
+strip (x ∷ xs) r h y =
+    let l : 128 ≤ x = h 0 (omega arith) in
+    elim (begins y x (xs ++ r) refl) [
+      | by_plain p z ↦ strip xs r (λ k m. h (suc k) (omega arith)) z
+      | by_escape e c s f p z ↦ absurd (omega arith)
+      | by_unicode e a b c d s f p z ↦ absurd (omega arith)
+    ]
+
+split : (m n : ℕ) → (m < n) ⊎ (n ≤ m)
+split m n = grind arith
+
+long_bytes : (c : ℕ) → 128 ≤ c → (k : ℕ) → k < length (encode_utf8 c) → 128 ≤ get_or (encode_utf8 c) k 0
+long_bytes c h k l =
+    elim (split (get_or (encode_utf8 c) k 0) 128) [ inl m ↦ let e = inside_one c [] (encode_utf8 c) k (sym (append-nil (encode_utf8 c))) l m in absurd (omega arith) | inr g ↦ g ]
+
+-- an ASCII byte is a character
+record Next (cs : List ℕ) (c : ℕ) (rest : List ℕ) : Type 0 where
+  after : List ℕ
+  is : cs ≡ c ∷ after
+  left : encode_utf8_all after ≡ rest
+
+next : (cs : List ℕ) (c : ℕ) (rest : List ℕ) → c < 128 → encode_utf8_all cs ≡ c ∷ rest → Next cs c rest
+next cs c rest l e = let r = cons_from_encodes cs rest c (e ∙ ap (λ xs. xs ++ rest) (sym (encode_ascii c l))) in record { after = r.0; is = r.1; left = r.2 }
+
+first_so : (s t : Bool) → s && t ≡ true → s ≡ true
+first_so s t h = grind (arith)
+
+second_so : (s t : Bool) → s && t ≡ true → t ≡ true
+second_so s t h = grind (arith)
+
+all_so : (a b c d : Bool) → a && b && c && d ≡ true → (b ≡ true) × (c ≡ true) × (d ≡ true)
+all_so a b c d h = let e : b ≡ true = grind (arith) in let f : c ≡ true = grind (arith) in let g : d ≡ true = grind (arith) in (e, f, g)
+
+four_so : (a b c d : Bool) → a && b && c && d ≡ true → a ≡ true
+four_so a b c d h = grind (arith)
+
+hex_small : (h : ℕ) → is_hex h ≡ true → h < 128
+hex_small h e = grind (arith, nat_tests)
+
+escape_small : (e : ℕ) → is_escape e ≡ true → e < 128
+escape_small e h = grind (arith, nat_tests)
+
+escape_other : (e : ℕ) → is_escape e ≡ true → nat_eq e 117 ≡ false
+escape_other e h = grind (arith, nat_tests)
+
+plain_other : (c : ℕ) → is_plain c ≡ true → nat_eq c 92 ≡ false
+plain_other c h = grind (arith, nat_tests)
+
+-- the five characters after a backslash
+record Unit4 (cs : List ℕ) (h i j k : ℕ) (s : List ℕ) : Type 0 where
+  after : List ℕ
+  is : cs ≡ 117 ∷ h ∷ i ∷ j ∷ k ∷ after
+  left : encode_utf8_all after ≡ s
+
+unit4 : (cs : List ℕ) (h i j k : ℕ) (s : List ℕ) → encode_utf8_all cs ≡ 117 ∷ h ∷ i ∷ j ∷ k ∷ s → is_hex h && is_hex i && is_hex j && is_hex k ≡ true → Unit4 cs h i j k s
+unit4 cs h i j k s e p =
+    let ph = four_so (is_hex h) (is_hex i) (is_hex j) (is_hex k) p in
+    let q = all_so (is_hex h) (is_hex i) (is_hex j) (is_hex k) p in
+    let a = next cs 117 (h ∷ i ∷ j ∷ k ∷ s) (omega arith) e in
+    let b = next a.after h (i ∷ j ∷ k ∷ s) (hex_small h ph) a.left in
+    let c = next b.after i (j ∷ k ∷ s) (hex_small i q.0) b.left in
+    let d = next c.after j (k ∷ s) (hex_small j q.1) c.left in
+    let f = next d.after k s (hex_small k q.2) d.left in
+    record {
+      after = f.after;
+      is = a.is ∙ ap (λ xs. 117 ∷ xs) (b.is ∙ ap (λ xs. h ∷ xs) (c.is ∙ ap (λ xs. i ∷ xs) (d.is ∙ ap (λ xs. j ∷ xs) f.is)));
+      left = f.left;
+    }
+
+-- some code points that the characters stand for
+abbrev Stands : List ℕ → Type 0
+Stands cs = (ps : List ℕ) × StandFor cs ps
+
+-- another unit is at the front
+record Front (es : List ℕ) : Type 0 where
+  l : ℕ
+  m : ℕ
+  n : ℕ
+  o : ℕ
+  after : List ℕ
+  is : es ≡ 92 ∷ 117 ∷ l ∷ m ∷ n ∷ o ∷ after
+  body : IsBody (encode_utf8_all after)
+
+unit_second : (ds : List ℕ) → char_of (92 ∷ ds) 1 ≡ 117 → Begins 92 (encode_utf8_all ds) → Front (92 ∷ ds)
+unit_second ds u (by_plain p y) = let n : ⊥ = grind (arith, nat_tests) in absurd n
+unit_second ds u (by_escape q e s f p y) =
+    let a = next ds e s (escape_small e p) f in
+    let x : char_of (92 ∷ ds) 1 ≡ e = ap (λ xs. char_of (92 ∷ xs) 1) a.is in
+    let z : e ≡ 117 = sym x ∙ u in
+    let w = escape_other e p in
+    let n : ⊥ = grind (arith, nat_tests) in absurd n
+unit_second ds u (by_unicode q h i j k s f p y) =
+    let a = unit4 ds h i j k s f p in
+    record { l = h; m = i; n = j; o = k; after = a.after; is = ap (λ xs. 92 ∷ xs) a.is; body = subst IsBody (sym a.left) y }
+
+eq_true : (a b : ℕ) → nat_eq a b ≡ true → a ≡ b
+eq_true a b h = grind (arith, nat_tests)
+
+unit_front : (es : List ℕ) → is_unicode es ≡ true → IsBody (encode_utf8_all es) → Front es
+unit_front [] u y = let n : ⊥ = cc in absurd n
+unit_front (c ∷ ds) u y =
+    let e : c ≡ 92 = eq_true c 92 (first_so _ _ u) in
+    let f : char_of (c ∷ ds) 1 ≡ 117 = eq_true (char_of (c ∷ ds) 1) 117 (second_so _ _ u) in
+    let y0 = subst (λ x. IsBody (encode_utf8_all (x ∷ ds))) e y in
+    let y1 = subst (λ xs. IsBody (xs ++ encode_utf8_all ds)) (encode_ascii 92 (omega arith)) y0 in
+    subst (λ x. Front (x ∷ ds)) (sym e) (unit_second ds (subst (λ x. char_of (x ∷ ds) 1 ≡ 117) e f) (begins y1 92 (encode_utf8_all ds) refl))
+
+unit_pair : (h i j k : ℕ) (es : List ℕ) → ((ds : List ℕ) → length ds ≤ length es → IsBody (encode_utf8_all ds) → Stands ds) → is_high_surrogate (four_digits (h ∷ i ∷ j ∷ k ∷ [])) ≡ true → is_low_surrogate (unit es) ≡ true → Front es
+    → Stands (92 ∷ 117 ∷ h ∷ i ∷ j ∷ k ∷ es)
+unit_pair h i j k es ih a b f =
+    let g : length f.after ≤ length es = let e = ap (λ (xs : List ℕ). length xs) f.is in omega arith in
+    let r = ih f.after g f.body in
+    let low = subst (λ xs. is_low_surrogate (unit xs) ≡ true) f.is b in
+    subst (λ xs. Stands (92 ∷ 117 ∷ h ∷ i ∷ j ∷ k ∷ xs)) (sym f.is) (_, pair h i j k f.l f.m f.n f.o f.after r.0 a low r.1)
+
+unit_case : (h i j k : ℕ) (es : List ℕ) → ((ds : List ℕ) → length ds ≤ length es → IsBody (encode_utf8_all ds) → Stands ds) → IsBody (encode_utf8_all es) → (v : Bool) → is_pair (92 ∷ 117 ∷ h ∷ i ∷ j ∷ k ∷ es) ≡ v → Stands (92 ∷ 117 ∷ h ∷ i ∷ j ∷ k ∷ es)
+unit_case h i j k es ih y true e =
+    let f = all_so true (is_high_surrogate (four_digits (h ∷ i ∷ j ∷ k ∷ []))) (is_unicode es) (is_low_surrogate (unit es)) e in
+    unit_pair h i j k es ih f.0 f.2 (unit_front es f.1 y)
+unit_case h i j k es ih y false e = let r = ih es (omega arith) y in (four_digits (h ∷ i ∷ j ∷ k ∷ []) ∷ r.0, single h i j k es r.0 e r.1)
+
+ascii_case : (c : ℕ) (cs : List ℕ) → ((ds : List ℕ) → length ds ≤ length cs → IsBody (encode_utf8_all ds) → Stands ds) → Begins c (encode_utf8_all cs) → Stands (c ∷ cs)
+ascii_case c cs ih (by_plain p y) = let r = ih cs (omega arith) y in (c ∷ r.0, plain c cs r.0 (plain_other c p) r.1)
+ascii_case c cs ih (by_escape q e s f p y) =
+    let a = next cs e s (escape_small e p) f in
+    let g : length a.after ≤ length cs = let z = ap (λ (xs : List ℕ). length xs) a.is in omega arith in
+    let r = ih a.after g (subst IsBody (sym a.left) y) in
+    subst (λ xs. Stands (c ∷ xs)) (sym a.is) (subst (λ d. Stands (d ∷ e ∷ a.after)) (sym q) (_, letter e a.after r.0 (escape_other e p) r.1))
+ascii_case c cs ih (by_unicode q h i j k s f p y) =
+    let a = unit4 cs h i j k s f p in
+    let g : length a.after ≤ length cs = let z = ap (λ (xs : List ℕ). length xs) a.is in omega arith in
+    let r = unit_case h i j k a.after (λ ds l b. ih ds (omega arith) b) (subst IsBody (sym a.left) y) (is_pair (92 ∷ 117 ∷ h ∷ i ∷ j ∷ k ∷ a.after)) refl in
+    subst (λ xs. Stands (c ∷ xs)) (sym a.is) (subst (λ d. Stands (d ∷ 117 ∷ h ∷ i ∷ j ∷ k ∷ a.after)) (sym q) r)
+
+stands : (n : ℕ) (cs : List ℕ) → length cs ≤ n → IsBody (encode_utf8_all cs) → Stands cs
+stands n [] l y = ([], done)
+stands zero (c ∷ cs) l y = absurd (omega arith)
+stands (suc n) (c ∷ cs) l y =
+    elim (split c 128) [
+      | inl m ↦ ascii_case c cs (λ ds g b. stands n ds (omega arith) b) (begins (subst (λ xs. IsBody (xs ++ encode_utf8_all cs)) (encode_ascii c m) y) c (encode_utf8_all cs) refl)
+      | inr g ↦ let r = stands n cs (omega arith) (strip (encode_utf8 c) (encode_utf8_all cs) (long_bytes c g) y) in let p : nat_eq c 92 ≡ false = grind (arith, nat_tests) in (c ∷ r.0, plain c cs r.0 p r.1)
+    ]
+
+take-all : (xs : List ℕ) → take (length xs) xs ≡ xs
+take-all [] = refl
+take-all (x ∷ xs) = ap (λ ys. x ∷ ys) (take-all xs)
+
+quote_at : (body : List ℕ) → get_or (body ++ 34 ∷ []) (length body) 0 < 128
+quote_at [] = omega arith
+quote_at (x ∷ body) = quote_at body
+
+body-joined : (body : List ℕ) → body_of (34 ∷ (body ++ 34 ∷ [])) ≡ body
+body-joined body =
+    let e = length-append body (34 ∷ []) in
+    let f : length (34 ∷ (body ++ 34 ∷ [])) - 1 - 1 ≡ length body = omega arith in
+    ap (λ n. take n (body ++ 34 ∷ [])) f ∙ take-append-le (length body) body (34 ∷ []) (omega arith) ∙ take-all body
+
+utf8_body : (body : List ℕ) → IsUtf8 (34 ∷ (body ++ 34 ∷ [])) → IsUtf8 body
+utf8_body body u =
+    let xs = body ++ 34 ∷ [] in
+    let v = IsUtf8-past_char (34 ∷ xs) xs 34 u (ap (λ ys. ys ++ xs) (sym (encode_ascii 34 (omega arith)))) in
+    let e = length-append body (34 ∷ []) in
+    let b = IsCharBoundary-before_ascii xs (length body) (omega arith) (quote_at body) in
+    subst IsUtf8 (take-append-le (length body) body (34 ∷ []) (omega arith) ∙ take-all body) (IsUtf8-take xs (length body) v b)
+
+-- the text of a string is told by the cases of the grammar
+pub text_told : (s : List ℕ) → IsString s → IsUtf8 s → (ps : List ℕ) × StandFor (chars (body_of s)) ps
+text_told s h u =
+    let b = h.body in
+    let v = utf8_body b (subst IsUtf8 h.joined u) in
+    let y = subst IsBody (sym v.1.1) h.body_is in
+    let r = stands (length v.0) v.0 (omega arith) y in
+    let e : chars (body_of s) ≡ v.0 = ap (λ xs. chars (body_of xs)) h.joined ∙ ap chars (body-joined b ∙ sym v.1.1) ∙ chars-encodes v.0 v.1.0 in
+    (r.0, subst (λ cs. StandFor cs r.0) (sym e) r.1)
