@@ -7,6 +7,7 @@ pub mod Parts
 pub mod Trims
 pub mod Normal
 pub mod Law
+pub mod Classes
 pub mod Scales
 pub mod Splits
 pub mod Worked

@@ -1,4 +1,5 @@
 pub mod Affine
+pub mod Class
 pub mod Digits
 pub mod Number
 pub mod Reading

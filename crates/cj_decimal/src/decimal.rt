@@ -3,6 +3,7 @@ ghost use Rattle.std.specs.Prelude.{◌≡◌, ◌↔◌, ℕ, ◌*◌, ◌^◌,
 ghost use Rattle.std.proofs.Common.{rules};
 ghost use Rattle.std.specs.Cmp.Rules.{comparing};
 ghost use Rattle.cj_decimal.specs.Spelling.{IsNumber, IsValue, IsNumberInRange, IsNumberOutOfRange, HasOneValue};
+ghost use Rattle.cj_decimal.specs.Class.{Class};
 ghost use Rattle.cj_decimal.specs.Number.{number, signed, same_parts, SameValue, IsNormal, IsInRange, IsOutOfRange, IsWhole, IsFixed};
 ghost use Rattle.cj_decimal.specs.Digits.{StandsFor};
 ghost use Rattle.cj_decimal.specs.Reading.{Saturates};
@@ -144,6 +145,7 @@ impl Decimal {
 
         // A law of the definitions: the value is determined.
         ensures one_value { HasOneValue spelling.now }
+        ensures class { Class spelling.now }
     {
         let Some(parts) = read_parts(spelling) else {
             return Err(DecimalFault::NotANumber);

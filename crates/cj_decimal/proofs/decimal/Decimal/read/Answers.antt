@@ -1,6 +1,7 @@
 use Rattle.std.proofs.Common.{refl}
 use Rattle.std.proofs.lemmas.Bool.{false≢true}
 use Rattle.cj_decimal.proofs.Law.{has_one_value, value_of_read, out_of_read, not_both}
+use Rattle.cj_decimal.proofs.Classes.{class}
 use Rattle.cj_decimal.proofs.decimal.Decimal.read.Goals as goal
 
 pub returns-in_default-from_parts-clause-ok : goal.returns-in_default-from_parts-clause-ok
@@ -29,3 +30,10 @@ returns-clause-number_range c =
 
 pub returns-clause-one_value : goal.returns-clause-one_value
 returns-clause-one_value c = has_one_value c.args.spelling.now
+
+pub returns-in_default-from_parts-clause-class :
+    goal.returns-in_default-from_parts-clause-class
+returns-in_default-from_parts-clause-class c = class c.args.spelling.now
+
+pub returns-clause-class : goal.returns-clause-class
+returns-clause-class c = class c.args.spelling.now

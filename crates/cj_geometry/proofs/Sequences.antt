@@ -1,0 +1,28 @@
+-- Findings one after another.
+use Rattle.std.proofs.Common.{◌≡◌, List, ◌∷◌, ◌++◌, Option, sym, ap, ◌∙◌}
+use Rattle.cj_spans.specs.declared.finding.Finding.{Finding}
+use Rattle.cj_spans.specs.Finding.{least}
+use Rattle.cj_spans.specs.Tree.{Tree}
+use Rattle.cj_spans.proofs.Findings.{least-append}
+use Rattle.cj_geometry.specs.Rule.{repeats_of, repeats}
+use Rattle.cj_geometry.specs.Geometry.{beside, first_part, other_parts}
+
+-- two rules in turn, and three
+pub least-two : (o p q : Option Finding) (fs gs : List Finding) → p ≡ least o fs → q ≡ least p gs → q ≡ least o (fs ++ gs)
+least-two o p q fs gs h k = k ∙ ap (λ x. least x gs) h ∙ sym (least-append o fs gs)
+
+pub least-three : (o p q r : Option Finding) (fs gs hs : List Finding) → p ≡ least o fs → q ≡ least p gs → r ≡ least q hs → r ≡ least o (fs ++ gs ++ hs)
+least-three o p q r fs gs hs h k l = least-two o q r (fs ++ gs) hs (least-two o p q fs gs h k) l
+
+-- one name more
+pub names-on : (all rest : List (Tree × Tree)) (m : Tree × Tree) (o p total : Option Finding) → least o (repeats all) ≡ total → all ≡ m ∷ rest → p ≡ least o (repeats_of m.0 rest) → least p (repeats rest) ≡ total
+names-on all rest m o p total h e q =
+    ap (λ x. least x (repeats rest)) q ∙ sym (least-append o (repeats_of m.0 rest) (repeats rest)) ∙ sym (ap (λ xs. least o (repeats xs)) e) ∙ h
+
+-- one value more, with the part beside it
+pub beside-on : (rule : Tree → Option Tree → List Finding) (all rest parts : List Tree) (t : Tree) (b : Option Tree) (left : List Tree) (o p total : Option Finding) → least o (beside rule all parts) ≡ total
+    → all ≡ t ∷ rest → b ≡ first_part parts → left ≡ other_parts parts → p ≡ least o (rule t b) → least p (beside rule rest left) ≡ total
+beside-on rule all rest parts t b left o p total h e f g q =
+    let one : least o (beside rule (t ∷ rest) parts) ≡ total = sym (ap (λ xs. least o (beside rule xs parts)) e) ∙ h in
+    let two : least (least o (rule t (first_part parts))) (beside rule rest (other_parts parts)) ≡ total = sym (least-append o (rule t (first_part parts)) (beside rule rest (other_parts parts))) ∙ one in
+    rw (q, f, g) two

@@ -1,0 +1,15 @@
+use Rattle.std.proofs.Common.{◌-◌, ◌<◌, arith, sym, ◌∙◌, refl}
+use Rattle.cj_spans.specs.View.{tree}
+use Rattle.cj_spans.proofs.Findings.{least_on}
+use Rattle.cj_geometry.specs.Geometry.{shape}
+use Rattle.cj_geometry.proofs.Shapes.{shape-array}
+use Rattle.cj_geometry.proofs.boundaries.+check_shape.Goals as goal
+
+pub loop-item-init : goal.loop-item-init
+loop-item-init t c =
+    let kind = sym c.kind.ensures ∙ c.in-Array.is in
+    let some : 0 < c.args.depth = omega (arith, c.if-depth-eq0.false) in
+    rw (shape-array c.args.vertices c.args.depth (tree c.args.node) some kind, c.into_iter-item-iterator.ensures.into_iter_gives, c.items-item-items.ensures.items) refl
+
+pub loop-item-preserved : goal.loop-item-preserved
+loop-item-preserved t c = least_on (shape c.args.vertices (c.args.depth - 1)) _ _ _ _ _ _ c.loop-item.invariant c.in-Some.ensures.steps.0 c.check_shape.ensures

@@ -1,0 +1,34 @@
+-- The level of detail of a geometry.
+use Rattle.std.specs.Prelude.{List, Bool, false, cond, Option, Some, None, ℤ, pos, negsuc, codes, option_and_then, slice_get}
+use Rattle.std.specs.Str.{chars}
+use Rattle.cj_spans.specs.Tree.{Tree}
+use Rattle.cj_spans.specs.Parts.{items_of, member_of, has_text}
+use Rattle.cj_geometry.specs.Rule.{whole_of}
+use Rattle.cj_geometry.specs.Geometry.{Given, listed, empty, itself}
+
+-- the tree of a number that counts from 0
+abbrev pub tree_of_number : List Tree → ℤ → Option Tree
+tree_of_number ts (pos k) = slice_get ts k
+tree_of_number ts (negsuc k) = None
+
+-- the template that a number chooses, if there is one
+abbrev pub chosen : Given → Tree → Option Tree
+chosen (listed l) t = option_and_then (tree_of_number (items_of l)) (whole_of t)
+chosen empty t = None
+chosen itself t = None
+
+-- the geometry is an instance of a template
+abbrev pub names_instance : Option Tree → Bool
+names_instance None = false
+names_instance (Some t) = has_text (chars (codes "GeometryInstance")) t
+
+abbrev pub is_instance : Tree → Bool
+is_instance g = names_instance (member_of (chars (codes "type")) g)
+
+-- the level of detail of an instance's template
+abbrev pub template_lod : Given → Tree → Option Tree
+template_lod templates g = option_and_then (member_of (chars (codes "lod"))) (option_and_then (chosen templates) (member_of (chars (codes "template")) g))
+
+-- the level of detail: that of the geometry, or of its template
+abbrev pub lod : Given → Tree → Option Tree
+lod templates g = cond (is_instance g) (template_lod templates g) (member_of (chars (codes "lod")) g)

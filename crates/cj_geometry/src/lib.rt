@@ -1,0 +1,16 @@
+//! Geometries of city objects (CityJSON 2.0, section 3): what is wrong with them, and their level of
+//! detail.
+#![tactic(auto)]
+
+mod boundaries;
+mod form;
+mod lod;
+mod member;
+mod number;
+mod rules;
+mod semantics;
+#[cfg(test)]
+mod tests;
+
+pub use lod::lod_of;
+pub use rules::{Templates, check_geometry};

@@ -1,0 +1,74 @@
+//! The level of detail of a geometry (CityJSON 2.0, section 3.1).
+ghost use Rattle.std.specs.Prelude.{◌≡◌, codes, option_map, slice_get};
+ghost use Rattle.std.specs.Str.{chars};
+ghost use Rattle.cj_spans.specs.Parts.{items_of, member_of};
+ghost use Rattle.cj_spans.specs.View.{tree};
+ghost use Rattle.cj_geometry.specs.Given.{given};
+ghost use Rattle.cj_geometry.specs.Lod.{chosen, template_lod, is_instance, lod};
+ghost use Rattle.cj_geometry.specs.Rule.{whole_of};
+
+use crate::number::read_whole;
+use crate::rules::Templates;
+use cj_spans::Node;
+
+/// The item of this number, from 0.
+fn item_at<'a>(node: Node<'a>, number: u64) -> Option<Node<'a>>
+    ensures { option_map tree result ≡ slice_get (items_of (tree node.entry)) number }
+{
+    let mut left = number;
+    for item in node.items() {
+        if left == 0 {
+            return Some(item);
+        }
+        left -= 1;
+    }
+    None
+}
+
+/// The template that this number chooses, if there is one.
+fn choose<'a>(number: Node, templates: Templates<'a>) -> Option<Node<'a>>
+    ensures { option_map tree result ≡ chosen (given templates.entry) (tree number.entry) }
+{
+    match templates.nodes() {
+        Some(list) => match read_whole(number) {
+            Some(whole) if whole >= 0 => item_at(list, whole as u64),
+            _ => None,
+        },
+        None => None,
+    }
+}
+
+/// Whether the geometry is an instance of a template.
+fn is_an_instance(node: Node) -> bool
+    ensures { result ≡ is_instance (tree node.entry) }
+{
+    match node.get("type") {
+        Some(name) => name.text_is("GeometryInstance"),
+        None => false,
+    }
+}
+
+/// The level of detail of an instance's template.
+fn lod_of_template<'a>(node: Node, templates: Templates<'a>) -> Option<Node<'a>>
+    ensures { option_map tree result ≡ template_lod (given templates.entry) (tree node.entry) }
+{
+    match node.get("template") {
+        Some(number) => match choose(number, templates) {
+            Some(template) => template.get("lod"),
+            None => None,
+        },
+        None => None,
+    }
+}
+
+/// The level of detail of a geometry: its `lod`, and of an instance that of its template. None where
+/// there is none.
+pub fn lod_of<'a>(node: Node<'a>, templates: Templates<'a>) -> Option<Node<'a>>
+    ensures { option_map tree result ≡ lod (given templates.entry) (tree node.entry) }
+{
+    if is_an_instance(node) {
+        lod_of_template(node, templates)
+    } else {
+        node.get("lod")
+    }
+}

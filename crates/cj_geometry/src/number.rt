@@ -1,0 +1,89 @@
+//! Numbers that rules read.
+ghost use Rattle.std.specs.Prelude.{◌≡◌, length};
+ghost use Rattle.cj_spans.specs.Parts.{items_of};
+ghost use Rattle.cj_spans.specs.Finding.{least};
+ghost use Rattle.cj_spans.specs.View.{tree};
+ghost use Rattle.cj_geometry.specs.Rule.{number as number_of, index as index_of, is_outside as is_outside_of, whole_of, one};
+
+use cj_decimal::{Decimal, DecimalFault};
+use cj_spans::{Finding, Kind, Least, Node, Reason};
+
+/// Adds a reason at a value.
+pub fn add(node: Node, reason: Reason, found: &mut Least)
+    ensures { found.new ≡ least found.old (one reason (tree node.entry)) }
+{
+    found.add(Finding {
+        place: node.start(),
+        reason,
+    });
+}
+
+/// How many items an array has.
+pub fn count_items(node: Node) -> u64
+    ensures { result ≡ length (items_of (tree node.entry)) }
+{
+    let mut count = 0;
+    for _ in node.items() {
+        count += 1;
+    }
+    count
+}
+
+/// The value is a number in range.
+pub fn check_number(node: Node, found: &mut Least)
+    ensures { found.new ≡ least found.old (number_of (tree node.entry)) }
+{
+    match node.kind() {
+        Kind::Number => match Decimal::read(node.bytes()) {
+            Ok(_) => {}
+            Err(DecimalFault::NumberRange) => add(node, Reason::NumberRange, found),
+            Err(DecimalFault::NotANumber) => {}
+        },
+        _ => add(node, Reason::WrongKind, found),
+    }
+}
+
+/// Whether a whole number is below 0, or not below a count that is known.
+fn is_outside(count: Option<u64>, whole: i64) -> bool
+    ensures { result ≡ is_outside_of count whole }
+{
+    match count {
+        Some(count) => whole < 0 || whole as u64 >= count,
+        None => false,
+    }
+}
+
+/// The value of a number that is in range and whole.
+pub fn read_whole(node: Node) -> Option<i64>
+    ensures { result ≡ whole_of (tree node.entry) }
+{
+    match node.kind() {
+        Kind::Number => match Decimal::read(node.bytes()) {
+            Ok(decimal) => decimal.whole(),
+            Err(_) => None,
+        },
+        _ => None,
+    }
+}
+
+/// The value is a number in range and whole, and names one of `count` things if that is known; else it
+/// has `outside`.
+pub fn check_index(node: Node, outside: Reason, count: Option<u64>, found: &mut Least)
+    ensures { found.new ≡ least found.old (index_of outside count (tree node.entry)) }
+{
+    match node.kind() {
+        Kind::Number => match Decimal::read(node.bytes()) {
+            Ok(decimal) => match decimal.whole() {
+                Some(whole) => {
+                    if is_outside(count, whole) {
+                        add(node, outside, found);
+                    }
+                }
+                None => add(node, Reason::NotWhole, found),
+            },
+            Err(DecimalFault::NumberRange) => add(node, Reason::NumberRange, found),
+            Err(DecimalFault::NotANumber) => {}
+        },
+        _ => add(node, Reason::WrongKind, found),
+    }
+}

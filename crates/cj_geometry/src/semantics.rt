@@ -1,0 +1,169 @@
+//! Semantics: surfaces, and values beside the boundaries that name them.
+ghost use Rattle.std.specs.Prelude.{◌≡◌, codes, option_map, Option as OptionOf};
+ghost use Rattle.std.specs.Str.{chars};
+ghost use Rattle.cj_spans.specs.Finding.{least};
+ghost use Rattle.cj_spans.specs.Tree.{Tree};
+ghost use Rattle.cj_spans.specs.Parts.{member_of};
+ghost use Rattle.cj_spans.specs.View.{tree};
+ghost use Rattle.cj_geometry.specs.Rule.{of_kind, is_object, is_array, needs, may_have};
+ghost use Rattle.cj_geometry.specs.Geometry.{first_part, other_parts, left_of, parts_of, other_count, entry, values, surface, surfaces, count_of, semantics, semantics_if};
+
+use crate::member::{check_names, check_text_member};
+use crate::number::{add, check_index, count_items};
+use cj_spans::{Items, Kind, Least, Node, Reason};
+
+/// A walk over the parts of a part, if there is one.
+fn walk(part: Option<Node>) -> Option<Items>
+    ensures { left_of result ≡ parts_of (option_map tree part.entry) }
+{
+    match part {
+        Some(part) => Some(part.items()),
+        None => None,
+    }
+}
+
+/// The next part, if there is one.
+fn next_part<'a>(parts: &mut Option<Items<'a>>) -> Option<Node<'a>>
+    ensures part { option_map tree result ≡ first_part (left_of parts.old) }
+    ensures left { left_of parts.new ≡ other_parts (left_of parts.old) }
+{
+    match parts {
+        Some(items) => items.next(),
+        None => None,
+    }
+}
+
+/// An array has as many items as the part of the boundaries beside it, if that is an array.
+fn check_count(node: Node, part: Option<Node>, found: &mut Least)
+    ensures { found.new ≡ least found.old (other_count (tree node.entry) (option_map tree part.entry)) }
+{
+    let Some(part) = part else {
+        return;
+    };
+    match part.kind() {
+        Kind::Array => {
+            if count_items(node) != count_items(part) {
+                add(node, Reason::SemanticsCount, found);
+            }
+        }
+        _ => {}
+    }
+}
+
+/// The value is null, or an index of a surface.
+fn check_entry(node: Node, surfaces: Option<u64>, found: &mut Least)
+    ensures { found.new ≡ least found.old (entry surfaces (tree node.entry)) }
+{
+    match node.kind() {
+        Kind::Null => {}
+        _ => check_index(node, Reason::SemanticsIndex, surfaces, found),
+    }
+}
+
+/// The values have this depth, beside a part of the boundaries, and below it are indices of surfaces.
+fn check_values(node: Node, part: Option<Node>, depth: u8, surfaces: Option<u64>, found: &mut Least)
+    ensures { found.new ≡ least found.old (values surfaces depth (tree node.entry) (option_map tree part.entry)) }
+{
+    if depth == 0 {
+        check_entry(node, surfaces, found);
+        return;
+    }
+    match node.kind() {
+        Kind::Null => {}
+        Kind::Array => {
+            check_count(node, part, found);
+            let mut parts = walk(part);
+            for item in node.items() {
+                check_values(item, next_part(&mut parts), depth - 1, surfaces, found);
+            }
+        }
+        _ => add(node, Reason::WrongKind, found),
+    }
+}
+
+/// The value is an object that has a type.
+fn check_surface(node: Node, found: &mut Least)
+    ensures { found.new ≡ least found.old (surface (tree node.entry)) }
+{
+    match node.kind() {
+        Kind::Object => {
+            check_names(node, found);
+            check_text_member(node, "type", found);
+        }
+        _ => add(node, Reason::WrongKind, found),
+    }
+}
+
+/// The value is an array of surfaces.
+fn check_surfaces(node: Node, found: &mut Least)
+    ensures { found.new ≡ least found.old (surfaces (tree node.entry)) }
+{
+    match node.kind() {
+        Kind::Array => {
+            for item in node.items() {
+                check_surface(item, found);
+            }
+        }
+        _ => add(node, Reason::WrongKind, found),
+    }
+}
+
+/// The object has surfaces.
+fn check_surfaces_member(object: Node, found: &mut Least)
+    ensures { found.new ≡ least found.old (needs (chars (codes "surfaces")) surfaces (tree object.entry)) }
+{
+    match object.get("surfaces") {
+        Some(value) => check_surfaces(value, found),
+        None => add(object, Reason::MissingMember, found),
+    }
+}
+
+/// How many surfaces the object has, if they are an array.
+fn count_surfaces(object: Node) -> Option<u64>
+    ensures { result ≡ count_of (member_of (chars (codes "surfaces")) (tree object.entry)) }
+{
+    match object.get("surfaces") {
+        Some(value) => match value.kind() {
+            Kind::Array => Some(count_items(value)),
+            _ => None,
+        },
+        None => None,
+    }
+}
+
+/// The object has values of this depth beside the boundaries.
+fn check_values_member(object: Node, boundaries: Option<Node>, depth: u8, found: &mut Least)
+    ensures { found.new ≡ least found.old (needs (chars (codes "values")) (λ v. values (count_of (member_of (chars (codes "surfaces")) (tree object.entry))) depth v (option_map tree boundaries.entry)) (tree object.entry)) }
+{
+    match object.get("values") {
+        Some(value) => check_values(value, boundaries, depth, count_surfaces(object), found),
+        None => add(object, Reason::MissingMember, found),
+    }
+}
+
+/// The value is semantics of this depth beside the boundaries.
+fn check_semantics(node: Node, boundaries: Option<Node>, depth: u8, found: &mut Least)
+    ensures { found.new ≡ least found.old (semantics depth (option_map tree boundaries.entry) (tree node.entry)) }
+{
+    match node.kind() {
+        Kind::Object => {
+            check_names(node, found);
+            check_surfaces_member(node, found);
+            check_values_member(node, boundaries, depth, found);
+        }
+        _ => add(node, Reason::WrongKind, found),
+    }
+}
+
+/// The geometry may have semantics, where its type has values of a depth.
+pub fn check_semantics_member(object: Node, values: Option<u8>, found: &mut Least)
+    ensures { found.new ≡ least found.old (semantics_if values (tree object.entry)) }
+{
+    let Some(depth) = values else {
+        return;
+    };
+    match object.get("semantics") {
+        Some(value) => check_semantics(value, object.get("boundaries"), depth, found),
+        None => {}
+    }
+}
