@@ -13,7 +13,7 @@ use Rattle.cj_budget.specs.Bounded.{IsWithin}
 use Rattle.cj_budget.specs.declared.limits.Peaks.{Peaks}
 use Rattle.cityseq.specs.Bound.{bytes_bound, IsBelow, IsBounded}
 use Rattle.cityseq.specs.Scanning.{Scanning, HasRoom, Scanned, HoldsFew}
-use Rattle.cityseq.specs.Reading.{Reading, IsSound, Reads, kept_closed, Advances, IsNext, HasCause, Stops}
+use Rattle.cityseq.specs.Reading.{Reading, IsSound, Reads, kept_closed, begun_of, Advances, IsNext, LacksMemory, HasCause, Stops}
 use Rattle.cityseq.specs.Engine.{State, StandsFor, Counts, Going, Faults, Delivers, Tells, limits_of, held_by, peaks_of}
 use Rattle.cityseq.proofs.LineLemmas.{closed-then, first_content-grows}
 use Rattle.cityseq.proofs.IsLinesLemmas.{lines-whole}
@@ -122,7 +122,7 @@ Faults-cause leaves limits p q n s t (Refused number place reason) len c = c.4
 Faults-cause leaves limits p q n s t ReadFault len c = absurd c
 Faults-cause leaves limits p q n s t ReadLimit len c = absurd c
 Faults-cause leaves limits p q n s t WriteFault len c = (c.0, next-line limits n p q c.0 c.1 len, c.2, c.3)
-Faults-cause leaves limits p q n s t Memory len c = c
+Faults-cause leaves limits p q n s t Memory len c = c.0
 
 -- what has begun is within the limit
 begun-within : (f : Reading) (p : List ℕ) → IsSound f → Reads f p → length (begun p) ≤ f.limits.line
@@ -202,6 +202,13 @@ module _ {S : Type 0} (takes leaves : S → Line → S → Type 0) where
         counts = rw whole (Counts-front new.reading (p ++ h.done) h.left h.reads);
         going = λ none. absurd (some_not_none e (sym ended ∙ none));
       }
+
+-- what an end for want of memory tells
+pub LacksMemory-stops : {S : Type 0} (takes leaves : S → Line → S → Type 0) (f g : Reading) (s t : S) (p more : List ℕ) (e : End) → Stops takes leaves f s p more e g t → e ≡ Memory
+    → LacksMemory (p ++ more) g.lines (begun_of g)
+LacksMemory-stops takes leaves f g s t p more e h m =
+    let cause = rw m at h.cause in
+    rw h.reads.begun cause.1
 
 pub none_from_not_some : (o : Option End) → ((x : End) → o ≡ Some x → ⊥) → o ≡ None
 none_from_not_some None h = refl

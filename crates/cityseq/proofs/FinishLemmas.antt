@@ -1,6 +1,6 @@
 -- What the end of a text makes of an engine.
-use Rattle.std.proofs.Common.{◌≡◌, ℕ, ◌+◌, ◌<◌, ◌≤◌, ◌⊎◌, inl, inr, max, List, [], ◌∷◌, ◌++◌, Bool, true, false, eqb, length, take, map, Some, None, Result, Ok, Err, arith, refl, sym, ap, ◌∙◌, length-append}
-use Rattle.std.specs.Prelude.{unwrap_or, OnOk, if◌then◌else◌}
+use Rattle.std.proofs.Common.{◌≡◌, ℕ, ◌+◌, ◌<◌, ◌≤◌, ◌⊎◌, inl, inr, max, List, [], ◌∷◌, ◌++◌, Bool, true, false, cond, eqb, length, take, map, Some, None, Result, Ok, Err, arith, refl, sym, ap, ◌∙◌, length-append}
+use Rattle.std.specs.Prelude.{unwrap_or, OnOk, if◌then◌else◌, IsUtf8}
 use Rattle.std.proofs.lemmas.List.{append-nil}
 use Rattle.std.proofs.lemmas.Bool.Decides.{nat_tests}
 use Rattle.cj_budget.specs.Limits.{LimitPair}
@@ -17,17 +17,12 @@ use Rattle.cityseq.specs.Verdict.{verdict, refusal_of, is_kept, refusal_from, ke
 use Rattle.cityseq.specs.Bound.{bytes_bound, greatest, contents, exact_peaks}
 use Rattle.cityseq.specs.Reading.{Reading, begun_of, Deals, Reads, Finishes, FinishesWith, Passes}
 use Rattle.cityseq.specs.Scanning.{Scanning, Scanned, HasRoom, HoldsFew}
-use Rattle.cityseq.specs.Engine.{StandsFor, Counts, Faults, Delivers, Concludes}
+use Rattle.cityseq.specs.Engine.{StandsFor, Counts, Faults, Delivers, Concludes, end_of}
 use Rattle.cityseq.proofs.LineLemmas.{none-from_length, begun_after-empty}
 use Rattle.cityseq.proofs.VerdictLemmas.{refusal-append, kept-append}
 use Rattle.cityseq.proofs.ReadingLemmas.{length-map_lines, zero_or, kept-next, longest-later}
 use Rattle.cityseq.proofs.GoodLemmas.{good-complete, good-refused}
 use Rattle.cityseq.proofs.EngineLemmas.{held-below, peaks-bounded, same-peaks, take-front, get-next, lines-front, Counts-front, some_not_none}
-
--- the end that a result makes
-abbrev pub end_of : Result (Unit {0}) End → End
-end_of (Ok x) = Complete
-end_of (Err e) = e
 
 -- the end of a text, by the number of its lines
 abbrev pub Concluded : LimitPair → List ℕ → ℕ → End → Type 0
@@ -282,6 +277,32 @@ module _ {S : Type 0} (takes leaves : S → Line → S → Type 0) (f g : Readin
       go [] r d h = none (eqb f.lines 0) r d.0 h
       go (b ∷ c) r (inl d) h = dealt _ (unended b c) r d h
       go (b ∷ c) r (inr m) h = memory r m.0 h
+
+  -- a last line for whose tokens no memory was granted is UTF-8
+  pub utf8-finished : (r : Result (Unit {0}) End) → Finishes takes leaves f s p r g t → end_of r ≡ Memory → IsUtf8 (begun p)
+  utf8-finished r d h = go (begun p) r d h
+    where
+      clash : (e : End) (r : Result (Unit {0}) End) → r ≡ Err e → (e ≡ Memory → ⊥) → end_of r ≡ Memory → ⊥
+      clash e r is other h = other (sym (ap end_of is) ∙ h)
+
+      fine : (r : Result (Unit {0}) End) → r ≡ Ok tt → end_of r ≡ Memory → ⊥
+      fine (Ok x) is h = cc
+      fine (Err x) is h = cc
+
+      none : (b : Bool) (r : Result (Unit {0}) End) → r ≡ cond b (Err (Refused 1 0 NoHeader)) (Ok tt) → end_of r ≡ Memory → ⊥
+      none true r e h = clash _ r e (λ x. cc) h
+      none false r e h = fine r e h
+
+      dealt : (v : Verdict) (l : Line) (r : Result (Unit {0}) End) → Deals takes leaves v l f s r g t → end_of r ≡ Memory → ⊥
+      dealt (Refuse place reason) l r d h = clash _ r d.0 (λ x. cc) h
+      dealt Blank l r d h = fine r d.0 h
+      dealt Valid l (Ok x) d h = cc
+      dealt Valid l (Err x) d h = let e : x ≡ WriteFault = d.0 in cc
+
+      go : (x : List ℕ) (r : Result (Unit {0}) End) → FinishesWith takes leaves x f s r g t → end_of r ≡ Memory → IsUtf8 x
+      go [] r d h = absurd (none (eqb f.lines 0) r d.0 h)
+      go (b ∷ c) r (inl d) h = absurd (dealt _ (unended b c) r d h)
+      go (b ∷ c) r (inr m) h = m.3
 
   -- and of all three counts
   pub peaks-finished : (r : Result (Unit {0}) End) (sc : Scanning) → Finishes takes leaves f s p r g t → end_of r ≡ Complete → Scanned f.limits (contents p) sc

@@ -1,6 +1,6 @@
 -- How a framer advances over a piece, and where it stops.
-use Rattle.std.proofs.Common.{◌≡◌, ℕ, ◌+◌, ◌<◌, ◌⊎◌, inl, inr, List, [], ◌∷◌, ◌++◌, Bool, true, false, ltb, length, map, None, Result, Ok, Err, arith, refl, sym, ap, ◌∙◌, subst, append_assoc, length-append}
-use Rattle.std.specs.Prelude.{if◌then◌else◌}
+use Rattle.std.proofs.Common.{◌≡◌, ℕ, ◌+◌, ◌<◌, ◌⊎◌, inl, inr, List, [], ◌∷◌, ◌++◌, Bool, true, false, ltb, length, map, Some, None, Result, Ok, Err, arith, refl, sym, ap, ◌∙◌, subst, append_assoc, length-append}
+use Rattle.std.specs.Prelude.{if◌then◌else◌, slice_get, IsUtf8}
 use Rattle.std.proofs.lemmas.List.{append-nil}
 use Rattle.std.proofs.lemmas.Bool.Decides.{nat_tests}
 use Rattle.cj_budget.specs.Limits.{LimitPair}
@@ -9,13 +9,14 @@ use Rattle.cityseq.specs.declared.reason.Verdict.{Verdict}
 use Rattle.cityseq.specs.declared.reason.Verdict.TheVariants.{Refuse, Blank, Valid}
 use Rattle.cityseq.specs.declared.reason.End.{End}
 use Rattle.cityseq.specs.declared.reason.End.TheVariants.{Refused, WriteFault, Memory}
-use Rattle.cityseq.specs.Lines.{Line, closed, begun, ended_line, NoLf}
+use Rattle.cityseq.specs.Lines.{Line, lines, closed, begun, ended_line, last_line, NoLf}
 use Rattle.cityseq.specs.Verdict.{verdict, refusal_of, is_kept, long_line}
 use Rattle.cityseq.specs.Reading.{Reading, begun_of, Stores, Passes, Deals, Settles, Reads, kept_closed, Puts, Advances, IsNext, HasCause, Stops}
 use Rattle.cityseq.specs.Sink.{Took}
 use Rattle.cityseq.proofs.LineLemmas.{closed-more, begun-more, closed-lf, begun-lf}
 use Rattle.cityseq.proofs.VerdictLemmas.{verdict-long}
-use Rattle.cityseq.proofs.ReadingLemmas.{Reads-stored, Reads-passed, kept_closed-lf, map_lines-append}
+use Rattle.cityseq.proofs.ReadingLemmas.{Reads-stored, Reads-passed, kept_closed-lf, map_lines-append, length-map_lines}
+use Rattle.cityseq.proofs.EngineLemmas.{get-next, next-line}
 
 -- steps, and then others
 pub Took-append : {S X : Type 0} (step : S → X → S → Type 0) (a b c : S) (xs ys : List X) → Took step a xs b → Took step b ys c → Took step a (xs ++ ys) c
@@ -123,15 +124,32 @@ module _ {S : Type 0} (takes leaves : S → Line → S → Type 0) where
     rw (closed-more p part n, begun-more p part n, long_line-long limits (begun p ++ part) long) refl,
   )
 
+  last_line-some : (c : List ℕ) → 0 < length c → last_line c ≡ record { content = c; lf = false } ∷ []
+  last_line-some [] h = absurd (omega arith)
+  last_line-some (b ∷ c) h = refl
+
+  next-begun : (n : ℕ) (p part : List ℕ) → NoLf part → 0 < length part → n ≡ length (closed p) → slice_get (lines (p ++ part)) n ≡ Some (record { content = begun p ++ part; lf = false })
+  next-begun n p part plain some e =
+      rw (closed-more p part plain, begun-more p part plain, last_line-some (begun p ++ part) (omega (arith, some, length-append (begun p) part)))
+      (get-next (map ended_line (closed p)) [] (record { content = begun p ++ part; lf = false }) n (e ∙ sym (length-map_lines (closed p))))
+
   -- why a part is not stored
   abbrev pub Unstored : Reading → List ℕ → End → Type 0
-  Unstored f part e = (e ≡ Memory) ⊎ ((e ≡ Refused (f.lines + 1) f.limits.line LineTooLong) × (f.limits.line < length (begun_of f) + length part))
+  Unstored f part e = ((e ≡ Memory) × (0 < length part)) ⊎ ((e ≡ Refused (f.lines + 1) f.limits.line LineTooLong) × (f.limits.line < length (begun_of f) + length part))
 
   Unstored-cause : (f : Reading) (s : S) (p part q : List ℕ) (lf : Bool) (e : End) → Reads f p → Unstored f part e
+      → (0 < length part → slice_get (lines q) f.lines ≡ Some (record { content = begun p ++ part; lf = lf }))
       → (f.limits.line < length (begun p ++ part) → IsNext f.limits p q (record { content = begun p ++ part; lf = lf }))
       → HasCause leaves f.limits p q f.lines s s e
-  Unstored-cause f s p part q lf e reads (inl m) next = rw m refl
-  Unstored-cause f s p part q lf e reads (inr d) next =
+  Unstored-cause f s p part q lf e reads (inl m) at next = rw m.0 (
+    refl,
+    record {
+      line = record { content = begun p ++ part; lf = lf };
+      next = at m.1;
+      cause = inl (omega (arith, m.1, length-append (begun p) part));
+    },
+  )
+  Unstored-cause f s p part q lf e reads (inr d) at next =
       let long : f.limits.line < length (begun p ++ part) = rw (length-append (begun p) part, ← reads.begun) d.1 in
       rw d.0 (record { content = begun p ++ part; lf = lf }, next long, refl, verdict-long f.limits (f.lines + 1) (begun p ++ part) long, refl)
 
@@ -151,12 +169,16 @@ module _ {S : Type 0} (takes leaves : S → Line → S → Type 0) where
   pub Stops-unstored : (f : Reading) (s : S) (p part more : List ℕ) (e : End) → Reads f p → NoLf part → Unstored f part e → Stops takes leaves f s p (part ++ 10 ∷ more) e f s
   Stops-unstored f s p part more e reads n u = stopped f s p (part ++ 10 ∷ more) e reads
       (Unstored-cause f s p part (p ++ (part ++ 10 ∷ more)) true e reads u
-      (λ _. let k = IsNext-ended f.limits p part more n in rw (closed-more p part n) at k))
+      (λ _. next-line f.limits f.lines p (p ++ (part ++ 10 ∷ more)) (ended_line (begun p ++ part)) next reads.lines)
+      (λ _. next))
+    where
+      next : IsNext f.limits p (p ++ (part ++ 10 ∷ more)) (ended_line (begun p ++ part))
+      next = let k = IsNext-ended f.limits p part more n in rw (closed-more p part n) at k
 
   -- the last part is not stored
   pub Stops-unstored_last : (f : Reading) (s : S) (p part : List ℕ) (e : End) → Reads f p → NoLf part → Unstored f part e → Stops takes leaves f s p part e f s
   Stops-unstored_last f s p part e reads n u = stopped f s p part e reads
-      (Unstored-cause f s p part (p ++ part) false e reads u (λ long. IsNext-long f.limits p part n long))
+      (Unstored-cause f s p part (p ++ part) false e reads u (λ some. next-begun f.lines p part n some reads.lines) (λ long. IsNext-long f.limits p part n long))
 
   undealt : (g h : Reading) (s t : S) (p part more : List ℕ) (v : Verdict) (r : Result (Unit {0}) End) (e : End) → NoLf part → begun_of g ≡ begun p ++ part
       → verdict g.limits (g.lines + 1) (begun_of g) ≡ v → Deals takes leaves v (record { content = begun_of g; lf = true }) g s r h t → r ≡ Err e
@@ -176,11 +198,22 @@ module _ {S : Type 0} (takes leaves : S → Line → S → Type 0) where
       let same : e ≡ WriteFault = cc in
       (d.1, rw same (ended_line (begun p ++ part), IsNext-ended g.limits p part more n, rw (← b, is) refl, rw (← b) d.2))
 
-  unsettled : (g h : Reading) (s t : S) (p part more : List ℕ) (r : Result (Unit {0}) End) (e : End) → NoLf part → begun_of g ≡ begun p ++ part
+  unsettled : (g h : Reading) (s t : S) (p part more : List ℕ) (r : Result (Unit {0}) End) (e : End) → NoLf part → begun_of g ≡ begun p ++ part → g.lines ≡ length (closed (p ++ part))
       → Settles takes leaves (verdict g.limits (g.lines + 1) (begun_of g)) (record { content = begun_of g; lf = true }) g s r h t → r ≡ Err e
       → (h ≡ g) × HasCause leaves g.limits (p ++ part) (p ++ (part ++ 10 ∷ more)) g.lines s t e
-  unsettled g h s t p part more r e n b (inl d) err = undealt g h s t p part more _ r e n b refl d err
-  unsettled g h s t p part more r e n b (inr m) err = let same : e ≡ Memory = cc in (m.1, rw same m.2)
+  unsettled g h s t p part more r e n b len (inl d) err = undealt g h s t p part more _ r e n b refl d err
+  unsettled g h s t p part more r e n b len (inr m) err =
+      let same : e ≡ Memory = cc in (
+        m.1,
+        rw same (
+          m.2,
+          record {
+            line = ended_line (begun p ++ part);
+            next = next-line g.limits g.lines (p ++ part) (p ++ (part ++ 10 ∷ more)) (ended_line (begun p ++ part)) (IsNext-ended g.limits p part more n) len;
+            cause = inr (subst IsUtf8 b m.3);
+          },
+        ),
+      )
 
   -- a part that is stored, and a line that is not dealt with
   pub Stops-undealt : (f g h : Reading) (s t : S) (p part more : List ℕ) (r : Result (Unit {0}) End) (e : End) → Reads f p → NoLf part → Stores f part g
@@ -189,7 +222,7 @@ module _ {S : Type 0} (takes leaves : S → Line → S → Type 0) where
   Stops-undealt f g h s t p part more r e reads n st d err =
       let a = Advances-stored f g s p part reads n st in
       let b : begun_of g ≡ begun p ++ part = a.reads.begun ∙ begun-more p part n in
-      let u = unsettled g h s t p part more r e n b d err in
+      let u = unsettled g h s t p part more r e n b a.reads.lines d err in
       record {
         done = part;
         left = 10 ∷ more;

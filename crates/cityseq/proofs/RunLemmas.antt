@@ -9,9 +9,9 @@ use Rattle.cj_budget.specs.Limits.{LimitPair}
 use Rattle.cityseq.specs.Lines.{Line, closed, lines, whole}
 use Rattle.cityseq.specs.Verdict.{verdict, refusal_of, refusal_from, judged, ending, ending_of}
 use Rattle.cityseq.specs.Verdict.{kept_first}
-use Rattle.cityseq.specs.Engine.{State, Delivers, Faults, Concludes, Tells, limits_of, lines_of}
+use Rattle.cityseq.specs.Engine.{State, StandsFor, Delivers, Faults, Concludes, Tells, limits_of, lines_of, peaks_of}
 use Rattle.cityseq.specs.Reading.{Reads}
-use Rattle.cityseq.specs.Run.{Ends}
+use Rattle.cityseq.specs.Run.{Ends, Runs}
 use Rattle.cityseq.specs.Sink.{HasRisen, Took}
 use Rattle.cityseq.proofs.PieceLemmas.{Took-append}
 use Rattle.cityseq.proofs.EngineLemmas.{judged-front, kept_first-front}
@@ -101,6 +101,20 @@ Delivers-ended takes leaves limits r n s t e still h = record {
   kept = h.kept;
   took = h.took;
   fault = still h.middle t h.fault;
+}
+
+-- a run that is left between two pieces, with an end that keeps the sink as it is
+pub Runs-left : {S : Type 0} (takes leaves : S → Line → S → Type 0) (e : State) (r : List ℕ) (at_end : Type 0) (s t : S) (end : End)
+    → (end ≡ Complete → ⊥) → Ends (limits_of e) r (lines_of e) at_end end → ((m u : S) → u ≡ m → Faults leaves (limits_of e) r (lines_of e) m u (Some end))
+    → StandsFor e r → Delivers takes leaves (limits_of e) r 0 (lines_of e) s t None → Runs takes leaves (limits_of e) r at_end s t (lines_of e) e.reading.kept (peaks_of e) end
+Runs-left takes leaves e r at_end s t end other ends still stands h = record {
+  account = record {
+    bounded = stands.bounded;
+    exact = λ x. absurd (other x);
+    counts = stands.counts;
+    ends = ends;
+  };
+  sink = Delivers-ended takes leaves (limits_of e) r (lines_of e) s t end still h;
 }
 
 -- a count that rose in the last of some calls rose in all of them

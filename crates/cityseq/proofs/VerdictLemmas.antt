@@ -55,12 +55,16 @@ verdict-bytes limits n c h not_text =
     let u : is_utf8 c ≡ false = not_true (is_utf8 c) (λ y. not_text (IsUtf8-from_is_utf8 c y)) in
     rw (e, u)
 
-pub verdict-blank : (limits : LimitPair) (n : ℕ) (c : List ℕ) → length c ≤ limits.line → 1 < n → list_all is_blank_byte c ≡ true → verdict limits n c ≡ Blank
+pub verdict-blank : (limits : LimitPair) (n : ℕ) (c : List ℕ) → length c ≤ limits.line → nat_lt 1 n && list_all is_blank_byte c ≡ true → verdict limits n c ≡ Blank
 unfolding verdict
-verdict-blank limits n c h more blank =
+verdict-blank limits n c h blank =
     let e : ltb limits.line (length c) ≡ false = grind (arith, nat_tests) in
-    let later : nat_lt 1 n ≡ true = grind (arith, nat_tests) in
-    rw (e, is_utf8-from_IsUtf8 c (IsUtf8-from_ascii c (blank-ascii c blank)), later, blank) refl
+    let only : list_all is_blank_byte c ≡ true = second (nat_lt 1 n) (list_all is_blank_byte c) blank in
+    rw (e, is_utf8-from_IsUtf8 c (IsUtf8-from_ascii c (blank-ascii c only)), blank) refl
+  where
+    second : (x y : Bool) → x && y ≡ true → y ≡ true
+    second true y k = k
+    second false y k = cc
 
 pub verdict-json : (limits : LimitPair) (n : ℕ) (c : List ℕ) → length c ≤ limits.line → IsUtf8 c → nat_lt 1 n && list_all is_blank_byte c ≡ false
     → verdict limits n c ≡ text_verdict (judgement c limits.depth)
@@ -85,16 +89,6 @@ blank-is limits n c h = let k = go (ltb limits.line (length c)) (is_utf8 c) (nat
     go false true false blank (spelled t json n) e = cc
     go false true false blank (broken i s n) e = cc
     go false true false blank (sunk i s) e = cc
-
-pub later-not_blank : (n : ℕ) (c : List ℕ) → list_all is_blank_byte c ≡ false → nat_lt 1 n && list_all is_blank_byte c ≡ false
-later-not_blank n c h = rw h (go (nat_lt 1 n))
-  where
-    go : (x : Bool) → x && false ≡ false
-    go true = refl
-    go false = refl
-
-pub first-not_blank : (n : ℕ) (c : List ℕ) → n ≤ 1 → nat_lt 1 n && list_all is_blank_byte c ≡ false
-first-not_blank n c h = let few : nat_lt 1 n ≡ false = grind (arith, nat_tests) in rw few refl
 
 refusal-step : (limits : LimitPair) (n m : ℕ) (first : Option End) (rest all : Option End) → (rest ≡ None → all ≡ None) → (if is_some first then first else rest) ≡ None → (first ≡ None) × (rest ≡ None)
 refusal-step limits n m None rest all h e = (refl, e)

@@ -1,5 +1,5 @@
 -- Which bytes an engine stands for, and what it answers.
-use Rattle.std.specs.Prelude.{◌≡◌, ℕ, ◌+◌, ◌≤◌, List, ◌++◌, true, Option, Some, None, is_none, if◌then◌else◌, length, take, slice_get}
+use Rattle.std.specs.Prelude.{◌≡◌, ℕ, ◌+◌, ◌≤◌, List, ◌++◌, true, Option, Some, None, is_none, Result, Ok, Err, if◌then◌else◌, length, take, slice_get}
 use Rattle.cj_budget.specs.Limits.{LimitPair}
 use Rattle.cj_budget.specs.declared.limits.Peaks.{Peaks}
 use Rattle.cityseq.specs.declared.reason.End.{End}
@@ -107,3 +107,8 @@ Concludes limits p n ReadFault = ⊥
 Concludes limits p n ReadLimit = ⊥
 Concludes limits p n WriteFault = Unit {0}
 Concludes limits p n Memory = Unit {0}
+
+-- the end of a stream, by what came of its last line
+abbrev pub end_of : Result (Unit {0}) End → End
+end_of (Ok x) = Complete
+end_of (Err e) = e

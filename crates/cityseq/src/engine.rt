@@ -1,8 +1,10 @@
 //! The engine: it takes a stream in pieces, and puts each kept line to a sink.
-ghost use Rattle.std.specs.Prelude.{◌≡◌, ◌+◌, ◌^◌, ◌≤◌, ℕ, List, [], ◌∷◌, ◌++◌, length, OnOk, OnErr, IfOk, IfErr, IsErrOf, IsOk, Some, None, Err};
+ghost use Rattle.std.specs.Prelude.{◌≡◌, ◌+◌, ◌^◌, ◌≤◌, ℕ, List, [], ◌∷◌, ◌++◌, length, OnOk, OnErr, IfOk, IfErr, IsErrOf, IsOk, Some, None, Err, IsUtf8};
 ghost use Rattle.cityseq.specs.Bound.{IsBelow, exact_peaks};
+ghost use Rattle.cityseq.specs.Lines.{begun};
+ghost use Rattle.cityseq.specs.Reading.{begun_of, LacksMemory};
 ghost use Rattle.cityseq.specs.Sink.{HasRisen};
-ghost use Rattle.cityseq.specs.Engine.{StandsFor, given, limits_of, lines_of, held_by, peaks_of, Delivers, Going, Tells, Concludes};
+ghost use Rattle.cityseq.specs.Engine.{StandsFor, given, limits_of, lines_of, held_by, peaks_of, Delivers, Going, Tells, Concludes, end_of};
 
 use crate::framer::Framer;
 use crate::reason::End;
@@ -73,6 +75,8 @@ impl Engine {
         ensures going { OnOk result ((p : List ℕ) → StandsFor self.old p → Going self.new (p ++ piece.now)) }
         ensures told { IfErr result (λ e. (p : List ℕ) → StandsFor self.old p → self.old.ended ≡ None →
             Tells (limits_of self.old) (p ++ piece.now) (lines_of self.new) e) }
+        ensures memory { (p : List ℕ) → StandsFor self.old p → self.old.ended ≡ None → IsErrOf result End.Memory →
+            LacksMemory (p ++ piece.now) (lines_of self.new) (begun_of self.new.reading) }
         ensures sink { (p : List ℕ) → StandsFor self.old p → self.old.ended ≡ None →
             Delivers S.takes S.leaves (limits_of self.old) (p ++ piece.now)
             (lines_of self.old) (lines_of self.new) sink.old sink.new self.new.ended }
@@ -111,6 +115,7 @@ impl Engine {
             Concludes (limits_of self.old) p (lines_of self.new) result }
         ensures exact { (p : List ℕ) → StandsFor self.old p → self.old.ended ≡ None →
             result ≡ End.Complete → peaks_of self.new ≡ exact_peaks (limits_of self.old) p }
+        ensures memory { (p : List ℕ) → StandsFor self.old p → self.old.ended ≡ None → result ≡ End.Memory → IsUtf8 (begun p) }
         ensures sink { (p : List ℕ) → StandsFor self.old p → self.old.ended ≡ None →
             Delivers S.takes S.leaves (limits_of self.old) p
             (lines_of self.old) (lines_of self.new) sink.old sink.new self.new.ended }
@@ -118,10 +123,7 @@ impl Engine {
         if let Some(end) = self.ended {
             return end;
         }
-        let end = match self.framer.finish(sink) {
-            Ok(()) => End::Complete,
-            Err(end) => end,
-        };
+        let end = last_end(self.framer.finish(sink));
         self.ended = Some(end);
         end
     }
@@ -161,5 +163,15 @@ impl Engine {
         ensures { result ≡ self.now.reading.kept }
     {
         self.framer.kept()
+    }
+}
+
+// The end of a stream, by what came of its last line.
+fn last_end(answer: Result<(), End>) -> End
+    ensures { result ≡ end_of answer }
+{
+    match answer {
+        Ok(()) => End::Complete,
+        Err(end) => end,
     }
 }

@@ -1,5 +1,5 @@
 //! Cuts pieces into lines, and deals with each.
-ghost use Rattle.std.specs.Prelude.{◌≡◌, ◌+◌, ◌^◌, ◌<◌, ◌≤◌, ◌⊎◌, ℕ, List, [], ◌∷◌, ◌++◌, length, OnOk, OnErr, IfOk, IfErr, IsErrOf};
+ghost use Rattle.std.specs.Prelude.{◌≡◌, ◌+◌, ◌^◌, ◌<◌, ◌≤◌, ◌⊎◌, ℕ, List, [], ◌∷◌, ◌++◌, length, OnOk, OnErr, IfOk, IfErr, IsErrOf, IsUtf8};
 ghost use Rattle.cityseq.specs.Bound.{contents};
 ghost use Rattle.cityseq.specs.Lines.{NoLf, closed, first_of, first_content};
 ghost use Rattle.cityseq.specs.Sink.{HasRisen};
@@ -75,7 +75,7 @@ impl Framer {
         requires room { self.old.lines < 2 ^ 62 }
         ensures ok { OnOk result (Stores (reading self.old) part.now (reading self.new)) }
         ensures err { OnErr result (self.new ≡ self.old) }
-        ensures cause { IfErr result (λ e. (e ≡ End.Memory)
+        ensures cause { IfErr result (λ e. ((e ≡ End.Memory) × (0 < length part.now))
             ⊎ ((e ≡ End.Refused (self.old.lines + 1) self.old.limits.line Reason.LineTooLong)
             × (self.old.limits.line < length (begun_of (reading self.old)) + length part.now))) }
         ensures lists { scanning self.new ≡ scanning self.old }
@@ -121,6 +121,7 @@ impl Framer {
         ensures reading { reading self.new ≡ reading self.old }
         ensures verdict { IfOk result (λ v. v ≡ verdict self.old.limits (self.old.lines + 1) (begun_of (reading self.old))) }
         ensures lists { JudgesLine self.old.lines (begun_of (reading self.old)) (scanning self.old) (scanning self.new) result }
+        ensures memory { OnErr result (IsUtf8 (begun_of (reading self.old))) }
     {
         if self.lines == 0 {
             judge(

@@ -1,5 +1,5 @@
 //! The verdict on a line.
-ghost use Rattle.std.specs.Prelude.{◌≡◌, ◌≤◌, ◌+◌, ◌/◌, length, IfOk};
+ghost use Rattle.std.specs.Prelude.{◌≡◌, ◌≤◌, ◌+◌, ◌/◌, ◌&&◌, nat_lt, length, IfOk, OnErr, IsUtf8};
 ghost use Rattle.std.specs.List.{list_all};
 ghost use Rattle.cj_budget.specs.Limits.{LimitPair};
 ghost use Rattle.cityseq.specs.Verdict.{is_blank_byte, verdict};
@@ -9,12 +9,20 @@ use crate::reason::Verdict;
 use cj_budget::{Bounded, NoMemory, Stack};
 use cj_spans::{Reason, ScanFault, Token, scan};
 
-fn is_blank(content: &[u8]) -> bool
+// Whether there are spaces, tabs and CR alone.
+fn is_white(content: &[u8]) -> bool
     ensures { result ≡ list_all is_blank_byte content.now }
 {
     content
         .iter()
         .all(|b| *b == b' ' || *b == b'\t' || *b == b'\r')
+}
+
+// Whether a line is blank, which the first one never is.
+fn is_blank(number: u64, content: &[u8]) -> bool
+    ensures { result ≡ (nat_lt 1 number && list_all is_blank_byte content.now) }
+{
+    number > 1 && is_white(content)
 }
 
 /// The verdict on a content that is within the line limit, by the line's number. The lists take the
@@ -30,8 +38,9 @@ pub fn judge(
     ensures verdict { IfOk result (λ v. (limits : LimitPair) → length content.now ≤ limits.line → limits.depth ≡ opened.old.limit
         → v ≡ verdict limits number content.now) }
     ensures lists { Judges content.now tokens.old tokens.new opened.old opened.new result }
+    ensures memory { OnErr result (IsUtf8 content.now) }
 {
-    if number > 1 && is_blank(content) {
+    if is_blank(number, content) {
         return Ok(Verdict::Blank);
     }
     let (place, reason) = match scan(content, tokens, opened) {

@@ -15,12 +15,13 @@ pub struct LentSink<'w, W: Write> {
 }
 
 impl<'w, W: Write> LentSink<'w, W> {
-    ghost use Rattle.cityseq.specs.LentSink.{lent_writer, lent_name};
+    ghost use Rattle.cityseq.specs.LentSink.{lent_writer, lent_name, lent_failures};
 
     /// A sink over a lent writer that has not failed.
     pub fn new(writer: &'w mut W) -> Self
         ensures same_reference { lent_name result ≡ writer.entry.ghost_name }
         ensures writer { lent_writer result ≡ writer.old }
+        ensures failures { lent_failures result ≡ 0 }
     {
         LentSink {
             writer,

@@ -1,6 +1,8 @@
 -- What a contract sees of a list with a limit.
-use Rattle.std.specs.Prelude.{◌≡◌, ℕ, ◌≤◌, List, length, max, Bool, IsTrue, refl}
+use Rattle.std.specs.Prelude.{◌≡◌, ◌↔◌, ◌⊎◌, ℕ, ◌<◌, ◌≤◌, List, [], length, max, Bool, IsTrue, Result, OnOk, OnErr, IsOk, IsErrOf, refl}
 use Rattle.std.specs.Coded.{Coded, code_by, coded×, coded_ℕ, coded_list, coded_bool}
+use Rattle.cj_budget.specs.declared.bounded.Refused.{Refused}
+use Rattle.cj_budget.specs.declared.bounded.Refused.TheVariants.{Full, Memory}
 
 -- the elements, the greatest length that is allowed, the greatest length so far, and whether there is room for the limit
 pub record BoundedList (T : Type 0) : Type 0 where
@@ -30,3 +32,18 @@ module _ {T : Type 0} where
     pub peak : new.peak ≡ max old.peak (length xs)
     pub room : IsTrue old.reserved → IsTrue new.reserved
     pub within : IsWithin new
+
+  -- an empty list under this limit
+  pub record IsNew (most : ℕ) (b : BoundedList T) : Type 0 where
+    pub elements : b.elements ≡ []
+    pub limit : b.limit ≡ most
+    pub peak : b.peak ≡ 0
+
+  -- x was added, which makes xs; or it is given back and nothing has changed: as Full exactly where the list is full, else
+  -- for want of memory, which never comes where there is room for the limit
+  pub record Adds (old : BoundedList T) (x : T) (xs : List T) (r : Result (Unit {0}) (Refused T)) (new : BoundedList T) : Type 0 where
+    pub ok : OnOk r (Becomes old xs new)
+    pub full : IsErrOf r (Full x) ↔ (length old.elements ≡ old.limit)
+    pub err : OnErr r (new ≡ old)
+    pub refused : OnErr r (IsErrOf r (Full x) ⊎ IsErrOf r (Memory x))
+    pub room : IsTrue old.reserved → length old.elements < old.limit → IsOk r

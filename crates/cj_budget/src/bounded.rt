@@ -1,6 +1,6 @@
 //! A list with a limit, which keeps its greatest length.
-ghost use Rattle.std.specs.Prelude.{◌≡◌, ◌+◌, ◌<◌, ◌≤◌, ◌↔◌, ◌⊎◌, ◌++◌, ◌∷◌, [], length, IsTrue, IsOk, OnOk, OnErr, IsErrOf, slice_set};
-ghost use Rattle.cj_budget.specs.Bounded.{IsWithin, Becomes};
+ghost use Rattle.std.specs.Prelude.{◌≡◌, ◌+◌, ◌<◌, ◌≤◌, ◌↔◌, ◌++◌, ◌∷◌, [], length, IsTrue, IsOk, OnOk, OnErr, IsErrOf, slice_set};
+ghost use Rattle.cj_budget.specs.Bounded.{IsNew, IsWithin, Becomes, Adds};
 
 use std::alloc::Global;
 use std::marker::Model;
@@ -61,9 +61,7 @@ impl<T: Copy> Model for Bounded<T> {
 impl<T: Copy> Bounded<T> {
     /// An empty list. It takes no memory.
     pub fn new(alloc: Global, limit: usize) -> Bounded<T>
-        ensures elements { result.elements ≡ [] }
-        ensures limit { result.limit ≡ limit }
-        ensures peak { result.peak ≡ 0 }
+        ensures { IsNew limit result }
     {
         Bounded {
             items: Vec::new(alloc),
@@ -75,11 +73,7 @@ impl<T: Copy> Bounded<T> {
     /// Adds an element at the end. A refusal changes nothing. Where there is room for the limit it
     /// takes no memory.
     pub fn push(&mut self, x: T) -> Result<(), Refused<T>>
-        ensures ok { OnOk result (Becomes self.old (self.old.elements ++ x ∷ []) self.new) }
-        ensures full { IsErrOf result (Refused.Full x) ↔ (length self.old.elements ≡ self.old.limit) }
-        ensures err { OnErr result (self.new ≡ self.old) }
-        ensures refused { OnErr result (IsErrOf result (Refused.Full x) ⊎ IsErrOf result (Refused.Memory x)) }
-        ensures room { IsTrue self.old.reserved → length self.old.elements < self.old.limit → IsOk result }
+        ensures { Adds self.old x (self.old.elements ++ x ∷ []) result self.new }
     {
         if self.items.len() == self.limit {
             return Err(Refused::Full(x));
@@ -92,11 +86,13 @@ impl<T: Copy> Bounded<T> {
         Ok(())
     }
 
-    /// Adds all elements of a slice at the end, or none. A refusal changes nothing.
+    /// Adds all elements of a slice at the end, or none. A refusal changes nothing. To add nothing
+    /// takes no memory.
     pub fn extend_from_slice(&mut self, xs: &[T]) -> Result<(), ExtendFault>
         ensures ok { OnOk result (Becomes self.old (self.old.elements ++ xs.now) self.new) }
         ensures full { IsErrOf result ExtendFault.Full ↔ (self.old.limit < length self.old.elements + length xs.now) }
         ensures err { OnErr result (self.new ≡ self.old) }
+        ensures nothing { length xs.now ≡ 0 → IsOk result }
     {
         if self.limit - self.items.len() < xs.len() {
             return Err(ExtendFault::Full);

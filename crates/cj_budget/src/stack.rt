@@ -1,6 +1,6 @@
 //! The open containers of a line: a stack with a limit, which keeps its greatest length.
-ghost use Rattle.std.specs.Prelude.{◌≡◌, ◌<◌, ◌↔◌, ◌⊎◌, ◌∷◌, [], length, drop, IsTrue, IsOk, OnOk, OnErr, IsErrOf, slice_get};
-ghost use Rattle.cj_budget.specs.Bounded.{IsWithin, Becomes};
+ghost use Rattle.std.specs.Prelude.{◌≡◌, ◌<◌, ◌↔◌, ◌∷◌, [], length, drop, IsTrue, IsOk, slice_get};
+ghost use Rattle.cj_budget.specs.Bounded.{IsNew, IsWithin, Becomes, Adds};
 
 use crate::bounded::Refused;
 use smallvec::SmallVec;
@@ -40,9 +40,7 @@ impl Model for Stack {
 impl Stack {
     /// An empty stack. It takes no memory.
     pub fn new(alloc: Global, limit: usize) -> Stack
-        ensures elements { result.elements ≡ [] }
-        ensures limit { result.limit ≡ limit }
-        ensures peak { result.peak ≡ 0 }
+        ensures { IsNew limit result }
     {
         Stack {
             items: SmallVec::new(alloc),
@@ -54,12 +52,8 @@ impl Stack {
     /// Puts an item on top. A refusal changes nothing. While fewer than 64 items are there it takes
     /// no memory, nor where there is room for the limit.
     pub fn push(&mut self, item: u32) -> Result<(), Refused<u32>>
-        ensures ok { OnOk result (Becomes self.old (item ∷ self.old.elements) self.new) }
-        ensures full { IsErrOf result (Refused.Full item) ↔ (length self.old.elements ≡ self.old.limit) }
-        ensures err { OnErr result (self.new ≡ self.old) }
-        ensures refused { OnErr result (IsErrOf result (Refused.Full item) ⊎ IsErrOf result (Refused.Memory item)) }
+        ensures adds { Adds self.old item (item ∷ self.old.elements) result self.new }
         ensures inline { length self.old.elements < 64 → length self.old.elements < self.old.limit → IsOk result }
-        ensures room { IsTrue self.old.reserved → length self.old.elements < self.old.limit → IsOk result }
     {
         if self.items.len() == self.limit {
             return Err(Refused::Full(item));

@@ -1,5 +1,6 @@
 //! Rows on limits and lists.
 use crate::{Bounded, ExtendFault, LimitFault, Limits, NoMemory, Peaks, Refused, Stack};
+use std::process::Abort;
 use std::test::Fail;
 
 #[derive(Drop)]
@@ -10,8 +11,22 @@ struct LimitRow {
     fault: Option<LimitFault>,
 }
 
+// Makes the limits of each row.
+fn check_limits(rt: &impl Abort, rows: &[LimitRow]) {
+    for row in rows {
+        match Limits::new(row.line, row.depth) {
+            Ok(limits) => {
+                assert_eq!(rt; row.fault, None, "{}", row.name);
+                assert_eq!(rt; limits.line(), row.line, "{}", row.name);
+                assert_eq!(rt; limits.depth(), row.depth, "{}", row.name);
+            }
+            Err(fault) => assert_eq!(rt; row.fault, Some(fault), "{}", row.name),
+        }
+    }
+}
+
 #[test]
-fn limits_are_refused_in_order(rt: HostRuntime) -> Result<(), Fail> {
+fn limits_are_refused_in_order(rt: HostRuntime) {
     let rows = [
         LimitRow {
             name: "both too small or great",
@@ -37,6 +52,13 @@ fn limits_are_refused_in_order(rt: HostRuntime) -> Result<(), Fail> {
             depth: 64,
             fault: Some(LimitFault::LineLimit),
         },
+    ];
+    check_limits(&rt, &rows);
+}
+
+#[test]
+fn limits_in_range_are_kept(rt: HostRuntime) {
+    let rows = [
         LimitRow {
             name: "least",
             line: 1,
@@ -50,17 +72,7 @@ fn limits_are_refused_in_order(rt: HostRuntime) -> Result<(), Fail> {
             fault: None,
         },
     ];
-    for row in &rows {
-        match Limits::new(row.line, row.depth) {
-            Ok(limits) => {
-                assert_eq!(rt; row.fault, None, "{}", row.name);
-                assert_eq!(rt; limits.line(), row.line, "{}", row.name);
-                assert_eq!(rt; limits.depth(), row.depth, "{}", row.name);
-            }
-            Err(fault) => assert_eq!(rt; row.fault, Some(fault), "{}", row.name),
-        }
-    }
-    Ok(())
+    check_limits(&rt, &rows);
 }
 
 #[test]

@@ -7,6 +7,7 @@ use crate::report::{status, write_fault_line};
 use cj_budget::Limits;
 use cj_spans::Reason;
 use std::alloc::Global;
+use std::process::Abort;
 use std::test::Fail;
 
 fn words(alloc: Global, parts: &[&str]) -> Result<Vec<String>, Fail> {
@@ -71,36 +72,23 @@ fn other_words_are_refused_in_silence(rt: HostRuntime) -> Result<(), Fail> {
     Ok(())
 }
 
+// Filters a text of which the header alone is written, since a later line is refused.
+fn check_refused_line(rt: &impl Abort, alloc: Global, limits: Limits, text: &[u8], told: &[u8]) {
+    let mut out = Vec::new(alloc);
+    let mut err = Vec::new(alloc);
+    let mut reader = SlowReader::new(text, 100);
+    assert_eq!(rt; filter(alloc, limits, &mut reader, &mut out, &mut err), 1);
+    assert_eq!(rt; out.as_slice(), b"{}\n".as_slice());
+    assert_eq!(rt; err.as_slice(), told);
+}
+
 #[test]
 fn a_long_line_and_bytes_that_are_no_text(rt: HostRuntime) -> Result<(), Fail> {
-    let mut out = Vec::new(rt.alloc());
-    let mut err = Vec::new(rt.alloc());
     let limits = Limits::new(4, 64)?;
-    let answer = filter(
-        rt.alloc(),
-        limits,
-        &mut b"{}\n12345\n{}\n".as_slice(),
-        &mut out,
-        &mut err,
-    );
-    assert_eq!(rt; answer, 1);
-    assert_eq!(rt; out.as_slice(), b"{}\n".as_slice());
-    assert_eq!(rt;
-        err.as_slice(),
-        b"line 2, byte 4: 2 line too long\n".as_slice()
-    );
-    let mut out = Vec::new(rt.alloc());
-    let mut err = Vec::new(rt.alloc());
-    let answer = filter(
-        rt.alloc(),
-        limits,
-        &mut b"{}\n\n1\xff\n{}\n".as_slice(),
-        &mut out,
-        &mut err,
-    );
-    assert_eq!(rt; answer, 1);
-    assert_eq!(rt; out.as_slice(), b"{}\n".as_slice());
-    assert_eq!(rt; err.as_slice(), b"line 3, byte 1: 3 not UTF-8\n".as_slice());
+    let long = b"line 2, byte 4: 2 line too long\n";
+    check_refused_line(&rt, rt.alloc(), limits, b"{}\n12345\n{}\n", long);
+    let bytes = b"line 3, byte 1: 3 not UTF-8\n";
+    check_refused_line(&rt, rt.alloc(), limits, b"{}\n\n1\xff\n{}\n", bytes);
     Ok(())
 }
 

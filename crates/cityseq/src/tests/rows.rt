@@ -457,6 +457,12 @@ fn a_character_of_three_bytes(rt: HostRuntime) -> Result<(), Fail> {
         peaks: held(375, 69, 8),
     };
     check_every_cut(&rt, rt.alloc(), &text, limits, &whole);
+    Ok(())
+}
+
+#[test]
+fn two_bytes_of_a_character(rt: HostRuntime) -> Result<(), Fail> {
+    let limits = Limits::new(8_388_608, 64)?;
     let broken = attributed(rt.alloc(), b"\xe2\x82")?;
     let header = joined(rt.alloc(), &[HEADER, b"\n"])?;
     let refused = Wanted {

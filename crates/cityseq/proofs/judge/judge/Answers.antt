@@ -1,4 +1,4 @@
-use Rattle.std.proofs.Common.{◌≡◌, false, sym, arith, ◌∙◌, ap, Err}
+use Rattle.std.proofs.Common.{◌≡◌, false, sym, ◌∙◌, ap, Err}
 use Rattle.std.specs.Prelude.{◌&&◌, nat_lt, IsUtf8}
 use Rattle.std.specs.List.{list_all}
 use Rattle.cj_spans.proofs.Judgements.{judgement}
@@ -8,22 +8,17 @@ use Rattle.cj_spans.specs.declared.fault.ScanFault.TheVariants.{Syntax, TooDeep}
 use Rattle.cj_spans.specs.declared.reason.Reason.TheVariants.{NotUtf8}
 use Rattle.cityseq.specs.declared.reason.Verdict.TheVariants.{Refuse}
 use Rattle.cityseq.specs.Verdict.{is_blank_byte}
-use Rattle.cityseq.proofs.VerdictLemmas.{verdict-bytes, verdict-blank, verdict-json, later-not_blank, first-not_blank}
+use Rattle.cityseq.proofs.VerdictLemmas.{verdict-bytes, verdict-blank, verdict-json}
 use Rattle.cityseq.proofs.JudgeLemmas.{ok-valid, syntax-refused, deep-refused, not_text, syntax-text, deep-text}
 use Rattle.cityseq.proofs.judge.judge.Goals as goal
-use Rattle.cityseq.proofs.judge.judge.Goals.{else-number-gt1-via-then-number-gt1+else-is_blank, else-number-gt1-via-else-number-gt1}
 
 pub returns-then-is_blank-clause-verdict : goal.returns-then-is_blank-clause-verdict
 returns-then-is_blank-clause-verdict c = λ limits le same.
-    sym (verdict-blank limits c.args.number c.args.content.now le c.if-number-gt1.true (sym c.is_blank.ensures ∙ c.if-is_blank.true))
+    sym (verdict-blank limits c.args.number c.args.content.now le (sym c.is_blank.ensures ∙ c.if-is_blank.true))
 
 pub returns-in-Ok-clause-verdict : goal.returns-in-Ok-clause-verdict
 returns-in-Ok-clause-verdict c = λ limits le same.
-    let not_blank : nat_lt 1 c.args.number && list_all is_blank_byte c.args.content.now ≡ false =
-    (elim c.else-number-gt1.branch [
-      | else-number-gt1-via-then-number-gt1+else-is_blank w ↦ later-not_blank c.args.number c.args.content.now (sym w.is_blank.ensures ∙ w.if-is_blank.false)
-      | else-number-gt1-via-else-number-gt1 w ↦ first-not_blank c.args.number c.args.content.now (omega arith)
-    ]) in
+    let not_blank : nat_lt 1 c.args.number && list_all is_blank_byte c.args.content.now ≡ false = sym c.is_blank.ensures ∙ c.if-is_blank.false in
     let text : IsUtf8 c.args.content.now = c.scan.ensures.utf8 (λ i e. cc) in
     let tree = c.in-Ok.ensures.tree in
     let answer = rw c.in-Ok.is at (c.scan.ensures.judged (judgement c.args.content.now c.args.opened.now.limit) text) in
@@ -36,11 +31,7 @@ returns-in-Err-NotUtf8-clause-verdict c = λ limits le same.
 
 pub returns-in-Err-Syntax-clause-verdict : goal.returns-in-Err-Syntax-clause-verdict
 returns-in-Err-Syntax-clause-verdict c = λ limits le same.
-    let not_blank : nat_lt 1 c.args.number && list_all is_blank_byte c.args.content.now ≡ false =
-    (elim c.else-number-gt1.branch [
-      | else-number-gt1-via-then-number-gt1+else-is_blank w ↦ later-not_blank c.args.number c.args.content.now (sym w.is_blank.ensures ∙ w.if-is_blank.false)
-      | else-number-gt1-via-else-number-gt1 w ↦ first-not_blank c.args.number c.args.content.now (omega arith)
-    ]) in
+    let not_blank : nat_lt 1 c.args.number && list_all is_blank_byte c.args.content.now ≡ false = sym c.is_blank.ensures ∙ c.if-is_blank.false in
     let is : c.scan.result ≡ Err (Syntax c.in-Err-Syntax.place) = c.in-Err-Syntax.is ∙ ap Err c.in-Err-Syntax.field-0-is in
     let text : IsUtf8 c.args.content.now = c.scan.ensures.utf8 (syntax-text c.scan.result c.in-Err-Syntax.place is) in
     let answer = rw is at (c.scan.ensures.judged (judgement c.args.content.now c.args.opened.now.limit) text) in
@@ -48,11 +39,7 @@ returns-in-Err-Syntax-clause-verdict c = λ limits le same.
 
 pub returns-in-Err-TooDeep-clause-verdict : goal.returns-in-Err-TooDeep-clause-verdict
 returns-in-Err-TooDeep-clause-verdict c = λ limits le same.
-    let not_blank : nat_lt 1 c.args.number && list_all is_blank_byte c.args.content.now ≡ false =
-    (elim c.else-number-gt1.branch [
-      | else-number-gt1-via-then-number-gt1+else-is_blank w ↦ later-not_blank c.args.number c.args.content.now (sym w.is_blank.ensures ∙ w.if-is_blank.false)
-      | else-number-gt1-via-else-number-gt1 w ↦ first-not_blank c.args.number c.args.content.now (omega arith)
-    ]) in
+    let not_blank : nat_lt 1 c.args.number && list_all is_blank_byte c.args.content.now ≡ false = sym c.is_blank.ensures ∙ c.if-is_blank.false in
     let is : c.scan.result ≡ Err (TooDeep c.in-Err-TooDeep.place) = c.in-Err-TooDeep.is ∙ ap Err c.in-Err-TooDeep.field-0-is in
     let text : IsUtf8 c.args.content.now = c.scan.ensures.utf8 (deep-text c.scan.result c.in-Err-TooDeep.place is) in
     let answer = rw is at (c.scan.ensures.judged (judgement c.args.content.now c.args.opened.now.limit) text) in

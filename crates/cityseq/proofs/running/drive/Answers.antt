@@ -2,7 +2,7 @@ use Rattle.std.proofs.Common.{◌++◌, ◌∙◌, length-take, take, refl, ap, 
 use Rattle.std.proofs.lemmas.List.{append-nil}
 use Rattle.cityseq.specs.declared.reason.End.TheVariants.{ReadFault, ReadLimit}
 use Rattle.cityseq.specs.Engine.{limits_of, lines_of}
-use Rattle.cityseq.proofs.RunLemmas.{Consumes-then, Consumes-kept, Delivers-then, Delivers-ended, kept_first-same, Ends-finished, Ends-fed, whole-good, HasRisen-after, told-not_complete, fault-not_complete, limit-not_complete}
+use Rattle.cityseq.proofs.RunLemmas.{Consumes-then, Consumes-kept, Delivers-then, Runs-left, kept_first-same, Ends-finished, Ends-fed, whole-good, HasRisen-after, told-not_complete, fault-not_complete, limit-not_complete}
 use Rattle.cityseq.proofs.running.drive.Goals as goal
 
 pub returns-in-Err-clause-runs : goal.returns-in-Err-clause-runs
@@ -12,15 +12,7 @@ returns-in-Err-clause-runs g c =
     let stands = i.5.2 in (
       r,
       Consumes-kept _ _ _ r i.5.1 c.in-Err.ensures.bytes,
-      rw (← i.3) (record {
-        account = record {
-          bounded = stands.bounded;
-          exact = λ h. absurd (fault-not_complete h);
-          counts = stands.counts;
-          ends = whole-good c.loop-i.engine r (stands.going i.2).0;
-        };
-        sink = let k = rw (← i.3) at i.5.3 in Delivers-ended _ _ _ r _ _ _ ReadFault (λ m u e. e) k;
-      }),
+      rw (← i.3) (let k = rw (← i.3) at i.5.3 in Runs-left _ _ c.loop-i.engine r _ _ _ ReadFault fault-not_complete (whole-good c.loop-i.engine r (stands.going i.2).0) (λ m u e. e) stands k),
     )
 
 pub returns-in-Ok-eq0-clause-runs : goal.returns-in-Ok-eq0-clause-runs
@@ -101,13 +93,5 @@ returns-clause-runs g c =
     let stands = i.5.2 in (
       r,
       i.5.1,
-      rw (← i.3) (record {
-        account = record {
-          bounded = stands.bounded;
-          exact = λ h. absurd (limit-not_complete h);
-          counts = stands.counts;
-          ends = whole-good c.loop-i.engine r (stands.going i.2).0;
-        };
-        sink = let k = rw (← i.3) at i.5.3 in Delivers-ended _ _ _ r _ _ _ ReadLimit (λ m u e. e) k;
-      }),
+      rw (← i.3) (let k = rw (← i.3) at i.5.3 in Runs-left _ _ c.loop-i.engine r _ _ _ ReadLimit limit-not_complete (whole-good c.loop-i.engine r (stands.going i.2).0) (λ m u e. e) stands k),
     )

@@ -1,8 +1,9 @@
 use Rattle.std.proofs.Common.{◌≡◌, ◌+◌, ◌++◌, length, length-append, refl, arith, None, Some}
+use Rattle.cityseq.specs.declared.reason.End.TheVariants.{Memory}
 use Rattle.cityseq.specs.Lines.{closed}
 use Rattle.cityseq.specs.Reading.{reading}
 use Rattle.cityseq.specs.Scanning.{scanning}
-use Rattle.cityseq.proofs.EngineLemmas.{Tells-stops, Delivers-advances, Delivers-stops, StandsFor-reads, StandsFor-stops, Going-reads, none_from_not_some}
+use Rattle.cityseq.proofs.EngineLemmas.{Tells-stops, Delivers-advances, Delivers-stops, LacksMemory-stops, StandsFor-reads, StandsFor-stops, Going-reads, none_from_not_some}
 use Rattle.cityseq.proofs.ScanningLemmas.{scanned-under}
 use Rattle.cityseq.proofs.engine.Engine.feed.Goals as goal
 
@@ -55,3 +56,11 @@ returns-in-Err-clause-sink g c = λ p st going.
     let open_now = rw (← c.self.view_is) at going in
     let reads = (stands.going open_now).0 in
     rw (← c.self.view_is) (Delivers-stops g.S.LineSink.takes g.S.LineSink.leaves (reading c.self.inside.framer) (reading c.take_piece.new.self) _ _ p c.args.piece.now c.in-Err.end reads (c.in-Err.ensures.err p reads))
+
+pub returns-in-Err-clause-memory : goal.returns-in-Err-clause-memory
+returns-in-Err-clause-memory g c = λ p st going memory.
+    let stands = rw (← c.self.view_is) at st in
+    let open_now = rw (← c.self.view_is) at going in
+    let reads = (stands.going open_now).0 in
+    let same : c.in-Err.end ≡ Memory = cc in
+    LacksMemory-stops g.S.LineSink.takes g.S.LineSink.leaves (reading c.self.inside.framer) (reading c.take_piece.new.self) _ _ p c.args.piece.now c.in-Err.end (c.in-Err.ensures.err p reads) same

@@ -1,11 +1,11 @@
-use Rattle.std.proofs.Common.{◌≡◌, ◌∙◌, sym, ap, None}
+use Rattle.std.proofs.Common.{◌≡◌, ◌∙◌, sym, None}
 use Rattle.cityseq.specs.declared.reason.End.TheVariants.{Complete}
 use Rattle.cityseq.specs.Reading.{reading}
 use Rattle.cityseq.specs.Scanning.{scanning}
 use Rattle.cityseq.proofs.EngineLemmas.{none_from_not_some}
-use Rattle.cityseq.proofs.FinishLemmas.{end_of, Finishes-concludes, Finishes-delivers, StandsFor-finished, finished-ok, peaks-finished}
+use Rattle.cityseq.specs.Engine.{end_of}
+use Rattle.cityseq.proofs.FinishLemmas.{Finishes-concludes, Finishes-delivers, StandsFor-finished, finished-ok, utf8-finished, peaks-finished}
 use Rattle.cityseq.proofs.engine.Engine.finish.Goals as goal
-use Rattle.cityseq.proofs.engine.Engine.finish.Goals.{in-Ok, in-Err}
 
 pub returns-clause-stands : goal.returns-clause-stands
 returns-clause-stands g c = λ p st.
@@ -20,24 +20,28 @@ returns-clause-answer g c = λ p st going.
     let stands = rw (← c.self.view_is) at st in
     let open_now = rw (← c.self.view_is) at going in
     let reads = (stands.going open_now).0 in
-    let same : c.match-finish.end ≡ end_of c.finish.result = elim c.match-finish.branch [ in-Ok w ↦ w.end-is ∙ sym (ap end_of w.in-Ok.is) | in-Err w ↦ w.end-is ∙ sym (ap end_of w.in-Err.is) ] in
-    rw (← c.self.view_is, same) (Finishes-concludes g.S.LineSink.takes g.S.LineSink.leaves (reading c.self.inside.framer) (reading c.finish.new.self) _ _ p reads c.finish.result (c.finish.ensures.finishes p reads))
+    rw (← c.self.view_is, c.last_end-end.ensures) (Finishes-concludes g.S.LineSink.takes g.S.LineSink.leaves (reading c.self.inside.framer) (reading c.finish.new.self) _ _ p reads c.finish.result (c.finish.ensures.finishes p reads))
 
 pub returns-clause-sink : goal.returns-clause-sink
 returns-clause-sink g c = λ p st going.
     let stands = rw (← c.self.view_is) at st in
     let open_now = rw (← c.self.view_is) at going in
     let reads = (stands.going open_now).0 in
-    let same : c.match-finish.end ≡ end_of c.finish.result = elim c.match-finish.branch [ in-Ok w ↦ w.end-is ∙ sym (ap end_of w.in-Ok.is) | in-Err w ↦ w.end-is ∙ sym (ap end_of w.in-Err.is) ] in
-    rw (← c.self.view_is, same) (Finishes-delivers g.S.LineSink.takes g.S.LineSink.leaves (reading c.self.inside.framer) (reading c.finish.new.self) _ _ p reads c.finish.result (c.finish.ensures.finishes p reads))
+    rw (← c.self.view_is, c.last_end-end.ensures) (Finishes-delivers g.S.LineSink.takes g.S.LineSink.leaves (reading c.self.inside.framer) (reading c.finish.new.self) _ _ p reads c.finish.result (c.finish.ensures.finishes p reads))
 
 pub returns-clause-exact : goal.returns-clause-exact
 returns-clause-exact g c = λ p st going done.
     let stands = rw (← c.self.view_is) at st in
     let open_now = rw (← c.self.view_is) at going in
     let reads = (stands.going open_now).0 in
-    let same : c.match-finish.end ≡ end_of c.finish.result = elim c.match-finish.branch [ in-Ok w ↦ w.end-is ∙ sym (ap end_of w.in-Ok.is) | in-Err w ↦ w.end-is ∙ sym (ap end_of w.in-Err.is) ] in
-    let complete : end_of c.finish.result ≡ Complete = sym same ∙ done in
+    let complete : end_of c.finish.result ≡ Complete = sym c.last_end-end.ensures ∙ done in
     let scanned = let k = rw (finished-ok g.S.LineSink.takes g.S.LineSink.leaves (reading c.self.inside.framer) (reading c.finish.new.self) _ _ p reads c.finish.result (c.finish.ensures.finishes p reads) complete) at c.finish.ensures.scanned in k p reads (stands.going open_now).1 in
     rw (← c.self.view_is) (peaks-finished g.S.LineSink.takes g.S.LineSink.leaves (reading c.self.inside.framer) (reading c.finish.new.self) _ _ p reads c.finish.result (scanning c.finish.new.self)
     (c.finish.ensures.finishes p reads) complete scanned)
+
+pub returns-clause-memory : goal.returns-clause-memory
+returns-clause-memory g c = λ p st going memory.
+    let stands = rw (← c.self.view_is) at st in
+    let open_now = rw (← c.self.view_is) at going in
+    let reads = (stands.going open_now).0 in
+    utf8-finished g.S.LineSink.takes g.S.LineSink.leaves (reading c.self.inside.framer) (reading c.finish.new.self) _ _ p reads c.finish.result (c.finish.ensures.finishes p reads) (sym c.last_end-end.ensures ∙ memory)
