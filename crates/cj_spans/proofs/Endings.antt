@@ -24,7 +24,7 @@ use Rattle.cj_spans.proofs.Runs.{IsEnd, colon, bracket, brace, Arrives, arrive_o
 use Rattle.cj_spans.proofs.Follows.{run_json}
 use Rattle.cj_spans.proofs.Places.{InAtom, in_text, continues_run, name_34}
 use Rattle.cj_spans.proofs.Atoms.{continues_reaches}
-use Rattle.cj_spans.proofs.Sound.{Context, root, in_array, in_member, Inv, ready, first_item, after_tree, first_name, next_name, after_name, in_scalar, in_name, inv_reaches}
+use Rattle.cj_spans.proofs.Sound.{with_name, Context, root, in_array, in_member, Inv, ready, first_item, after_tree, first_name, next_name, after_name, in_scalar, in_name, inv_reaches}
 use Rattle.cj_spans.proofs.Facts.{next_place, same_state, lawful_reaches, before}
 use Rattle.cj_spans.proofs.Fronts.{front_runs, inv_front}
 use Rattle.cj_spans.proofs.Verdicts.{spells, nest_of, sinks_deep, fronts_below, syntax_within, Cleared, run_syntax}
@@ -97,12 +97,12 @@ container_last ts t h = subst (λ o. IsContainer (option_map (λ u. u.kind) o)) 
 context_containers : {b : List ℕ} {e : ℕ} {ks : List ℕ} {ts : List Token} → Context b e ks ts → AllContainers ks ts
 context_containers (root e w) = tt
 context_containers (in_array e j k ks ts us c o l w) =
-    let t = token_at e 0 (length ks) Array in
-    containers_more (length ts ∷ ks) (ts ++ t ∷ []) (flatten_items (suc (length ks)) us) (container_last ts t tt, containers_more ks ts (t ∷ []) (context_containers c))
+    let t = token_at e 0 0 Array in
+    containers_more (length ts ∷ ks) (ts ++ t ∷ []) (flatten_items (suc (length ts)) us) (container_last ts t tt, containers_more ks ts (t ∷ []) (context_containers c))
 context_containers (in_member e j k l ks ts us n c o m d w) =
-    let t = token_at e 0 (length ks) Object in
-    containers_more (length ts ∷ ks) ((ts ++ t ∷ []) ++ flatten_members (suc (length ks)) us) _
-    (containers_more (length ts ∷ ks) (ts ++ t ∷ []) (flatten_members (suc (length ks)) us) (container_last ts t tt, containers_more ks ts (t ∷ []) (context_containers c)))
+    let t = token_at e 0 0 Object in
+    containers_more (length ts ∷ ks) ((ts ++ t ∷ []) ++ flatten_members (suc (length ts)) us) _
+    (containers_more (length ts ∷ ks) (ts ++ t ∷ []) (flatten_members (suc (length ts)) us) (container_last ts t tt, containers_more ks ts (t ∷ []) (context_containers c)))
 
 -- a token that is written anew keeps its kind
 kind_set : (ts : List Token) (k j : ℕ) (t u : Token) → slice_get ts k ≡ Some t → u.kind ≡ t.kind → kind_at (slice_set ts k u) j ≡ kind_at ts j
@@ -134,7 +134,7 @@ has_tail c j x cs h =
     record { whole = omega arith; bytes = λ n l. let e : suc j + n ≡ j + suc n = omega arith in ap (byte c) e ∙ h.bytes (suc n) (omega arith) }
 
 close_step : (k : ℕ) (ks : List ℕ) (ts : List Token) (j p : ℕ) (t : Token) (kd : Kind) → slice_get ts k ≡ Some t → t.kind ≡ kd → IsContainer (Some kd)
-    → step (closer (Some kd)) (idle After (k ∷ ks) ts j p) ≡ Some (idle After ks (slice_set ts k (token_at t.start (suc j) t.depth t.kind)) (suc j) p)
+    → step (closer (Some kd)) (idle After (k ∷ ks) ts j p) ≡ Some (idle After ks (slice_set ts k (token_at t.start (suc j) (length ts) t.kind)) (suc j) p)
 close_step k ks ts j p t Array e q h = let s = idle After (k ∷ ks) ts j p in ap (λ o. after_token 93 k o s) e ∙ ap (λ z. after_in z 93 k t s) q
 close_step k ks ts j p t Object e q h = let s = idle After (k ∷ ks) ts j p in ap (λ o. after_token 125 k o s) e ∙ ap (λ z. after_in z 125 k t s) q
 close_step k ks ts j p t _ e q h = absurd h
@@ -154,7 +154,7 @@ close_one : (c : List ℕ) (ks : List ℕ) (ts : List Token) (k j p : ℕ) (o : 
     → ((u : Token) → Reaches c start (idle After ks (slice_set ts k u) (suc j) p) → ((i : ℕ) → kind_at (slice_set ts k u) i ≡ kind_at ts i) → Ended c p) → Ended c p
 close_one c ks ts k j p None e a h b next = absurd h
 close_one c ks ts k j p (Some t) e a h b next =
-    let u = token_at t.start (suc j) t.depth t.kind in
+    let u = token_at t.start (suc j) (length ts) t.kind in
     let s = idle After (k ∷ ks) ts j p in
     let r = arrive_on c start s (idle After ks (slice_set ts k u) (suc j) p) (subst IsEnd (sym b) (closer_end t.kind h)) a (ap (λ z. step z s) b ∙ close_step k ks ts j p t t.kind e refl h) in
     next u r (λ i. kind_set ts k i t u e refl)
@@ -178,7 +178,7 @@ zero_step Ready ks ts j p h = refl
 zero_step FirstItem ks ts j p h = refl
 zero_step _ ks ts j p h = absurd h
 
-read_zero : (c : List ℕ) (m : Mode) (ks : List ℕ) (ts : List Token) (j p : ℕ) → Begins m → byte c j ≡ 48 → Reaches c start (idle m ks ts j p) → Arrives c start (idle After ks (ts ++ token_at j (suc j) (length ks) Number ∷ []) (suc j) p)
+read_zero : (c : List ℕ) (m : Mode) (ks : List ℕ) (ts : List Token) (j p : ℕ) → Begins m → byte c j ≡ 48 → Reaches c start (idle m ks ts j p) → Arrives c start (idle After ks (ts ++ token_at j (suc j) (suc (length ts)) Number ∷ []) (suc j) p)
 read_zero c m ks ts j p h e r = record {
   at = state (in_atom After j Zero) ks ts (suc j) p;
   reached = on (idle m ks ts j p) (state (in_atom After j Zero) ks ts (suc j) p) r (ap (λ z. step z (idle m ks ts j p)) e ∙ zero_step m ks ts j p h);
@@ -188,12 +188,12 @@ read_zero c m ks ts j p h e r = record {
 read_colon : (c : List ℕ) (ks : List ℕ) (ts : List Token) (j p : ℕ) → byte c j ≡ 58 → Arrives c start (idle AfterName ks ts j p) → Reaches c start (idle Ready ks ts (suc j) p)
 read_colon c ks ts j p e a = arrive_on c start (idle AfterName ks ts j p) (idle Ready ks ts (suc j) p) (subst IsEnd (sym e) colon) a (ap (λ z. step z (idle AfterName ks ts j p)) e)
 
-read_value : (c : List ℕ) (ks : List ℕ) (ts : List Token) (j p : ℕ) → byte c j ≡ 58 → byte c (suc j) ≡ 48 → Arrives c start (idle AfterName ks ts j p) → Arrives c start (idle After ks (ts ++ token_at (suc j) (suc (suc j)) (length ks) Number ∷ []) (suc (suc j)) p)
+read_value : (c : List ℕ) (ks : List ℕ) (ts : List Token) (j p : ℕ) → byte c j ≡ 58 → byte c (suc j) ≡ 48 → Arrives c start (idle AfterName ks ts j p) → Arrives c start (idle After ks (ts ++ token_at (suc j) (suc (suc j)) (suc (length ts)) Number ∷ []) (suc (suc j)) p)
 read_value c ks ts j p e f a = read_zero c Ready ks ts (suc j) p tt f (read_colon c ks ts j p e a)
 
 -- an empty name
 read_name : (c : List ℕ) (m : Mode) (ks : List ℕ) (ts : List Token) (j p : ℕ) → NameBegins m → byte c j ≡ 34 → byte c (suc j) ≡ 34 → Reaches c start (idle m ks ts j p)
-    → Arrives c start (idle AfterName ks (ts ++ token_at j (suc (suc j)) (length ks) Text ∷ []) (suc (suc j)) p)
+    → Arrives c start (idle AfterName ks (ts ++ token_at j (suc (suc j)) (suc (length ts)) Text ∷ []) (suc (suc j)) p)
 read_name c m ks ts j p h e f r =
     let s = state (in_atom AfterName j InText) ks ts (suc j) p in
     let q = on (idle m ks ts j p) s r (ap (λ z. step z (idle m ks ts j p)) e ∙ name_34 m ks ts j p h) in
@@ -204,8 +204,8 @@ read_name c m ks ts j p h e f r =
     }
 
 read_member : (c : List ℕ) (m : Mode) (ks : List ℕ) (ts : List Token) (j p : ℕ) → NameBegins m → byte c j ≡ 34 → byte c (suc j) ≡ 34 → byte c (suc (suc j)) ≡ 58 → byte c (suc (suc (suc j))) ≡ 48 → Reaches c start (idle m ks ts j p)
-    → Arrives c start (idle After ks ((ts ++ token_at j (suc (suc j)) (length ks) Text ∷ []) ++ token_at (suc (suc (suc j))) (suc (suc (suc (suc j)))) (length ks) Number ∷ []) (suc (suc (suc (suc j)))) p)
-read_member c m ks ts j p h e f g i r = read_value c ks (ts ++ token_at j (suc (suc j)) (length ks) Text ∷ []) (suc (suc j)) p g i (read_name c m ks ts j p h e f r)
+    → Arrives c start (idle After ks (let us = with_name ts j (suc (suc j)) in us ++ token_at (suc (suc (suc j))) (suc (suc (suc (suc j)))) (suc (length us)) Number ∷ []) (suc (suc (suc (suc j)))) p)
+read_member c m ks ts j p h e f g i r = read_value c ks (with_name ts j (suc (suc j))) (suc (suc j)) p g i (read_name c m ks ts j p h e f r)
 
 -- bytes after which the value that is begun, or is to come, has ended
 record Finish (s : State) : Type 0 where
@@ -225,7 +225,7 @@ finish_value : (m : Mode) (k p : ℕ) (ks : List ℕ) (ts : List Token) → Begi
 finish_value m k p ks ts h all = record {
   rest = 48 ∷ [];
   stack = ks;
-  tokens = ts ++ token_at k (suc k) (length ks) Number ∷ [];
+  tokens = ts ++ token_at k (suc k) (suc (length ts)) Number ∷ [];
   containers = containers_more ks ts _ all;
   goes = λ c r b. arrives_at c ks _ (suc k) (k + 1) p (omega arith) (read_zero c m ks ts k p h (place_at c k (k + 0) 48 (omega arith) (b 0 (omega arith))) r);
 }
@@ -234,7 +234,7 @@ finish_name : (m : Mode) (k p : ℕ) (ks : List ℕ) (ts : List Token) → NameB
 finish_name m k p ks ts h all = record {
   rest = 34 ∷ 34 ∷ 58 ∷ 48 ∷ [];
   stack = ks;
-  tokens = (ts ++ token_at k (suc (suc k)) (length ks) Text ∷ []) ++ token_at (suc (suc (suc k))) (suc (suc (suc (suc k)))) (length ks) Number ∷ [];
+  tokens = let us = with_name ts k (suc (suc k)) in us ++ token_at (suc (suc (suc k))) (suc (suc (suc (suc k)))) (suc (length us)) Number ∷ [];
   containers = containers_more ks _ _ (containers_more ks ts _ all);
   goes = λ c r b. arrives_at c ks _ (suc (suc (suc (suc k)))) (k + 4) p (omega arith)
       (read_member c m ks ts k p h (place_at c k (k + 0) 34 (omega arith) (b 0 (omega arith))) (place_at c (suc k) (k + 1) 34 (omega arith) (b 1 (omega arith))) (place_at c (suc (suc k)) (k + 2) 58 (omega arith) (b 2 (omega arith)))
@@ -254,7 +254,7 @@ finish_colon : (k p : ℕ) (ks : List ℕ) (ts : List Token) → AllContainers k
 finish_colon k p ks ts all = record {
   rest = 58 ∷ 48 ∷ [];
   stack = ks;
-  tokens = ts ++ token_at (suc k) (suc (suc k)) (length ks) Number ∷ [];
+  tokens = ts ++ token_at (suc k) (suc (suc k)) (suc (length ts)) Number ∷ [];
   containers = containers_more ks ts _ all;
   goes = λ c r b. arrives_at c ks _ (suc (suc k)) (k + 2) p (omega arith)
       (read_value c ks ts k p (place_at c k (k + 0) 58 (omega arith) (b 0 (omega arith))) (place_at c (suc k) (k + 1) 48 (omega arith) (b 1 (omega arith))) (arrived c start AfterName ks ts k p r));
@@ -266,7 +266,7 @@ finish_scalar e k p ks ts x all =
     record {
       rest = z.rest;
       stack = ks;
-      tokens = ts ++ token_at e (k + length z.rest) (length ks) z.kind ∷ [];
+      tokens = ts ++ token_at e (k + length z.rest) (suc (length ts)) z.kind ∷ [];
       containers = containers_more ks ts _ all;
       goes = λ c r b. record {
         at = state (in_atom After e z.last) ks ts (k + length z.rest) p;
@@ -288,12 +288,12 @@ finish_in_name : {b : List ℕ} (l k p : ℕ) (ks : List ℕ) (ts : List Token) 
 finish_in_name l k p ks ts x w q all =
     let z = text_end x (in_text w q) in
     let n = length z.rest in
-    let us = ts ++ token_at l (k + n) (length ks) Text ∷ [] in
+    let us = with_name ts l (k + n) in
     let w2 = length-append z.rest (58 ∷ 48 ∷ []) in
     record {
       rest = z.rest ++ 58 ∷ 48 ∷ [];
       stack = ks;
-      tokens = us ++ token_at (suc (k + n)) (suc (suc (k + n))) (length ks) Number ∷ [];
+      tokens = us ++ token_at (suc (k + n)) (suc (suc (k + n))) (suc (length us)) Number ∷ [];
       containers = containers_more ks us _ (containers_more ks ts _ all);
       goes = λ c r b.
           let f = continues_run z.rest c k k x x TextDone still z.run (λ i h. b i (omega arith) ∙ front_byte z.rest (58 ∷ 48 ∷ []) i h) in
@@ -314,18 +314,18 @@ just_inside ks ts t h all = (container_last ts t h, containers_more ks ts (t ∷
 
 finish : {b : List ℕ} (s : State) → Inv b s → Finish s
 finish s (ready k p ks ts c) = finish_value Ready k p ks ts tt (context_containers c)
-finish s (first_item e k p ks ts c o w) = let t = token_at e 0 (length ks) Array in finish_value FirstItem k p (length ts ∷ ks) (ts ++ t ∷ []) tt (just_inside ks ts t tt (context_containers c))
-finish s (after_tree e j k p ks ts t c v w) = finish_tree k p ks (ts ++ flatten (length ks) t) (containers_more ks ts (flatten (length ks) t) (context_containers c))
-finish s (first_name e k p ks ts c o w) = let t = token_at e 0 (length ks) Object in finish_name FirstName k p (length ts ∷ ks) (ts ++ t ∷ []) tt (just_inside ks ts t tt (context_containers c))
+finish s (first_item e k p ks ts c o w) = let t = token_at e 0 0 Array in finish_value FirstItem k p (length ts ∷ ks) (ts ++ t ∷ []) tt (just_inside ks ts t tt (context_containers c))
+finish s (after_tree e j k p ks ts t c v w) = finish_tree k p ks (ts ++ flatten (length ts) t) (containers_more ks ts (flatten (length ts) t) (context_containers c))
+finish s (first_name e k p ks ts c o w) = let t = token_at e 0 0 Object in finish_name FirstName k p (length ts ∷ ks) (ts ++ t ∷ []) tt (just_inside ks ts t tt (context_containers c))
 finish s (next_name e j k p ks ts us c o l w) =
-    let t = token_at e 0 (length ks) Object in let fs = flatten_members (suc (length ks)) us in
+    let t = token_at e 0 0 Object in let fs = flatten_members (suc (length ts)) us in
     finish_name NextName k p (length ts ∷ ks) ((ts ++ t ∷ []) ++ fs) tt (inside ks ts t fs tt (context_containers c))
 finish s (after_name e j l m k p ks ts us c o ld w0 wd w) =
-    let t = token_at e 0 (length ks) Object in let fs = flatten_members (suc (length ks)) us in let n = token_at l m (suc (length ks)) Text in
+    let t = token_at e 0 0 Object in let fs = flatten_members (suc (length ts)) us in let n = token_at l m (suc (length ((ts ++ t ∷ []) ++ fs))) Text in
     finish_colon k p (length ts ∷ ks) (((ts ++ t ∷ []) ++ fs) ++ n ∷ []) (containers_more (length ts ∷ ks) ((ts ++ t ∷ []) ++ fs) (n ∷ []) (inside ks ts t fs tt (context_containers c)))
 finish s (in_scalar e k p ks ts x c w) = finish_scalar e k p ks ts x (context_containers c)
 finish s (in_name e j l k p ks ts us x c o ld w0 q w) =
-    let t = token_at e 0 (length ks) Object in let fs = flatten_members (suc (length ks)) us in
+    let t = token_at e 0 0 Object in let fs = flatten_members (suc (length ts)) us in
     finish_in_name l k p (length ts ∷ ks) ((ts ++ t ∷ []) ++ fs) x w q (inside ks ts t fs tt (context_containers c))
 
 -- ---- fronts and texts

@@ -75,9 +75,9 @@ module _ (i p : ℕ) (ts : List Token) where
 
   -- into a container
   goes_open : (m : Mode) (k : Kind) (ks : List ℕ) → length ks ≤ i → 2 * length ts ≤ i + length ks → 2 * suc (length ts) ≤ reach_in m (suc i) + suc (length ks)
-      → Goes i p (idle m (length ts ∷ ks) (ts ++ token_at i 0 (length ks) k ∷ []) (suc i) (max p (suc (length ks))))
+      → Goes i p (idle m (length ts ∷ ks) (ts ++ token_at i 0 0 k ∷ []) (suc i) (max p (suc (length ks))))
   goes_open m k ks o c g =
-      let e : length (ts ++ token_at i 0 (length ks) k ∷ []) ≡ length ts + 1 = length-append ts (token_at i 0 (length ks) k ∷ []) in
+      let e : length (ts ++ token_at i 0 0 k ∷ []) ≡ length ts + 1 = length-append ts (token_at i 0 0 k ∷ []) in
       record { place = refl; deepest = refl; lawful = record { open_count = omega arith; deep = omega arith; token_count = omega arith; began = tt } }
 
   goes_lex : (ks : List ℕ) (o : Option Lex) → length ks ≤ i → length ks ≤ p → 2 * length ts ≤ i + length ks → GoesIf i p (option_map (λ x. state (in_atom After i x) ks ts (suc i) p) o)
@@ -142,7 +142,7 @@ ends_count _ a i d k ks ts e l n = absurd e
 goes_ended : (m : Mode) (a : ℕ) (f : Phase) (r : Option Kind) (c : ℕ) (ks : List ℕ) (ts : List Token) (i p : ℕ) → EndsAtom m → a < i → length ks ≤ i → length ks ≤ p → 2 * length ts ≤ a + length ks
     → GoesIf i p (option_and_then (read m c) (end_atom m a r (state f ks ts i p)))
 goes_ended m a f None c ks ts i p e l o d n = tt
-goes_ended m a f (Some k) c ks ts i p e l o d n = goes_read i p (ts ++ token_at a i (length ks) k ∷ []) m c ks o d (ends_count m a i (length ks) k ks ts e l n)
+goes_ended m a f (Some k) c ks ts i p e l o d n = goes_read i p (ts ++ token_at a i (suc (length ts)) k ∷ []) m c ks o d (ends_count m a i (suc (length ts)) k ks ts e l n)
 
 goes_on : (m : Mode) (a : ℕ) (x : Lex) (z : Option Lex) (c : ℕ) (ks : List ℕ) (ts : List Token) (i p : ℕ) → EndsAtom m → a < i → length ks ≤ i → length ks ≤ p → 2 * length ts ≤ a + length ks
     → GoesIf i p (go_on (λ y. in_atom m a y) z (state (in_atom m a x) ks ts i p) (option_and_then (read m c) (end_atom m a (lex_kind x) (state (in_atom m a x) ks ts i p))))
@@ -164,7 +164,7 @@ lawful_reaches {b} s (on t u r h) = (goes t u (byte b t.place) (lawful_reaches t
 settle_lawful : (m : Mode) (a : ℕ) (x : Lex) (r : Option Kind) (ks : List ℕ) (ts : List Token) (i p : ℕ) (t : State) → IsLawful (state (in_atom m a x) ks ts i p) → end_atom m a r (state (in_atom m a x) ks ts i p) ≡ Some t → IsLawful t
 settle_lawful m a x None ks ts i p t l h = none_some t h
 settle_lawful m a x (Some k) ks ts i p t l h =
-    subst IsLawful (some_same _ t h) (record { open_count = l.open_count; deep = l.deep; token_count = ends_count m a i (length ks) k ks ts l.began.1 l.began.0 l.token_count; began = tt })
+    subst IsLawful (some_same _ t h) (record { open_count = l.open_count; deep = l.deep; token_count = ends_count m a i (suc (length ts)) k ks ts l.began.1 l.began.0 l.token_count; began = tt })
 
 lawful_phase : (f : Phase) (ks : List ℕ) (ts : List Token) (i p : ℕ) (t : State) → IsLawful (state f ks ts i p) → settle (state f ks ts i p) ≡ Some t → IsLawful t
 lawful_phase (between m) ks ts i p t l h = subst IsLawful (some_same _ t h) l

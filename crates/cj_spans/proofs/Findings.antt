@@ -178,3 +178,21 @@ least-append o (f ∷ fs) gs = least-append (lesser o f) fs gs
 -- one part of a list more: its findings are added, and those of the rest are left
 pub least_on : {A : Type 0} (f : A → List Finding) (all rest : List A) (t : A) (o p total : Option Finding) → least o (flat_map f all) ≡ total → all ≡ t ∷ rest → p ≡ least o (f t) → least p (flat_map f rest) ≡ total
 least_on f all rest t o p total h e q = ap (λ x. least x (flat_map f rest)) q ∙ sym (least-append o (f t) (flat_map f rest)) ∙ sym (ap (λ xs. least o (flat_map f xs)) e) ∙ h
+
+-- two lists in turn, and three
+pub least-two : (o p q : Option Finding) (fs gs : List Finding) → p ≡ least o fs → q ≡ least p gs → q ≡ least o (fs ++ gs)
+least-two o p q fs gs h k = k ∙ ap (λ x. least x gs) h ∙ sym (least-append o fs gs)
+
+pub least-three : (o p q r : Option Finding) (fs gs hs : List Finding) → p ≡ least o fs → q ≡ least p gs → r ≡ least q hs → r ≡ least o (fs ++ gs ++ hs)
+least-three o p q r fs gs hs h k l = least-two o q r (fs ++ gs) hs (least-two o p q fs gs h k) l
+
+contains_swap : (ks fs gs : List Finding) (f : Finding) → Contains (ks ++ (fs ++ gs)) f → Contains (ks ++ (gs ++ fs)) f
+contains_swap ks fs gs f c =
+    elim (Contains-append_cases ks (fs ++ gs) f c) [
+      | inl h ↦ Contains-append_left ks (gs ++ fs) f h
+      | inr h ↦ Contains-append_right ks (gs ++ fs) f (elim (Contains-append_cases fs gs f h) [ inl h ↦ Contains-append_right gs fs f h | inr h ↦ Contains-append_left gs fs f h ])
+    ]
+
+-- two lists in either order
+pub least-swap : (o : Option Finding) (fs gs : List Finding) → least o (fs ++ gs) ≡ least o (gs ++ fs)
+least-swap o fs gs = least_only (kept o ++ (gs ++ fs)) (kept o ++ (fs ++ gs)) (least o (gs ++ fs)) (least o (fs ++ gs)) (λ f. (contains_swap (kept o) gs fs f, contains_swap (kept o) fs gs f)) (fold_least o (gs ++ fs)) (fold_least o (fs ++ gs))

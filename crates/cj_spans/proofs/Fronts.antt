@@ -10,7 +10,7 @@ use Rattle.cj_spans.specs.Front.{Front, blank, begun, whole, in_object}
 use Rattle.cj_spans.specs.Front.{in_array as front_array, in_member as front_member, in_name as front_name, after_name as front_after_name}
 use Rattle.cj_spans.specs.Preorder.{flatten, token_at}
 use Rattle.cj_spans.specs.Machine.{State, state, in_atom, Reaches, on}
-use Rattle.cj_spans.proofs.Lists.{slice_get-seam, rise}
+use Rattle.cj_spans.proofs.Lists.{length-snoc, slice_get-seam, rise}
 use Rattle.cj_spans.proofs.Runs.{Arrives, settled, skip, Begins, NameBegins, idle}
 use Rattle.cj_spans.proofs.Follows.{run_padded, run_led, run_led_members, run_named, open_array, open_object}
 use Rattle.cj_spans.proofs.Places.{atom_begun, name_begun, run_begun, run_begun_name, run_name, begun_reading, quote_first}
@@ -46,9 +46,9 @@ record InObject (b : List ℕ) (s : State) (ks : List ℕ) (k : ℕ) : Type 0 wh
 object_at : {b : List ℕ} (i j k : ℕ) (us : Members) → White b i j → byte b j ≡ 123 → LedMembers b (suc j) k us → (s : State) (m : Mode) (ks : List ℕ) (ts : List Token) (p : ℕ) → Begins m → Reaches b s (idle m ks ts i p)
     → InObject b s (length ts ∷ ks) k
 object_at {b} i j k us w o ld s m ks ts p h r =
-    let t = token_at j 0 (length ks) Object in let q = max p (suc (length ks)) in
+    let t = token_at j 0 0 Object in let q = max p (suc (length ks)) in
     let r1 = on (idle m ks ts j p) (idle FirstName (length ts ∷ ks) (ts ++ t ∷ []) (suc j) q) (skip w s m ks ts p r) (open_object m ks ts j p (byte b j) h o) in
-    let r2 = run_led_members ld s FirstName (length ts) ks (ts ++ t ∷ []) q j (length ks) (slice_get-seam ts [] t) tt r1 in
+    let r2 = run_led_members ld s FirstName (length ts) ks (ts ++ t ∷ []) q j (suc (length ts)) (length-snoc ts t) (slice_get-seam ts [] t) tt r1 in
     record { mode = r2.mode; tokens = _; deepest = _; begins = r2.begins; reached = r2.reached }
 
 pub front_runs : {b : List ℕ} {i j n : ℕ} → Front b i j n → (s : State) (m : Mode) (ks : List ℕ) (ts : List Token) (p : ℕ) → Begins m → Reaches b s (idle m ks ts i p) → Live b s j (n + length ks)
@@ -56,11 +56,11 @@ front_runs {b} (blank i j w) s m ks ts p h r = live_n _ _ (omega arith) (lives s
 front_runs {b} (begun i j l k w g) s m ks ts p h r =
     let q = begun_reading g in
     live_n _ _ (omega arith) (lives s (state (in_atom After j q.last) ks ts l p) (run_begun q.inside s m ks ts p h (skip w s m ks ts p r)))
-front_runs {b} (whole i j t w) s m ks ts p h r = live_n _ _ (omega arith) (live b s (idle After ks (ts ++ flatten (length ks) t) j (rise (length ks) p t)) (run_padded w s m ks ts p h r))
+front_runs {b} (whole i j t w) s m ks ts p h r = live_n _ _ (omega arith) (live b s (idle After ks (ts ++ flatten (length ts) t) j (rise (length ks) p t)) (run_padded w s m ks ts p h r))
 front_runs {b} (front_array i j k l n us w o ld q) s m ks ts p h r =
-    let t = token_at j 0 (length ks) Array in let y = max p (suc (length ks)) in
+    let t = token_at j 0 0 Array in let y = max p (suc (length ks)) in
     let r1 = on (idle m ks ts j p) (idle FirstItem (length ts ∷ ks) (ts ++ t ∷ []) (suc j) y) (skip w s m ks ts p r) (open_array m ks ts j p (byte b j) h o) in
-    let r2 = run_led ld s FirstItem (length ts) ks (ts ++ t ∷ []) y j (length ks) (slice_get-seam ts [] t) tt r1 in
+    let r2 = run_led ld s FirstItem (length ts) ks (ts ++ t ∷ []) y j (suc (length ts)) (length-snoc ts t) (slice_get-seam ts [] t) tt r1 in
     live_n _ _ (omega arith) (front_runs q s r2.mode (length ts ∷ ks) _ _ r2.begins r2.reached)
 front_runs {b} (in_object i j k l us w o ld w2) s m ks ts p h r =
     let q = object_at {b = b} i j k us w o ld s m ks ts p h r in

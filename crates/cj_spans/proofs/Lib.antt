@@ -2,6 +2,7 @@ pub mod Steps
 pub mod Spellings
 pub mod Atoms
 pub mod Judgements
+pub mod Links
 pub mod Lists
 pub mod Runs
 pub mod Places

@@ -2,22 +2,33 @@
 use Rattle.std.proofs.Common.{◌≡◌, ℕ, zero, suc, ◌+◌, ◌≤◌, List, [], ◌∷◌, ◌++◌, length, max, Some, refl, sym, ap, arith, ◌∙◌, append_assoc, slice_get, slice_set, length-append}
 use Rattle.std.proofs.lemmas.List.{append-nil}
 use Rattle.std.proofs.Math.Seq.{set-append_seam}
-use Rattle.cj_spans.specs.declared.token.Kind.TheVariants.{Text}
+use Rattle.cj_spans.specs.declared.token.Kind.TheVariants.{Text, Array, Object}
 use Rattle.cj_spans.specs.declared.token.Token.{Token}
 use Rattle.cj_spans.specs.Tree.{Atom, Tree, scalar, array, object, Items, no_items, item, Members, no_members, member, add_item, add_member, size, items_size, members_size, nest, items_nest, members_nest}
 use Rattle.cj_spans.specs.Preorder.{span_at, preorder, items_preorder, members_preorder, flatten, flatten_items, flatten_members, token_at, spans_of}
 
 -- ---- one more part at the end
 
-pub flatten_items-add : (d : ℕ) (ts : Items) (t : Tree) → flatten_items d (add_item ts t) ≡ flatten_items d ts ++ flatten d t
-flatten_items-add d no_items t = append-nil (flatten d t)
-flatten_items-add d (item u ts) t = ap (λ xs. flatten d u ++ xs) (flatten_items-add d ts t) ∙ sym (append_assoc (flatten d u) (flatten_items d ts) (flatten d t))
+pub flatten_items-add : (k : ℕ) (ts : Items) (t : Tree) → flatten_items k (add_item ts t) ≡ flatten_items k ts ++ flatten (k + items_size ts) t
+flatten_items-add k no_items t = let e : k ≡ k + 0 = omega arith in append-nil (flatten k t) ∙ ap (λ j. flatten j t) e
+flatten_items-add k (item u ts) t =
+    let j = k + size u in
+    let e : j + items_size ts ≡ k + (size u + items_size ts) = omega arith in
+    ap (λ xs. flatten k u ++ xs) (flatten_items-add j ts t ∙ ap (λ i. flatten_items j ts ++ flatten i t) e)
+    ∙ sym (append_assoc (flatten k u) (flatten_items j ts) (flatten (k + (size u + items_size ts)) t))
 
-pub flatten_members-add : (d : ℕ) (ms : Members) (n : Atom) (t : Tree) → flatten_members d (add_member ms n t) ≡ flatten_members d ms ++ token_at n.start n.stop d Text ∷ flatten d t
-flatten_members-add d no_members n t = ap (λ xs. token_at n.start n.stop d Text ∷ xs) (append-nil (flatten d t))
-flatten_members-add d (member m u ms) n t =
-    ap (λ xs. token_at m.start m.stop d Text ∷ (flatten d u ++ xs)) (flatten_members-add d ms n t)
-    ∙ ap (λ xs. token_at m.start m.stop d Text ∷ xs) (sym (append_assoc (flatten d u) (flatten_members d ms) (token_at n.start n.stop d Text ∷ flatten d t)))
+-- a name and its value, numbered from k on
+abbrev pub named_tokens : ℕ → Atom → Tree → List Token
+named_tokens k n t = token_at n.start n.stop (suc k) Text ∷ flatten (suc k) t
+
+pub flatten_members-add : (k : ℕ) (ms : Members) (n : Atom) (t : Tree) → flatten_members k (add_member ms n t) ≡ flatten_members k ms ++ named_tokens (k + members_size ms) n t
+flatten_members-add k no_members n t =
+    let e : k ≡ k + 0 = omega arith in ap (λ xs. token_at n.start n.stop (suc k) Text ∷ xs) (append-nil (flatten (suc k) t)) ∙ ap (λ j. named_tokens j n t) e
+flatten_members-add k (member m u ms) n t =
+    let j = suc k + size u in
+    let e : j + members_size ms ≡ k + suc (size u + members_size ms) = omega arith in
+    ap (λ xs. token_at m.start m.stop (suc k) Text ∷ (flatten (suc k) u ++ xs)) (flatten_members-add j ms n t ∙ ap (λ i. flatten_members j ms ++ named_tokens i n t) e)
+    ∙ ap (λ xs. token_at m.start m.stop (suc k) Text ∷ xs) (sym (append_assoc (flatten (suc k) u) (flatten_members j ms) (named_tokens (k + suc (size u + members_size ms)) n t)))
 
 pub items_preorder-add : (ts : Items) (t : Tree) → items_preorder (add_item ts t) ≡ items_preorder ts ++ preorder t
 items_preorder-add no_items t = append-nil (preorder t)
@@ -36,33 +47,39 @@ spans_of-append [] ys = refl
 spans_of-append (x ∷ xs) ys = ap (λ z. span_at x.start x.stop ∷ z) (spans_of-append xs ys)
 
 mutual
-  pub length-flatten : (d : ℕ) (t : Tree) → length (flatten d t) ≡ size t
-  length-flatten d (scalar k a) = refl
-  length-flatten d (array i j ts) = ap suc (length-flatten_items (suc d) ts)
-  length-flatten d (object i j ms) = ap suc (length-flatten_members (suc d) ms)
+  pub length-flatten : (k : ℕ) (t : Tree) → length (flatten k t) ≡ size t
+  length-flatten k (scalar kd a) = refl
+  length-flatten k (array i j ts) = ap suc (length-flatten_items (suc k) ts)
+  length-flatten k (object i j ms) = ap suc (length-flatten_members (suc k) ms)
 
-  length-flatten_items : (d : ℕ) (ts : Items) → length (flatten_items d ts) ≡ items_size ts
-  length-flatten_items d no_items = refl
-  length-flatten_items d (item t ts) = length-append (flatten d t) (flatten_items d ts) ∙ ap (λ n. n + length (flatten_items d ts)) (length-flatten d t) ∙ ap (λ n. size t + n) (length-flatten_items d ts)
+  pub length-flatten_items : (k : ℕ) (ts : Items) → length (flatten_items k ts) ≡ items_size ts
+  length-flatten_items k no_items = refl
+  length-flatten_items k (item t ts) =
+      let e = length-append (flatten k t) (flatten_items (k + size t) ts) in let f = length-flatten k t in let g = length-flatten_items (k + size t) ts in omega arith
 
-  length-flatten_members : (d : ℕ) (ms : Members) → length (flatten_members d ms) ≡ members_size ms
-  length-flatten_members d no_members = refl
-  length-flatten_members d (member n t ms) = ap suc (length-append (flatten d t) (flatten_members d ms) ∙ ap (λ n. n + length (flatten_members d ms)) (length-flatten d t) ∙ ap (λ n. size t + n) (length-flatten_members d ms))
+  pub length-flatten_members : (k : ℕ) (ms : Members) → length (flatten_members k ms) ≡ members_size ms
+  length-flatten_members k no_members = refl
+  length-flatten_members k (member n t ms) =
+      let j = suc k + size t in
+      let e = length-append (flatten (suc k) t) (flatten_members j ms) in let f = length-flatten (suc k) t in let g = length-flatten_members j ms in omega arith
 
 mutual
-  pub spans_of-flatten : (d : ℕ) (t : Tree) → spans_of (flatten d t) ≡ preorder t
-  spans_of-flatten d (scalar k a) = refl
-  spans_of-flatten d (array i j ts) = ap (λ z. span_at i j ∷ z) (spans_of-flatten_items (suc d) ts)
-  spans_of-flatten d (object i j ms) = ap (λ z. span_at i j ∷ z) (spans_of-flatten_members (suc d) ms)
+  pub spans_of-flatten : (k : ℕ) (t : Tree) → spans_of (flatten k t) ≡ preorder t
+  spans_of-flatten k (scalar kd a) = refl
+  spans_of-flatten k (array i j ts) = ap (λ z. span_at i j ∷ z) (spans_of-flatten_items (suc k) ts)
+  spans_of-flatten k (object i j ms) = ap (λ z. span_at i j ∷ z) (spans_of-flatten_members (suc k) ms)
 
-  spans_of-flatten_items : (d : ℕ) (ts : Items) → spans_of (flatten_items d ts) ≡ items_preorder ts
-  spans_of-flatten_items d no_items = refl
-  spans_of-flatten_items d (item t ts) = spans_of-append (flatten d t) (flatten_items d ts) ∙ ap (λ z. z ++ spans_of (flatten_items d ts)) (spans_of-flatten d t) ∙ ap (λ z. preorder t ++ z) (spans_of-flatten_items d ts)
+  spans_of-flatten_items : (k : ℕ) (ts : Items) → spans_of (flatten_items k ts) ≡ items_preorder ts
+  spans_of-flatten_items k no_items = refl
+  spans_of-flatten_items k (item t ts) =
+      let us = flatten_items (k + size t) ts in
+      spans_of-append (flatten k t) us ∙ ap (λ z. z ++ spans_of us) (spans_of-flatten k t) ∙ ap (λ z. preorder t ++ z) (spans_of-flatten_items (k + size t) ts)
 
-  spans_of-flatten_members : (d : ℕ) (ms : Members) → spans_of (flatten_members d ms) ≡ members_preorder ms
-  spans_of-flatten_members d no_members = refl
-  spans_of-flatten_members d (member n t ms) =
-      ap (λ z. span_at n.start n.stop ∷ z) (spans_of-append (flatten d t) (flatten_members d ms) ∙ ap (λ z. z ++ spans_of (flatten_members d ms)) (spans_of-flatten d t) ∙ ap (λ z. preorder t ++ z) (spans_of-flatten_members d ms))
+  spans_of-flatten_members : (k : ℕ) (ms : Members) → spans_of (flatten_members k ms) ≡ members_preorder ms
+  spans_of-flatten_members k no_members = refl
+  spans_of-flatten_members k (member n t ms) =
+      let us = flatten_members (suc k + size t) ms in
+      ap (λ z. span_at n.start n.stop ∷ z) (spans_of-append (flatten (suc k) t) us ∙ ap (λ z. z ++ spans_of us) (spans_of-flatten (suc k) t) ∙ ap (λ z. preorder t ++ z) (spans_of-flatten_members (suc k + size t) ms))
 
 -- ---- elements
 
@@ -75,12 +92,52 @@ pub slice_get-seam : {A : Type 0} (xs ys : List A) (x : A) → slice_get (xs ++ 
 slice_get-seam [] ys x = refl
 slice_get-seam (z ∷ xs) ys x = slice_get-seam xs ys x
 
--- the token of a container is written where its place is
-pub set_closed : (ts : List Token) (o f : Token) (xs ys : List Token) → slice_set (((ts ++ o ∷ []) ++ xs) ++ ys) (length ts) f ≡ ts ++ f ∷ (xs ++ ys)
-set_closed ts o f xs ys = let e : ((ts ++ o ∷ []) ++ xs) ++ ys ≡ ts ++ o ∷ (xs ++ ys) = simp append_assoc in ap (λ us. slice_set us (length ts) f) e ∙ set-append_seam ts o (xs ++ ys) f
+-- ---- the tokens of an open container, whose first part has the number k
 
-pub set_opened : (ts : List Token) (o f : Token) → slice_set (ts ++ o ∷ []) (length ts) f ≡ ts ++ f ∷ []
-set_opened ts o f = set-append_seam ts o [] f
+pub length-snoc : (ts : List Token) (o : Token) → length (ts ++ o ∷ []) ≡ suc (length ts)
+length-snoc ts o = let e = length-append ts (o ∷ []) in omega arith
+
+-- one item more
+pub items_more : (xs : List Token) (k : ℕ) (us : Items) (u : Tree) → length xs ≡ k → let vs = xs ++ flatten_items k us in vs ++ flatten (length vs) u ≡ xs ++ flatten_items k (add_item us u)
+items_more xs k us u h =
+    let fs = flatten_items k us in
+    let n : length (xs ++ fs) ≡ k + items_size us = let e = length-append xs fs in let f = length-flatten_items k us in omega arith in
+    ap (λ j. (xs ++ fs) ++ flatten j u) n ∙ append_assoc xs fs (flatten (k + items_size us) u) ∙ ap (λ zs. xs ++ zs) (sym (flatten_items-add k us u))
+
+-- one member more
+pub members_more : (xs : List Token) (k : ℕ) (us : Members) (n : Atom) (u : Tree) → length xs ≡ k
+    → let vs = xs ++ flatten_members k us in let ws = vs ++ token_at n.start n.stop (suc (length vs)) Text ∷ [] in ws ++ flatten (length ws) u ≡ xs ++ flatten_members k (add_member us n u)
+members_more xs k us n u h =
+    let fs = flatten_members k us in
+    let vs = xs ++ fs in
+    let v = token_at n.start n.stop (suc (length vs)) Text in
+    let e : length vs ≡ k + members_size us = let e = length-append xs fs in let f = length-flatten_members k us in omega arith in
+    ap (λ j. (vs ++ v ∷ []) ++ flatten j u) (length-snoc vs v) ∙ append_assoc vs (v ∷ []) (flatten (suc (length vs)) u) ∙ append_assoc xs fs (named_tokens (length vs) n u)
+    ∙ ap (λ j. xs ++ (fs ++ named_tokens j n u)) e ∙ ap (λ zs. xs ++ zs) (sym (flatten_members-add k us n u))
+
+-- the token of a container is written where its place is
+set_closed : (ts : List Token) (o f : Token) (xs : List Token) → slice_set ((ts ++ o ∷ []) ++ xs) (length ts) f ≡ ts ++ f ∷ xs
+set_closed ts o f xs = ap (λ us. slice_set us (length ts) f) (append_assoc ts (o ∷ []) xs) ∙ set-append_seam ts o xs f
+
+-- the container ends with the tokens of its parts
+pub array_done : (ts : List Token) (o : Token) (i j : ℕ) (us : Items) → let vs = (ts ++ o ∷ []) ++ flatten_items (suc (length ts)) us in slice_set vs (length ts) (token_at i j (length vs) Array) ≡ ts ++ flatten (length ts) (array i j us)
+array_done ts o i j us =
+    let fs = flatten_items (suc (length ts)) us in
+    let e : length ((ts ++ o ∷ []) ++ fs) ≡ suc (length ts) + items_size us = let e = length-append (ts ++ o ∷ []) fs in let f = length-flatten_items (suc (length ts)) us in let g = length-snoc ts o in omega arith in
+    ap (λ n. slice_set ((ts ++ o ∷ []) ++ fs) (length ts) (token_at i j n Array)) e ∙ set_closed ts o (token_at i j (suc (length ts) + items_size us) Array) fs
+
+pub object_done : (ts : List Token) (o : Token) (i j : ℕ) (us : Members) → let vs = (ts ++ o ∷ []) ++ flatten_members (suc (length ts)) us in slice_set vs (length ts) (token_at i j (length vs) Object) ≡ ts ++ flatten (length ts) (object i j us)
+object_done ts o i j us =
+    let fs = flatten_members (suc (length ts)) us in
+    let e : length ((ts ++ o ∷ []) ++ fs) ≡ suc (length ts) + members_size us = let e = length-append (ts ++ o ∷ []) fs in let f = length-flatten_members (suc (length ts)) us in let g = length-snoc ts o in omega arith in
+    ap (λ n. slice_set ((ts ++ o ∷ []) ++ fs) (length ts) (token_at i j n Object)) e ∙ set_closed ts o (token_at i j (suc (length ts) + members_size us) Object) fs
+
+-- the same of one that is empty
+pub array_empty : (ts : List Token) (o : Token) (i j : ℕ) → slice_set (ts ++ o ∷ []) (length ts) (token_at i j (length (ts ++ o ∷ [])) Array) ≡ ts ++ flatten (length ts) (array i j no_items)
+array_empty ts o i j = ap (λ us. slice_set us (length ts) (token_at i j (length us) Array)) (sym (append-nil (ts ++ o ∷ []))) ∙ array_done ts o i j no_items
+
+pub object_empty : (ts : List Token) (o : Token) (i j : ℕ) → slice_set (ts ++ o ∷ []) (length ts) (token_at i j (length (ts ++ o ∷ [])) Object) ≡ ts ++ flatten (length ts) (object i j no_members)
+object_empty ts o i j = ap (λ us. slice_set us (length ts) (token_at i j (length us) Object)) (sym (append-nil (ts ++ o ∷ []))) ∙ object_done ts o i j no_members
 
 -- ---- the most containers that are open
 

@@ -283,7 +283,7 @@ pub name_quote : {b : List ℕ} {i j : ℕ} → IsAtom b Text i j → byte b i �
 name_quote {b} {i} {j} w = quote_first b i j [] w.order w.within (subst (IsScalar Text) (sym (append-nil (slice_range b i j))) w.spelled)
 
 pub run_atom : {b : List ℕ} {kd : Kind} {i j : ℕ} → IsAtom b kd i j → (s : State) (m : Mode) (ks : List ℕ) (ts : List Token) (p : ℕ) → Begins m → Reaches b s (idle m ks ts i p)
-    → Arrives b s (idle After ks (ts ++ token_at i j (length ks) kd ∷ []) j p)
+    → Arrives b s (idle After ks (ts ++ token_at i j (suc (length ts)) kd ∷ []) j p)
 run_atom {b} {kd} {i} {j} w s m ks ts p g r =
     let a = atom_reading w in
     record {
@@ -293,7 +293,7 @@ run_atom {b} {kd} {i} {j} w s m ks ts p g r =
     }
 
 pub run_name : {b : List ℕ} {i j : ℕ} → IsAtom b Text i j → (s : State) (m : Mode) (ks : List ℕ) (ts : List Token) (p : ℕ) → NameBegins m → Reaches b s (idle m ks ts i p)
-    → Arrives b s (idle AfterName ks (ts ++ token_at i j (length ks) Text ∷ []) j p)
+    → Arrives b s (idle AfterName ks (ts ++ token_at i j (suc (length ts)) Text ∷ []) j p)
 run_name {b} {i} {j} w s m ks ts p g r =
     let a = atom_reading w in
     record {

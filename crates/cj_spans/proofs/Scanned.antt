@@ -10,7 +10,7 @@ use Rattle.cj_spans.specs.Spelling.{IsScalar}
 use Rattle.cj_spans.specs.Json.{byte, IsAtom, Value, atom, empty_array, full_array, empty_object, full_object, Padded, padded, LedItems, no_led, led, LedMembers, no_led_members, led_member, Named, named, Json}
 use Rattle.cj_spans.specs.Preorder.{Span, span_at, preorder, items_preorder, members_preorder, spans_of}
 use Rattle.cj_spans.specs.Forest.{kind_by, held, past, atom_of, items_from, members_from, node, forest}
-use Rattle.cj_spans.specs.Sound.{AreOf, AreWithin, AreNested, AreNamed, are_members}
+use Rattle.cj_spans.specs.Sound.{AreOf, AreWithin, AreNested, AreNamed, AreLinked, are_members}
 use Rattle.cj_spans.specs.View.{tree_at}
 use Rattle.cj_spans.proofs.Lists.{items_preorder-add, members_preorder-add}
 use Rattle.cj_spans.proofs.Verdicts.{json_only}
@@ -346,6 +346,7 @@ pub record Known (b : List ℕ) (ts : List Token) : Type 0 where
   pub within : AreWithin b ts
   pub nested : AreNested ts
   pub named : AreNamed b ts
+  pub linked : AreLinked ts
   pub some : 0 < length ts
 
 length-spans_of : (ts : List Token) → length (spans_of ts) ≡ length ts
@@ -358,7 +359,7 @@ known b ts a =
     let g = subst (AllGood b) e (json_good b a.tree a.json) in
     let s = size_some a.tree in
     let c = a.count in
-    record { within = are_within b ts g; nested = are_nested b ts g; named = are_named b ts g; some = omega arith }
+    record { within = are_within b ts g; nested = are_nested b ts g; named = are_named b ts g; linked = a.linked; some = omega arith }
 
 first_shown : (b : List ℕ) (ss : List Span) (t : Tree) → forest b ss ≡ t ∷ [] → tree_at b ss 0 ≡ t
 unfolding forest tree_at

@@ -1,5 +1,5 @@
 -- What the machine has read, by its state.
-use Rattle.std.proofs.Common.{◌≡◌, ℕ, suc, ◌<◌, List, [], ◌∷◌, ◌++◌, length, max, Bool, true, false, cond, nat_eq, Option, Some, None, refl, sym, ap, subst, arith, ◌∙◌, ◌⊎◌, inl, inr, append_assoc, slice_set}
+use Rattle.std.proofs.Common.{◌≡◌, ℕ, suc, ◌<◌, List, [], ◌∷◌, ◌++◌, length, max, Bool, true, false, cond, nat_eq, Option, Some, None, refl, sym, ap, subst, arith, ◌∙◌, ◌⊎◌, inl, inr, slice_set}
 use Rattle.std.specs.Prelude.{option_and_then, option_map}
 use Rattle.std.proofs.lemmas.List.{append-nil}
 use Rattle.std.proofs.lemmas.Bool.{eqb-true}
@@ -16,7 +16,7 @@ use Rattle.cj_spans.specs.Json.{byte, atom_at, White, IsAtom, Value, atom, empty
 use Rattle.cj_spans.specs.Preorder.{flatten, flatten_items, flatten_members, token_at}
 use Rattle.cj_spans.specs.Machine.{State, state, in_atom, step, read, begin_value, after_value, after_in, after_token, close_token, end_atom, go_on, lex_start, lex_step, lex_kind, Reaches, here, on, start}
 use Rattle.cj_spans.proofs.Spellings.{none_some, some_same}
-use Rattle.cj_spans.proofs.Lists.{flatten_items-add, flatten_members-add, slice_get-append, slice_get-seam, set_closed, set_opened}
+use Rattle.cj_spans.proofs.Lists.{length-snoc, items_more, members_more, array_done, object_done, array_empty, object_empty, slice_get-append, slice_get-seam}
 use Rattle.cj_spans.proofs.Runs.{idle}
 use Rattle.cj_spans.proofs.Places.{InAtom, atom_first, atom_more, atom_sound, name_kind}
 
@@ -46,27 +46,38 @@ white_more b i j w h = let o = w.order in record { order = omega arith; each = �
 
 -- ---- the invariant
 
+-- the tokens ts, those of a container that began at e, and those of its parts so far
+abbrev pub opened_array : List Token → ℕ → Items → List Token
+opened_array ts e us = (ts ++ token_at e 0 0 Array ∷ []) ++ flatten_items (suc (length ts)) us
+
+abbrev pub opened_object : List Token → ℕ → Members → List Token
+opened_object ts e us = (ts ++ token_at e 0 0 Object ∷ []) ++ flatten_members (suc (length ts)) us
+
+-- and that of a name from i to j
+abbrev pub with_name : List Token → ℕ → ℕ → List Token
+with_name vs i j = vs ++ token_at i j (suc (length vs)) Text ∷ []
+
 -- all before the place k has been read, and a value may stand there: the open containers, and the tokens
 pub data Context (b : List ℕ) : ℕ → List ℕ → List Token → Type 0 where
   root : (k : ℕ) → White b 0 k → Context b k [] []
   in_array : (e j k : ℕ) (ks : List ℕ) (ts : List Token) (us : Items) → Context b e ks ts → byte b e ≡ 91 → LedItems b (suc e) j us → White b j k
-      → Context b k (length ts ∷ ks) ((ts ++ token_at e 0 (length ks) Array ∷ []) ++ flatten_items (suc (length ks)) us)
+      → Context b k (length ts ∷ ks) (opened_array ts e us)
   in_member : (e j k l : ℕ) (ks : List ℕ) (ts : List Token) (us : Members) (n : Atom) → Context b e ks ts → byte b e ≡ 123 → LedMembers b (suc e) j us → Named b j k n → White b k l
-      → Context b l (length ts ∷ ks) (((ts ++ token_at e 0 (length ks) Object ∷ []) ++ flatten_members (suc (length ks)) us) ++ token_at n.start n.stop (suc (length ks)) Text ∷ [])
+      → Context b l (length ts ∷ ks) (with_name (opened_object ts e us) n.start n.stop)
 
 -- what has been read at a state
 pub data Inv (b : List ℕ) : State → Type 0 where
   ready : (k p : ℕ) (ks : List ℕ) (ts : List Token) → Context b k ks ts → Inv b (idle Ready ks ts k p)
-  first_item : (e k p : ℕ) (ks : List ℕ) (ts : List Token) → Context b e ks ts → byte b e ≡ 91 → White b (suc e) k → Inv b (idle FirstItem (length ts ∷ ks) (ts ++ token_at e 0 (length ks) Array ∷ []) k p)
-  after_tree : (e j k p : ℕ) (ks : List ℕ) (ts : List Token) (t : Tree) → Context b e ks ts → Value b e j t → White b j k → Inv b (idle After ks (ts ++ flatten (length ks) t) k p)
-  first_name : (e k p : ℕ) (ks : List ℕ) (ts : List Token) → Context b e ks ts → byte b e ≡ 123 → White b (suc e) k → Inv b (idle FirstName (length ts ∷ ks) (ts ++ token_at e 0 (length ks) Object ∷ []) k p)
+  first_item : (e k p : ℕ) (ks : List ℕ) (ts : List Token) → Context b e ks ts → byte b e ≡ 91 → White b (suc e) k → Inv b (idle FirstItem (length ts ∷ ks) (ts ++ token_at e 0 0 Array ∷ []) k p)
+  after_tree : (e j k p : ℕ) (ks : List ℕ) (ts : List Token) (t : Tree) → Context b e ks ts → Value b e j t → White b j k → Inv b (idle After ks (ts ++ flatten (length ts) t) k p)
+  first_name : (e k p : ℕ) (ks : List ℕ) (ts : List Token) → Context b e ks ts → byte b e ≡ 123 → White b (suc e) k → Inv b (idle FirstName (length ts ∷ ks) (ts ++ token_at e 0 0 Object ∷ []) k p)
   next_name : (e j k p : ℕ) (ks : List ℕ) (ts : List Token) (us : Members) → Context b e ks ts → byte b e ≡ 123 → LedMembers b (suc e) j us → White b j k
-      → Inv b (idle NextName (length ts ∷ ks) ((ts ++ token_at e 0 (length ks) Object ∷ []) ++ flatten_members (suc (length ks)) us) k p)
+      → Inv b (idle NextName (length ts ∷ ks) (opened_object ts e us) k p)
   after_name : (e j l m k p : ℕ) (ks : List ℕ) (ts : List Token) (us : Members) → Context b e ks ts → byte b e ≡ 123 → LedMembers b (suc e) j us → White b j l → IsAtom b Text l m → White b m k
-      → Inv b (idle AfterName (length ts ∷ ks) (((ts ++ token_at e 0 (length ks) Object ∷ []) ++ flatten_members (suc (length ks)) us) ++ token_at l m (suc (length ks)) Text ∷ []) k p)
+      → Inv b (idle AfterName (length ts ∷ ks) (with_name (opened_object ts e us) l m) k p)
   in_scalar : (e k p : ℕ) (ks : List ℕ) (ts : List Token) (x : Lex) → Context b e ks ts → InAtom b e k x → Inv b (state (in_atom After e x) ks ts k p)
   in_name : (e j l k p : ℕ) (ks : List ℕ) (ts : List Token) (us : Members) (x : Lex) → Context b e ks ts → byte b e ≡ 123 → LedMembers b (suc e) j us → White b j l → byte b l ≡ 34 → InAtom b l k x
-      → Inv b (state (in_atom AfterName l x) (length ts ∷ ks) ((ts ++ token_at e 0 (length ks) Object ∷ []) ++ flatten_members (suc (length ks)) us) k p)
+      → Inv b (state (in_atom AfterName l x) (length ts ∷ ks) (opened_object ts e us) k p)
 
 context_blank : {b : List ℕ} {k : ℕ} {ks : List ℕ} {ts : List Token} → Context b k ks ts → is_blank (byte b k) ≡ true → Context b (suc k) ks ts
 context_blank {b} (root k w) h = root (suc k) (white_more b 0 k w h)
@@ -88,50 +99,51 @@ module _ (b : List ℕ) where
         ]
       ]
 
-  after_byte : (a j k p : ℕ) (ks : List ℕ) (ts : List Token) (t : Tree) → Context b a ks ts → Value b a j t → White b j k → (u : State) → after_value (byte b k) (idle After ks (ts ++ flatten (length ks) t) k p) ≡ Some u → Inv b u
+  after_byte : (a j k p : ℕ) (ks : List ℕ) (ts : List Token) (t : Tree) → Context b a ks ts → Value b a j t → White b j k → (u : State) → after_value (byte b k) (idle After ks (ts ++ flatten (length ts) t) k p) ≡ Some u → Inv b u
   after_byte a j k p ks ts t (root e w0) v w u h = none_some u h
   after_byte a j k p ls rs t (in_array e0 j0 e ks ts us c0 o l w0) v w u h =
-      let d = length ks in let k0 = length ts in let o0 = token_at e0 0 d Array in let f = token_at e0 (suc k) d Array in let fs = flatten_items (suc d) us in let ys = flatten (suc d) t in
-      let vs = (ts ++ o0 ∷ []) ++ fs in let S = idle After (k0 ∷ ks) (vs ++ ys) k p in
+      let k0 = length ts in let o0 = token_at e0 0 0 Array in let fs = flatten_items (suc k0) us in
+      let vs = (ts ++ o0 ∷ []) ++ fs in let ys = flatten (length vs) t in let f = token_at e0 (suc k) (length (vs ++ ys)) Array in
+      let more : vs ++ ys ≡ opened_array ts e0 (add_item us t) = items_more (ts ++ o0 ∷ []) (suc k0) us t (length-snoc ts o0) in
+      let S = idle After (k0 ∷ ks) (vs ++ ys) k p in
       let g = slice_get-append vs ys k0 o0 (slice_get-append (ts ++ o0 ∷ []) fs k0 o0 (slice_get-seam ts [] o0)) in
       let h1 : after_in Array (byte b k) k0 o0 S ≡ Some u = sym (ap (λ z. after_token (byte b k) k0 z S) g) ∙ h in
       let q : Padded b j0 k t = padded j0 e j k t w0 v w in
       elim (split (nat_eq (byte b k) 44) _ _ (Some u) h1) [
         | inl z ↦
-            let eq : (ts ++ o0 ∷ []) ++ flatten_items (suc d) (add_item us t) ≡ vs ++ ys = ap (λ zs. (ts ++ o0 ∷ []) ++ zs) (flatten_items-add (suc d) us t) ∙ sym (append_assoc (ts ++ o0 ∷ []) fs ys) in
             let i = ready (suc k) p (k0 ∷ ks) _ (in_array e0 (suc k) (suc k) ks ts (add_item us t) c0 o (led (suc e0) j0 k us t l q (eqb-true _ _ z.0)) (no_white b (suc k))) in
-            moved_to (idle Ready (k0 ∷ ks) (vs ++ ys) (suc k) p) (subst (λ zs. Inv b (idle Ready (k0 ∷ ks) zs (suc k) p)) eq i) u z.1
+            moved_to (idle Ready (k0 ∷ ks) (vs ++ ys) (suc k) p) (subst (λ zs. Inv b (idle Ready (k0 ∷ ks) zs (suc k) p)) (sym more) i) u z.1
         | inr r ↦ elim (split (nat_eq (byte b k) 93) _ _ (Some u) r) [
           | inl z ↦
-              let eq : ts ++ f ∷ flatten_items (suc d) (add_item us t) ≡ slice_set (vs ++ ys) k0 f = ap (λ zs. ts ++ f ∷ zs) (flatten_items-add (suc d) us t) ∙ sym (set_closed ts o0 f fs ys) in
+              let done : slice_set (vs ++ ys) k0 f ≡ ts ++ flatten k0 (array e0 (suc k) (add_item us t)) = ap (λ zs. slice_set zs k0 (token_at e0 (suc k) (length zs) Array)) more ∙ array_done ts o0 e0 (suc k) (add_item us t) in
               let i = after_tree e0 (suc k) (suc k) p ks ts (array e0 (suc k) (add_item us t)) c0 (full_array e0 j0 k us t o l q (eqb-true _ _ z.0)) (no_white b (suc k)) in
-              moved_to (idle After ks (slice_set (vs ++ ys) k0 f) (suc k) p) (subst (λ zs. Inv b (idle After ks zs (suc k) p)) eq i) u z.1
+              moved_to (idle After ks (slice_set (vs ++ ys) k0 f) (suc k) p) (subst (λ zs. Inv b (idle After ks zs (suc k) p)) (sym done) i) u z.1
           | inr n ↦ none_some u n
         ]
       ]
   after_byte a j k p ls rs t (in_member e0 j0 m e ks ts us n c0 o l nm w0) v w u h =
-      let d = length ks in let k0 = length ts in let o0 = token_at e0 0 d Object in let f = token_at e0 (suc k) d Object in let wd = token_at n.start n.stop (suc d) Text in
-      let fs = flatten_members (suc d) us in let ys = flatten (suc d) t in
-      let vs = (ts ++ o0 ∷ []) ++ fs in let xs = vs ++ wd ∷ [] in let S = idle After (k0 ∷ ks) (xs ++ ys) k p in
+      let k0 = length ts in let o0 = token_at e0 0 0 Object in let fs = flatten_members (suc k0) us in
+      let vs = (ts ++ o0 ∷ []) ++ fs in let wd = token_at n.start n.stop (suc (length vs)) Text in let xs = vs ++ wd ∷ [] in let ys = flatten (length xs) t in
+      let f = token_at e0 (suc k) (length (xs ++ ys)) Object in
+      let more : xs ++ ys ≡ opened_object ts e0 (add_member us n t) = members_more (ts ++ o0 ∷ []) (suc k0) us n t (length-snoc ts o0) in
+      let S = idle After (k0 ∷ ks) (xs ++ ys) k p in
       let g = slice_get-append xs ys k0 o0 (slice_get-append vs (wd ∷ []) k0 o0 (slice_get-append (ts ++ o0 ∷ []) fs k0 o0 (slice_get-seam ts [] o0))) in
       let h1 : after_in Object (byte b k) k0 o0 S ≡ Some u = sym (ap (λ z. after_token (byte b k) k0 z S) g) ∙ h in
       let q : Padded b m k t = padded m e j k t w0 v w in
-      let e1 : xs ++ ys ≡ vs ++ (wd ∷ ys) = simp append_assoc in
       elim (split (nat_eq (byte b k) 44) _ _ (Some u) h1) [
         | inl z ↦
-            let eq : (ts ++ o0 ∷ []) ++ flatten_members (suc d) (add_member us n t) ≡ xs ++ ys = ap (λ zs. (ts ++ o0 ∷ []) ++ zs) (flatten_members-add (suc d) us n t) ∙ sym (append_assoc (ts ++ o0 ∷ []) fs (wd ∷ ys)) ∙ sym e1 in
             let i = next_name e0 (suc k) (suc k) p ks ts (add_member us n t) c0 o (led_member (suc e0) j0 m k us n t l nm q (eqb-true _ _ z.0)) (no_white b (suc k)) in
-            moved_to (idle NextName (k0 ∷ ks) (xs ++ ys) (suc k) p) (subst (λ zs. Inv b (idle NextName (k0 ∷ ks) zs (suc k) p)) eq i) u z.1
+            moved_to (idle NextName (k0 ∷ ks) (xs ++ ys) (suc k) p) (subst (λ zs. Inv b (idle NextName (k0 ∷ ks) zs (suc k) p)) (sym more) i) u z.1
         | inr r ↦ elim (split (nat_eq (byte b k) 125) _ _ (Some u) r) [
           | inl z ↦
-              let eq : ts ++ f ∷ flatten_members (suc d) (add_member us n t) ≡ slice_set (xs ++ ys) k0 f = ap (λ zs. ts ++ f ∷ zs) (flatten_members-add (suc d) us n t) ∙ sym (set_closed ts o0 f fs (wd ∷ ys)) ∙ sym (ap (λ zs. slice_set zs k0 f) e1) in
+              let done : slice_set (xs ++ ys) k0 f ≡ ts ++ flatten k0 (object e0 (suc k) (add_member us n t)) = ap (λ zs. slice_set zs k0 (token_at e0 (suc k) (length zs) Object)) more ∙ object_done ts o0 e0 (suc k) (add_member us n t) in
               let i = after_tree e0 (suc k) (suc k) p ks ts (object e0 (suc k) (add_member us n t)) c0 (full_object e0 j0 m k us n t o l nm q (eqb-true _ _ z.0)) (no_white b (suc k)) in
-              moved_to (idle After ks (slice_set (xs ++ ys) k0 f) (suc k) p) (subst (λ zs. Inv b (idle After ks zs (suc k) p)) eq i) u z.1
+              moved_to (idle After ks (slice_set (xs ++ ys) k0 f) (suc k) p) (subst (λ zs. Inv b (idle After ks zs (suc k) p)) (sym done) i) u z.1
           | inr z ↦ none_some u z
         ]
       ]
 
-  after_sound : (e j k p : ℕ) (ks : List ℕ) (ts : List Token) (t : Tree) → Context b e ks ts → Value b e j t → White b j k → (u : State) → read After (byte b k) (idle After ks (ts ++ flatten (length ks) t) k p) ≡ Some u → Inv b u
+  after_sound : (e j k p : ℕ) (ks : List ℕ) (ts : List Token) (t : Tree) → Context b e ks ts → Value b e j t → White b j k → (u : State) → read After (byte b k) (idle After ks (ts ++ flatten (length ts) t) k p) ≡ Some u → Inv b u
   after_sound e j k p ks ts t c v w u h =
       elim (split (is_blank (byte b k)) _ _ (Some u) h) [
         | inl z ↦ moved_to _ (after_tree e j (suc k) p ks ts t c v (white_more b j k w z.0)) u z.1
@@ -139,7 +151,7 @@ module _ (b : List ℕ) where
       ]
 
   colon_sound : (e j l m k p : ℕ) (ks : List ℕ) (ts : List Token) (us : Members) → Context b e ks ts → byte b e ≡ 123 → LedMembers b (suc e) j us → White b j l → IsAtom b Text l m → White b m k
-      → (u : State) → read AfterName (byte b k) (idle AfterName (length ts ∷ ks) (((ts ++ token_at e 0 (length ks) Object ∷ []) ++ flatten_members (suc (length ks)) us) ++ token_at l m (suc (length ks)) Text ∷ []) k p) ≡ Some u → Inv b u
+      → (u : State) → read AfterName (byte b k) (idle AfterName (length ts ∷ ks) (with_name (opened_object ts e us) l m) k p) ≡ Some u → Inv b u
   colon_sound e j l m k p ks ts us c o ld w0 wd w u h =
       elim (split (is_blank (byte b k)) _ _ (Some u) h) [
         | inl z ↦ moved_to _ (after_name e j l m (suc k) p ks ts us c o ld w0 wd (white_more b m k w z.0)) u z.1
@@ -162,17 +174,17 @@ module _ (b : List ℕ) where
 
   -- a name's next byte
   ended_name : (e j l k p : ℕ) (ks : List ℕ) (ts : List Token) (us : Members) (x : Lex) → Context b e ks ts → byte b e ≡ 123 → LedMembers b (suc e) j us → White b j l → byte b l ≡ 34 → InAtom b l k x → (r : Option Kind) → lex_kind x ≡ r → (u : State)
-      → option_and_then (read AfterName (byte b k)) (end_atom AfterName l r (state (in_atom AfterName l x) (length ts ∷ ks) ((ts ++ token_at e 0 (length ks) Object ∷ []) ++ flatten_members (suc (length ks)) us) k p)) ≡ Some u → Inv b u
+      → option_and_then (read AfterName (byte b k)) (end_atom AfterName l r (state (in_atom AfterName l x) (length ts ∷ ks) (opened_object ts e us) k p)) ≡ Some u → Inv b u
   ended_name e j l k p ks ts us x c o ld w0 q w None kind u h = none_some u h
   ended_name e j l k p ks ts us x c o ld w0 q w (Some kd) kind u h =
       let is_text = name_kind w q kd kind in
-      let vs = (ts ++ token_at e 0 (length ks) Object ∷ []) ++ flatten_members (suc (length ks)) us in
+      let vs = opened_object ts e us in
       colon_sound e j l k k p ks ts us c o ld w0 (subst (λ z. IsAtom b z l k) is_text (atom_sound w kd kind)) (no_white b k) u
-      (subst (λ z. read AfterName (byte b k) (idle AfterName (length ts ∷ ks) (vs ++ token_at l k (suc (length ks)) z ∷ []) k p) ≡ Some u) is_text h)
+      (subst (λ z. read AfterName (byte b k) (idle AfterName (length ts ∷ ks) (vs ++ token_at l k (suc (length vs)) z ∷ []) k p) ≡ Some u) is_text h)
 
   name_sound : (e j l k p : ℕ) (ks : List ℕ) (ts : List Token) (us : Members) (x : Lex) → Context b e ks ts → byte b e ≡ 123 → LedMembers b (suc e) j us → White b j l → byte b l ≡ 34 → InAtom b l k x → (z : Option Lex) → lex_step x (byte b k) ≡ z → (u : State)
-      → go_on (λ y. in_atom AfterName l y) z (state (in_atom AfterName l x) (length ts ∷ ks) ((ts ++ token_at e 0 (length ks) Object ∷ []) ++ flatten_members (suc (length ks)) us) k p)
-      (option_and_then (read AfterName (byte b k)) (end_atom AfterName l (lex_kind x) (state (in_atom AfterName l x) (length ts ∷ ks) ((ts ++ token_at e 0 (length ks) Object ∷ []) ++ flatten_members (suc (length ks)) us) k p))) ≡ Some u → Inv b u
+      → go_on (λ y. in_atom AfterName l y) z (state (in_atom AfterName l x) (length ts ∷ ks) (opened_object ts e us) k p)
+      (option_and_then (read AfterName (byte b k)) (end_atom AfterName l (lex_kind x) (state (in_atom AfterName l x) (length ts ∷ ks) (opened_object ts e us) k p))) ≡ Some u → Inv b u
   name_sound e j l k p ks ts us x c o ld w0 q w (Some y) next u h = moved_to _ (in_name e j l (suc k) p ks ts us y c o ld w0 q (atom_more b l k x y w next)) u h
   name_sound e j l k p ks ts us x c o ld w0 q w None next u h = ended_name e j l k p ks ts us x c o ld w0 q w (lex_kind x) refl u h
 
@@ -181,27 +193,27 @@ module _ (b : List ℕ) where
   inv_step s (ready k p ks ts c) u h =
       elim (split (is_blank (byte b k)) _ _ (Some u) h) [ inl z ↦ moved_to _ (ready (suc k) p ks ts (context_blank c z.0)) u z.1 | inr r ↦ begin_sound k p ks ts Ready u c r ]
   inv_step s (first_item e k p ks ts c o w) u h =
-      let d = length ks in let o0 = token_at e 0 d Array in let f = token_at e (suc k) d Array in let S = idle FirstItem (length ts ∷ ks) (ts ++ o0 ∷ []) k p in
+      let o0 = token_at e 0 0 Array in let f = token_at e (suc k) (length (ts ++ o0 ∷ [])) Array in let S = idle FirstItem (length ts ∷ ks) (ts ++ o0 ∷ []) k p in
       elim (split (is_blank (byte b k)) _ _ (Some u) h) [
         | inl z ↦ moved_to _ (first_item e (suc k) p ks ts c o (white_more b (suc e) k w z.0)) u z.1
         | inr r ↦ elim (split (nat_eq (byte b k) 93) _ _ (Some u) r) [
           | inl z ↦
               let h1 = sym (ap (λ y. close_token (length ts) y S) (slice_get-seam ts [] o0)) ∙ z.1 in
               let i = after_tree e (suc k) (suc k) p ks ts (array e (suc k) no_items) c (empty_array e k o w (eqb-true _ _ z.0)) (no_white b (suc k)) in
-              moved_to (idle After ks (slice_set (ts ++ o0 ∷ []) (length ts) f) (suc k) p) (subst (λ zs. Inv b (idle After ks zs (suc k) p)) (sym (set_opened ts o0 f)) i) u h1
+              moved_to (idle After ks (slice_set (ts ++ o0 ∷ []) (length ts) f) (suc k) p) (subst (λ zs. Inv b (idle After ks zs (suc k) p)) (sym (array_empty ts o0 e (suc k))) i) u h1
           | inr q ↦ begin_sound k p (length ts ∷ ks) (ts ++ o0 ∷ []) FirstItem u (subst (Context b k (length ts ∷ ks)) (append-nil (ts ++ o0 ∷ [])) (in_array e (suc e) k ks ts no_items c o (no_led (suc e)) w)) q
         ]
       ]
   inv_step s (after_tree e j k p ks ts t c v w) u h = after_sound e j k p ks ts t c v w u h
   inv_step s (first_name e k p ks ts c o w) u h =
-      let d = length ks in let o0 = token_at e 0 d Object in let f = token_at e (suc k) d Object in let S = idle FirstName (length ts ∷ ks) (ts ++ o0 ∷ []) k p in
+      let o0 = token_at e 0 0 Object in let f = token_at e (suc k) (length (ts ++ o0 ∷ [])) Object in let S = idle FirstName (length ts ∷ ks) (ts ++ o0 ∷ []) k p in
       elim (split (is_blank (byte b k)) _ _ (Some u) h) [
         | inl z ↦ moved_to _ (first_name e (suc k) p ks ts c o (white_more b (suc e) k w z.0)) u z.1
         | inr r ↦ elim (split (nat_eq (byte b k) 125) _ _ (Some u) r) [
           | inl z ↦
               let h1 = sym (ap (λ y. close_token (length ts) y S) (slice_get-seam ts [] o0)) ∙ z.1 in
               let i = after_tree e (suc k) (suc k) p ks ts (object e (suc k) no_members) c (empty_object e k o w (eqb-true _ _ z.0)) (no_white b (suc k)) in
-              moved_to (idle After ks (slice_set (ts ++ o0 ∷ []) (length ts) f) (suc k) p) (subst (λ zs. Inv b (idle After ks zs (suc k) p)) (sym (set_opened ts o0 f)) i) u h1
+              moved_to (idle After ks (slice_set (ts ++ o0 ∷ []) (length ts) f) (suc k) p) (subst (λ zs. Inv b (idle After ks zs (suc k) p)) (sym (object_empty ts o0 e (suc k))) i) u h1
           | inr q ↦ elim (split (nat_eq (byte b k) 34) _ _ (Some u) q) [
             | inl z ↦
                 let e34 = eqb-true _ _ z.0 in

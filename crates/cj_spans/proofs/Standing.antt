@@ -75,12 +75,12 @@ half_room : (t i n o d limit : ℕ) → 2 * t ≤ i + o → i < n → o ≤ d �
 half_room t i n o d limit h l g r = omega arith
 
 pub standing_small : (b : List ℕ) (tokens0 : BoundedList Token) (stack0 : BoundedList ℕ) (tokens : BoundedList Token) (stack : BoundedList ℕ) (m : Mode) (i : ℕ) → Standing b tokens0 stack0 tokens stack m i → length b ≤ 1073741824 → i < length b
-    → (i < 2 ^ 31) × (length tokens.elements < 2 ^ 31) × (length stack.elements < 2 ^ 31)
+    → (i < 2 ^ 31) × (length tokens.elements < 2 ^ 31)
 standing_small b tokens0 stack0 tokens stack m i s h l =
     let w = standing_lawful b tokens0 stack0 tokens stack m i s in
     let c = count_of m stack.elements tokens.elements i s.deepest w in
     let o = w.open_count in
-    (omega arith, omega arith, omega arith)
+    (omega arith, omega arith)
 
 pub standing_room : (b : List ℕ) (tokens0 : BoundedList Token) (stack0 : BoundedList ℕ) (tokens : BoundedList Token) (stack : BoundedList ℕ) (m : Mode) (i : ℕ) → Standing b tokens0 stack0 tokens stack m i → (length b + stack0.limit + 1) / 2 ≤ tokens0.limit → i < length b
     → BeginsValue m → length tokens.elements < tokens.limit
@@ -142,8 +142,19 @@ stepped_room b tokens0 stack0 tokens stack m i v s r l h =
     let g : length stack.elements ≤ stack0.limit = let p = s.stack_within.below_peak in let q = s.stack_within.below_limit in let e = s.stack_limit in omega arith in
     subst (λ n. length tokens.elements < n) (sym s.kept.limit) (half_room (length tokens.elements) i (length b) (length stack.elements) stack0.limit tokens0.limit c l g r)
 
-pub stepped_small : (b : List ℕ) (tokens0 : BoundedList Token) (stack0 : BoundedList ℕ) (tokens : BoundedList Token) (stack : BoundedList ℕ) (m : Mode) (i : ℕ) (v : Move) → Stepped b tokens0 stack0 tokens stack m i v → length b ≤ 1073741824 → i < length b → length stack.elements < 2 ^ 31
-stepped_small b tokens0 stack0 tokens stack m i v s h l = let o = (lawful_reaches _ s.reached).open_count in omega arith
+count_after : (m : Mode) (i p : ℕ) (v : Move) (ks : List ℕ) (ts : List Token) → IsLawful (state (phase_after m i v) ks ts (suc i) p) → 2 * length ts ≤ suc (suc i) + length ks
+count_after m i p Stay ks ts l = count_of m ks ts (suc i) p l
+count_after m i p (To n) ks ts l = count_of n ks ts (suc i) p l
+count_after m i p (Open n) ks ts l = count_of n ks ts (suc i) p l
+count_after m i p (Atom n x) ks ts l = let c = l.token_count in omega arith
+
+pub stepped_small : (b : List ℕ) (tokens0 : BoundedList Token) (stack0 : BoundedList ℕ) (tokens : BoundedList Token) (stack : BoundedList ℕ) (m : Mode) (i : ℕ) (v : Move) → Stepped b tokens0 stack0 tokens stack m i v → length b ≤ 1073741824 → i < length b
+    → (length stack.elements < 2 ^ 31) × (length tokens.elements < 2 ^ 31)
+stepped_small b tokens0 stack0 tokens stack m i v s h l =
+    let w = lawful_reaches _ s.reached in
+    let o = w.open_count in
+    let c = count_after m i s.deepest v stack.elements tokens.elements w in
+    (omega arith, omega arith)
 
 -- a run goes on
 pub settles_both : {b : List ℕ} {s t u : State} → Reaches b s t → Settles b t u → Settles b s u

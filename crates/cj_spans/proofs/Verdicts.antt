@@ -1,5 +1,5 @@
 -- What the pass over a line says of the line.
-use Rattle.std.proofs.Common.{◌≡◌, ℕ, suc, ◌+◌, ◌<◌, ◌≤◌, List, [], ◌++◌, length, take, IsTrue, Option, Some, None, Result, Ok, Err, refl, sym, ap, subst, arith, rules, ◌∙◌, ◌⊎◌, inl, inr}
+use Rattle.std.proofs.Common.{◌≡◌, ℕ, suc, ◌+◌, ◌^◌, ◌<◌, ◌≤◌, List, [], ◌++◌, length, take, IsTrue, Option, Some, None, Result, Ok, Err, refl, sym, ap, subst, arith, rules, ◌∙◌, ◌⊎◌, inl, inr}
 use Rattle.std.proofs.lemmas.Grind.{common_steps}
 use Rattle.std.specs.Prelude.{IsSomeAnd, OnOk, IsErrOf, IsOk, IsUtf8}
 use Rattle.std.specs.Str.{IsValidUpTo}
@@ -28,6 +28,8 @@ use Rattle.cj_spans.proofs.Sound.{Context, root, in_array, in_member, Inv, ready
 use Rattle.cj_spans.proofs.Facts.{lawful_reaches, next_place, same_state, before}
 use Rattle.cj_spans.proofs.Fronts.{Live, front_runs, inv_front}
 use Rattle.cj_spans.proofs.Forests.{json_shown, tree_by_preorder}
+use Rattle.cj_spans.specs.Sound.{AreLinked}
+use Rattle.cj_spans.proofs.Links.{json_linked}
 
 -- ---- a line that is read to its end
 
@@ -42,13 +44,13 @@ root_only (root e w) h = (w, refl)
 root_only (in_array e j k ks ts us c o l w) h = cc
 root_only (in_member e j k l ks ts us n c o m d w) h = cc
 
-spells_at : {b : List ℕ} (e j k p q : ℕ) (ks : List ℕ) (ts us : List Token) (t : Tree) → Context b e ks ts → Value b e j t → White b j k → idle After ks (ts ++ flatten (length ks) t) k p ≡ idle After [] us (length b) q → Spells b us
+spells_at : {b : List ℕ} (e j k p q : ℕ) (ks : List ℕ) (ts us : List Token) (t : Tree) → Context b e ks ts → Value b e j t → White b j k → idle After ks (ts ++ flatten (length ts) t) k p ≡ idle After [] us (length b) q → Spells b us
 spells_at {b} e j k p q ks ts us t c v w h =
     let s : ks ≡ [] = ap (λ u. u.stack) h in
     let n : k ≡ length b = ap (λ u. u.place) h in
     let r = root_only c s in
-    let z : us ≡ ts ++ flatten (length ks) t = sym (ap (λ u. u.tokens) h) in
-    record { tree = t; json = subst (λ n. Padded b 0 n t) n (padded 0 e j k t r.0 v w); tokens = z ∙ ap (λ y. y ++ flatten (length ks) t) r.1 ∙ ap (λ y. flatten (length y) t) s }
+    let z : us ≡ ts ++ flatten (length ts) t = sym (ap (λ u. u.tokens) h) in
+    record { tree = t; json = subst (λ n. Padded b 0 n t) n (padded 0 e j k t r.0 v w); tokens = z ∙ ap (λ y. y ++ flatten (length y) t) r.1 }
 
 other_mode : {A : Type 0} (m : Mode) (ks ls : List ℕ) (ts us : List Token) (i j p q : ℕ) → (m ≡ After → ⊥) → Some (idle m ks ts i p) ≡ Some (idle After ls us j q) → A
 other_mode m ks ls ts us i j p q n h = absurd (n (mode_of m After (ap (λ u. u.phase) (some_same _ _ h))))
@@ -254,13 +256,14 @@ law_of b old empty new old_stack empty_stack new_stack c d k =
       stack_within = k.stack_within;
     }
 
-pub scan_of : (b : List ℕ) (old empty new : BoundedList Token) (old_stack empty_stack new_stack : BoundedList ℕ) → Cleared old empty → Cleared old_stack empty_stack → KeepsLaw b empty new empty_stack new_stack → Accepts b new empty_stack new_stack
+pub scan_of : (b : List ℕ) (old empty new : BoundedList Token) (old_stack empty_stack new_stack : BoundedList ℕ) → Cleared old empty → Cleared old_stack empty_stack → KeepsLaw b empty new empty_stack new_stack → length b ≤ 1073741824 → Accepts b new empty_stack new_stack
     → (t : Tree) × IsScanOf b t old new old_stack new_stack
-scan_of b old empty new old_stack empty_stack new_stack c d k a =
+scan_of b old empty new old_stack empty_stack new_stack c d k few_bytes a =
     let s = spells a.settles.last (inv_reaches b a.settles.last a.settles.reached) new.elements a.deepest a.settles.settles in
     let t = s.tree in
     let n = nest_of b t a.settles.last new.elements a.deepest s.json a.settles.reached a.settles.settles in
     let count : length new.elements ≡ size t = ap length s.tokens ∙ length-flatten 0 t in
+    let few : size t < 2 ^ 31 = let l = k.law in let o = ap (λ (ns : List ℕ). length ns) a.closed in omega arith in
     let p = k.token_peak in let q = a.peak in let e = c.peak in let f = d.peak in let sh = a.shallow in let g = d.limit in (
       t,
       record {
@@ -270,6 +273,7 @@ scan_of b old empty new old_stack empty_stack new_stack c d k a =
         tokens = s.tokens;
         shown = ap (λ z. forest b (spans_of z)) s.tokens ∙ ap (forest b) (spans_of-flatten 0 t) ∙ json_shown b t s.json;
         count = count;
+        linked = subst AreLinked (sym s.tokens) (json_linked b t s.json few);
         closed = a.closed;
         token_peak = omega arith;
         stack_peak = omega arith;
@@ -314,9 +318,9 @@ module _ (X : Type 0) (b : List ℕ) (old : BoundedList ℕ) (g : Type 0) (token
 
 -- the same under the limit that the stack had before it was emptied
 module _ (X : Type 0) (b : List ℕ) (old empty new : BoundedList Token) (old_stack empty_stack new_stack : BoundedList ℕ) (g : Type 0) (c : Cleared old empty) (d : Cleared old_stack empty_stack) where
-  pub answers_tree : (r : Result X ScanFault) → RunAnswers b empty_stack g r new new_stack → KeepsLaw b empty new empty_stack new_stack → OnOk r ((t : Tree) × IsScanOf b t old new old_stack new_stack)
-  answers_tree (Ok v) a k = scan_of b old empty new old_stack empty_stack new_stack c d k a
-  answers_tree (Err e) a k = search rules
+  pub answers_tree : (r : Result X ScanFault) → RunAnswers b empty_stack g r new new_stack → KeepsLaw b empty new empty_stack new_stack → length b ≤ 1073741824 → OnOk r ((t : Tree) × IsScanOf b t old new old_stack new_stack)
+  answers_tree (Ok v) a k few_bytes = scan_of b old empty new old_stack empty_stack new_stack c d k few_bytes a
+  answers_tree (Err e) a k few_bytes = search rules
 
   pub answers_deep : (r : Result X ScanFault) (i : ℕ) → RunAnswers b empty_stack g r new new_stack → r ≡ Err (TooDeep i) → DeepAt b old_stack.limit i
   answers_deep r i a e = subst (λ n. DeepAt b n i) d.limit (run_deep X b empty_stack g new new_stack r i a e)

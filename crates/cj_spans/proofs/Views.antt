@@ -10,8 +10,10 @@ use Rattle.cj_spans.specs.Json.{byte}
 use Rattle.cj_spans.specs.Preorder.{Span, spans_of}
 use Rattle.cj_spans.specs.Forest.{kind_by, held, past, atom_of, items_from, members_from, node, forest}
 use Rattle.cj_spans.specs.Parts.{kind_of, spelling_of, list_items, items_of, list_members, members_of}
-use Rattle.cj_spans.specs.Sound.{is_kind_text, is_name, are_members, items_end, members_end}
+use Rattle.cj_spans.specs.Kinds.{is_text}
+use Rattle.cj_spans.specs.Sound.{StopBefore, before, is_name, are_members, items_end, members_end}
 use Rattle.cj_spans.specs.View.{tree_at, pairs_of}
+use Rattle.cj_spans.proofs.Links.{before_one, before_zero}
 
 -- ---- one tree at the front
 
@@ -38,7 +40,7 @@ pub record Below (b : List ℕ) (ts : List Token) (k : ℕ) (t : Token) : Type 0
   pub front : forest b (drop k (spans_of ts)) ≡ tree_at b (spans_of ts) k ∷ past t.stop (forest b (drop (k + 1) (spans_of ts)))
   pub start : start_of (tree_at b (spans_of ts) k) ≡ t.start
 
-same_some : (s t : Token) → Some s ≡ Some t → s ≡ t
+pub same_some : (s t : Token) → Some s ≡ Some t → s ≡ t
 same_some s t h = cc
 
 pub below_at : (b : List ℕ) (ts : List Token) (k : ℕ) (t : Token) → slice_get ts k ≡ Some t → Below b ts k t
@@ -85,12 +87,12 @@ past-past (t ∷ ts) i j h =
 
 -- ---- a walk on, over tokens that start before the place
 
-pub skip_one : (b : List ℕ) (ts : List Token) (k j : ℕ) (t : Token) → Below b ts k t → t.start < j → t.stop ≤ j → past j (forest b (drop k (spans_of ts))) ≡ past j (forest b (drop (k + 1) (spans_of ts)))
+skip_one : (b : List ℕ) (ts : List Token) (k j : ℕ) (t : Token) → Below b ts k t → t.start < j → t.stop ≤ j → past j (forest b (drop k (spans_of ts))) ≡ past j (forest b (drop (k + 1) (spans_of ts)))
 skip_one b ts k j t h l o =
     let e = h.start in
     ap (past j) h.front ∙ past_on (tree_at b (spans_of ts) k) (past t.stop (forest b (drop (k + 1) (spans_of ts)))) j (omega arith) ∙ past-past (forest b (drop (k + 1) (spans_of ts))) t.stop j o
 
-pub skip_end : (b : List ℕ) (ts : List Token) (k j : ℕ) (t : Token) → Below b ts k t → j ≤ t.start → past j (forest b (drop k (spans_of ts))) ≡ forest b (drop k (spans_of ts))
+skip_end : (b : List ℕ) (ts : List Token) (k j : ℕ) (t : Token) → Below b ts k t → j ≤ t.start → past j (forest b (drop k (spans_of ts))) ≡ forest b (drop k (spans_of ts))
 skip_end b ts k j t h l =
     let e = h.start in
     ap (past j) h.front ∙ past_here (tree_at b (spans_of ts) k) (past t.stop (forest b (drop (k + 1) (spans_of ts)))) j (omega arith) ∙ sym h.front
@@ -105,8 +107,24 @@ forest_out : (b : List ℕ) (ts : List Token) (k : ℕ) → length ts ≤ k → 
 unfolding forest
 forest_out b ts k h = ap (forest b) (drop_spans ts k h)
 
-pub skip_all : (b : List ℕ) (ts : List Token) (k j : ℕ) → length ts ≤ k → past j (forest b (drop k (spans_of ts))) ≡ forest b (drop k (spans_of ts))
-skip_all b ts k j h = let e = forest_out b ts k h in ap (past j) e ∙ sym e
+-- ---- the trees past a place are those from a link on
+
+link_first : (b : List ℕ) (t : Token) (ts : List Token) (j r : ℕ) → t.start < j → t.stop ≤ j → r ≡ before j (t ∷ ts) → ((n : ℕ) → n ≡ before j ts → forest b (drop n (spans_of ts)) ≡ past j (forest b (spans_of ts))) → forest b (drop r (spans_of (t ∷ ts))) ≡ past j (forest b (spans_of (t ∷ ts)))
+link_first b t ts j zero l o e next = let f = before_one j t ts l in absurd (omega arith)
+link_first b t ts j (suc r) l o e next = let f = before_one j t ts l in next r (omega arith) ∙ sym (skip_one b (t ∷ ts) 0 j t (below_at b (t ∷ ts) 0 t refl) l o)
+
+pub link_past : (b : List ℕ) (ts : List Token) (k j r : ℕ) → StopBefore ts k j → r ≡ k + before j (drop k ts) → forest b (drop r (spans_of ts)) ≡ past j (forest b (drop k (spans_of ts)))
+link_past b [] k j r s e = forest_out b [] r (omega arith) ∙ sym (ap (past j) (forest_out b [] k (omega arith)))
+link_past b (t ∷ ts) (suc k) j zero s e = absurd (omega arith)
+link_past b (t ∷ ts) (suc k) j (suc r) s e = link_past b ts k j r (λ i u h g l. s (suc i) u (omega arith) g l) (omega arith)
+link_past b (t ∷ ts) zero j r s e =
+    elim (split t.start j) [
+      | inl l ↦ link_first b t ts j r l (s 0 t (omega arith) refl l) (omega arith) (λ n f. link_past b ts 0 j n (λ i u h g l. s (suc i) u (omega arith) g l) (omega arith))
+      | inr g ↦
+          let f = before_zero j t ts g in
+          let q : r ≡ 0 = omega arith in
+          ap (λ n. forest b (drop n (spans_of (t ∷ ts)))) q ∙ sym (skip_end b (t ∷ ts) 0 j t (below_at b (t ∷ ts) 0 t refl) g)
+    ]
 
 -- ---- one step of a walk over the trees before a place
 
@@ -151,7 +169,7 @@ items-node b Text i j f = held-zero f
 items-node b Array i j f = sym (list-items_from (held j f))
 items-node b Object i j f = held-zero f
 
-kind_text : (k : Kind) → is_kind_text k ≡ true → k ≡ Text
+kind_text : (k : Kind) → is_text k ≡ true → k ≡ Text
 kind_text Null h = cc
 kind_text Truth h = cc
 kind_text Number h = cc

@@ -81,12 +81,12 @@ ended c (inl e) = subst IsEnd (sym e) comma
 ended c (inr e) = subst IsEnd (sym e) bracket
 
 -- the machine has read a number
-pub number_read : (b : List ℕ) (s : State) (m : Mode) (ks : List ℕ) (ts us : List Token) (i k d p : ℕ) → IsNumber b i k → BeginsValue m → length ks ≡ d → us ≡ ts ++ token_at i k d Number ∷ []
+pub number_read : (b : List ℕ) (s : State) (m : Mode) (ks : List ℕ) (ts us : List Token) (i k c p : ℕ) → IsNumber b i k → BeginsValue m → c ≡ length ts → us ≡ ts ++ token_at i k (c + 1) Number ∷ []
     → Settles b s (idle m ks ts i p) → Settles b s (idle After ks us k p)
-number_read b s m ks ts us i k d p n v e q h =
+number_read b s m ks ts us i k c p n v count q h =
     let below = n.order in let inside = n.within in
     let r = step_on b s (idle m ks ts i p) (state (in_atom After i n.first) ks ts (suc i) p) h (omega arith) (number_begins m (byte b i) n.first ks ts i p v n.digit n.begins) in
-    settles_both r (ends_ok b i k d p n.first n.last Number After ks ts us n.goes (inr (atom_ends n.last (byte b k) Number n.done (ended (byte b k) n.ended))) n.done e q)
+    settles_both r (ends_ok b i k c p n.first n.last Number After ks ts us n.goes (inr (atom_ends n.last (byte b k) Number n.done (ended (byte b k) n.ended))) n.done count q)
 
 -- and the comma after it
 pub comma_read : (b : List ℕ) (s : State) (ks : List ℕ) (us : List Token) (k p : ℕ) → InArray ks us → k < length b → byte b k ≡ 44 → Settles b s (idle After ks us k p) → Settles b s (idle Ready ks us (k + 1) p)
@@ -201,9 +201,9 @@ module _ (ks ls : List ℕ) (ts us : List Token) (i p j q : ℕ) where
   bracket_top None u h = none_some _ h
   bracket_top (Some k) u h = bracket_token k (slice_get ts k) u h
 
-  opened_array : idle FirstItem (length ts ∷ ks) (ts ++ token_at i 0 (length ks) Array ∷ []) (suc i) (max p (suc (length ks))) ≡ idle FirstItem ls us j q → InArray ls us
+  opened_array : idle FirstItem (length ts ∷ ks) (ts ++ token_at i 0 0 Array ∷ []) (suc i) (max p (suc (length ks))) ≡ idle FirstItem ls us j q → InArray ls us
   opened_array e =
-      let t = token_at i 0 (length ks) Array in
+      let t = token_at i 0 0 Array in
       in_array_same (length ts ∷ ks) ls (ts ++ t ∷ []) us (ap (λ u. u.stack) e) (ap (λ u. u.tokens) e) (record { top = length ts; token = t; innermost = refl; there = slice_get-seam ts [] t; array = refl })
 
   bracket_array : (m : Mode) → read m 91 (idle m ks ts i p) ≡ Some (idle FirstItem ls us j q) → InArray ls us

@@ -13,6 +13,7 @@ pub mod Examples
 pub mod Finding
 pub mod Text
 pub mod Decoding
+pub mod Kinds
 pub mod Parts
 pub mod Sound
 pub mod View

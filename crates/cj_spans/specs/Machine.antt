@@ -163,11 +163,11 @@ moved f s = state f s.stack s.tokens (suc s.place) s.deepest
 
 -- the byte opens a container of the kind k, in which the mode m comes
 abbrev pub opened : Kind → Mode → State → State
-opened k m s = state (between m) (length s.tokens ∷ s.stack) (s.tokens ++ token_at s.place 0 (length s.stack) k ∷ []) (suc s.place) (max s.deepest (suc (length s.stack)))
+opened k m s = state (between m) (length s.tokens ∷ s.stack) (s.tokens ++ token_at s.place 0 0 k ∷ []) (suc s.place) (max s.deepest (suc (length s.stack)))
 
 -- the innermost container k, whose token is t, ends with the byte that is read
 abbrev pub closed : ℕ → Token → State → State
-closed k t s = state (between After) (drop 1 s.stack) (slice_set s.tokens k (token_at t.start (suc s.place) t.depth t.kind)) (suc s.place) s.deepest
+closed k t s = state (between After) (drop 1 s.stack) (slice_set s.tokens k (token_at t.start (suc s.place) (length s.tokens) t.kind)) (suc s.place) s.deepest
 
 -- ---- one byte
 
@@ -239,7 +239,7 @@ read m c s = cond (is_blank c) (Some (moved (between m) s)) (read_in m c s)
 -- where a scalar or a name may end, it has ended
 abbrev pub end_atom : Mode → ℕ → Option Kind → State → Option State
 end_atom m i None s = None
-end_atom m i (Some k) s = Some (state (between m) s.stack (s.tokens ++ token_at i s.place (length s.stack) k ∷ []) s.place s.deepest)
+end_atom m i (Some k) s = Some (state (between m) s.stack (s.tokens ++ token_at i s.place (suc (length s.tokens)) k ∷ []) s.place s.deepest)
 
 -- the scalar goes on, or the other state comes
 abbrev pub go_on : (Lex → Phase) → Option Lex → State → Option State → Option State

@@ -1,9 +1,9 @@
 -- The tokens of a tree, each before those of its parts.
-use Rattle.std.specs.Prelude.{ℕ, suc, List, [], ◌∷◌, ◌++◌}
+use Rattle.std.specs.Prelude.{ℕ, suc, ◌+◌, List, [], ◌∷◌, ◌++◌}
 use Rattle.cj_spans.specs.declared.token.Kind.{Kind}
 use Rattle.cj_spans.specs.declared.token.Kind.TheVariants.{Text, Array, Object}
 use Rattle.cj_spans.specs.declared.token.Token.{Token}
-use Rattle.cj_spans.specs.Tree.{Tree, scalar, array, object, Items, no_items, item, Members, no_members, member}
+use Rattle.cj_spans.specs.Tree.{Tree, scalar, array, object, Items, no_items, item, Members, no_members, member, size, items_size, members_size}
 
 -- where a value or a name starts and stops
 pub record Span : Type 0 where
@@ -29,24 +29,25 @@ abbrev mutual
   members_preorder no_members = []
   members_preorder (member n t ms) = span_at n.start n.stop ∷ (preorder t ++ members_preorder ms)
 
--- the token of a span, with the number of containers round it and its kind
+-- the token of a span, with its link and its kind
 abbrev pub token_at : ℕ → ℕ → ℕ → Kind → Token
-token_at i j d k = record { start = i; stop = j; depth = d; kind = k }
+token_at i j l k = record { start = i; stop = j; link = l; kind = k }
 
--- one token for each value and each name of a tree with d containers round it, each before its parts
+-- one token for each value and each name of a tree, each before its parts, numbered from n on; each links to the first
+-- number after its parts
 abbrev mutual
   pub flatten : ℕ → Tree → List Token
-  flatten d (scalar k a) = token_at a.start a.stop d k ∷ []
-  flatten d (array i j ts) = token_at i j d Array ∷ flatten_items (suc d) ts
-  flatten d (object i j ms) = token_at i j d Object ∷ flatten_members (suc d) ms
+  flatten n (scalar k a) = token_at a.start a.stop (suc n) k ∷ []
+  flatten n (array i j ts) = token_at i j (suc n + items_size ts) Array ∷ flatten_items (suc n) ts
+  flatten n (object i j ms) = token_at i j (suc n + members_size ms) Object ∷ flatten_members (suc n) ms
 
   pub flatten_items : ℕ → Items → List Token
-  flatten_items d no_items = []
-  flatten_items d (item t ts) = flatten d t ++ flatten_items d ts
+  flatten_items n no_items = []
+  flatten_items n (item t ts) = flatten n t ++ flatten_items (n + size t) ts
 
   pub flatten_members : ℕ → Members → List Token
-  flatten_members d no_members = []
-  flatten_members d (member n t ms) = token_at n.start n.stop d Text ∷ (flatten d t ++ flatten_members d ms)
+  flatten_members n no_members = []
+  flatten_members n (member m t ms) = token_at m.start m.stop (suc n) Text ∷ (flatten (suc n) t ++ flatten_members (suc n + size t) ms)
 
 -- where each token starts and stops
 abbrev pub spans_of : List Token → List Span

@@ -6,6 +6,7 @@ use Rattle.cj_spans.specs.Tree.{Tree, size, nest}
 use Rattle.cj_spans.specs.Json.{Json}
 use Rattle.cj_spans.specs.Preorder.{flatten, spans_of}
 use Rattle.cj_spans.specs.Forest.{forest}
+use Rattle.cj_spans.specs.Sound.{AreLinked}
 
 -- the line spells the tree t and no other, which opens no more containers than the limit, and the lists show it
 pub record IsScanOf (line : List ℕ) (t : Tree) (old_tokens new_tokens : BoundedList Token) (old_stack new_stack : BoundedList ℕ) : Type 0 where
@@ -15,6 +16,7 @@ pub record IsScanOf (line : List ℕ) (t : Tree) (old_tokens new_tokens : Bounde
   pub tokens : new_tokens.elements ≡ flatten 0 t
   pub shown : forest line (spans_of new_tokens.elements) ≡ t ∷ []
   pub count : length new_tokens.elements ≡ size t
+  pub linked : AreLinked new_tokens.elements
   pub closed : new_stack.elements ≡ []
   pub token_peak : new_tokens.peak ≡ max old_tokens.peak (size t)
   pub stack_peak : new_stack.peak ≡ max old_stack.peak (nest t)

@@ -1,5 +1,5 @@
 -- When tokens show the tree of a line.
-use Rattle.std.specs.Prelude.{◌≡◌, ℕ, ◌+◌, ◌<◌, ◌≤◌, List, [], ◌∷◌, length, drop, Bool, true, false, ◌&&◌, Some, slice_get}
+use Rattle.std.specs.Prelude.{◌≡◌, ℕ, suc, ◌+◌, ◌%◌, ◌^◌, ◌<◌, ◌≤◌, List, [], ◌∷◌, length, drop, Bool, true, false, ◌&&◌, cond, nat_lt, Some, slice_get}
 use Rattle.cj_spans.specs.declared.token.Kind.TheVariants.{Text, Null, Truth, Number, Array, Object}
 use Rattle.cj_spans.specs.declared.token.Kind.{Kind}
 use Rattle.cj_spans.specs.declared.token.Token.{Token}
@@ -7,6 +7,20 @@ use Rattle.cj_spans.specs.Tree.{Tree, scalar, array, object, size}
 use Rattle.cj_spans.specs.Json.{Json, byte}
 use Rattle.cj_spans.specs.Preorder.{spans_of}
 use Rattle.cj_spans.specs.Forest.{forest, held}
+use Rattle.cj_spans.specs.Kinds.{is_text}
+
+-- how many tokens at the front start before the place
+abbrev pub before : ℕ → List Token → ℕ
+before j [] = 0
+before j (t ∷ ts) = cond (nat_lt t.start j) (suc (before j ts)) 0
+
+-- the token that a token links to; no link reaches the top bit, which a mark may take
+abbrev pub link_of : Token → ℕ
+link_of t = t.link % 2 ^ 31
+
+-- each token links to the first later one that does not start before it stops, or past the last one
+abbrev pub AreLinked : List Token → Type 0
+AreLinked tokens = (k : ℕ) (t : Token) → slice_get tokens k ≡ Some t → link_of t ≡ k + 1 + before t.stop (drop (k + 1) tokens)
 
 -- the tokens are what a scan of the line leaves: they show a tree that the line spells, with one token for each of its
 -- values and names
@@ -15,6 +29,7 @@ pub record AreOf (line : List ℕ) (tokens : List Token) : Type 0 where
   pub json : Json line tree
   pub shown : forest line (spans_of tokens) ≡ tree ∷ []
   pub count : length tokens ≡ size tree
+  pub linked : AreLinked tokens
 
 -- each token has a byte or more, all of the line
 abbrev pub AreWithin : List ℕ → List Token → Type 0
@@ -29,16 +44,8 @@ abbrev pub AreNested : List Token → Type 0
 AreNested tokens = (k : ℕ) (t : Token) → slice_get tokens k ≡ Some t → StopBefore tokens (k + 1) t.stop
 
 -- a name or another string
-abbrev pub is_kind_text : Kind → Bool
-is_kind_text Text = true
-is_kind_text Null = false
-is_kind_text Truth = false
-is_kind_text Number = false
-is_kind_text Array = false
-is_kind_text Object = false
-
 abbrev pub is_name : Tree → Bool
-is_name (scalar k a) = is_kind_text k
+is_name (scalar k a) = is_text k
 is_name (array i j ts) = false
 is_name (object i j ms) = false
 

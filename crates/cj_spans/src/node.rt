@@ -12,7 +12,7 @@
 //! }
 //! ```
 ghost use Rattle.std.specs.Prelude.{◌≡◌, ◌<◌, ◌≤◌, ◌+◌, ◌^◌, ℕ, length, slice_get, Some, List, drop};
-ghost use Rattle.cj_spans.specs.Sound.{AreOf, AreWithin, AreNested, AreNamed, StopBefore};
+ghost use Rattle.cj_spans.specs.Sound.{AreOf, AreWithin, AreNested, AreNamed, AreLinked};
 ghost use Rattle.cj_spans.specs.Tree.{Tree};
 ghost use Rattle.cj_spans.specs.declared.token.Token.{Token as TokenOf};
 ghost use Rattle.cj_spans.specs.Json.{Json, byte};
@@ -38,6 +38,7 @@ struct Source<'a> {
     ghost within: { AreWithin line.now tokens.now },
     ghost nested: { AreNested tokens.now },
     ghost named: { AreNamed line.now tokens.now },
+    ghost linked: { AreLinked tokens.now },
 }
 
 /// The tree of a line.
@@ -70,6 +71,9 @@ pub struct Members<'a> {
     next: usize,
     stop: usize,
 }
+
+/// Links are below this: the top bit may be a mark.
+const LINKS: u32 = 1 << 31;
 
 /// The token of a number.
 fn token_at(tokens: &[Token], number: usize) -> Token
@@ -115,25 +119,6 @@ fn members_end(kind: Kind, stop: usize) -> usize
     }
 }
 
-/// The first token from `from` on that does not start before `stop`, or the number of tokens.
-fn skip(tokens: &[Token], from: usize, stop: usize) -> usize
-    requires nested { StopBefore tokens.now from stop }
-    requires order { from ≤ length tokens.now }
-    ensures order { (from ≤ result) × (result ≤ length tokens.now) }
-    ensures rest { (line : List ℕ) → forest line (drop result (spans_of tokens.now))
-        ≡ past stop (forest line (drop from (spans_of tokens.now))) }
-{
-    let mut number = from;
-    while number < tokens.len() {
-        let token = token_at(tokens, number);
-        if token.start as usize >= stop {
-            return number;
-        }
-        number += 1;
-    }
-    number
-}
-
 impl<'a> Source<'a> {
     /// The first later token that does not start before the end of the token of this number.
     fn after(self, number: usize) -> usize
@@ -143,8 +128,7 @@ impl<'a> Source<'a> {
             → forest self.entry.line.now (drop result (spans_of self.entry.tokens.now))
             ≡ past t.stop (forest self.entry.line.now (drop (number + 1) (spans_of self.entry.tokens.now))) }
     {
-        let token = token_at(self.tokens, number);
-        skip(self.tokens, number + 1, token.stop as usize)
+        (token_at(self.tokens, number).link % LINKS) as usize
     }
 }
 

@@ -67,7 +67,7 @@ fn read_numbers(line: &[u8], from: Next, depth: usize, tokens: &mut Bounded<Toke
         let token = Token {
             start: next.place as u32,
             stop: stop as u32,
-            depth: depth as u32,
+            link: tokens.len() as u32 + 1,
             kind: Kind::Number,
         };
         match tokens.push(token) {

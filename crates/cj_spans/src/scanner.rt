@@ -27,14 +27,13 @@ fn end_atom(
     place: usize,
     next: Mode,
     first: Lex,
-    depth: usize,
     tokens: &mut Bounded<Token>,
 ) -> Result<Next, ScanFault>
-    requires small { (length line.now < 2 ^ 31) × (depth < 2 ^ 31) }
+    requires small { (length line.now < 2 ^ 31) × (length tokens.old.elements < 2 ^ 31) }
     requires within { place < length line.now }
     requires lists { IsWithin tokens.old }
     requires room { length tokens.old.elements < tokens.old.limit }
-    ensures answer { (ks : List ℕ) (p : ℕ) → length ks ≡ depth → Ends line.now
+    ensures answer { (ks : List ℕ) (p : ℕ) → Ends line.now
         (state (in_atom next place first) ks tokens.old.elements (suc place) p)
         (IsTrue tokens.old.reserved) result tokens.new.elements }
     ensures tokens { Grown tokens.old tokens.new }
@@ -47,7 +46,7 @@ fn end_atom(
     let token = Token {
         start: place as u32,
         stop: reach.stop as u32,
-        depth: depth as u32,
+        link: tokens.len() as u32 + 1,
         kind,
     };
     match tokens.push(token) {
@@ -69,7 +68,8 @@ fn follow(
     depth: usize,
     tokens: &mut Bounded<Token>,
 ) -> Result<Next, ScanFault>
-    requires small { (length line.now < 2 ^ 31) × (depth < 2 ^ 31) }
+    requires small { (length line.now < 2 ^ 31) × (depth < 2 ^ 31)
+        × (length tokens.old.elements < 2 ^ 31) }
     requires within { place < length line.now }
     requires lists { IsWithin tokens.old }
     requires room { BeginsAtom taken → length tokens.old.elements < tokens.old.limit }
@@ -89,7 +89,7 @@ fn follow(
         }),
         Move::To(mode) => Ok(pass_numbers(line, place, mode, depth, tokens)),
         Move::Open(mode) => Ok(pass_numbers(line, place, mode, depth, tokens)),
-        Move::Atom(next, first) => end_atom(line, place, next, first, depth, tokens),
+        Move::Atom(next, first) => end_atom(line, place, next, first, tokens),
     }
 }
 

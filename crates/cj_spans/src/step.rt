@@ -58,13 +58,11 @@ fn open(
     tokens: &mut Bounded<Token>,
     stack: &mut Stack,
 ) -> Result<Move, ScanFault>
-    requires small { (place < 2 ^ 31)
-        × (length tokens.old.elements < 2 ^ 31) × (length stack.old.elements < 2 ^ 31) }
+    requires small { (place < 2 ^ 31) × (length tokens.old.elements < 2 ^ 31) }
     requires lists { IsWithin tokens.old × IsWithin stack.old }
     requires room { length tokens.old.elements < tokens.old.limit }
     ensures { Reads (λ s. Some (opened kind next s)) place result tokens.old tokens.new stack.old stack.new }
 {
-    let depth = stack.len();
     match stack.push(tokens.len() as u32) {
         Ok(()) => {}
         Err(Refused::Full(_)) => return Err(ScanFault::TooDeep(place as u64)),
@@ -73,7 +71,7 @@ fn open(
     let token = Token {
         start: place as u32,
         stop: 0,
-        depth: depth as u32,
+        link: 0,
         kind,
     };
     match tokens.push(token) {
@@ -90,8 +88,7 @@ fn begin_value(
     tokens: &mut Bounded<Token>,
     stack: &mut Stack,
 ) -> Result<Move, ScanFault>
-    requires small { (place < 2 ^ 31)
-        × (length tokens.old.elements < 2 ^ 31) × (length stack.old.elements < 2 ^ 31) }
+    requires small { (place < 2 ^ 31) × (length tokens.old.elements < 2 ^ 31) }
     requires lists { IsWithin tokens.old × IsWithin stack.old }
     requires room { length tokens.old.elements < tokens.old.limit }
     ensures { Reads (begin_value_of byte) place result tokens.old tokens.new stack.old stack.new }
@@ -116,7 +113,7 @@ fn close(
     tokens: &mut Bounded<Token>,
     stack: &mut Stack,
 ) -> Result<Move, ScanFault>
-    requires small { place < 2 ^ 31 }
+    requires small { (place < 2 ^ 31) × (length tokens.old.elements < 2 ^ 31) }
     requires lists { IsWithin tokens.old × IsWithin stack.old }
     ensures { Reads (λ s. close_token_of number (slice_get s.tokens number) s) place result tokens.old tokens.new stack.old stack.new }
 {
@@ -125,6 +122,7 @@ fn close(
         Some(token) => {
             let whole = Token {
                 stop: place as u32 + 1,
+                link: tokens.len() as u32,
                 ..token
             };
             tokens.set(number as usize, whole);
@@ -140,7 +138,7 @@ fn close_empty(
     tokens: &mut Bounded<Token>,
     stack: &mut Stack,
 ) -> Result<Move, ScanFault>
-    requires small { place < 2 ^ 31 }
+    requires small { (place < 2 ^ 31) × (length tokens.old.elements < 2 ^ 31) }
     requires lists { IsWithin tokens.old × IsWithin stack.old }
     ensures { Reads close_empty_of place result tokens.old tokens.new stack.old stack.new }
 {
@@ -160,7 +158,7 @@ fn after_in(
     tokens: &mut Bounded<Token>,
     stack: &mut Stack,
 ) -> Result<Move, ScanFault>
-    requires small { place < 2 ^ 31 }
+    requires small { (place < 2 ^ 31) × (length tokens.old.elements < 2 ^ 31) }
     requires lists { IsWithin tokens.old × IsWithin stack.old }
     ensures { (t : TokenOf) → slice_get tokens.old.elements number ≡ Some t
         → Reads (after_in_of kind byte number t) place result tokens.old tokens.new stack.old stack.new }
@@ -196,7 +194,7 @@ fn after_value(
     tokens: &mut Bounded<Token>,
     stack: &mut Stack,
 ) -> Result<Move, ScanFault>
-    requires small { place < 2 ^ 31 }
+    requires small { (place < 2 ^ 31) × (length tokens.old.elements < 2 ^ 31) }
     requires lists { IsWithin tokens.old × IsWithin stack.old }
     ensures { Reads (after_value_of byte) place result tokens.old tokens.new stack.old stack.new }
 {
@@ -244,8 +242,7 @@ pub fn read_byte(
     tokens: &mut Bounded<Token>,
     stack: &mut Stack,
 ) -> Result<Move, ScanFault>
-    requires small { (place < 2 ^ 31)
-        × (length tokens.old.elements < 2 ^ 31) × (length stack.old.elements < 2 ^ 31) }
+    requires small { (place < 2 ^ 31) × (length tokens.old.elements < 2 ^ 31) }
     requires lists { IsWithin tokens.old × IsWithin stack.old }
     requires room { BeginsValue mode → length tokens.old.elements < tokens.old.limit }
     ensures answer { (p : ℕ) → Answers

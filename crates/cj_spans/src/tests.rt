@@ -47,12 +47,7 @@ fn meets(rt: &impl Abort, alloc: Global, row: &Row) {
 
 /// A row at the usual depth limit.
 fn at_64(line: &'static [u8], want: Result<(usize, usize), ScanFault>) -> Row {
-    Row {
-        name: "a row at depth 64",
-        line,
-        depth: 64,
-        want,
-    }
+    at_depth(64, "a row at depth 64", line, want)
 }
 
 #[test]
@@ -82,15 +77,46 @@ fn lines_that_are_texts(rt: HostRuntime) -> Result<(), Fail> {
 }
 
 #[test]
+fn numbers_that_are_none(rt: HostRuntime) -> Result<(), Fail> {
+    let rows = [
+        at_64(b"01", Err(ScanFault::Syntax(1))),
+        at_64(b"-", Err(ScanFault::Syntax(1))),
+        at_64(b"1.", Err(ScanFault::Syntax(2))),
+        at_64(b"1.e1", Err(ScanFault::Syntax(2))),
+        at_64(b"+1", Err(ScanFault::Syntax(0))),
+        at_64(b".5", Err(ScanFault::Syntax(0))),
+        at_64(b"1e", Err(ScanFault::Syntax(2))),
+        at_64(b"1e+", Err(ScanFault::Syntax(3))),
+    ];
+    for r in &rows {
+        meets(&rt, rt.alloc(), r);
+    }
+    Ok(())
+}
+
+#[test]
+fn texts_and_words_that_are_none(rt: HostRuntime) -> Result<(), Fail> {
+    let rows = [
+        at_64(b"\"\\q\"", Err(ScanFault::Syntax(2))),
+        at_64(b"tru}", Err(ScanFault::Syntax(3))),
+        at_64(b"nulL", Err(ScanFault::Syntax(3))),
+        at_64(b"\"a", Err(ScanFault::Syntax(2))),
+        at_64(b"\"\x1F\"", Err(ScanFault::Syntax(1))),
+        at_64(b"\"\\u12g4\"", Err(ScanFault::Syntax(5))),
+        at_64(b"\"\\u123\"", Err(ScanFault::Syntax(6))),
+    ];
+    for r in &rows {
+        meets(&rt, rt.alloc(), r);
+    }
+    Ok(())
+}
+
+#[test]
 fn lines_that_are_no_texts(rt: HostRuntime) -> Result<(), Fail> {
     let rows = [
         at_64(b"", Err(ScanFault::Syntax(0))),
         at_64(b"\r", Err(ScanFault::Syntax(1))),
-        at_64(b"01", Err(ScanFault::Syntax(1))),
-        at_64(b"-", Err(ScanFault::Syntax(1))),
         at_64(b"[1,]", Err(ScanFault::Syntax(3))),
-        at_64(b"\"\\q\"", Err(ScanFault::Syntax(2))),
-        at_64(b"tru}", Err(ScanFault::Syntax(3))),
         at_64(b"{} x", Err(ScanFault::Syntax(3))),
         at_64(b"[1", Err(ScanFault::Syntax(2))),
         at_64(b"[1,2", Err(ScanFault::Syntax(4))),
@@ -107,17 +133,6 @@ fn lines_that_are_no_texts(rt: HostRuntime) -> Result<(), Fail> {
         at_64(b"{a:1}", Err(ScanFault::Syntax(1))),
         at_64(b"{\"a\":1]", Err(ScanFault::Syntax(6))),
         at_64(b"[1}", Err(ScanFault::Syntax(2))),
-        at_64(b"1.", Err(ScanFault::Syntax(2))),
-        at_64(b"1.e1", Err(ScanFault::Syntax(2))),
-        at_64(b"+1", Err(ScanFault::Syntax(0))),
-        at_64(b".5", Err(ScanFault::Syntax(0))),
-        at_64(b"1e", Err(ScanFault::Syntax(2))),
-        at_64(b"1e+", Err(ScanFault::Syntax(3))),
-        at_64(b"nulL", Err(ScanFault::Syntax(3))),
-        at_64(b"\"a", Err(ScanFault::Syntax(2))),
-        at_64(b"\"\x1F\"", Err(ScanFault::Syntax(1))),
-        at_64(b"\"\\u12g4\"", Err(ScanFault::Syntax(5))),
-        at_64(b"\"\\u123\"", Err(ScanFault::Syntax(6))),
         at_64(b"}", Err(ScanFault::Syntax(0))),
         at_64(b"[]]", Err(ScanFault::Syntax(2))),
         at_64(b"\"a\"\"b\"", Err(ScanFault::Syntax(3))),
@@ -142,51 +157,66 @@ fn lines_that_are_no_utf8(rt: HostRuntime) -> Result<(), Fail> {
     Ok(())
 }
 
+/// A row under this depth limit.
+fn at_depth(
+    depth: usize,
+    name: &'static str,
+    line: &'static [u8],
+    want: Result<(usize, usize), ScanFault>,
+) -> Row {
+    Row {
+        name,
+        line,
+        depth,
+        want,
+    }
+}
+
 #[test]
-fn lines_that_are_nested(rt: HostRuntime) -> Result<(), Fail> {
+fn lines_that_are_as_deep_as_allowed(rt: HostRuntime) -> Result<(), Fail> {
     let rows = [
-        Row {
-            name: "a fault after the place that is too deep",
-            line: b"[[}",
-            depth: 1,
-            want: Err(ScanFault::TooDeep(1)),
-        },
-        Row {
-            name: "no container is allowed",
-            line: b" {",
-            depth: 0,
-            want: Err(ScanFault::TooDeep(1)),
-        },
-        Row {
-            name: "as deep as allowed",
-            line: b"[{\"a\":[]}]",
-            depth: 3,
-            want: Ok((4, 3)),
-        },
-        Row {
-            name: "one too deep",
-            line: b"[{\"a\":[]}]",
-            depth: 2,
-            want: Err(ScanFault::TooDeep(6)),
-        },
-        Row {
-            name: "a fault before the place that is too deep",
-            line: b"[}[",
-            depth: 1,
-            want: Err(ScanFault::Syntax(1)),
-        },
-        Row {
-            name: "not UTF-8 after the place that is too deep",
-            line: b"[[\xFF",
-            depth: 1,
-            want: Err(ScanFault::NotUtf8(2)),
-        },
-        Row {
-            name: "opened and closed again",
-            line: b"[[],[],[]]",
-            depth: 2,
-            want: Ok((4, 2)),
-        },
+        at_depth(3, "as deep as allowed", b"[{\"a\":[]}]", Ok((4, 3))),
+        at_depth(2, "opened and closed again", b"[[],[],[]]", Ok((4, 2))),
+        at_depth(
+            1,
+            "a fault before the place that is too deep",
+            b"[}[",
+            Err(ScanFault::Syntax(1)),
+        ),
+    ];
+    for r in &rows {
+        meets(&rt, rt.alloc(), r);
+    }
+    Ok(())
+}
+
+#[test]
+fn lines_that_are_too_deep(rt: HostRuntime) -> Result<(), Fail> {
+    let rows = [
+        at_depth(
+            1,
+            "a fault after the place that is too deep",
+            b"[[}",
+            Err(ScanFault::TooDeep(1)),
+        ),
+        at_depth(
+            0,
+            "no container is allowed",
+            b" {",
+            Err(ScanFault::TooDeep(1)),
+        ),
+        at_depth(
+            2,
+            "one too deep",
+            b"[{\"a\":[]}]",
+            Err(ScanFault::TooDeep(6)),
+        ),
+        at_depth(
+            1,
+            "not UTF-8 after the place that is too deep",
+            b"[[\xFF",
+            Err(ScanFault::NotUtf8(2)),
+        ),
     ];
     for r in &rows {
         meets(&rt, rt.alloc(), r);
@@ -228,24 +258,50 @@ fn tokens_stand_where_the_values_do(rt: HostRuntime) -> Result<(), Fail> {
     let mut stack = Stack::new(rt.alloc(), 4);
     assert_eq!(rt; scan(line, &mut tokens, &mut stack), Ok(()));
     let want = [
-        token_at(1, 36, 0, Kind::Object),
-        token_at(2, 5, 1, Kind::Text),
-        token_at(8, 26, 1, Kind::Array),
-        token_at(9, 13, 2, Kind::Truth),
-        token_at(15, 21, 2, Kind::Number),
-        token_at(22, 25, 2, Kind::Text),
-        token_at(27, 30, 1, Kind::Text),
-        token_at(31, 35, 1, Kind::Null),
+        token_at(1, 36, 8, Kind::Object),
+        token_at(2, 5, 2, Kind::Text),
+        token_at(8, 26, 6, Kind::Array),
+        token_at(9, 13, 4, Kind::Truth),
+        token_at(15, 21, 5, Kind::Number),
+        token_at(22, 25, 6, Kind::Text),
+        token_at(27, 30, 7, Kind::Text),
+        token_at(31, 35, 8, Kind::Null),
     ];
     assert_eq!(rt; tokens.as_slice(), want.as_slice());
     Ok(())
 }
 
-fn token_at(start: u32, stop: u32, depth: u32, kind: Kind) -> Token {
+/// The links that a scan of the line leaves.
+fn has_links(rt: &impl Abort, alloc: Global, line: &[u8], want: &[u32]) {
+    let mut tokens: Bounded<Token> = Bounded::new(alloc, 64);
+    let mut stack = Stack::new(alloc, 64);
+    assert!(rt; line.len() <= 60);
+    assert_eq!(rt; scan(line, &mut tokens, &mut stack), Ok(()));
+    assert_eq!(rt; tokens.len(), want.len());
+    for (token, link) in tokens.as_slice().iter().zip(want) {
+        assert_eq!(rt; token.link, *link);
+    }
+}
+
+#[test]
+fn tokens_link_past_their_parts(rt: HostRuntime) -> Result<(), Fail> {
+    let members = [7, 2, 5, 4, 5, 6, 7];
+    has_links(
+        &rt,
+        rt.alloc(),
+        b"{\"a\":{\"b\":[]},\"c\":0}",
+        members.as_slice(),
+    );
+    let items = [5, 2, 3, 5, 5];
+    has_links(&rt, rt.alloc(), b"[[],{},[1]]", items.as_slice());
+    Ok(())
+}
+
+fn token_at(start: u32, stop: u32, link: u32, kind: Kind) -> Token {
     Token {
         start,
         stop,
-        depth,
+        link,
         kind,
     }
 }

@@ -17,12 +17,12 @@ pub enum Kind {
     Object,
 }
 
-/// One value or member name of a line: the places where it starts and stops, how many containers it
-/// stands in, and its kind.
+/// One value or member name of a line: the places where it starts and stops, the number of the first
+/// token after it and its parts, and its kind.
 #[derive(Clone, Copy, Debug, PartialEq, Eq)]
 pub struct Token {
     pub(crate) start: u32,
     pub(crate) stop: u32,
-    pub(crate) depth: u32,
+    pub(crate) link: u32,
     pub(crate) kind: Kind,
 }

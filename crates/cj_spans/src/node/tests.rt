@@ -17,18 +17,27 @@ struct Row {
     first_code: Option<u32>,
 }
 
-fn meets(rt: &impl Abort, alloc: Global, row: &Row) {
-    let line = row.line;
-    assert!(rt; line.len() <= 1_000);
-    let mut tokens: Bounded<Token> = Bounded::new(alloc, 1_000);
+/// Scans a line, which is a text, and views it.
+fn view<'a>(
+    rt: &impl Abort,
+    alloc: Global,
+    line: &'a [u8],
+    tokens: &'a mut Bounded<Token>,
+) -> Doc<'a> {
+    assert!(rt; line.len() <= 1_000 && tokens.limit() >= 1_000);
     let mut stack = Stack::new(alloc, 64);
-    match scan(line, &mut tokens, &mut stack) {
+    match scan(line, tokens, &mut stack) {
         Ok(()) => {}
         Err(fault) => panic!(rt; "{fault:?}"),
     }
-    let doc = Doc::of(line, tokens.as_slice());
+    Doc::of(line, tokens.as_slice())
+}
+
+fn meets(rt: &impl Abort, alloc: Global, row: &Row) {
+    let mut tokens: Bounded<Token> = Bounded::new(alloc, 1_000);
+    let doc = view(rt, alloc, row.line, &mut tokens);
     let node = doc.root();
-    assert_eq!(rt; doc.line(), line);
+    assert_eq!(rt; doc.line(), row.line);
     assert_eq!(rt; node.kind(), row.kind);
     assert_eq!(rt; node.start(), row.start);
     assert_eq!(rt; node.bytes(), row.bytes);
@@ -37,151 +46,102 @@ fn meets(rt: &impl Abort, alloc: Global, row: &Row) {
     assert_eq!(rt; node.first_code(), row.first_code);
 }
 
-#[test]
-fn values_show_what_they_are(rt: HostRuntime) -> Result<(), Fail> {
-    let scalar = Row {
-        line: b"null",
-        kind: Kind::Null,
-        start: 0,
-        bytes: b"null",
+fn all_meet(rt: &impl Abort, alloc: Global, rows: &[Row]) {
+    for row in rows {
+        meets(rt, alloc, row);
+    }
+}
+
+/// A value without parts, whose line has these bytes of it from this place on.
+fn scalar(line: &'static [u8], kind: Kind, start: u64, bytes: &'static [u8]) -> Row {
+    Row {
+        line,
+        kind,
+        start,
+        bytes,
         items: 0,
         members: 0,
         first_code: None,
-    };
+    }
+}
+
+/// A line that is a string, and the first code point of its text.
+fn text(line: &'static [u8], first_code: Option<u32>) -> Row {
+    Row {
+        first_code,
+        ..scalar(line, Kind::Text, 0, line)
+    }
+}
+
+#[test]
+fn scalars_show_what_they_are(rt: HostRuntime) -> Result<(), Fail> {
     let rows = [
-        scalar,
+        scalar(b"null", Kind::Null, 0, b"null"),
+        scalar(b"true", Kind::Truth, 0, b"true"),
+        scalar(b" false ", Kind::Truth, 1, b"false"),
+        scalar(b"\t-1.50e+3", Kind::Number, 1, b"-1.50e+3"),
+        scalar(b"  0", Kind::Number, 2, b"0"),
+    ];
+    all_meet(&rt, rt.alloc(), rows.as_slice());
+    Ok(())
+}
+
+#[test]
+fn texts_show_their_first_code(rt: HostRuntime) -> Result<(), Fail> {
+    let rows = [
+        text(b"\"\"", None),
+        text(b"\"[{\"", Some(91)),
+        text(b"\"\\u0032.2\"", Some(50)),
+        text(b"\"\\n\"", Some(10)),
+        text(b"\"\xE2\x82\xAC\"", Some(0x20AC)),
+        text(b"\"\xF0\x9F\x98\x80\"", Some(0x1F600)),
+        text(b"\"\\uD83D\\uDE00\"", Some(0x1F600)),
+        text(b"\"\\ud83d\"", Some(0xD83D)),
+    ];
+    all_meet(&rt, rt.alloc(), rows.as_slice());
+    Ok(())
+}
+
+#[test]
+fn containers_show_how_many_they_hold(rt: HostRuntime) -> Result<(), Fail> {
+    let rows = [
+        scalar(b"[]", Kind::Array, 0, b"[]"),
         Row {
-            line: b"true",
-            kind: Kind::Truth,
-            bytes: b"true",
-            ..scalar
-        },
-        Row {
-            line: b" false ",
-            kind: Kind::Truth,
-            start: 1,
-            bytes: b"false",
-            ..scalar
-        },
-        Row {
-            line: b"\t-1.50e+3",
-            kind: Kind::Number,
-            start: 1,
-            bytes: b"-1.50e+3",
-            ..scalar
-        },
-        Row {
-            line: b"  0",
-            kind: Kind::Number,
-            start: 2,
-            bytes: b"0",
-            ..scalar
-        },
-        Row {
-            line: b"\"\"",
-            kind: Kind::Text,
-            bytes: b"\"\"",
-            ..scalar
-        },
-        Row {
-            line: b"\"[{\"",
-            kind: Kind::Text,
-            bytes: b"\"[{\"",
-            first_code: Some(91),
-            ..scalar
-        },
-        Row {
-            line: b"\"\\u0032.2\"",
-            kind: Kind::Text,
-            bytes: b"\"\\u0032.2\"",
-            first_code: Some(50),
-            ..scalar
-        },
-        Row {
-            line: b"\"\\n\"",
-            kind: Kind::Text,
-            bytes: b"\"\\n\"",
-            first_code: Some(10),
-            ..scalar
-        },
-        Row {
-            line: b"\"\xE2\x82\xAC\"",
-            kind: Kind::Text,
-            bytes: b"\"\xE2\x82\xAC\"",
-            first_code: Some(0x20AC),
-            ..scalar
-        },
-        Row {
-            line: b"\"\xF0\x9F\x98\x80\"",
-            kind: Kind::Text,
-            bytes: b"\"\xF0\x9F\x98\x80\"",
-            first_code: Some(0x1F600),
-            ..scalar
-        },
-        Row {
-            line: b"\"\\uD83D\\uDE00\"",
-            kind: Kind::Text,
-            bytes: b"\"\\uD83D\\uDE00\"",
-            first_code: Some(0x1F600),
-            ..scalar
-        },
-        Row {
-            line: b"\"\\ud83d\"",
-            kind: Kind::Text,
-            bytes: b"\"\\ud83d\"",
-            first_code: Some(0xD83D),
-            ..scalar
-        },
-        Row {
-            line: b"[]",
-            kind: Kind::Array,
-            bytes: b"[]",
-            ..scalar
-        },
-        Row {
-            line: b" [1,[2,3],{\"a\":4}] ",
-            kind: Kind::Array,
-            start: 1,
-            bytes: b"[1,[2,3],{\"a\":4}]",
             items: 3,
-            ..scalar
+            ..scalar(
+                b" [1,[2,3],{\"a\":4}] ",
+                Kind::Array,
+                1,
+                b"[1,[2,3],{\"a\":4}]",
+            )
         },
+        scalar(b"{}", Kind::Object, 0, b"{}"),
         Row {
-            line: b"{}",
-            kind: Kind::Object,
-            bytes: b"{}",
-            ..scalar
-        },
-        Row {
-            line: b"{\"a\":{\"b\":[]},\"c\":0}",
-            kind: Kind::Object,
-            bytes: b"{\"a\":{\"b\":[]},\"c\":0}",
             members: 2,
-            ..scalar
+            ..scalar(
+                b"{\"a\":{\"b\":[]},\"c\":0}",
+                Kind::Object,
+                0,
+                b"{\"a\":{\"b\":[]},\"c\":0}",
+            )
         },
     ];
-    for row in &rows {
-        meets(&rt, rt.alloc(), row);
-    }
+    all_meet(&rt, rt.alloc(), rows.as_slice());
     Ok(())
 }
 
 #[test]
 fn items_come_in_order(rt: HostRuntime) -> Result<(), Fail> {
     let line = b"[null, [1,[2],3] ,{\"a\":[4]},\"x\"]";
-    let mut tokens: Bounded<Token> = Bounded::new(rt.alloc(), 64);
-    let mut stack = Stack::new(rt.alloc(), 4);
-    match scan(line, &mut tokens, &mut stack) {
-        Ok(()) => {}
-        Err(fault) => panic!(&rt; "{fault:?}"),
-    }
+    let mut tokens: Bounded<Token> = Bounded::new(rt.alloc(), 1_000);
+    let doc = view(&rt, rt.alloc(), line, &mut tokens);
     let want = [
         (Kind::Null, 1u64, b"null".as_slice()),
         (Kind::Array, 7u64, b"[1,[2],3]".as_slice()),
         (Kind::Object, 18u64, b"{\"a\":[4]}".as_slice()),
         (Kind::Text, 28u64, b"\"x\"".as_slice()),
     ];
-    let mut items = Doc::of(line, tokens.as_slice()).root().items();
+    let mut items = doc.root().items();
     for (kind, start, bytes) in &want {
         match items.next() {
             Some(item) => {
@@ -199,18 +159,14 @@ fn items_come_in_order(rt: HostRuntime) -> Result<(), Fail> {
 #[test]
 fn members_come_in_order(rt: HostRuntime) -> Result<(), Fail> {
     let line = b"{\"a\":{\"b\":[1,{}]} , \"\":0,\"a\":\"z\"}";
-    let mut tokens: Bounded<Token> = Bounded::new(rt.alloc(), 64);
-    let mut stack = Stack::new(rt.alloc(), 4);
-    match scan(line, &mut tokens, &mut stack) {
-        Ok(()) => {}
-        Err(fault) => panic!(&rt; "{fault:?}"),
-    }
+    let mut tokens: Bounded<Token> = Bounded::new(rt.alloc(), 1_000);
+    let doc = view(&rt, rt.alloc(), line, &mut tokens);
     let want = [
         (1u64, b"\"a\"".as_slice(), b"{\"b\":[1,{}]}".as_slice()),
         (20u64, b"\"\"".as_slice(), b"0".as_slice()),
         (25u64, b"\"a\"".as_slice(), b"\"z\"".as_slice()),
     ];
-    let mut members = Doc::of(line, tokens.as_slice()).root().members();
+    let mut members = doc.root().members();
     for (start, name, value) in &want {
         match members.next() {
             Some((key, node)) => {
@@ -238,12 +194,8 @@ fn got<'a>(node: Node<'a>, name: &str) -> Option<&'a [u8]> {
 fn members_are_found_by_their_text(rt: HostRuntime) -> Result<(), Fail> {
     let line =
         b"{\"a\":1,\"\\u0062\":2,\"b\":3,\"a\":4,\"\\uD83D\\uDE00\":5,\"\\ud83d\":6,\"\xE2\x82\xAC\":7,\"a\\nb\":8,\"\":9,\"aa\":[10]}";
-    let mut tokens: Bounded<Token> = Bounded::new(rt.alloc(), 64);
-    let mut stack = Stack::new(rt.alloc(), 4);
-    match scan(line, &mut tokens, &mut stack) {
-        Ok(()) => {}
-        Err(fault) => panic!(&rt; "{fault:?}"),
-    }
+    let mut tokens: Bounded<Token> = Bounded::new(rt.alloc(), 1_000);
+    let doc = view(&rt, rt.alloc(), line, &mut tokens);
     let rows = [
         ("a", Some(b"1".as_slice())),
         ("b", Some(b"2".as_slice())),
@@ -257,7 +209,7 @@ fn members_are_found_by_their_text(rt: HostRuntime) -> Result<(), Fail> {
         ("\\u0062", None),
         ("\u{FFFD}", None),
     ];
-    let root = Doc::of(line, tokens.as_slice()).root();
+    let root = doc.root();
     for (name, want) in &rows {
         assert_eq!(&rt; got(root, *name), *want, "{name}");
     }
@@ -272,12 +224,8 @@ fn members_are_found_by_their_text(rt: HostRuntime) -> Result<(), Fail> {
 fn texts_are_compared_by_code_points(rt: HostRuntime) -> Result<(), Fail> {
     let line =
         b"[\"b1\",\"\\u00621\",\"b\",\"\",\"\\u00e9\",\"\xC3\xA9\",\"e\\u0301\",\"\\ud83d\\ude00\",\"\\ud83d\",12,\"12\"]";
-    let mut tokens: Bounded<Token> = Bounded::new(rt.alloc(), 64);
-    let mut stack = Stack::new(rt.alloc(), 4);
-    match scan(line, &mut tokens, &mut stack) {
-        Ok(()) => {}
-        Err(fault) => panic!(&rt; "{fault:?}"),
-    }
+    let mut tokens: Bounded<Token> = Bounded::new(rt.alloc(), 1_000);
+    let doc = view(&rt, rt.alloc(), line, &mut tokens);
     let texts = [
         Some("b1"),
         Some("b1"),
@@ -291,7 +239,7 @@ fn texts_are_compared_by_code_points(rt: HostRuntime) -> Result<(), Fail> {
         None,
         Some("12"),
     ];
-    let root = Doc::of(line, tokens.as_slice()).root();
+    let root = doc.root();
     for (item, text) in root.items().zip(texts.iter()) {
         for (other, other_text) in root.items().zip(texts.iter()) {
             match *other_text {

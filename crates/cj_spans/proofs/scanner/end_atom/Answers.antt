@@ -3,14 +3,14 @@ use Rattle.cj_spans.proofs.Atoms.{ends_ok, ends_err}
 use Rattle.cj_spans.proofs.scanner.end_atom.Goals as goal
 
 pub returns-in_default-clause-answer : goal.returns-in_default-clause-answer
-returns-in_default-clause-answer c = λ ks p h.
+returns-in_default-clause-answer c = λ ks p.
     let r = c.read_atom-reach in
     ends_err c.args.line.now c.args.place r.result.stop p c.args.first r.result.read c.args.next ks c.args.tokens.now.elements r.ensures.read r.ensures.halts r.ensures.end (sym c.lex_kind.ensures ∙ c.in_default.is)
 
 pub returns-in-Ok-clause-answer : goal.returns-in-Ok-clause-answer
-returns-in-Ok-clause-answer c = λ ks p h.
+returns-in-Ok-clause-answer c = λ ks p.
     let r = c.read_atom-reach in (
-      ends_ok c.args.line.now c.args.place r.result.stop c.args.depth p c.args.first r.result.read c.in-Some.kind c.args.next ks c.args.tokens.now.elements c.push.new.self.elements r.ensures.read r.ensures.halts (sym c.lex_kind.ensures ∙ c.in-Some.is) h c.in-Ok.ensures.ok.elements,
+      ends_ok c.args.line.now c.args.place r.result.stop c.len.result p c.args.first r.result.read c.in-Some.kind c.args.next ks c.args.tokens.now.elements c.push.new.self.elements r.ensures.read r.ensures.halts (sym c.lex_kind.ensures ∙ c.in-Some.is) c.len.ensures.value c.in-Ok.ensures.ok.elements,
       omega (arith, r.ensures.order),
       r.ensures.end,
     )

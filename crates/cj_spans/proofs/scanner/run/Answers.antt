@@ -24,7 +24,7 @@ follow-requires-clause-small c =
     let q = stepped_small _ _ _ _ _ _ _ _ s c.requires.short c.loop-place-test.true in
     let h = c.requires.short in
     let e = c.len.ensures.value in
-    (omega arith, omega arith)
+    (omega arith, omega (arith, q.0), q.1)
 
 pub follow-requires-clause-room : goal.follow-requires-clause-room
 follow-requires-clause-room c =

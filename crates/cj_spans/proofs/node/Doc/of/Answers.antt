@@ -4,7 +4,7 @@ use Rattle.cj_spans.proofs.Scanned.{known, one_tree, its_tree}
 use Rattle.cj_spans.proofs.node.Doc.of.Goals as goal
 
 pub invariant_of-result : goal.invariant_of-result
-invariant_of-result c = let k = known c.args.line.now c.args.tokens.now c.requires in record { within = k.within; nested = k.nested; named = k.named }
+invariant_of-result c = let k = known c.args.line.now c.args.tokens.now c.requires in record { within = k.within; nested = k.nested; named = k.named; linked = k.linked }
 
 pub invariant_of-result-2 : goal.invariant_of-result-2
 invariant_of-result-2 c = record { known = (known c.args.line.now c.args.tokens.now c.requires).some }

@@ -1,0 +1,184 @@
+-- The links of the tokens of a tree, and the trees that come after them.
+use Rattle.std.proofs.Common.{◌≡◌, ℕ, zero, suc, ◌+◌, ◌%◌, ◌^◌, ◌<◌, ◌≤◌, List, [], ◌∷◌, ◌++◌, length, drop, slice_get, ◌⊎◌, inl, inr, Some, refl, sym, ap, subst, arith, ◌∙◌, append_assoc, length-append}
+use Rattle.std.proofs.lemmas.List.{append-nil, length-drop}
+use Rattle.std.proofs.lemmas.Option.{slice_get_within}
+use Rattle.cj_spans.specs.declared.token.Token.{Token}
+use Rattle.cj_spans.specs.declared.token.Kind.{Kind}
+use Rattle.cj_spans.specs.declared.token.Kind.TheVariants.{Text, Array, Object}
+use Rattle.cj_spans.specs.Tree.{Atom, Tree, Items, Members, add_item, add_member, size, items_size, members_size}
+use Rattle.cj_spans.specs.Json.{Value, atom, empty_array, full_array, empty_object, full_object, Padded, padded, LedItems, no_led, led, LedMembers, no_led_members, led_member, Named, named, Json}
+use Rattle.cj_spans.specs.Preorder.{flatten, flatten_items, flatten_members, token_at}
+use Rattle.cj_spans.specs.Sound.{before, AreLinked}
+use Rattle.cj_spans.proofs.Lists.{flatten_items-add, flatten_members-add, named_tokens, length-flatten, length-flatten_items, length-flatten_members}
+use Rattle.cj_spans.proofs.Forests.{padded_order, led_order, led_members_order, named_order}
+
+-- ---- tokens that start before a place, and others
+
+abbrev AllBefore : ℕ → List Token → Type 0
+AllBefore j [] = Unit {0}
+AllBefore j (t ∷ ts) = (t.start < j) × AllBefore j ts
+
+-- the first starts at the place or after it
+abbrev NotBefore : ℕ → List Token → Type 0
+NotBefore j [] = Unit {0}
+NotBefore j (t ∷ ts) = j ≤ t.start
+
+pub before_one : (j : ℕ) (t : Token) (ts : List Token) → t.start < j → before j (t ∷ ts) ≡ suc (before j ts)
+before_one j t ts h = grind (arith)
+
+pub before_zero : (j : ℕ) (t : Token) (ts : List Token) → j ≤ t.start → before j (t ∷ ts) ≡ 0
+before_zero j t ts h = grind (arith)
+
+before_none : (j : ℕ) (ts : List Token) → NotBefore j ts → before j ts ≡ 0
+before_none j [] h = refl
+before_none j (t ∷ ts) h = before_zero j t ts h
+
+split : (m n : ℕ) → (m < n) ⊎ (n ≤ m)
+split m n = grind arith
+
+pub before_length : (j : ℕ) (ts : List Token) → before j ts ≤ length ts
+before_length j [] = omega arith
+before_length j (t ∷ ts) =
+    let l = before_length j ts in
+    elim (split t.start j) [ inl h ↦ let e = before_one j t ts h in omega arith | inr h ↦ let e = before_zero j t ts h in omega arith ]
+
+before_all : (j : ℕ) (ts us : List Token) → AllBefore j ts → NotBefore j us → before j (ts ++ us) ≡ length ts
+before_all j [] us h n = before_none j us n
+before_all j (t ∷ ts) us h n = before_one j t (ts ++ us) h.0 ∙ ap suc (before_all j ts us h.1 n)
+
+all_before_more : (i j : ℕ) (ts : List Token) → i ≤ j → AllBefore i ts → AllBefore j ts
+all_before_more i j [] l h = tt
+all_before_more i j (t ∷ ts) l h = let a = h.0 in (omega arith, all_before_more i j ts l h.1)
+
+all_before_append : (j : ℕ) (ts us : List Token) → AllBefore j ts → AllBefore j us → AllBefore j (ts ++ us)
+all_before_append j [] us h g = g
+all_before_append j (t ∷ ts) us h g = (h.0, all_before_append j ts us h.1 g)
+
+not_before_less : (i j : ℕ) (ts : List Token) → i ≤ j → NotBefore j ts → NotBefore i ts
+not_before_less i j [] l h = tt
+not_before_less i j (t ∷ ts) l h = omega arith
+
+not_before_append : (i j : ℕ) (ts us : List Token) → i ≤ j → NotBefore i ts → NotBefore j us → NotBefore i (ts ++ us)
+not_before_append i j [] us l h g = not_before_less i j us l g
+not_before_append i j (t ∷ ts) us l h g = h
+
+-- ---- links
+
+-- each of the tokens, which are numbered from k on, links past those that start before it stops
+abbrev AllLinked : ℕ → List Token → Type 0
+AllLinked k [] = Unit {0}
+AllLinked k (t ∷ ts) = (t.link ≡ suc k + before t.stop ts) × AllLinked (suc k) ts
+
+-- tokens between two places, numbered from k on, linked before any that are linked and start later
+record Linked (i j k : ℕ) (ts : List Token) : Type 0 where
+  all : AllBefore j ts
+  first : NotBefore i ts
+  linked : (rest : List Token) (n : ℕ) → n ≡ k + length ts → NotBefore j rest → AllLinked n rest → AllLinked k (ts ++ rest)
+
+linked_none : (i k : ℕ) → Linked i i k []
+linked_none i k = record { all = tt; first = tt; linked = λ rest n e f g. let q : n ≡ k = omega arith in subst (λ m. AllLinked m rest) q g }
+
+linked_more : (i j k l n : ℕ) (ts : List Token) → k ≤ i → j ≤ l → Linked i j n ts → Linked k l n ts
+linked_more i j k l n ts f g h = record {
+  all = all_before_more j l ts g h.all;
+  first = not_before_less k i ts f h.first;
+  linked = λ rest m e o p. h.linked rest m e (not_before_less j l rest g o) p;
+}
+
+linked_both : (i j k n m : ℕ) (ts us : List Token) → i ≤ j → j ≤ k → m ≡ n + length ts → Linked i j n ts → Linked j k m us → Linked i k n (ts ++ us)
+linked_both i j k n m ts us f g e h q = record {
+  all = all_before_append k ts us (all_before_more j k ts g h.all) q.all;
+  first = not_before_append i j ts us f h.first q.first;
+  linked = λ rest l d o p.
+      let c = length-append ts us in
+      subst (AllLinked n) (sym (append_assoc ts us rest)) (h.linked (us ++ rest) m e (not_before_append j k us rest g q.first o) (q.linked rest l (omega arith) o p));
+}
+
+-- a token over others
+linked_over : (i j n m : ℕ) (k : Kind) (ts : List Token) → i < j → m ≡ suc n + length ts → Linked (suc i) j (suc n) ts → Linked i j n (token_at i j m k ∷ ts)
+linked_over i j n m k ts o e h = record {
+  all = (o, h.all);
+  first = omega arith;
+  linked = λ rest l d f g. let b = before_all j ts rest h.all f in (omega arith, h.linked rest l (omega arith) f g);
+}
+
+linked_atom : (i j n : ℕ) (k : Kind) → i < j → Linked i j n (token_at i j (suc n) k ∷ [])
+linked_atom i j n k o = linked_over i j n (suc n) k [] o (omega arith) (linked_more j j (suc i) j (suc n) [] o (omega arith) (linked_none j (suc n)))
+
+-- ---- the grammar
+
+linked_named : {b : List ℕ} {i j : ℕ} {n : Atom} → Named b i j n → (k : ℕ) → Linked i j k (token_at n.start n.stop (suc k) Text ∷ [])
+linked_named {b} (named i j k l w x y c) m = let e = w.order in let f = y.order in linked_more j k i (suc l) m _ e (omega arith) (linked_atom j k m Text x.order)
+
+linked_add : (i j k n : ℕ) (us : Items) (u : Tree) → i ≤ j → j ≤ k → Linked i j n (flatten_items n us) → Linked j k (n + items_size us) (flatten (n + items_size us) u) → Linked i k n (flatten_items n (add_item us u))
+linked_add i j k n us u f g h q =
+    let e = length-flatten_items n us in
+    subst (Linked i k n) (sym (flatten_items-add n us u)) (linked_both i j k n (n + items_size us) (flatten_items n us) (flatten (n + items_size us) u) f g (omega arith) h q)
+
+linked_add_member : (i j k l n : ℕ) (us : Members) (a : Atom) (u : Tree) → i ≤ j → j ≤ k → k ≤ l → Linked i j n (flatten_members n us) → let m = n + members_size us in Linked j k m (token_at a.start a.stop (suc m) Text ∷ []) → Linked k l (suc m) (flatten (suc m) u)
+    → Linked i l n (flatten_members n (add_member us a u))
+linked_add_member i j k l n us a u f g h p q r =
+    let m = n + members_size us in
+    let e = length-flatten_members n us in
+    let pair : Linked j l m (named_tokens m a u) = linked_both j k l m (suc m) (token_at a.start a.stop (suc m) Text ∷ []) (flatten (suc m) u) g h (omega arith) q r in
+    subst (Linked i l n) (sym (flatten_members-add n us a u)) (linked_both i j l n m (flatten_members n us) (named_tokens m a u) f (omega arith) (omega arith) p pair)
+
+padded_ends : {b : List ℕ} {i j : ℕ} {t : Tree} → Padded b i j t → i ≤ j
+padded_ends p = let q = padded_order p in let f = q.0 in let g = q.1 in omega arith
+
+named_ends : {b : List ℕ} {i j : ℕ} {n : Atom} → Named b i j n → i ≤ j
+named_ends p = let q = named_order p in let f = q.0 in let g = q.1 in let h = q.2 in omega arith
+
+mutual
+  linked_value : {b : List ℕ} {i j : ℕ} {t : Tree} → Value b i j t → (n : ℕ) → Linked i j n (flatten n t)
+  linked_value {b} (atom k i j w) n = linked_atom i j n k w.order
+  linked_value {b} (empty_array i j o w c) n =
+      let h = w.order in linked_over i (suc j) n (suc n + 0) Array [] (omega arith) (omega arith) (linked_more (suc i) (suc i) (suc i) (suc j) (suc n) [] (omega arith) (omega arith) (linked_none (suc i) (suc n)))
+  linked_value {b} (full_array i j k us u o l p c) n =
+      let a = led_order l in let q = padded_ends p in let v = add_item us u in let e = length-flatten_items (suc n) v in
+      linked_over i (suc k) n (suc n + items_size v) Array (flatten_items (suc n) v) (omega arith) (omega arith)
+      (linked_more (suc i) k (suc i) (suc k) (suc n) (flatten_items (suc n) v) (omega arith) (omega arith) (linked_add (suc i) j k (suc n) us u a q (linked_led l (suc n)) (linked_padded p (suc n + items_size us))))
+  linked_value {b} (empty_object i j o w c) n =
+      let h = w.order in linked_over i (suc j) n (suc n + 0) Object [] (omega arith) (omega arith) (linked_more (suc i) (suc i) (suc i) (suc j) (suc n) [] (omega arith) (omega arith) (linked_none (suc i) (suc n)))
+  linked_value {b} (full_object i j k l us a u o ld nm p c) n =
+      let f = led_members_order ld in let q = padded_ends p in let r = named_ends nm in let v = add_member us a u in let e = length-flatten_members (suc n) v in let m = suc n + members_size us in
+      linked_over i (suc l) n (suc n + members_size v) Object (flatten_members (suc n) v) (omega arith) (omega arith)
+      (linked_more (suc i) l (suc i) (suc l) (suc n) (flatten_members (suc n) v) (omega arith) (omega arith)
+      (linked_add_member (suc i) j k l (suc n) us a u f r q (linked_led_members ld (suc n)) (linked_named nm m) (linked_padded p (suc m))))
+
+  linked_padded : {b : List ℕ} {i j : ℕ} {t : Tree} → Padded b i j t → (n : ℕ) → Linked i j n (flatten n t)
+  linked_padded {b} (padded i j k l t w v x) n = linked_more j k i l n (flatten n t) w.order x.order (linked_value v n)
+
+  linked_led : {b : List ℕ} {i j : ℕ} {us : Items} → LedItems b i j us → (n : ℕ) → Linked i j n (flatten_items n us)
+  linked_led {b} (no_led i) n = linked_none i n
+  linked_led {b} (led i j k us u l p c) n =
+      let a = led_order l in let q = padded_ends p in
+      linked_more i k i (suc k) n (flatten_items n (add_item us u)) (omega arith) (omega arith) (linked_add i j k n us u a q (linked_led l n) (linked_padded p (n + items_size us)))
+
+  linked_led_members : {b : List ℕ} {i j : ℕ} {us : Members} → LedMembers b i j us → (n : ℕ) → Linked i j n (flatten_members n us)
+  linked_led_members {b} (no_led_members i) n = linked_none i n
+  linked_led_members {b} (led_member i j k l us a u ld nm p c) n =
+      let f = led_members_order ld in let q = padded_ends p in let r = named_ends nm in let m = n + members_size us in
+      linked_more i l i (suc l) n (flatten_members n (add_member us a u)) (omega arith) (omega arith) (linked_add_member i j k l n us a u f r q (linked_led_members ld n) (linked_named nm m) (linked_padded p (suc m)))
+
+link_at : (n k : ℕ) (ts : List Token) (t : Token) → AllLinked n ts → slice_get ts k ≡ Some t → t.link ≡ suc (n + k) + before t.stop (drop (suc k) ts)
+link_at n k [] t h g = cc
+link_at n zero (u ∷ ts) t h g = let e : u ≡ t = cc in let l = h.0 in let q : u.link ≡ suc (n + 0) + before u.stop ts = omega arith in subst (λ v. v.link ≡ suc (n + 0) + before v.stop ts) e q
+link_at n (suc k) (u ∷ ts) t h g = let l = link_at (suc n) k ts t h.1 g in omega arith
+
+-- the tokens of a line's tree are linked, where they are few enough
+pub json_linked : (b : List ℕ) (t : Tree) → Json b t → size t < 2 ^ 31 → AreLinked (flatten 0 t)
+json_linked b t p few =
+    let a = subst (AllLinked 0) (append-nil (flatten 0 t)) ((linked_padded p 0).linked [] _ refl tt tt) in
+    λ k u h.
+    let next : suc k ≡ k + 1 = omega arith in
+    let l = subst (λ m. u.link ≡ m + before u.stop (drop m (flatten 0 t))) next (let e = link_at 0 k (flatten 0 t) u a h in omega arith) in
+    let inside = slice_get_within (flatten 0 t) k u h in
+    let m = before_length u.stop (drop (k + 1) (flatten 0 t)) in
+    let n = length-drop (k + 1) (flatten 0 t) in
+    let o = length-flatten 0 t in
+    let below : u.link < 2 ^ 31 = omega arith in
+    small_mod u.link below ∙ l
+  where
+    small_mod : (n : ℕ) → n < 2 ^ 31 → n % 2 ^ 31 ≡ n
+    small_mod n h = omega arith
