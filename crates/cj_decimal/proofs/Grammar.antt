@@ -40,7 +40,7 @@ all_none : (s : List ℕ) → s ≡ [] → AllDigits s
 all_none [] e = tt
 all_none (c ∷ s) e = absurd (cc e)
 
-int_digits : (s : List ℕ) → IsInt s → AllDigits s
+pub int_digits : (s : List ℕ) → IsInt s → AllDigits s
 int_digits [] h = absurd h
 int_digits (b ∷ s) h = ⊎_elim (λ zero_alone. ((omega arith, omega arith), all_none s zero_alone.1)) (λ more. ((omega arith, omega arith), more.2)) h
 
@@ -49,7 +49,7 @@ unfolding is_int is_empty
 int_test [] h = absurd h
 int_test (b ∷ s) h = ⊎_elim (λ zero_alone. rw zero_alone.1 (grind (arith, nat_tests))) (λ more. let low : 49 ≤ b = more.0 in grind (arith, nat_tests)) h
 
-int_from_test : (s : List ℕ) → AllDigits s → is_int s ≡ true → IsInt s
+pub int_from_test : (s : List ℕ) → AllDigits s → is_int s ≡ true → IsInt s
 unfolding is_int is_empty
 int_from_test [] d h = absurd (cc h)
 int_from_test (b ∷ []) d h = elim (nat_eq b 48) as (λ t. nat_eq b 48 ≡ t → IsInt (b ∷ [])) [ true ↦ λ e. inl (grind (arith, nat_tests), refl) | false ↦ λ e. let other : b ≢ 48 = grind (arith, nat_tests) in inr (omega (arith, d.0), omega (arith, d.0), tt) ] refl
@@ -73,7 +73,7 @@ begins_none : (c : ℕ) → begins c [] ≡ false
 unfolding begins
 begins_none c = refl
 
-digit_begins : (c : ℕ) (s t : List ℕ) → IsDigits s → c < 48 → begins c (s ++ t) ≡ false
+pub digit_begins : (c : ℕ) (s t : List ℕ) → IsDigits s → c < 48 → begins c (s ++ t) ≡ false
 digit_begins c [] t d h = absurd d
 digit_begins c (b ∷ s) t d h = begins_other c b (s ++ t) (λ e. omega (arith, d.0, e))
 
@@ -81,7 +81,7 @@ digit_begins_alone : (c : ℕ) (s : List ℕ) → IsDigits s → c < 48 → begi
 digit_begins_alone c [] d h = absurd d
 digit_begins_alone c (b ∷ s) d h = begins_other c b s (λ e. omega (arith, d.0, e))
 
-int_is_digits : (s : List ℕ) → IsInt s → IsDigits s
+pub int_is_digits : (s : List ℕ) → IsInt s → IsDigits s
 int_is_digits [] h = absurd h
 int_is_digits (b ∷ s) h = int_digits (b ∷ s) h
 

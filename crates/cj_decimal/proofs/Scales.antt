@@ -53,7 +53,7 @@ zeros_large c k digits some h =
     at_least : (c p : ℕ) → 0 < c → p ≤ c * p
     at_least c p h = grind arith
 
-size_of_units : (v : Number) (u t : ℤ) (k : ℕ) → v.power ≡ t +ℤ pos k → SameValue v (number u t) → unsigned_abs u ≡ unsigned_abs v.coefficient * 10 ^ k
+pub size_of_units : (v : Number) (u t : ℤ) (k : ℕ) → v.power ≡ t +ℤ pos k → SameValue v (number u t) → unsigned_abs u ≡ unsigned_abs v.coefficient * 10 ^ k
 size_of_units v u t k f same = ap unsigned_abs (units_are v u t k f same) ∙ abs_times v.coefficient (10 ^ k)
 
 -- where the zeros alone are as many as the bound has, the number is too large

@@ -1,9 +1,10 @@
 //! The numbers of JSON as decimals of whole-number parts, compared exactly: no float, no rounding, and no memory taken.
 //!
 //! [`Decimal::read`] reads a spelling of any length into a coefficient of at most 36 digits and a power of ten, in normal
-//! form. `==` is equality of values. [`Decimal::whole`] answers the value of an index or a coordinate,
-//! [`Decimal::fixed18`] that of a scale, a shift or the edge of a box, in units of 10^-18. [`Affine::compare`] tells how
-//! `v * scale + shift` compares with such an edge, exactly:
+//! form. `==` is equality of values. [`Decimal::whole`] answers the value of an index or a coordinate, and
+//! [`Decimal::read_whole`] reads one at once, several times as fast; [`Decimal::fixed18`] answers the value of a scale, a
+//! shift or the edge of a box, in units of 10^-18. [`Affine::compare`] tells how `v * scale + shift` compares with such an
+//! edge, exactly:
 //!
 //! ```text
 //! let map = Affine::new(scale, shift);        // 0.001 and 1000, say
@@ -12,7 +13,8 @@
 //! ```
 //!
 //! A line's number goes `spelling` (its parts, by `digits`) → `trimming` (no zeros at its end) → `decimal` → `fixed` and
-//! `affine`. What a spelling is and what it stands for is in specs/Spelling and specs/Number.
+//! `affine`; one of few digits and nothing else, where a whole number is wanted, `digits` → `whole`. What a spelling is and
+//! what it stands for is in specs/Spelling and specs/Number.
 #![tactic(auto)]
 
 mod affine;
@@ -24,6 +26,7 @@ mod spelling;
 #[cfg(test)]
 mod tests;
 mod trimming;
+mod whole;
 
 pub use affine::Affine;
 pub use decimal::{Decimal, DecimalFault};

@@ -29,7 +29,7 @@ fn has_one_of(spelling: &[u8], at: usize, first: u8, second: u8) -> bool
 }
 
 /// Whether digits are an int part: `0` alone, or digits of which the first is not `0`.
-fn is_int_part(spelling: &[u8], from: usize, stop: usize) -> bool
+pub fn is_int_part(spelling: &[u8], from: usize, stop: usize) -> bool
     requires { Stops spelling.now from stop }
     ensures { result ≡ is_int (digits_front (drop from spelling.now)) }
 {

@@ -20,6 +20,32 @@ fn worked_rows_hold() {
     worked_rows();
 }
 
+/// In each line a spelling, and what it is as a whole number, by hand: its value, none, or its fault.
+const WHOLES: &str = "\
+0|0\n\
+7|7\n\
+37|37\n\
+10482|10482\n\
+99999999999999999|99999999999999999\n\
+100000000000000000|100000000000000000\n\
+999999999999999999|999999999999999999\n\
+1000000000000000000|none\n\
+18446744073709551621|none\n\
+1e18|none\n\
+12.0|12\n\
+1e2|100\n\
+-0|0\n\
+-5|-5\n\
+1.5|none\n\
+01|NotANumber\n\
+00|NotANumber\n\
+007|NotANumber\n\
+7:|NotANumber\n\
+7/|NotANumber\n\
+|NotANumber\n\
+1111111111111111111111111111111111111|NumberRange\n\
+1e1000001|NumberRange";
+
 /// What reading a spelling answers, as a pair of numbers.
 fn parts(spelling: &[u8]) -> Result<(i128, i32), DecimalFault> {
     match Decimal::read(spelling) {
@@ -69,6 +95,37 @@ fn line_of(alloc: Global, text: &str) -> Result<String, AllocError> {
         decimal.coefficient(),
         decimal.power()
     )
+}
+
+/// What a spelling is as a whole number, as the program answers it.
+fn whole_of(alloc: Global, text: &str) -> Result<String, AllocError> {
+    match Decimal::read_whole(text.as_bytes()) {
+        Ok(whole) => shown(alloc, whole),
+        Err(fault) => format!(in alloc; "{fault:?}"),
+    }
+}
+
+#[test]
+fn whole_numbers_are_read(rt: HostRuntime) -> Result<(), Fail> {
+    for line in WHOLES.lines() {
+        let (text, wanted) = line.split_once('|').expect(&rt, "two fields");
+        let answer = whole_of(rt.alloc(), text)?;
+        assert_eq!(rt; answer.as_str(), wanted, "{text}");
+    }
+    Ok(())
+}
+
+#[test]
+fn spellings_are_read_as_whole_numbers(rt: HostRuntime) -> Result<(), Fail> {
+    for line in SPELLINGS.lines() {
+        let mut fields = line.split('|');
+        let text = fields.next().expect(&rt, "a spelling");
+        let fault = fields.next();
+        let whole = fields.nth(1);
+        let answer = whole_of(rt.alloc(), text)?;
+        assert_eq!(rt; Some(answer.as_str()), whole.or(fault), "{text}");
+    }
+    Ok(())
 }
 
 #[test]

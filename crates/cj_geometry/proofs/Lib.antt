@@ -1,3 +1,5 @@
+pub mod Digits
+pub mod Grammars
 pub mod Numbers
 pub mod Sequences
 pub mod Shapes

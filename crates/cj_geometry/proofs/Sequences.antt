@@ -1,18 +1,11 @@
 -- Findings one after another.
-use Rattle.std.proofs.Common.{◌≡◌, List, ◌∷◌, ◌++◌, Option, sym, ap, ◌∙◌}
+use Rattle.std.proofs.Common.{◌≡◌, List, ◌∷◌, Option, sym, ap, ◌∙◌}
 use Rattle.cj_spans.specs.declared.finding.Finding.{Finding}
 use Rattle.cj_spans.specs.Finding.{least}
 use Rattle.cj_spans.specs.Tree.{Tree}
 use Rattle.cj_spans.proofs.Findings.{least-append}
 use Rattle.cj_geometry.specs.Rule.{repeats_of, repeats}
 use Rattle.cj_geometry.specs.Geometry.{beside, first_part, other_parts}
-
--- two rules in turn, and three
-pub least-two : (o p q : Option Finding) (fs gs : List Finding) → p ≡ least o fs → q ≡ least p gs → q ≡ least o (fs ++ gs)
-least-two o p q fs gs h k = k ∙ ap (λ x. least x gs) h ∙ sym (least-append o fs gs)
-
-pub least-three : (o p q r : Option Finding) (fs gs hs : List Finding) → p ≡ least o fs → q ≡ least p gs → r ≡ least q hs → r ≡ least o (fs ++ gs ++ hs)
-least-three o p q r fs gs hs h k l = least-two o q r (fs ++ gs) hs (least-two o p q fs gs h k) l
 
 -- one name more
 pub names-on : (all rest : List (Tree × Tree)) (m : Tree × Tree) (o p total : Option Finding) → least o (repeats all) ≡ total → all ≡ m ∷ rest → p ≡ least o (repeats_of m.0 rest) → least p (repeats rest) ≡ total

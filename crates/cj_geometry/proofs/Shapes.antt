@@ -1,12 +1,13 @@
 -- Boundaries and semantic values, one level at a time.
-use Rattle.std.proofs.Common.{◌≡◌, ℕ, zero, suc, ◌-◌, ◌<◌, [], ◌++◌, Option, false, arith, refl}
+use Rattle.std.proofs.Common.{◌≡◌, ℕ, zero, suc, ◌-◌, ◌<◌, List, [], ◌∷◌, ◌++◌, Option, false, arith, refl, ap, ◌∙◌}
 use Rattle.std.specs.List.{flat_map}
 use Rattle.cj_spans.specs.declared.token.Kind.TheVariants.{Array, Null}
 use Rattle.cj_spans.specs.declared.reason.Reason.TheVariants.{VertexIndex, WrongKind}
 use Rattle.cj_spans.specs.Tree.{Tree}
 use Rattle.cj_spans.specs.Parts.{kind_of, items_of}
-use Rattle.cj_geometry.specs.Rule.{one, index, is_array, is_null}
-use Rattle.cj_geometry.specs.Geometry.{shape, entry, values, beside, other_count, parts_of}
+use Rattle.cj_spans.specs.Kinds.{is_array, is_null}
+use Rattle.cj_geometry.specs.Rule.{one, index}
+use Rattle.cj_geometry.specs.Geometry.{shape, entry, values, beside, other_count, other_parts, parts_of}
 
 less-one : (d : ℕ) → suc d - 1 ≡ d
 less-one d = omega arith
@@ -34,3 +35,13 @@ values-zero m (suc d) t b h = absurd (omega arith)
 pub values-suc : (m : Option ℕ) (d : ℕ) (t : Tree) (b : Option Tree) → 0 < d → (is_null (kind_of t) ≡ false) → (is_array (kind_of t) ≡ false) → values m d t b ≡ one WrongKind t
 values-suc m zero t b h k l = absurd (omega arith)
 values-suc m (suc d) t b h k l = rw (k, l) refl
+
+-- at the lowest level what stands beside the values tells nothing
+pub beside-entries : (m : Option ℕ) (ts bs : List Tree) → beside (values m 0) ts bs ≡ flat_map (entry m) ts
+beside-entries m [] bs = refl
+beside-entries m (t ∷ ts) bs = ap (λ fs. entry m t ++ fs) (beside-entries m ts (other_parts bs))
+
+pub values-one : (m : Option ℕ) (d : ℕ) (t : Tree) (b : Option Tree) → d ≡ 1 → kind_of t ≡ Array → values m d t b ≡ other_count t b ++ flat_map (entry m) (items_of t)
+values-one m d t b h k =
+    let low : d - 1 ≡ 0 = omega arith in
+    values-array m d t b (omega arith) k ∙ ap (λ e. other_count t b ++ beside (values m e) (items_of t) (parts_of b)) low ∙ ap (λ fs. other_count t b ++ fs) (beside-entries m (items_of t) (parts_of b))

@@ -9,7 +9,8 @@ use Rattle.cj_spans.specs.declared.node.Items.{Items}
 use Rattle.cj_spans.specs.View.{items_left}
 use Rattle.cj_spans.specs.Parts.{kind_of, items_of, member_of}
 use Rattle.cj_geometry.specs.Table.{Form, parts, instance, form_of}
-use Rattle.cj_geometry.specs.Rule.{one, is_null, is_text, is_array, is_object, of_kind, nothing, needs, may_have, number, index, distinct}
+use Rattle.cj_spans.specs.Kinds.{is_null, is_text, is_array, is_object}
+use Rattle.cj_geometry.specs.Rule.{one, of_kind, nothing, needs, may_have, number, index, distinct}
 
 -- the templates that a geometry may name: those of a list, none, or the mark that it is one itself
 pub data Given : Type 0 where

@@ -2,59 +2,21 @@
 use Rattle.std.specs.Prelude.{ℕ, List, [], ◌∷◌, ◌++◌, Bool, true, false, not, cond, nat_lt, Option, Some, None, ℤ, pos, negsuc}
 use Rattle.std.specs.List.{flat_map}
 use Rattle.cj_spans.specs.declared.token.Kind.{Kind}
-use Rattle.cj_spans.specs.declared.token.Kind.TheVariants.{Null, Truth, Number, Text, Array, Object}
 use Rattle.cj_spans.specs.declared.reason.Reason.{Reason}
 use Rattle.cj_spans.specs.declared.reason.Reason.TheVariants.{MissingMember, DuplicateName, WrongKind, NumberRange, NotWhole}
 use Rattle.cj_spans.specs.declared.finding.Finding.{Finding}
 use Rattle.cj_spans.specs.Finding.{found_at}
 use Rattle.cj_spans.specs.Tree.{Tree, scalar, array, object, start_of}
+use Rattle.cj_spans.specs.Kinds.{is_number}
 use Rattle.cj_spans.specs.Parts.{kind_of, members_of, member_of, text_of, are_same_texts}
+use Rattle.cj_decimal.specs.declared.decimal.DecimalFault.{DecimalFault}
+use Rattle.cj_decimal.specs.declared.decimal.DecimalFault.TheVariants.{NotANumber, NumberRange as OutOfRange}
 use Rattle.cj_decimal.specs.Class.{Class, no_number, out_of_range, not_whole, whole}
 use Rattle.cj_decimal.proofs.Classes.{class}
 
 -- one finding, where the tree starts
 abbrev pub one : Reason → Tree → List Finding
 one reason t = found_at (start_of t) reason ∷ []
-
-abbrev pub is_null : Kind → Bool
-is_null Null = true
-is_null Truth = false
-is_null Number = false
-is_null Text = false
-is_null Array = false
-is_null Object = false
-
-abbrev pub is_number : Kind → Bool
-is_number Null = false
-is_number Truth = false
-is_number Number = true
-is_number Text = false
-is_number Array = false
-is_number Object = false
-
-abbrev pub is_text : Kind → Bool
-is_text Null = false
-is_text Truth = false
-is_text Number = false
-is_text Text = true
-is_text Array = false
-is_text Object = false
-
-abbrev pub is_array : Kind → Bool
-is_array Null = false
-is_array Truth = false
-is_array Number = false
-is_array Text = false
-is_array Array = true
-is_array Object = false
-
-abbrev pub is_object : Kind → Bool
-is_object Null = false
-is_object Truth = false
-is_object Number = false
-is_object Text = false
-is_object Array = false
-is_object Object = true
 
 -- the value is of the kind, else a finding at it; and where it is, what a rule says of it
 abbrev pub of_kind : (Kind → Bool) → (Tree → List Finding) → Tree → List Finding
@@ -92,16 +54,21 @@ is_outside None w = false
 is_outside (Some n) (pos k) = not (nat_lt k n)
 is_outside (Some n) (negsuc k) = true
 
--- a read number, by its class
+-- what is wrong with a number of a fault; what is no number at all is of the wrong kind
+abbrev pub fault_reason : DecimalFault → Reason
+fault_reason NotANumber = WrongKind
+fault_reason OutOfRange = NumberRange
+
+-- a read number, by its class; what is no number is of the wrong kind
 abbrev pub number_findings : {s : List ℕ} → Tree → Class s → List Finding
-number_findings t (no_number n) = []
+number_findings t (no_number n) = one WrongKind t
 number_findings t (out_of_range n) = one NumberRange t
 number_findings t (not_whole v value range n) = []
 number_findings t (whole v w value range is) = []
 
--- a whole number that counts from 0, by its class
+-- a whole number that counts from 0, by its class; what is no number is of the wrong kind
 abbrev pub index_findings : {s : List ℕ} → Reason → Option ℕ → Tree → Class s → List Finding
-index_findings reason count t (no_number n) = []
+index_findings reason count t (no_number n) = one WrongKind t
 index_findings reason count t (out_of_range n) = one NumberRange t
 index_findings reason count t (not_whole v value range n) = one NotWhole t
 index_findings reason count t (whole v w value range is) = cond (is_outside count w) (one reason t) []

@@ -9,7 +9,38 @@ ghost use Rattle.cj_geometry.specs.Geometry.{shape};
 use crate::number::{add, check_index};
 use cj_spans::{Kind, Least, Node, Reason};
 
-/// The value has lists of this depth, and below them indices of vertices.
+/// The value is a list of indices of vertices: the lowest level, where nearly all numbers are.
+#[inline(always)]
+fn check_indices(node: Node, vertices: Option<u64>, found: &mut Least)
+    ensures { found.new ≡ least found.old (shape vertices 1 (tree node.entry)) }
+{
+    match node.kind() {
+        Kind::Array => {
+            for item in node.items() {
+                check_index(item, Reason::VertexIndex, vertices, found);
+            }
+        }
+        _ => add(node, Reason::WrongKind, found),
+    }
+}
+
+/// The value is a list of such lists: a surface of rings.
+#[inline(always)]
+fn check_rings(node: Node, vertices: Option<u64>, found: &mut Least)
+    ensures { found.new ≡ least found.old (shape vertices 2 (tree node.entry)) }
+{
+    match node.kind() {
+        Kind::Array => {
+            for item in node.items() {
+                check_indices(item, vertices, found);
+            }
+        }
+        _ => add(node, Reason::WrongKind, found),
+    }
+}
+
+/// The value has lists of this depth, and below them indices of vertices. Most are in surfaces, which are
+/// gone over where they stand, without a call for each.
 fn check_shape(node: Node, depth: u8, vertices: Option<u64>, found: &mut Least)
     ensures { found.new ≡ least found.old (shape vertices depth (tree node.entry)) }
 {
@@ -17,10 +48,22 @@ fn check_shape(node: Node, depth: u8, vertices: Option<u64>, found: &mut Least)
         check_index(node, Reason::VertexIndex, vertices, found);
         return;
     }
+    if depth == 1 {
+        check_indices(node, vertices, found);
+        return;
+    }
+    if depth == 2 {
+        check_rings(node, vertices, found);
+        return;
+    }
     match node.kind() {
         Kind::Array => {
             for item in node.items() {
-                check_shape(item, depth - 1, vertices, found);
+                if depth == 3 {
+                    check_rings(item, vertices, found);
+                } else {
+                    check_shape(item, depth - 1, vertices, found);
+                }
             }
         }
         _ => add(node, Reason::WrongKind, found),

@@ -3,7 +3,10 @@
 #![tactic(auto)]
 
 mod boundaries;
+#[cfg(test)]
+mod examples;
 mod form;
+mod grammar;
 mod lod;
 mod member;
 mod number;
@@ -12,5 +15,6 @@ mod semantics;
 #[cfg(test)]
 mod tests;
 
+pub use grammar::one_grammar_of_numbers;
 pub use lod::lod_of;
 pub use rules::{Templates, check_geometry};

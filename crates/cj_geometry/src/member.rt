@@ -3,7 +3,8 @@ ghost use Rattle.std.specs.Prelude.{◌≡◌};
 ghost use Rattle.std.specs.Str.{chars};
 ghost use Rattle.cj_spans.specs.Finding.{least};
 ghost use Rattle.cj_spans.specs.View.{tree, members_left};
-ghost use Rattle.cj_geometry.specs.Rule.{of_kind, is_text, nothing, needs, repeats_of, distinct};
+ghost use Rattle.cj_spans.specs.Kinds.{is_text};
+ghost use Rattle.cj_geometry.specs.Rule.{of_kind, nothing, needs, repeats_of, distinct};
 
 use crate::number::add;
 use cj_spans::{Kind, Least, Members, Node, Reason};

@@ -3,12 +3,14 @@ ghost use Rattle.std.specs.Prelude.{◌≡◌, length};
 ghost use Rattle.cj_spans.specs.Parts.{items_of};
 ghost use Rattle.cj_spans.specs.Finding.{least};
 ghost use Rattle.cj_spans.specs.View.{tree};
-ghost use Rattle.cj_geometry.specs.Rule.{number as number_of, index as index_of, is_outside as is_outside_of, whole_of, one};
+ghost use Rattle.cj_geometry.specs.Rule.{number as number_of, index as index_of, is_outside as is_outside_of, whole_of, fault_reason, one};
 
 use cj_decimal::{Decimal, DecimalFault};
 use cj_spans::{Finding, Kind, Least, Node, Reason};
 
-/// Adds a reason at a value.
+/// Adds a reason at a value. Few values have one.
+#[cold]
+#[inline(never)]
 pub fn add(node: Node, reason: Reason, found: &mut Least)
     ensures { found.new ≡ least found.old (one reason (tree node.entry)) }
 {
@@ -29,6 +31,16 @@ pub fn count_items(node: Node) -> u64
     count
 }
 
+/// What is wrong with a number of this fault. What is no number at all is of the wrong kind.
+fn reason_of(fault: DecimalFault) -> Reason
+    ensures { result ≡ fault_reason fault }
+{
+    match fault {
+        DecimalFault::NotANumber => Reason::WrongKind,
+        DecimalFault::NumberRange => Reason::NumberRange,
+    }
+}
+
 /// The value is a number in range.
 pub fn check_number(node: Node, found: &mut Least)
     ensures { found.new ≡ least found.old (number_of (tree node.entry)) }
@@ -36,8 +48,7 @@ pub fn check_number(node: Node, found: &mut Least)
     match node.kind() {
         Kind::Number => match Decimal::read(node.bytes()) {
             Ok(_) => {}
-            Err(DecimalFault::NumberRange) => add(node, Reason::NumberRange, found),
-            Err(DecimalFault::NotANumber) => {}
+            Err(fault) => add(node, reason_of(fault), found),
         },
         _ => add(node, Reason::WrongKind, found),
     }
@@ -58,8 +69,8 @@ pub fn read_whole(node: Node) -> Option<i64>
     ensures { result ≡ whole_of (tree node.entry) }
 {
     match node.kind() {
-        Kind::Number => match Decimal::read(node.bytes()) {
-            Ok(decimal) => decimal.whole(),
+        Kind::Number => match Decimal::read_whole(node.bytes()) {
+            Ok(whole) => whole,
             Err(_) => None,
         },
         _ => None,
@@ -68,21 +79,19 @@ pub fn read_whole(node: Node) -> Option<i64>
 
 /// The value is a number in range and whole, and names one of `count` things if that is known; else it
 /// has `outside`.
+#[inline(always)]
 pub fn check_index(node: Node, outside: Reason, count: Option<u64>, found: &mut Least)
     ensures { found.new ≡ least found.old (index_of outside count (tree node.entry)) }
 {
     match node.kind() {
-        Kind::Number => match Decimal::read(node.bytes()) {
-            Ok(decimal) => match decimal.whole() {
-                Some(whole) => {
-                    if is_outside(count, whole) {
-                        add(node, outside, found);
-                    }
+        Kind::Number => match Decimal::read_whole(node.bytes()) {
+            Ok(Some(whole)) => {
+                if is_outside(count, whole) {
+                    add(node, outside, found);
                 }
-                None => add(node, Reason::NotWhole, found),
-            },
-            Err(DecimalFault::NumberRange) => add(node, Reason::NumberRange, found),
-            Err(DecimalFault::NotANumber) => {}
+            }
+            Ok(None) => add(node, Reason::NotWhole, found),
+            Err(fault) => add(node, reason_of(fault), found),
         },
         _ => add(node, Reason::WrongKind, found),
     }

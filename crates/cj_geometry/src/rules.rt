@@ -59,7 +59,7 @@ impl<'a> Templates<'a> {
     }
 
     /// The list, if there is one.
-    pub fn nodes(self) -> Option<Node<'a>>
+    pub(crate) fn nodes(self) -> Option<Node<'a>>
         ensures { option_map tree result ≡ list_of (given self.entry) }
     {
         if self.itself { None } else { self.list }

@@ -1,11 +1,11 @@
 //! Semantics: surfaces, and values beside the boundaries that name them.
-ghost use Rattle.std.specs.Prelude.{◌≡◌, codes, option_map, Option as OptionOf};
+ghost use Rattle.std.specs.Prelude.{◌≡◌, ◌++◌, codes, length, nat_eq, option_map};
+ghost use Rattle.std.specs.List.{flat_map};
 ghost use Rattle.std.specs.Str.{chars};
 ghost use Rattle.cj_spans.specs.Finding.{least};
-ghost use Rattle.cj_spans.specs.Tree.{Tree};
-ghost use Rattle.cj_spans.specs.Parts.{member_of};
+ghost use Rattle.cj_spans.specs.Parts.{items_of, member_of};
 ghost use Rattle.cj_spans.specs.View.{tree};
-ghost use Rattle.cj_geometry.specs.Rule.{of_kind, is_object, is_array, needs, may_have};
+ghost use Rattle.cj_geometry.specs.Rule.{needs};
 ghost use Rattle.cj_geometry.specs.Geometry.{first_part, other_parts, left_of, parts_of, other_count, entry, values, surface, surfaces, count_of, semantics, semantics_if};
 
 use crate::member::{check_names, check_text_member};
@@ -13,6 +13,7 @@ use crate::number::{add, check_index, count_items};
 use cj_spans::{Items, Kind, Least, Node, Reason};
 
 /// A walk over the parts of a part, if there is one.
+#[inline(always)]
 fn walk(part: Option<Node>) -> Option<Items>
     ensures { left_of result ≡ parts_of (option_map tree part.entry) }
 {
@@ -23,6 +24,7 @@ fn walk(part: Option<Node>) -> Option<Items>
 }
 
 /// The next part, if there is one.
+#[inline(always)]
 fn next_part<'a>(parts: &mut Option<Items<'a>>) -> Option<Node<'a>>
     ensures part { option_map tree result ≡ first_part (left_of parts.old) }
     ensures left { left_of parts.new ≡ other_parts (left_of parts.old) }
@@ -33,8 +35,9 @@ fn next_part<'a>(parts: &mut Option<Items<'a>>) -> Option<Node<'a>>
     }
 }
 
-/// An array has as many items as the part of the boundaries beside it, if that is an array.
-fn check_count(node: Node, part: Option<Node>, found: &mut Least)
+/// The part of the boundaries beside an array, if it is an array too, has as many items: the two are even.
+fn check_evenness(node: Node, part: Option<Node>, even: bool, found: &mut Least)
+    requires { even ≡ nat_eq (length (items_of (tree node))) (length (parts_of (option_map tree part))) }
     ensures { found.new ≡ least found.old (other_count (tree node.entry) (option_map tree part.entry)) }
 {
     let Some(part) = part else {
@@ -42,7 +45,7 @@ fn check_count(node: Node, part: Option<Node>, found: &mut Least)
     };
     match part.kind() {
         Kind::Array => {
-            if count_items(node) != count_items(part) {
+            if !even {
                 add(node, Reason::SemanticsCount, found);
             }
         }
@@ -51,6 +54,7 @@ fn check_count(node: Node, part: Option<Node>, found: &mut Least)
 }
 
 /// The value is null, or an index of a surface.
+#[inline(always)]
 fn check_entry(node: Node, surfaces: Option<u64>, found: &mut Least)
     ensures { found.new ≡ least found.old (entry surfaces (tree node.entry)) }
 {
@@ -58,6 +62,20 @@ fn check_entry(node: Node, surfaces: Option<u64>, found: &mut Least)
         Kind::Null => {}
         _ => check_index(node, Reason::SemanticsIndex, surfaces, found),
     }
+}
+
+/// The items are entries, as many as the parts beside them: the lowest level, where nearly all of them are.
+fn check_entries(node: Node, part: Option<Node>, surfaces: Option<u64>, found: &mut Least)
+    ensures { found.new ≡ least found.old (flat_map (entry surfaces) (items_of (tree node.entry)) ++ other_count (tree node.entry) (option_map tree part.entry)) }
+{
+    let mut parts = walk(part);
+    let mut even = true;
+    for item in node.items() {
+        even &= next_part(&mut parts).is_some();
+        check_entry(item, surfaces, found);
+    }
+    even &= next_part(&mut parts).is_none();
+    check_evenness(node, part, even, found);
 }
 
 /// The values have this depth, beside a part of the boundaries, and below it are indices of surfaces.
@@ -71,11 +89,19 @@ fn check_values(node: Node, part: Option<Node>, depth: u8, surfaces: Option<u64>
     match node.kind() {
         Kind::Null => {}
         Kind::Array => {
-            check_count(node, part, found);
-            let mut parts = walk(part);
-            for item in node.items() {
-                check_values(item, next_part(&mut parts), depth - 1, surfaces, found);
+            if depth == 1 {
+                check_entries(node, part, surfaces, found);
+                return;
             }
+            let mut parts = walk(part);
+            let mut even = true;
+            for item in node.items() {
+                let beside = next_part(&mut parts);
+                even &= beside.is_some();
+                check_values(item, beside, depth - 1, surfaces, found);
+            }
+            even &= next_part(&mut parts).is_none();
+            check_evenness(node, part, even, found);
         }
         _ => add(node, Reason::WrongKind, found),
     }

@@ -1,362 +1,164 @@
-//! Rows of geometries. Expected places are counted in the lines, and reasons told by the rules.
-use crate::{Templates, check_geometry, lod_of};
-use cj_budget::{Bounded, Stack};
-use cj_spans::{Doc, Finding, Kind, Least, Reason, Token, scan};
-use std::alloc::Global;
-use std::process::Abort;
-use std::test::Fail;
+//! Rows of geometries: what is wrong with each is told from the rules, and not by the program. A
+//! table has a row a line, with bars between its cells: a name, what stands in the hole `_` of the
+//! table's geometry, and the code and the text of the reason, or `none`. The mark `^` stands where the
+//! finding is, and is no part of the geometry; without a mark a row counts the place itself.
+ghost use Rattle.cj_spans.specs.Sound.{AreOf};
 
-/// What a geometry may name.
+mod boundaries;
+mod indices;
+mod instances;
+mod lod;
+mod names;
+mod pairs;
+mod surfaces;
+mod types;
+mod values;
+mod worked;
+
+use crate::{Templates, check_geometry};
+use cj_budget::{Bounded, Stack};
+use cj_spans::{Doc, Finding, Kind, Least, Node, Token, scan};
+use std::alloc::{AllocError, Global};
+use std::process::Abort;
+
+/// The templates that a geometry may name: those of a list, none, or the mark that it is one itself.
 #[derive(Clone, Copy)]
-struct Around<'a> {
-    vertices: Option<u64>,
-    templates: Templates<'a>,
-    before: Option<Finding>,
+enum Given {
+    List(&'static str),
+    Empty,
+    Itself,
 }
 
-fn with_vertices<'a>(vertices: u64) -> Around<'a> {
+/// What stands around a geometry: the number of vertices, if it is known, and the templates.
+#[derive(Clone, Copy)]
+struct Around {
+    vertices: Option<u64>,
+    templates: Given,
+}
+
+/// So many vertices, and no templates.
+fn with_vertices(vertices: u64) -> Around {
     Around {
         vertices: Some(vertices),
-        templates: Templates::empty(),
-        before: None,
+        templates: Given::Empty,
     }
 }
 
-// The least finding of a line that is a geometry.
-fn check(
+/// The tokens of a line that is a JSON text.
+fn tokens_of(rt: &impl Abort, alloc: Global, line: &[u8]) -> Bounded<Token>
+    ensures { AreOf line.now result.elements }
+{
+    assert!(rt; line.len() <= 1_000);
+    let mut tokens: Bounded<Token> = Bounded::new(alloc, 1_000);
+    let mut stack = Stack::new(alloc, 64);
+    match scan(line, &mut tokens, &mut stack) {
+        Ok(()) => {}
+        Err(fault) => panic!(rt; "{fault:?}"),
+    }
+    tokens
+}
+
+/// The templates, of which `list` is the list where there is one.
+fn templates_of<'a>(rt: &impl Abort, given: Given, list: Node<'a>) -> Templates<'a> {
+    match given {
+        Given::Itself => Templates::template(),
+        Given::Empty => Templates::empty(),
+        Given::List(_) => match list.kind() {
+            Kind::Array => Templates::list(list),
+            _ => panic!(rt; "no list of templates"),
+        },
+    }
+}
+
+/// The line of the list of templates, or of an empty one.
+fn list_line(given: Given) -> &'static [u8] {
+    match given {
+        Given::List(list) => list.as_bytes(),
+        Given::Empty | Given::Itself => b"[]",
+    }
+}
+
+/// The least finding of a line that is a geometry, after an earlier one.
+fn least_of(
     rt: &impl Abort,
     alloc: Global,
     line: &[u8],
     around: Around,
-    wanted: Option<(u64, Reason)>,
-) {
-    assert!(rt; line.len() <= 1_000);
-    let mut tokens: Bounded<Token> = Bounded::new(alloc, 1_000);
-    let mut stack = Stack::new(alloc, 64);
-    match scan(line, &mut tokens, &mut stack) {
-        Ok(()) => {}
-        Err(fault) => panic!(rt; "{fault:?}"),
-    }
+    before: Option<Finding>,
+) -> Option<Finding> {
+    let list_line = list_line(around.templates);
+    let list_tokens = tokens_of(rt, alloc, list_line);
+    let list = Doc::of(list_line, list_tokens.as_slice()).root();
+    let templates = templates_of(rt, around.templates, list);
+    let tokens = tokens_of(rt, alloc, line);
     let node = Doc::of(line, tokens.as_slice()).root();
     let mut least = Least::new();
-    if let Some(finding) = around.before {
+    if let Some(finding) = before {
         least.add(finding);
     }
-    check_geometry(node, around.vertices, around.templates, &mut least);
-    let wanted = match wanted {
-        Some((place, reason)) => Some(Finding { place, reason }),
-        None => None,
-    };
-    assert_eq!(rt; least.get(), wanted);
+    check_geometry(node, around.vertices, templates, &mut least);
+    least.get()
 }
 
-#[test]
-fn an_index_past_the_vertices(rt: HostRuntime) {
-    check(
-        &rt,
-        rt.alloc(),
-        b"{\"type\":\"MultiPoint\",\"lod\":\"1\",\"boundaries\":[0,1]}",
-        with_vertices(1),
-        Some((47, Reason::VertexIndex)),
-    );
-    check(
-        &rt,
-        rt.alloc(),
-        b"{\"type\":\"MultiPoint\",\"lod\":\"1\",\"boundaries\":[0,1]}",
-        with_vertices(2),
-        None,
-    );
-}
-
-#[test]
-fn an_unknown_number_of_vertices(rt: HostRuntime) {
-    let around = Around {
-        vertices: None,
-        ..with_vertices(0)
-    };
-    check(
-        &rt,
-        rt.alloc(),
-        b"{\"type\":\"MultiPoint\",\"lod\":\"1\",\"boundaries\":[0,1]}",
-        around,
-        None,
-    );
-}
-
-#[test]
-fn an_earlier_finding_is_kept(rt: HostRuntime) {
-    let around = Around {
-        before: Some(Finding {
-            place: 5,
-            reason: Reason::WrongKind,
-        }),
-        ..with_vertices(1)
-    };
-    check(
-        &rt,
-        rt.alloc(),
-        b"{\"type\":\"MultiPoint\",\"lod\":\"1\",\"boundaries\":[0,1]}",
-        around,
-        Some((5, Reason::WrongKind)),
-    );
-}
-
-#[test]
-fn no_object_and_no_type(rt: HostRuntime) {
-    check(
-        &rt,
-        rt.alloc(),
-        b"3",
-        with_vertices(1),
-        Some((0, Reason::WrongKind)),
-    );
-    check(
-        &rt,
-        rt.alloc(),
-        b"{}",
-        with_vertices(1),
-        Some((0, Reason::MissingMember)),
-    );
-    check(
-        &rt,
-        rt.alloc(),
-        b"{\"type\":\"Cone\"}",
-        with_vertices(1),
-        Some((8, Reason::UnknownGeometryType)),
-    );
-}
-
-#[test]
-fn an_instance_and_a_template_of_that_type(rt: HostRuntime) {
-    check(
-        &rt,
-        rt.alloc(),
-        b"{\"type\":\"GeometryInstance\"}",
-        with_vertices(1),
-        Some((0, Reason::MissingMember)),
-    );
-    let around = Around {
-        templates: Templates::template(),
-        ..with_vertices(1)
-    };
-    check(
-        &rt,
-        rt.alloc(),
-        b"{\"type\":\"GeometryInstance\"}",
-        around,
-        Some((8, Reason::BadInstance)),
-    );
-}
-
-#[test]
-fn semantic_values_of_a_solid(rt: HostRuntime) {
-    check(
-        &rt,
-        rt.alloc(),
-        b"{\"type\":\"Solid\",\"lod\":\"1\",\"boundaries\":[[[[0,1,2]],[[0,2,1]]]],\"semantics\":{\"surfaces\":[{\"type\":\"RoofSurface\"}],\"values\":null}}",
-        with_vertices(3),
-        None,
-    );
-    check(
-        &rt,
-        rt.alloc(),
-        b"{\"type\":\"Solid\",\"lod\":\"1\",\"boundaries\":[[[[0,1,2]],[[0,2,1]]]],\"semantics\":{\"surfaces\":[{\"type\":\"RoofSurface\"}],\"values\":[null]}}",
-        with_vertices(3),
-        None,
-    );
-    check(
-        &rt,
-        rt.alloc(),
-        b"{\"type\":\"Solid\",\"lod\":\"1\",\"boundaries\":[[[[0,1,2]],[[0,2,1]]]],\"semantics\":{\"surfaces\":[{\"type\":\"RoofSurface\"}],\"values\":[[0,null]]}}",
-        with_vertices(3),
-        None,
-    );
-    check(
-        &rt,
-        rt.alloc(),
-        b"{\"type\":\"Solid\",\"lod\":\"1\",\"boundaries\":[[[[0,1,2]],[[0,2,1]]]],\"semantics\":{\"surfaces\":[{\"type\":\"RoofSurface\"}],\"values\":[]}}",
-        with_vertices(3),
-        Some((121, Reason::SemanticsCount)),
-    );
-    check(
-        &rt,
-        rt.alloc(),
-        b"{\"type\":\"Solid\",\"lod\":\"1\",\"boundaries\":[[[[0,1,2]],[[0,2,1]]]],\"semantics\":{\"surfaces\":[{\"type\":\"RoofSurface\"}],\"values\":[[0]]}}",
-        with_vertices(3),
-        Some((122, Reason::SemanticsCount)),
-    );
-    check(
-        &rt,
-        rt.alloc(),
-        b"{\"type\":\"Solid\",\"lod\":\"1\",\"boundaries\":[[[[0,1,2]],[[0,2,1]]]],\"semantics\":{\"surfaces\":[{\"type\":\"RoofSurface\"}],\"values\":[[0,1]]}}",
-        with_vertices(3),
-        Some((125, Reason::SemanticsIndex)),
-    );
-}
-
-#[test]
-fn a_template_past_the_list(rt: HostRuntime) {
-    check(
-        &rt,
-        rt.alloc(),
-        b"{\"type\":\"GeometryInstance\",\"template\":0,\"boundaries\":[0],\"transformationMatrix\":[1,0,0,0,0,1,0,0,0,0,1,0,0,0,0,1]}",
-        with_vertices(1),
-        Some((38, Reason::TemplateIndex)),
-    );
-}
-
-#[test]
-fn spellings_of_an_index(rt: HostRuntime) {
-    check(
-        &rt,
-        rt.alloc(),
-        b"{\"type\":\"MultiSurface\",\"lod\":\"2\",\"boundaries\":[[[0,1,2]]]}",
-        with_vertices(3),
-        None,
-    );
-    check(
-        &rt,
-        rt.alloc(),
-        b"{\"type\":\"MultiSurface\",\"lod\":\"2\",\"boundaries\":[[[0,1,3]]]}",
-        with_vertices(3),
-        Some((53, Reason::VertexIndex)),
-    );
-    check(
-        &rt,
-        rt.alloc(),
-        b"{\"type\":\"MultiSurface\",\"lod\":\"2\",\"boundaries\":[[[0,1,-1]]]}",
-        with_vertices(3),
-        Some((53, Reason::VertexIndex)),
-    );
-    check(
-        &rt,
-        rt.alloc(),
-        b"{\"type\":\"MultiSurface\",\"lod\":\"2\",\"boundaries\":[[[0,1,1.5]]]}",
-        with_vertices(3),
-        Some((53, Reason::NotWhole)),
-    );
-    check(
-        &rt,
-        rt.alloc(),
-        b"{\"type\":\"MultiSurface\",\"lod\":\"2\",\"boundaries\":[[[0,1,1e18]]]}",
-        with_vertices(3),
-        Some((53, Reason::NotWhole)),
-    );
-    check(
-        &rt,
-        rt.alloc(),
-        b"{\"type\":\"MultiSurface\",\"lod\":\"2\",\"boundaries\":[[[0,1,1111111111111111111111111111111111111]]]}",
-        with_vertices(3),
-        Some((53, Reason::NumberRange)),
-    );
-    check(
-        &rt,
-        rt.alloc(),
-        b"{\"type\":\"MultiSurface\",\"lod\":\"2\",\"boundaries\":[[[0,1,2.0]]]}",
-        with_vertices(3),
-        None,
-    );
-    check(
-        &rt,
-        rt.alloc(),
-        b"{\"type\":\"MultiSurface\",\"lod\":\"2\",\"boundaries\":[[[0,1,-0]]]}",
-        with_vertices(3),
-        None,
-    );
-}
-
-#[test]
-fn kinds_names_and_levels(rt: HostRuntime) {
-    check(
-        &rt,
-        rt.alloc(),
-        b"{\"type\":\"MultiPoint\",\"lod\":1,\"boundaries\":[0]}",
-        with_vertices(1),
-        Some((27, Reason::WrongKind)),
-    );
-    check(
-        &rt,
-        rt.alloc(),
-        b"{\"type\":\"MultiPoint\",\"lod\":\"1\",\"boundaries\":[0],\"\\u006cod\":\"2\"}",
-        with_vertices(1),
-        Some((48, Reason::DuplicateName)),
-    );
-    check(
-        &rt,
-        rt.alloc(),
-        b"{\"type\":\"Solid\",\"lod\":\"1\",\"boundaries\":[[[0]]]}",
-        with_vertices(1),
-        Some((42, Reason::WrongKind)),
-    );
-    check(
-        &rt,
-        rt.alloc(),
-        b"{\"ty\\u0070e\":\"M\\u0075ltiPoint\",\"lod\":\"1\",\"boundaries\":[0,5]}",
-        with_vertices(1),
-        Some((57, Reason::VertexIndex)),
-    );
-    check(
-        &rt,
-        rt.alloc(),
-        b"{\"type\":\"MultiPoint\",\"boundaries\":[0]}",
-        with_vertices(1),
-        Some((0, Reason::MissingMember)),
-    );
-}
-
-#[test]
-fn semantics_without_surfaces(rt: HostRuntime) {
-    check(
-        &rt,
-        rt.alloc(),
-        b"{\"type\":\"MultiSurface\",\"lod\":\"1\",\"boundaries\":[[[0]]],\"semantics\":{\"values\":[0]}}",
-        with_vertices(1),
-        Some((66, Reason::MissingMember)),
-    );
-    check(
-        &rt,
-        rt.alloc(),
-        b"{\"type\":\"MultiSurface\",\"lod\":\"1\",\"boundaries\":[[[0]]],\"semantics\":null}",
-        with_vertices(1),
-        Some((66, Reason::WrongKind)),
-    );
-}
-
-// The level of detail of a geometry, after the template list, in one line of two.
-fn lod_start(alloc: Global, rt: &impl Abort, line: &[u8]) -> Option<u64> {
-    assert!(rt; line.len() <= 1_000);
-    let mut tokens: Bounded<Token> = Bounded::new(alloc, 1_000);
-    let mut stack = Stack::new(alloc, 64);
-    match scan(line, &mut tokens, &mut stack) {
-        Ok(()) => {}
-        Err(fault) => panic!(rt; "{fault:?}"),
-    }
-    let node = Doc::of(line, tokens.as_slice()).root();
-    let templates = match node.get("templates") {
-        Some(list) => match list.kind() {
-            Kind::Array => Templates::list(list),
-            _ => Templates::empty(),
-        },
-        None => Templates::empty(),
-    };
-    match lod_of(node, templates) {
-        Some(lod) => Some(lod.start()),
-        None => None,
+/// A finding as a row tells it: its place, and the code and the text of its reason.
+fn shown(alloc: Global, found: Option<Finding>) -> Result<String, AllocError> {
+    match found {
+        Some(Finding { place, reason }) => {
+            format!(in alloc; "{place} {} {}", reason.code(), reason.text())
+        }
+        None => String::from_str(alloc, "none"),
     }
 }
 
-#[test]
-fn levels_of_detail(rt: HostRuntime) {
-    let alloc = rt.alloc();
-    assert_eq!(rt;
-        lod_start(alloc, &rt, b"{\"type\":\"Solid\",\"lod\":\"2\"}"),
-        Some(22)
-    );
-    assert_eq!(rt; lod_start(alloc, &rt, b"{\"type\":\"Solid\"}"), None);
-    let instance =
-        b"{\"type\":\"GeometryInstance\",\"template\":1,\"templates\":[{},{\"lod\":\"3\"}],\"lod\":\"1\"}";
-    assert_eq!(rt; lod_start(alloc, &rt, instance), Some(63));
-    let past =
-        b"{\"type\":\"GeometryInstance\",\"template\":2,\"templates\":[{},{\"lod\":\"3\"}],\"lod\":\"1\"}";
-    assert_eq!(rt; lod_start(alloc, &rt, past), None);
+/// The line with a cell in the hole.
+fn filled(alloc: Global, geometry: &str, cell: &str) -> Result<String, AllocError> {
+    match geometry.split_once('_') {
+        Some((front, back)) => format!(in alloc; "{front}{cell}{back}"),
+        None => String::from_str(alloc, geometry),
+    }
+}
+
+/// The line without its mark, and what is wanted with the place of the mark.
+fn unmarked(alloc: Global, line: &str, want: &str) -> Result<(String, String), AllocError> {
+    match line.split_once('^') {
+        Some((front, back)) => Ok((
+            format!(in alloc; "{front}{back}")?,
+            format!(in alloc; "{} {want}", front.len())?,
+        )),
+        None => Ok((
+            String::from_str(alloc, line)?,
+            String::from_str(alloc, want)?,
+        )),
+    }
+}
+
+/// The line of a row, and what the row wants there.
+fn line_of(
+    rt: &impl Abort,
+    alloc: Global,
+    geometry: &str,
+    row: &str,
+) -> Result<(String, String), AllocError> {
+    let mut cells = row.split('|');
+    let _name = cells.next().expect(rt, "a name");
+    let cell = cells.next().expect(rt, "a cell").trim();
+    let want = cells.next().expect(rt, "what is wanted").trim();
+    let line = filled(alloc, geometry, cell)?;
+    unmarked(alloc, &line, want)
+}
+
+/// Each row of the table has the finding that it wants.
+fn meets(
+    rt: &impl Abort,
+    alloc: Global,
+    around: Around,
+    geometry: &str,
+    rows: &str,
+) -> Result<(), AllocError> {
+    for row in rows.trim().lines() {
+        let (line, want) = line_of(rt, alloc, geometry, row)?;
+        let found = shown(alloc, least_of(rt, alloc, line.as_bytes(), around, None))?;
+        assert_eq!(rt; found.as_str(), want.as_str(), "{row}");
+    }
+    Ok(())
 }

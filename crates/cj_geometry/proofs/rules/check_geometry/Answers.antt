@@ -3,7 +3,7 @@ use Rattle.cj_spans.specs.View.{tree}
 use Rattle.cj_geometry.specs.Given.{given}
 use Rattle.cj_geometry.specs.Rule.{distinct}
 use Rattle.cj_geometry.specs.Geometry.{typed_rules}
-use Rattle.cj_geometry.proofs.Sequences.{least-two}
+use Rattle.cj_spans.proofs.Findings.{least-two}
 use Rattle.cj_geometry.proofs.rules.check_geometry.Goals as goal
 
 pub returns-in-Object : goal.returns-in-Object

@@ -1,9 +1,10 @@
 use Rattle.std.proofs.Common.{codes}
 use Rattle.std.specs.Str.{chars}
 use Rattle.cj_spans.specs.View.{tree}
-use Rattle.cj_geometry.specs.Rule.{needs, of_kind, is_text, nothing}
+use Rattle.cj_spans.specs.Kinds.{is_text}
+use Rattle.cj_geometry.specs.Rule.{needs, of_kind, nothing}
 use Rattle.cj_geometry.specs.Geometry.{shape, semantics_if}
-use Rattle.cj_geometry.proofs.Sequences.{least-three}
+use Rattle.cj_spans.proofs.Findings.{least-three}
 use Rattle.cj_geometry.proofs.rules.check_parts.Goals as goal
 
 pub returns : goal.returns

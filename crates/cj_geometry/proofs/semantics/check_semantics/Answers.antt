@@ -4,7 +4,7 @@ use Rattle.cj_spans.specs.Parts.{member_of}
 use Rattle.cj_spans.specs.View.{tree}
 use Rattle.cj_geometry.specs.Rule.{distinct, needs}
 use Rattle.cj_geometry.specs.Geometry.{surfaces, values, count_of}
-use Rattle.cj_geometry.proofs.Sequences.{least-three}
+use Rattle.cj_spans.proofs.Findings.{least-three}
 use Rattle.cj_geometry.proofs.semantics.check_semantics.Goals as goal
 
 pub returns-in-Object : goal.returns-in-Object

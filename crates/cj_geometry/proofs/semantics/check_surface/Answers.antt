@@ -1,8 +1,9 @@
 use Rattle.std.proofs.Common.{◌∙◌, sym, codes}
 use Rattle.std.specs.Str.{chars}
 use Rattle.cj_spans.specs.View.{tree}
-use Rattle.cj_geometry.specs.Rule.{distinct, needs, of_kind, is_text, nothing}
-use Rattle.cj_geometry.proofs.Sequences.{least-two}
+use Rattle.cj_spans.specs.Kinds.{is_text}
+use Rattle.cj_geometry.specs.Rule.{distinct, needs, of_kind, nothing}
+use Rattle.cj_spans.proofs.Findings.{least-two}
 use Rattle.cj_geometry.proofs.semantics.check_surface.Goals as goal
 
 pub returns-in-Object : goal.returns-in-Object

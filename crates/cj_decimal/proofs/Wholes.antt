@@ -1,0 +1,111 @@
+-- What reading a whole number answers.
+use Rattle.std.proofs.Common.{◌≡◌, ℕ, ◌*◌, ◌^◌, ◌<◌, ◌≤◌, ◌++◌, List, [], Bool, true, false, Option, Some, None, Result, Ok, Err, ℤ, pos, negsuc, refl, sym, ap, ◌∙◌, subst, arith, rules}
+use Rattle.std.specs.Prelude.{IfOk, IfSome, IsSome, unsigned_abs}
+use Rattle.std.proofs.Math.Nat.{le-mul_of_pos_right}
+use Rattle.std.proofs.lemmas.Int.{ints}
+use Rattle.cj_decimal.specs.Number.{Number, number, IsNormal, IsInRange, IsWhole}
+use Rattle.cj_decimal.specs.Spelling.{IsNumber, IsValue, IsNumberOutOfRange, digits_value}
+use Rattle.cj_decimal.specs.Class.{Class, no_number, out_of_range, not_whole, whole, whole_answer}
+use Rattle.cj_decimal.specs.Reading.{digits_front, digits_rest, begins, is_int}
+use Rattle.cj_decimal.specs.declared.decimal.DecimalFault.{DecimalFault}
+use Rattle.cj_decimal.specs.declared.decimal.DecimalFault.TheVariants.{NotANumber, NumberRange}
+use Rattle.cj_decimal.proofs.TenPowers.{ten_pow_pos}
+use Rattle.cj_decimal.proofs.Values.{same_sym, same_trans}
+use Rattle.cj_decimal.proofs.Normal.{normal_form}
+use Rattle.cj_decimal.proofs.Scales.{units_below, far_units, size_of_units}
+use Rattle.cj_decimal.proofs.Grammar.{front_all, front_rest, int_from_test, int_is_digits, digit_begins}
+use Rattle.cj_decimal.proofs.Parts.{no_minus, integer_read}
+use Rattle.cj_decimal.proofs.Classes.{class}
+use Rattle.cj_decimal.proofs.Law.{has_one_value, value_of_read, not_both, value_is_number}
+
+-- ---- whichever class a spelling is shown to have
+module _ (s : List ℕ) where
+  answer_none : (c : Class s) → ¬ IsNumber s → whole_answer c ≡ Err NotANumber
+  answer_none (no_number n) o = refl
+  answer_none (out_of_range n) o = absurd (o (value_is_number s n.0 n.1))
+  answer_none (not_whole v value range n) o = absurd (o (value_is_number s v value))
+  answer_none (whole v w value range is) o = absurd (o (value_is_number s v value))
+
+  answer_out : (c : Class s) → IsNumberOutOfRange s → whole_answer c ≡ Err NumberRange
+  answer_out (no_number n) o = absurd (n (value_is_number s o.0 o.1))
+  answer_out (out_of_range n) o = refl
+  answer_out (not_whole v value range n) o = absurd (not_both s (v, value, range) o)
+  answer_out (whole v w value range is) o = absurd (not_both s (v, value, range) o)
+
+  -- what `read` says of its faults
+  pub answer_fault : (f : DecimalFault) (c : Class s) → (f ≡ NotANumber → ¬ IsNumber s) → (f ≡ NumberRange → IsNumberOutOfRange s) → whole_answer c ≡ Err f
+  answer_fault NotANumber c none out = answer_none c (none refl)
+  answer_fault NumberRange c none out = answer_out c (out refl)
+
+  module _ (v : Number) (value : IsValue s v) (range : IsInRange v) where
+    -- what is whole for another value is so for this one, which is the same
+    also : (u : Number) (w : ℤ) → IsValue s u → IsWhole u w → IsWhole v w
+    also u w other is = let P : Number → Type 0 = λ x. IsWhole x w in subst P ((has_one_value s).one u v other value) is
+
+    one_whole : (w x : ℤ) → IsWhole v w → IsWhole v x → x ≡ w
+    one_whole w x a b =
+        let both = same_trans (number x (pos 0)) v (number w (pos 0)) (same_sym v (number x (pos 0)) b.same) a.same in
+        omega (arith, ints, both.coefficients)
+
+    pub answer_whole : (w : ℤ) (c : Class s) → IsWhole v w → whole_answer c ≡ Ok (Some w)
+    answer_whole w (no_number n) is = absurd (n (value_is_number s v value))
+    answer_whole w (out_of_range n) is = absurd (not_both s (v, value, range) n)
+    answer_whole w (not_whole u other near n) is = absurd (n w (let P : Number → Type 0 = λ x. IsWhole x w in subst P ((has_one_value s).one v u value other) is))
+    answer_whole w (whole u x other near was) is = ap (λ z. Ok (Some z)) (one_whole w x is (also u x other was))
+
+    answer_part : (c : Class s) → ((w : ℤ) → ¬ IsWhole v w) → whole_answer c ≡ Ok None
+    answer_part (no_number n) part = absurd (n (value_is_number s v value))
+    answer_part (out_of_range n) part = absurd (not_both s (v, value, range) n)
+    answer_part (not_whole u other near n) part = refl
+    answer_part (whole u w other near is) part = absurd (part w (also u w other is))
+
+    -- what `whole` says of the value
+    pub answer_of_whole : (o : Option ℤ) (c : Class s) → IfSome o (IsWhole v) → (((w : ℤ) × IsWhole v w) → IsSome o) → whole_answer c ≡ Ok o
+    answer_of_whole (Some w) c is back = answer_whole w c is
+    answer_of_whole None c is back = answer_part c (λ w h. clash (back (w, h)))
+      where
+        clash : ◌≡◌ {A = Bool} false true → ⊥
+        clash x = cc
+
+-- a whole number that is answered is below 10^18
+below : (s : List ℕ) (c : Class s) → IfOk (whole_answer c) (λ o. IfSome o (λ w. unsigned_abs w < 10 ^ 18))
+below s (no_number n) = search rules
+below s (out_of_range n) = search rules
+below s (not_whole v value range n) = search rules
+below s (whole v w value range is) = is.small
+
+pub answer_below : (s : List ℕ) (r : Result (Option ℤ) DecimalFault) → ((c : Class s) → r ≡ whole_answer c) → IfOk r (λ o. IfSome o (λ w. unsigned_abs w < 10 ^ 18))
+answer_below s r answer = rw (answer (class s)) (below s (class s))
+
+-- ---- few digits and nothing else
+-- a whole number below 10^18 is in range
+whole_in_range : (v : Number) (w : ℤ) → IsNormal v → IsWhole v w → IsInRange v
+whole_in_range v w normal is = by_power v.power refl
+  where
+    no_less : (c p : ℕ) → 0 < p → c ≤ c * p
+    no_less c p h = le-mul_of_pos_right {m = p} c h
+
+    below : (k : ℕ) → (18 ≤ k → 10 ^ 18 ≤ unsigned_abs w) → unsigned_abs w < 10 ^ 18 → k < 18
+    below k far small = grind (arith, far)
+
+    by_power : (p : ℤ) → v.power ≡ p → IsInRange v
+    by_power (negsuc k) e = absurd (units_below v w (pos 0) normal is.same (omega (arith, ints, e)) (omega (arith, ints)))
+    by_power (pos k) e =
+        let size : unsigned_abs w ≡ unsigned_abs v.coefficient * 10 ^ k = size_of_units v w (pos 0) k (omega (arith, ints, e)) is.same in
+        let least : unsigned_abs v.coefficient ≤ unsigned_abs v.coefficient * 10 ^ k = no_less _ _ (ten_pow_pos k) in
+        let far : 18 ≤ k → 10 ^ 18 ≤ unsigned_abs w = λ h. far_units v w 0 18 k normal (omega (arith, ints, e)) (omega arith) h is.same in
+        let near : k < 18 = below k far is.small in
+        record { digits = omega (arith, size, least, is.small); power_low = omega (arith, ints, e); power_high = omega (arith, ints, e, near) }
+
+-- an int part that ends the spelling and spells n is the whole number n
+pub answer_digits : (s : List ℕ) (n : ℕ) (c : Class s) → is_int (digits_front s) ≡ true → digits_rest s ≡ [] → n ≡ digits_value (digits_front s) → n < 10 ^ 18 → whole_answer c ≡ Ok (Some (pos n))
+answer_digits s n c int none spelled small =
+    let plain : begins 45 s ≡ false = ap (begins 45) (front_rest s) ∙ digit_begins 45 (digits_front s) (digits_rest s) (int_is_digits _ (int_from_test _ (front_all s) int)) (omega arith) in
+    let same_body = no_minus s plain in
+    let read = integer_read s false n (sym plain) (ap (λ b. is_int (digits_front b)) same_body ∙ int) (ap digits_rest same_body ∙ none) (spelled ∙ sym (ap (λ b. digits_value (digits_front b)) same_body)) in
+    let form = normal_form false n (pos 0) in
+    let digits : digits_value (read.written.int ++ read.written.frac) ≡ n = omega (arith, read.digits.whole refl) in
+    let exponent : read.written.exponent ≡ pos 0 = read.exponent_is.same (omega (arith, ints)) in
+    let value = value_of_read s false n 0 false 0 (pos 0) read form.0 (rw (digits, exponent) form.1) form.2 in
+    let is : IsWhole form.0 (pos n) = record { same = same_sym (number (pos n) (pos 0)) form.0 form.1; small = small } in
+    answer_whole s form.0 value (whole_in_range form.0 (pos n) form.2 is) (pos n) c is

@@ -1,0 +1,6 @@
+use Rattle.cj_spans.proofs.Findings.{least_on}
+use Rattle.cj_geometry.specs.Geometry.{shape}
+use Rattle.cj_geometry.proofs.boundaries.check_indices.Goals as goal
+
+pub loop-item-preserved : goal.loop-item-preserved
+loop-item-preserved c = least_on (shape c.args.vertices 0) _ _ _ _ _ _ c.loop-item.invariant c.in-Some.ensures.steps.0 c.check_index.ensures

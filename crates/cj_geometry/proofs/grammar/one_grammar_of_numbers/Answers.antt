@@ -1,0 +1,5 @@
+use Rattle.cj_geometry.proofs.Grammars.{one_grammar, atom_number, held_number, held_class}
+use Rattle.cj_geometry.proofs.grammar.one_grammar_of_numbers.Goals as goal
+
+pub returns : goal.returns
+returns c = record { same = one_grammar; atom = atom_number; held = held_number; of_number = held_class }

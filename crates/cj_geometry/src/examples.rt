@@ -1,0 +1,119 @@
+//! The rules at worked geometries, and the table of types: each contract is a theorem in which nothing runs.
+ghost use Rattle.std.specs.Prelude.{◌≡◌, ◌∷◌, [], codes, Some, None};
+ghost use Rattle.cj_spans.specs.declared.reason.Reason.TheVariants.{MissingMember, DuplicateName, WrongKind, UnknownGeometryType, VertexIndex, SemanticsCount, SemanticsIndex, BadInstance};
+ghost use Rattle.cj_spans.specs.Finding.{least, found_at};
+ghost use Rattle.cj_spans.specs.Tree.{Tree, scalar};
+ghost use Rattle.cj_spans.specs.Json.{atom_at};
+ghost use Rattle.cj_spans.specs.declared.token.Kind.TheVariants.{Text};
+ghost use Rattle.cj_spans.specs.Forest.{forest};
+ghost use Rattle.cj_spans.specs.Preorder.{preorder};
+ghost use Rattle.cj_geometry.specs.Geometry.{geometry, empty, itself};
+ghost use Rattle.cj_geometry.specs.Lod.{lod};
+ghost use Rattle.cj_geometry.specs.Table.{parts, instance, table, form_of};
+ghost use Rattle.cj_geometry.specs.Examples.{points_line, points, three, nothing, cone_line, cone, instance_line, bare_instance, doubled_line, doubled, solid_line, null_whole, null_shell, null_surface, no_shell, one_surface, past_surfaces, string, HaveTheirForms, HasNoName};
+
+/// An index is below the number of vertices, if that is known.
+pub fn two_points_beside_one_vertex()
+    ensures one { least None (geometry (Some 1) empty points) ≡ Some (found_at 47 VertexIndex) }
+    ensures unknown { least None (geometry None empty points) ≡ None }
+{}
+
+/// A number is no geometry.
+pub fn a_number()
+    ensures { least None (geometry (Some 1) empty three) ≡ Some (found_at 0 WrongKind) }
+{}
+
+/// A geometry needs a type.
+pub fn no_type()
+    ensures { least None (geometry (Some 1) empty nothing) ≡ Some (found_at 0 MissingMember) }
+{}
+
+/// The type is one of the table.
+pub fn no_type_of_the_table()
+    ensures { least None (geometry (Some 1) empty cone) ≡ Some (found_at 8 UnknownGeometryType) }
+{}
+
+/// An instance needs its members, and a template is none.
+pub fn an_instance_of_nothing()
+    ensures instance { least None (geometry (Some 1) empty bare_instance) ≡ Some (found_at 0 MissingMember) }
+    ensures template { least None (geometry (Some 1) itself bare_instance) ≡ Some (found_at 8 BadInstance) }
+{}
+
+/// Two rules find something, and the least finding is that of the second.
+pub fn a_doubled_name_and_an_unknown_type()
+    ensures all { geometry (Some 1) empty doubled ≡ found_at 15 DuplicateName ∷ found_at 8 UnknownGeometryType ∷ [] }
+    ensures least { least None (geometry (Some 1) empty doubled) ≡ Some (found_at 8 UnknownGeometryType) }
+{}
+
+/// Semantic values of a solid may be null at each level.
+pub fn null_at_each_level()
+    ensures whole { least None (geometry (Some 3) empty null_whole) ≡ None }
+    ensures shell { least None (geometry (Some 3) empty null_shell) ≡ None }
+    ensures surface { least None (geometry (Some 3) empty null_surface) ≡ None }
+{}
+
+/// They are as many as the parts beside them.
+pub fn as_many_values_as_parts()
+    ensures shells { least None (geometry (Some 3) empty no_shell) ≡ Some (found_at 121 SemanticsCount) }
+    ensures surfaces { least None (geometry (Some 3) empty one_surface) ≡ Some (found_at 122 SemanticsCount) }
+{}
+
+/// And below the number of surfaces.
+pub fn an_index_past_the_surfaces()
+    ensures { least None (geometry (Some 3) empty past_surfaces) ≡ Some (found_at 125 SemanticsIndex) }
+{}
+
+/// The trees are those that their lines show.
+pub fn trees_of_their_lines()
+    ensures points { forest points_line (preorder points) ≡ points ∷ [] }
+    ensures three { forest (codes "3") (preorder three) ≡ three ∷ [] }
+    ensures nothing { forest (codes "{}") (preorder nothing) ≡ nothing ∷ [] }
+    ensures cone { forest cone_line (preorder cone) ≡ cone ∷ [] }
+    ensures instance { forest instance_line (preorder bare_instance) ≡ bare_instance ∷ [] }
+    ensures doubled { forest doubled_line (preorder doubled) ≡ doubled ∷ [] }
+{}
+
+/// And so those of the solid.
+pub fn solids_of_their_lines()
+    ensures null_whole { forest (solid_line (codes "null")) (preorder null_whole) ≡ null_whole ∷ [] }
+    ensures null_shell { forest (solid_line (codes "[null]")) (preorder null_shell) ≡ null_shell ∷ [] }
+    ensures null_surface { forest (solid_line (codes "[[0,null]]")) (preorder null_surface) ≡ null_surface ∷ [] }
+    ensures no_shell { forest (solid_line (codes "[]")) (preorder no_shell) ≡ no_shell ∷ [] }
+    ensures one_surface { forest (solid_line (codes "[[0]]")) (preorder one_surface) ≡ one_surface ∷ [] }
+    ensures past_surfaces { forest (solid_line (codes "[[0,1]]")) (preorder past_surfaces) ≡ past_surfaces ∷ [] }
+{}
+
+/// The level of detail of a geometry is its own; an instance of nothing has none.
+pub fn levels_of_detail()
+    ensures own { lod empty points ≡ Some (scalar Text (atom_at points_line 27 30)) }
+    ensures none { lod empty cone ≡ None }
+    ensures instance { lod empty bare_instance ≡ None }
+{}
+
+/// The table as a whole: no row hides another, and other values have no form.
+pub fn forms_of_the_table()
+    ensures named { HaveTheirForms table }
+    ensures other { (t : Tree) → HasNoName table t → form_of t ≡ None }
+{}
+
+/// Each type of the table has its form.
+pub fn forms_of_the_types()
+    ensures points { form_of (string (codes "\"MultiPoint\"")) ≡ Some (parts 1 None) }
+    ensures lines { form_of (string (codes "\"MultiLineString\"")) ≡ Some (parts 2 None) }
+    ensures surfaces { form_of (string (codes "\"MultiSurface\"")) ≡ Some (parts 3 (Some 1)) }
+    ensures surface { form_of (string (codes "\"CompositeSurface\"")) ≡ Some (parts 3 (Some 1)) }
+    ensures solid { form_of (string (codes "\"Solid\"")) ≡ Some (parts 4 (Some 2)) }
+    ensures solids { form_of (string (codes "\"MultiSolid\"")) ≡ Some (parts 5 (Some 3)) }
+    ensures composite { form_of (string (codes "\"CompositeSolid\"")) ≡ Some (parts 5 (Some 3)) }
+    ensures instance { form_of (string (codes "\"GeometryInstance\"")) ≡ Some instance }
+    ensures escaped { form_of (string (codes "\"\\u0053olid\"")) ≡ Some (parts 4 (Some 2)) }
+{}
+
+/// Other strings and other values have none.
+pub fn no_form_of_other_values()
+    ensures other { form_of (string (codes "\"Cone\"")) ≡ None }
+    ensures small { form_of (string (codes "\"solid\"")) ≡ None }
+    ensures longer { form_of (string (codes "\"Solids\"")) ≡ None }
+    ensures empty { form_of (string (codes "\"\"")) ≡ None }
+    ensures number { form_of three ≡ None }
+{}

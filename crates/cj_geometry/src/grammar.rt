@@ -1,0 +1,25 @@
+//! Numbers of a scanned line and numbers that decimals are read from, by one grammar.
+ghost use Rattle.std.specs.Prelude.{◌≡◌, ◌↔◌, ℕ, List, slice_range};
+ghost use Rattle.cj_spans.specs.declared.token.Kind.TheVariants.{Number};
+ghost use Rattle.cj_spans.specs.Tree.{Tree};
+ghost use Rattle.cj_spans.specs.Spelling.{IsScalar};
+ghost use Rattle.cj_spans.specs.Json.{Json, IsAtom};
+ghost use Rattle.cj_spans.specs.Parts.{kind_of, spelling_of};
+ghost use Rattle.cj_decimal.specs.Spelling.{IsNumber};
+ghost use Rattle.cj_decimal.specs.Class.{Class};
+ghost use Rattle.cj_geometry.specs.Grammar.{IsHeld, IsOfNumber};
+
+/// A number of a scanned line is a number for the rules.
+///
+/// `cj_spans` and `cj_decimal` each state the grammar of numbers. They state the same one: bytes are
+/// a scalar of kind number exactly where they are the spelling of a decimal. So what a scan calls a
+/// number is one to `cj_decimal`, wherever it stands in a JSON text, and its class is never that it
+/// is no number.
+pub fn one_grammar_of_numbers()
+    ensures same { (s : List ℕ) → (IsScalar Number s ↔ IsNumber s) }
+    ensures atom { (line : List ℕ) (i j : ℕ) → IsAtom line Number i j → IsNumber (slice_range line i j) }
+    ensures held { (line : List ℕ) (t u : Tree) → Json line t → IsHeld t u → kind_of u ≡ Number
+        → IsNumber (spelling_of line u) }
+    ensures of_number { (line : List ℕ) (t u : Tree) (c : Class (spelling_of line u)) → Json line t
+        → IsHeld t u → kind_of u ≡ Number → IsOfNumber c }
+{}

@@ -1,0 +1,155 @@
+//! Indices of vertices, and how they may be spelled.
+use super::{Around, Given, meets, with_vertices};
+use std::test::Fail;
+
+const INDEX: &str = r#"{"type":"MultiSurface","lod":"2.2","boundaries":[[[0,1,2,_]]]}"#;
+
+#[test]
+fn indices_name_a_vertex(rt: HostRuntime) -> Result<(), Fail> {
+    meets(
+        &rt,
+        rt.alloc(),
+        with_vertices(4),
+        INDEX,
+        r#"
+        the first | 0 | none
+        the last | 3 | none
+        equal to the count | ^4 | 25 vertex index out of range
+        above the count | ^5 | 25 vertex index out of range
+        the greatest whole number | ^999999999999999999 | 25 vertex index out of range
+        below 0 | ^-1 | 25 vertex index out of range
+        the least whole number | ^-999999999999999999 | 25 vertex index out of range
+        "#,
+    )?;
+    Ok(())
+}
+
+#[test]
+fn indices_are_numbers(rt: HostRuntime) -> Result<(), Fail> {
+    meets(
+        &rt,
+        rt.alloc(),
+        with_vertices(4),
+        INDEX,
+        r#"
+        null | ^null | 12 wrong kind
+        a truth | ^true | 12 wrong kind
+        a text | ^"3" | 12 wrong kind
+        an array | ^[3] | 12 wrong kind
+        an object | ^{} | 12 wrong kind
+        "#,
+    )?;
+    Ok(())
+}
+
+#[test]
+fn spellings_of_an_index(rt: HostRuntime) -> Result<(), Fail> {
+    meets(
+        &rt,
+        rt.alloc(),
+        with_vertices(4),
+        INDEX,
+        r#"
+        minus 0 | -0 | none
+        minus 0 with a fraction | -0.0 | none
+        a fraction of 0 | 3.0 | none
+        an exponent of 0 | 3e0 | none
+        an exponent of minus 0 | 3E-0 | none
+        a great exponent of 0 | 0e999999999999 | none
+        a fraction that the exponent takes away | 0.3e+1 | none
+        zeros that the exponent takes away | 300e-2 | none
+        4 with a fraction | ^4.0 | 25 vertex index out of range
+        4 with an exponent | ^0.04e2 | 25 vertex index out of range
+        minus 1 with an exponent | ^-1e0 | 25 vertex index out of range
+        "#,
+    )?;
+    Ok(())
+}
+
+#[test]
+fn indices_are_whole(rt: HostRuntime) -> Result<(), Fail> {
+    meets(
+        &rt,
+        rt.alloc(),
+        with_vertices(4),
+        INDEX,
+        r#"
+        a half more | ^1.5 | 18 not a whole number
+        a half | ^0.5 | 18 not a whole number
+        minus a half | ^-0.5 | 18 not a whole number
+        a tenth | ^1e-1 | 18 not a whole number
+        10^18 | ^1e18 | 18 not a whole number
+        10^18 in digits | ^1000000000000000000 | 18 not a whole number
+        minus 10^18 | ^-1e18 | 18 not a whole number
+        36 digits | ^111111111111111111111111111111111111 | 18 not a whole number
+        37 digits of which the last is 0 | ^1111111111111111111111111111111111110 | 18 not a whole number
+        the greatest power | ^1e1000000 | 18 not a whole number
+        "#,
+    )?;
+    Ok(())
+}
+
+#[test]
+fn indices_are_in_range(rt: HostRuntime) -> Result<(), Fail> {
+    meets(
+        &rt,
+        rt.alloc(),
+        with_vertices(4),
+        INDEX,
+        r#"
+        37 digits | ^1111111111111111111111111111111111111 | 13 number out of range
+        37 digits below 0 | ^-1111111111111111111111111111111111111 | 13 number out of range
+        37 digits after the point | ^0.1111111111111111111111111111111111111 | 13 number out of range
+        a greater power than the greatest | ^1e1000001 | 13 number out of range
+        a lesser power than the least | ^1e-1000001 | 13 number out of range
+        "#,
+    )?;
+    Ok(())
+}
+
+#[test]
+fn no_index_names_a_vertex_of_none(rt: HostRuntime) -> Result<(), Fail> {
+    meets(
+        &rt,
+        rt.alloc(),
+        with_vertices(0),
+        r#"{"type":"MultiPoint","lod":"1","boundaries":_}"#,
+        r#"
+        no index | [] | none
+        0 | [^0] | 25 vertex index out of range
+        minus 0 | [^-0] | 25 vertex index out of range
+        "#,
+    )?;
+    meets(
+        &rt,
+        rt.alloc(),
+        with_vertices(1_000_000_000_000_000_000),
+        r#"{"type":"MultiPoint","lod":"1","boundaries":_}"#,
+        "the greatest whole number|[999999999999999999]|none",
+    )?;
+    Ok(())
+}
+
+#[test]
+fn indices_beside_unknown_vertices(rt: HostRuntime) -> Result<(), Fail> {
+    let around = Around {
+        vertices: None,
+        templates: Given::Empty,
+    };
+    meets(
+        &rt,
+        rt.alloc(),
+        around,
+        INDEX,
+        r#"
+        any index | 4 | none
+        the greatest whole number | 999999999999999999 | none
+        below 0 | -1 | none
+        a text | ^"0" | 12 wrong kind
+        37 digits | ^1111111111111111111111111111111111111 | 13 number out of range
+        a half | ^0.5 | 18 not a whole number
+        10^18 | ^1e18 | 18 not a whole number
+        "#,
+    )?;
+    Ok(())
+}

@@ -1,0 +1,134 @@
+//! The level of detail of a geometry: a row wants the place and the spelling of the value that is
+//! answered.
+use super::{Given, line_of, list_line, templates_of, tokens_of};
+use crate::lod_of;
+use cj_spans::{Doc, Node};
+use std::alloc::{AllocError, Global};
+use std::process::Abort;
+use std::test::Fail;
+
+/// A value as a row tells it.
+fn spelled(rt: &impl Abort, alloc: Global, value: Option<Node>) -> Result<String, AllocError> {
+    match value {
+        Some(node) => {
+            let bytes = str::from_utf8(node.bytes()).expect(rt, "a text");
+            format!(in alloc; "{} {bytes}", node.start())
+        }
+        None => String::from_str(alloc, "none"),
+    }
+}
+
+/// The level of detail of a line that is a geometry.
+fn lod_in(rt: &impl Abort, alloc: Global, line: &[u8], given: Given) -> Result<String, AllocError> {
+    let list_line = list_line(given);
+    let list_tokens = tokens_of(rt, alloc, list_line);
+    let list = Doc::of(list_line, list_tokens.as_slice()).root();
+    let templates = templates_of(rt, given, list);
+    let tokens = tokens_of(rt, alloc, line);
+    let node = Doc::of(line, tokens.as_slice()).root();
+    spelled(rt, alloc, lod_of(node, templates))
+}
+
+/// Each row of the table has the level of detail that it wants.
+fn answers(
+    rt: &impl Abort,
+    alloc: Global,
+    given: Given,
+    geometry: &str,
+    rows: &str,
+) -> Result<(), AllocError> {
+    for row in rows.trim().lines() {
+        let (line, want) = line_of(rt, alloc, geometry, row)?;
+        let found = lod_in(rt, alloc, line.as_bytes(), given)?;
+        assert_eq!(rt; found.as_str(), want.as_str(), "{row}");
+    }
+    Ok(())
+}
+
+const TEMPLATES: &str =
+    r#"[{"lod":"0"},{"lod":"1","lod":"x"},{"type":"Cone"},3,{"l\u006fd":null}]"#;
+
+const OWN: &str = r#"
+    a text | {"type":"Solid","lod":^"2.2"} | "2.2"
+    none | {"type":"Solid"} | none
+    of no type | {"lod":^"2"} | "2"
+    of an unknown type | {"type":"Cone","lod":^"2"} | "2"
+    of a type that is no text | {"lod":^"2","type":["GeometryInstance"]} | "2"
+    beside a template | {"type":"Solid","template":0,"lod":^"2"} | "2"
+    no text | {"type":"Solid","lod":^2.20} | 2.20
+    an object | {"type":"Solid","lod":^{"lod":"1"}} | {"lod":"1"}
+    the first of two | {"lod":^null,"lod":"2"} | null
+    by an escape | {"l\u006fd":^"\u0032","lod":"1"} | "\u0032"
+    of no object | ["lod","2"] | none
+    of a text | "lod" | none
+    "#;
+
+#[test]
+fn other_geometries_have_their_own(rt: HostRuntime) -> Result<(), Fail> {
+    answers(&rt, rt.alloc(), Given::Empty, "_", OWN)?;
+    answers(&rt, rt.alloc(), Given::Itself, "_", OWN)?;
+    answers(&rt, rt.alloc(), Given::List(TEMPLATES), "_", OWN)?;
+    Ok(())
+}
+
+#[test]
+fn instances_have_that_of_their_template(rt: HostRuntime) -> Result<(), Fail> {
+    answers(
+        &rt,
+        rt.alloc(),
+        Given::List(TEMPLATES),
+        "_",
+        r#"
+        the first | {"type":"GeometryInstance","template":0} | 8 "0"
+        not its own | {"type":"GeometryInstance","template":0,"lod":"2"} | 8 "0"
+        the first of two | {"type":"GeometryInstance","template":1} | 20 "1"
+        no text | {"type":"GeometryInstance","template":4} | 65 null
+        by escapes | {"\u0074ype":"\u0047eometryInstance","\u0074emplate":1} | 20 "1"
+        the first template of two | {"type":"GeometryInstance","template":1,"template":0} | 20 "1"
+        of a template without one | {"type":"GeometryInstance","template":2,"lod":"2"} | none
+        of a template that is no object | {"type":"GeometryInstance","template":3,"lod":"2"} | none
+        of no template | {"type":"GeometryInstance","lod":"2"} | none
+        "#,
+    )?;
+    Ok(())
+}
+
+#[test]
+fn templates_are_chosen_by_whole_numbers(rt: HostRuntime) -> Result<(), Fail> {
+    answers(
+        &rt,
+        rt.alloc(),
+        Given::List(TEMPLATES),
+        r#"{"type":"GeometryInstance","lod":"2","template":_}"#,
+        r#"
+        minus 0 | -0 | 8 "0"
+        a fraction of 0 | 1.0 | 20 "1"
+        an exponent | 40e-1 | 65 null
+        equal to the count | 5 | none
+        the greatest whole number | 999999999999999999 | none
+        below 0 | -1 | none
+        a half | 0.5 | none
+        10^18 | 1000000000000000000 | none
+        37 digits | 1111111111111111111111111111111111111 | none
+        null | null | none
+        a text | "0" | none
+        an array | [0] | none
+        "#,
+    )?;
+    Ok(())
+}
+
+const OF_NO_TEMPLATE: &str = r#"
+    any number | 0 | none
+    below 0 | -1 | none
+    no number | null | none
+    "#;
+
+#[test]
+fn instances_of_no_template_have_none(rt: HostRuntime) -> Result<(), Fail> {
+    let instance = r#"{"type":"GeometryInstance","lod":"2","template":_}"#;
+    answers(&rt, rt.alloc(), Given::Empty, instance, OF_NO_TEMPLATE)?;
+    answers(&rt, rt.alloc(), Given::Itself, instance, OF_NO_TEMPLATE)?;
+    answers(&rt, rt.alloc(), Given::List("[]"), instance, OF_NO_TEMPLATE)?;
+    Ok(())
+}

@@ -1,0 +1,199 @@
+//! Semantic values beside the boundaries.
+use super::{meets, with_vertices};
+use std::test::Fail;
+
+const OF_TWO_SURFACES: &str = r#"
+    null as a whole | null | none
+    null for each surface | [null,null] | none
+    an index for each | [1,0] | none
+    an index and null | [0,null] | none
+    other spellings | [-0,1e0] | none
+    a number | ^0 | 12 wrong kind
+    a truth | ^true | 12 wrong kind
+    a text | ^"0" | 12 wrong kind
+    an object | ^{} | 12 wrong kind
+    none | ^[] | 26 semantics count
+    one less | ^[null] | 26 semantics count
+    one more | ^[0,1,0] | 26 semantics count
+    "#;
+
+const ENTRIES: &str = r#"
+    an index equal to the count | [0,^2] | 27 semantics index out of range
+    an index above the count | [^3,0] | 27 semantics index out of range
+    an index below 0 | [^-1,0] | 27 semantics index out of range
+    a half | [null,^0.5] | 18 not a whole number
+    10^18 | [^1e18,0] | 18 not a whole number
+    37 digits | [^1111111111111111111111111111111111111,0] | 13 number out of range
+    a truth | [^false,0] | 12 wrong kind
+    a text | [^"0",0] | 12 wrong kind
+    an object | [0,^{}] | 12 wrong kind
+    a level more | [^[0],0] | 12 wrong kind
+    "#;
+
+#[test]
+fn values_of_surfaces(rt: HostRuntime) -> Result<(), Fail> {
+    let around = with_vertices(1);
+    let several =
+        r#"{"type":"MultiSurface","lod":"1","boundaries":[[[0]],[]],"semantics":{"surfaces":[{"type":"a"},{"type":"b"}],"values":_}}"#;
+    meets(&rt, rt.alloc(), around, several, OF_TWO_SURFACES)?;
+    meets(&rt, rt.alloc(), around, several, ENTRIES)?;
+    Ok(())
+}
+
+#[test]
+fn values_of_a_composite_surface(rt: HostRuntime) -> Result<(), Fail> {
+    let around = with_vertices(1);
+    let composite =
+        r#"{"type":"CompositeSurface","lod":"1","boundaries":[[[0]],[]],"semantics":{"surfaces":[{"type":"a"},{"type":"b"}],"values":_}}"#;
+    meets(&rt, rt.alloc(), around, composite, OF_TWO_SURFACES)?;
+    meets(&rt, rt.alloc(), around, composite, ENTRIES)?;
+    Ok(())
+}
+
+#[test]
+fn no_index_names_a_surface_of_none(rt: HostRuntime) -> Result<(), Fail> {
+    meets(
+        &rt,
+        rt.alloc(),
+        with_vertices(1),
+        r#"{"type":"MultiSurface","lod":"1","boundaries":[[[0]]],"semantics":{"surfaces":[],"values":_}}"#,
+        r#"
+        null as a whole | null | none
+        null for the surface | [null] | none
+        an index | [^0] | 27 semantics index out of range
+        "#,
+    )?;
+    Ok(())
+}
+
+#[test]
+fn values_of_a_solid(rt: HostRuntime) -> Result<(), Fail> {
+    meets(
+        &rt,
+        rt.alloc(),
+        with_vertices(1),
+        r#"{"type":"Solid","lod":"1","boundaries":[[[[0]],[]],[[]]],"semantics":{"surfaces":[{"type":"a"}],"values":_}}"#,
+        r#"
+        null as a whole | null | none
+        null for each shell | [null,null] | none
+        null for surfaces | [[null,0],[null]] | none
+        an index for each | [[0,0],[0]] | none
+        a number | ^0 | 12 wrong kind
+        a level less | [^0,0] | 12 wrong kind
+        a text for a shell | [[0,0],^"0"] | 12 wrong kind
+        an object for a shell | [null,^{}] | 12 wrong kind
+        a level more | [[^[0],[0]],[[0]]] | 12 wrong kind
+        an index equal to the count | [[0,0],[^1]] | 27 semantics index out of range
+        "#,
+    )?;
+    Ok(())
+}
+
+#[test]
+fn lengths_of_the_values_of_a_solid(rt: HostRuntime) -> Result<(), Fail> {
+    meets(
+        &rt,
+        rt.alloc(),
+        with_vertices(1),
+        r#"{"type":"Solid","lod":"1","boundaries":[[[[0]],[]],[[]]],"semantics":{"surfaces":[{"type":"a"}],"values":_}}"#,
+        r#"
+        no shell | ^[] | 26 semantics count
+        a shell less | ^[[0,0]] | 26 semantics count
+        a null less | ^[null] | 26 semantics count
+        a shell more | ^[[0,0],[0],[]] | 26 semantics count
+        a shell more and its values | ^[[0,0],[0],[9]] | 26 semantics count
+        no surface | [^[],[0]] | 26 semantics count
+        a surface less | [^[0],[0]] | 26 semantics count
+        a surface more | [[0,0],^[0,0]] | 26 semantics count
+        a surface more beside null | [null,^[null,null]] | 26 semantics count
+        "#,
+    )?;
+    Ok(())
+}
+
+const OF_TWO_SOLIDS: &str = r#"
+    null as a whole | null | none
+    null for each solid | [null,null] | none
+    null for each shell | [[null],[null,null]] | none
+    null for surfaces | [[[null,0]],[[null],[]]] | none
+    an index for each | [[[0,0]],[[0],[]]] | none
+    a text | ^"" | 12 wrong kind
+    two levels less | [^0,0] | 12 wrong kind
+    a level less | [[^0],null] | 12 wrong kind
+    a level more | [[[^[0],0]],null] | 12 wrong kind
+    an index equal to the count | [[[0,^1]],null] | 27 semantics index out of range
+    "#;
+
+const LENGTHS_OF_TWO_SOLIDS: &str = r#"
+    no solid | ^[] | 26 semantics count
+    a solid less | ^[[[0,0]]] | 26 semantics count
+    a solid more | ^[null,null,null] | 26 semantics count
+    no shell | [^[],null] | 26 semantics count
+    a shell less | [null,^[[0]]] | 26 semantics count
+    a shell more | [^[[0,0],null],null] | 26 semantics count
+    no surface | [[^[]],null] | 26 semantics count
+    a surface less | [[^[0]],null] | 26 semantics count
+    a surface more | [null,[[0],^[0]]] | 26 semantics count
+    "#;
+
+#[test]
+fn values_of_solids(rt: HostRuntime) -> Result<(), Fail> {
+    let around = with_vertices(1);
+    let several =
+        r#"{"type":"MultiSolid","lod":"1","boundaries":[[[[[0]],[]]],[[[]],[]]],"semantics":{"surfaces":[{"type":"a"}],"values":_}}"#;
+    meets(&rt, rt.alloc(), around, several, OF_TWO_SOLIDS)?;
+    meets(&rt, rt.alloc(), around, several, LENGTHS_OF_TWO_SOLIDS)?;
+    Ok(())
+}
+
+#[test]
+fn values_of_a_composite_solid(rt: HostRuntime) -> Result<(), Fail> {
+    let around = with_vertices(1);
+    let composite =
+        r#"{"type":"CompositeSolid","lod":"1","boundaries":[[[[[0]],[]]],[[[]],[]]],"semantics":{"surfaces":[{"type":"a"}],"values":_}}"#;
+    meets(&rt, rt.alloc(), around, composite, OF_TWO_SOLIDS)?;
+    meets(&rt, rt.alloc(), around, composite, LENGTHS_OF_TWO_SOLIDS)?;
+    Ok(())
+}
+
+#[test]
+fn values_beside_boundaries_that_are_no_array(rt: HostRuntime) -> Result<(), Fail> {
+    meets(
+        &rt,
+        rt.alloc(),
+        with_vertices(1),
+        r#"{"type":"MultiSurface","lod":"1","semantics":{"surfaces":[{"type":"a"}],_}"#,
+        r#"
+        any count | "values":[0,0]},"boundaries":^0 | 12 wrong kind
+        a count of null | "values":[]},"boundaries":^null | 12 wrong kind
+        any index | "values":[^1]},"boundaries":0 | 27 semantics index out of range
+        any kind | "values":^0},"boundaries":{} | 12 wrong kind
+        "#,
+    )?;
+    meets(
+        &rt,
+        rt.alloc(),
+        with_vertices(1),
+        r#"^{"type":"MultiSurface","lod":"1","semantics":{"surfaces":[],"values":_}}"#,
+        "none at all|[0,9]|10 member missing",
+    )?;
+    Ok(())
+}
+
+#[test]
+fn values_beside_parts_that_are_no_arrays(rt: HostRuntime) -> Result<(), Fail> {
+    meets(
+        &rt,
+        rt.alloc(),
+        with_vertices(1),
+        r#"{"type":"Solid","lod":"1","semantics":{"surfaces":[{"type":"a"}],_}"#,
+        r#"
+        a number beside a shell | "values":[[0,0]]},"boundaries":[^0] | 12 wrong kind
+        null beside a shell | "values":[[]]},"boundaries":[^null] | 12 wrong kind
+        an index beside a number | "values":[[0,^1]]},"boundaries":[0] | 27 semantics index out of range
+        a shell after a number | "values":[[0],^[0]]},"boundaries":[0,[]] | 26 semantics count
+        a shell beside none | "values":^[[9]]},"boundaries":[] | 26 semantics count
+        "#,
+    )?;
+    Ok(())
+}
