@@ -1,5 +1,7 @@
 pub mod Digits
 pub mod Grammars
 pub mod Numbers
+pub mod ObjectTypes
 pub mod Sequences
 pub mod Shapes
+pub mod Texts

@@ -10,6 +10,7 @@ mod grammar;
 mod lod;
 mod member;
 mod number;
+mod object_type;
 mod rules;
 mod semantics;
 #[cfg(test)]
@@ -17,4 +18,5 @@ mod tests;
 
 pub use grammar::one_grammar_of_numbers;
 pub use lod::lod_of;
+pub use object_type::ObjectType;
 pub use rules::{Templates, check_geometry};
