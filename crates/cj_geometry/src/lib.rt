@@ -8,8 +8,7 @@ mod examples;
 mod form;
 mod grammar;
 mod lod;
-mod member;
-mod number;
+pub mod rule;
 mod rules;
 mod semantics;
 #[cfg(test)]
