@@ -1,5 +1,5 @@
-//! Geometries of city objects (CityJSON 2.0, section 3): what is wrong with them, and their level of
-//! detail.
+//! Types and geometries of city objects (CityJSON 2.0, sections 2 and 3): what is wrong with geometries, and
+//! their level of detail.
 #![tactic(auto)]
 
 mod boundaries;
@@ -8,9 +8,8 @@ mod examples;
 mod form;
 mod grammar;
 mod lod;
-mod member;
-mod number;
 mod object_type;
+pub mod rule;
 mod rules;
 mod semantics;
 #[cfg(test)]

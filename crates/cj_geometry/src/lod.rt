@@ -7,7 +7,8 @@ ghost use Rattle.cj_geometry.specs.Given.{given};
 ghost use Rattle.cj_geometry.specs.Lod.{chosen, template_lod, is_instance, lod};
 ghost use Rattle.cj_geometry.specs.Rule.{whole_of};
 
-use crate::number::read_whole;
+use crate::form::INSTANCE;
+use crate::rule::read_whole;
 use crate::rules::Templates;
 use cj_spans::Node;
 
@@ -43,7 +44,7 @@ fn is_an_instance(node: Node) -> bool
     ensures { result ≡ is_instance (tree node.entry) }
 {
     match node.get("type") {
-        Some(name) => name.text_is("GeometryInstance"),
+        Some(name) => name.text_is(INSTANCE),
         None => false,
     }
 }

@@ -1,4 +1,4 @@
-//! The rules on geometries (CityJSON 2.0, section 3), and their level of detail.
+//! The rules on geometries (CityJSON 2.0, section 3), and the templates that they may name.
 ghost use Rattle.std.specs.Prelude.{◌≡◌, codes, option_map, Some};
 ghost use Rattle.std.specs.Str.{chars};
 ghost use Rattle.cj_spans.specs.declared.token.Kind.TheVariants.{Array};
@@ -7,15 +7,17 @@ ghost use Rattle.cj_spans.specs.Parts.{kind_of};
 ghost use Rattle.cj_spans.specs.View.{tree};
 ghost use Rattle.cj_geometry.specs.Form.{form_value};
 ghost use Rattle.cj_geometry.specs.Given.{given};
-ghost use Rattle.cj_geometry.specs.Rule.{needs, number, index};
+ghost use Rattle.cj_geometry.specs.Rule.{needs, number, index, of_length};
 ghost use Rattle.cj_geometry.specs.Table.{form_of as form_of_tree};
-ghost use Rattle.cj_spans.specs.declared.reason.Reason.TheVariants.{TemplateIndex, VertexIndex};
-ghost use Rattle.cj_geometry.specs.Geometry.{Given, listed, empty, itself, list_of, template_count, of_length, part_rules, instance_rules, form_rules, typed_rules, geometry};
+ghost use Rattle.cj_spans.specs.declared.reason.Reason.TheVariants.{TemplateIndex, VertexIndex, BadInstance};
+ghost use Rattle.cj_geometry.specs.Geometry.{Given, listed, empty, itself, list_of, template_count, part_rules, instance_rules, form_rules, typed_rules, geometry};
 
 use crate::boundaries::check_boundaries;
 use crate::form::{Form, form_of};
-use crate::member::{check_names, check_text_member};
-use crate::number::{add, check_index, check_number, count_items};
+use crate::rule::{
+    add, check_index, check_length, check_names, check_number, check_object, check_text_member,
+    count_items, needed,
+};
 use crate::semantics::check_semantics_member;
 use cj_spans::{Kind, Least, Node, Reason};
 
@@ -98,63 +100,46 @@ fn check_parts(
 fn check_template(object: Node, templates: u64, found: &mut Least)
     ensures { found.new ≡ least found.old (needs (chars (codes "template")) (index TemplateIndex (Some templates)) (tree object.entry)) }
 {
-    match object.get("template") {
-        Some(value) => check_index(value, Reason::TemplateIndex, Some(templates), found),
-        None => add(object, Reason::MissingMember, found),
+    if let Some(value) = needed(object, "template", found) {
+        check_index(value, Reason::TemplateIndex, Some(templates), found);
     }
 }
 
 /// The value is an array of one index of a vertex.
 fn check_point(node: Node, vertices: Option<u64>, found: &mut Least)
-    ensures { found.new ≡ least found.old (of_length 1 (index VertexIndex vertices) (tree node.entry)) }
+    ensures { found.new ≡ least found.old (of_length BadInstance 1 (index VertexIndex vertices) (tree node.entry)) }
 {
-    match node.kind() {
-        Kind::Array => {
-            if count_items(node) != 1 {
-                add(node, Reason::BadInstance, found);
-            }
-            for item in node.items() {
-                check_index(item, Reason::VertexIndex, vertices, found);
-            }
-        }
-        _ => add(node, Reason::WrongKind, found),
+    check_length(node, 1, Reason::BadInstance, found);
+    for item in node.items() {
+        check_index(item, Reason::VertexIndex, vertices, found);
     }
 }
 
 /// The instance has one vertex.
 fn check_point_member(object: Node, vertices: Option<u64>, found: &mut Least)
-    ensures { found.new ≡ least found.old (needs (chars (codes "boundaries")) (of_length 1 (index VertexIndex vertices)) (tree object.entry)) }
+    ensures { found.new ≡ least found.old (needs (chars (codes "boundaries")) (of_length BadInstance 1 (index VertexIndex vertices)) (tree object.entry)) }
 {
-    match object.get("boundaries") {
-        Some(value) => check_point(value, vertices, found),
-        None => add(object, Reason::MissingMember, found),
+    if let Some(value) = needed(object, "boundaries", found) {
+        check_point(value, vertices, found);
     }
 }
 
 /// The value is an array of 16 numbers.
 fn check_matrix(node: Node, found: &mut Least)
-    ensures { found.new ≡ least found.old (of_length 16 number (tree node.entry)) }
+    ensures { found.new ≡ least found.old (of_length BadInstance 16 number (tree node.entry)) }
 {
-    match node.kind() {
-        Kind::Array => {
-            if count_items(node) != 16 {
-                add(node, Reason::BadInstance, found);
-            }
-            for item in node.items() {
-                check_number(item, found);
-            }
-        }
-        _ => add(node, Reason::WrongKind, found),
+    check_length(node, 16, Reason::BadInstance, found);
+    for item in node.items() {
+        check_number(item, found);
     }
 }
 
 /// The instance has a matrix.
 fn check_matrix_member(object: Node, found: &mut Least)
-    ensures { found.new ≡ least found.old (needs (chars (codes "transformationMatrix")) (of_length 16 number) (tree object.entry)) }
+    ensures { found.new ≡ least found.old (needs (chars (codes "transformationMatrix")) (of_length BadInstance 16 number) (tree object.entry)) }
 {
-    match object.get("transformationMatrix") {
-        Some(value) => check_matrix(value, found),
-        None => add(object, Reason::MissingMember, found),
+    if let Some(value) = needed(object, "transformationMatrix", found) {
+        check_matrix(value, found);
     }
 }
 
@@ -196,12 +181,11 @@ fn check_form(
 fn check_typed(object: Node, vertices: Option<u64>, templates: Templates, found: &mut Least)
     ensures { found.new ≡ least found.old (typed_rules vertices (given templates.entry) (tree object.entry)) }
 {
-    match object.get("type") {
-        Some(name) => match name.kind() {
+    if let Some(name) = needed(object, "type", found) {
+        match name.kind() {
             Kind::Text => check_form(object, name, vertices, templates, found),
             _ => add(name, Reason::WrongKind, found),
-        },
-        None => add(object, Reason::MissingMember, found),
+        }
     }
 }
 
@@ -210,11 +194,8 @@ fn check_typed(object: Node, vertices: Option<u64>, templates: Templates, found:
 pub fn check_geometry(node: Node, vertices: Option<u64>, templates: Templates, found: &mut Least)
     ensures { found.new ≡ least found.old (geometry vertices (given templates.entry) (tree node.entry)) }
 {
-    match node.kind() {
-        Kind::Object => {
-            check_names(node, found);
-            check_typed(node, vertices, templates, found);
-        }
-        _ => add(node, Reason::WrongKind, found),
+    if check_object(node, found) {
+        check_names(node, found);
+        check_typed(node, vertices, templates, found);
     }
 }

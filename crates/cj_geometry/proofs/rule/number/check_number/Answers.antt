@@ -3,7 +3,7 @@ use Rattle.cj_decimal.specs.Spelling.{IsNumberInRange}
 use Rattle.cj_spans.specs.View.{tree, line_of}
 use Rattle.cj_spans.specs.Parts.{spelling_of}
 use Rattle.cj_geometry.proofs.Numbers.{number-in, number-fault}
-use Rattle.cj_geometry.proofs.number.check_number.Goals as goal
+use Rattle.cj_geometry.proofs.rule.number.check_number.Goals as goal
 
 pub returns-in-Ok : goal.returns-in-Ok
 returns-in-Ok c =

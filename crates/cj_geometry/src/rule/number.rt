@@ -1,35 +1,12 @@
 //! Numbers that rules read.
-ghost use Rattle.std.specs.Prelude.{◌≡◌, length};
-ghost use Rattle.cj_spans.specs.Parts.{items_of};
+ghost use Rattle.std.specs.Prelude.{◌≡◌};
 ghost use Rattle.cj_spans.specs.Finding.{least};
 ghost use Rattle.cj_spans.specs.View.{tree};
-ghost use Rattle.cj_geometry.specs.Rule.{number as number_of, index as index_of, is_outside as is_outside_of, whole_of, fault_reason, one};
+ghost use Rattle.cj_geometry.specs.Rule.{number, index, whole_number, is_outside as is_outside_of, whole_of, fault_reason};
 
+use crate::rule::add;
 use cj_decimal::{Decimal, DecimalFault};
-use cj_spans::{Finding, Kind, Least, Node, Reason};
-
-/// Adds a reason at a value. Few values have one.
-#[cold]
-#[inline(never)]
-pub fn add(node: Node, reason: Reason, found: &mut Least)
-    ensures { found.new ≡ least found.old (one reason (tree node.entry)) }
-{
-    found.add(Finding {
-        place: node.start(),
-        reason,
-    });
-}
-
-/// How many items an array has.
-pub fn count_items(node: Node) -> u64
-    ensures { result ≡ length (items_of (tree node.entry)) }
-{
-    let mut count = 0;
-    for _ in node.items() {
-        count += 1;
-    }
-    count
-}
+use cj_spans::{Kind, Least, Node, Reason};
 
 /// What is wrong with a number of this fault. What is no number at all is of the wrong kind.
 fn reason_of(fault: DecimalFault) -> Reason
@@ -43,7 +20,7 @@ fn reason_of(fault: DecimalFault) -> Reason
 
 /// The value is a number in range.
 pub fn check_number(node: Node, found: &mut Least)
-    ensures { found.new ≡ least found.old (number_of (tree node.entry)) }
+    ensures { found.new ≡ least found.old (number (tree node.entry)) }
 {
     match node.kind() {
         Kind::Number => match Decimal::read(node.bytes()) {
@@ -81,7 +58,7 @@ pub fn read_whole(node: Node) -> Option<i64>
 /// has `outside`.
 #[inline(always)]
 pub fn check_index(node: Node, outside: Reason, count: Option<u64>, found: &mut Least)
-    ensures { found.new ≡ least found.old (index_of outside count (tree node.entry)) }
+    ensures { found.new ≡ least found.old (index outside count (tree node.entry)) }
 {
     match node.kind() {
         Kind::Number => match Decimal::read_whole(node.bytes()) {
@@ -95,4 +72,12 @@ pub fn check_index(node: Node, outside: Reason, count: Option<u64>, found: &mut 
         },
         _ => add(node, Reason::WrongKind, found),
     }
+}
+
+/// The value is a number in range and whole, of any sign and size.
+#[inline(always)]
+pub fn check_whole(node: Node, found: &mut Least)
+    ensures { found.new ≡ least found.old (whole_number (tree node.entry)) }
+{
+    check_index(node, Reason::NotWhole, None, found);
 }
