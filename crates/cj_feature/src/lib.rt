@@ -1,0 +1,6 @@
+//! Headers and features of CityJSONSeq texts (CityJSON 2.0, sections 1, 2 and 8, and the CityJSONSeq page of
+//! cityjson.org): what is wrong with a line, and what a valid one shows.
+#![tactic(auto)]
+
+#[cfg(test)]
+mod examples;
