@@ -4,3 +4,7 @@
 
 #[cfg(test)]
 mod examples;
+mod header;
+mod member;
+
+pub use header::{check_root, count_member};

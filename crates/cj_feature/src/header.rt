@@ -1,0 +1,4 @@
+//! Headers.
+mod rules;
+
+pub use rules::{check_root, count_member};
