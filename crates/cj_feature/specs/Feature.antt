@@ -11,17 +11,14 @@ use Rattle.cj_geometry.specs.Rule.{one, of_kind, nothing, needs, may_have, whole
 use Rattle.cj_geometry.specs.ObjectTypes.{ObjectRow, row_of}
 use Rattle.cj_geometry.specs.Geometry.{Given, listed, empty, geometry, count_of}
 use Rattle.cj_feature.specs.Header.{has_member_named}
+use Rattle.cj_feature.specs.Members.{member_if}
 use Rattle.cj_feature.specs.Links.{is_known, is_part, links}
 
 -- ---- the header's templates
 
-abbrev pub member_if : List ℕ → Option Tree → Option Tree
-member_if name None = None
-member_if name (Some t) = member_of name t
-
 abbrev pub given_list : Option Tree → Given
 given_list None = empty
-given_list (Some t) = listed t
+given_list (Some t) = cond (is_array (kind_of t)) (listed t) empty
 
 -- the list of the header of this tree, or none at all
 abbrev pub templates_of : Tree → Given

@@ -9,15 +9,11 @@ use Rattle.cj_spans.specs.Kinds.{is_text, is_array}
 use Rattle.cj_spans.specs.Parts.{kind_of, items_of, members_of, member_of, text_of, are_same_texts, has_text}
 use Rattle.cj_geometry.specs.Rule.{one}
 use Rattle.cj_geometry.specs.ObjectTypes.{is_second_level}
+use Rattle.cj_feature.specs.Members.{items_if}
 
 -- both have one text
 abbrev pub same_text : Tree → Tree → Bool
 same_text t u = are_same_texts (text_of t) (text_of u)
-
--- the items of an array, if there is one
-abbrev pub items_if : Option Tree → List Tree
-items_if None = []
-items_if (Some t) = items_of t
 
 -- what a city object lists in its member of this name
 abbrev pub listed_in : List ℕ → Tree → List Tree

@@ -7,4 +7,4 @@ mod examples;
 mod header;
 mod member;
 
-pub use header::{check_root, count_member};
+pub use header::{Header, HeaderParts, check_header};

@@ -1,10 +1,9 @@
-use Rattle.std.proofs.Common.{◌≡◌, sym, false, codes, ◌++◌}
+use Rattle.std.proofs.Common.{sym, false, codes, ◌++◌}
 use Rattle.std.specs.Str.{chars}
 use Rattle.cj_spans.specs.declared.reason.Reason.TheVariants.{WrongType, WrongVersion}
-use Rattle.cj_spans.specs.Finding.{least}
 use Rattle.cj_spans.specs.View.{tree}
 use Rattle.cj_spans.specs.Kinds.{is_object}
-use Rattle.cj_spans.proofs.Findings.{least-two, least-three}
+use Rattle.cj_spans.proofs.Findings.{least-three}
 use Rattle.cj_geometry.specs.Rule.{needs, may_have, distinct}
 use Rattle.cj_geometry.proofs.OfKind.{of_kind-then}
 use Rattle.cj_feature.specs.Header.{has_member_named, transform, empty_object, empty_array, geometry_templates, header_rules}

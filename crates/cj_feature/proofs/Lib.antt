@@ -1,0 +1,4 @@
+pub mod None
+pub mod Valid
+pub mod Values
+pub mod Verdict
