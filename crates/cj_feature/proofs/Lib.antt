@@ -1,3 +1,4 @@
+pub mod LinkFaults
 pub mod None
 pub mod Valid
 pub mod Values

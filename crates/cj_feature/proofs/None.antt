@@ -25,6 +25,16 @@ module _ (rule : Tree → List Finding) (t : Tree) where
   by-member None h = absurd (cc h)
   by-member (Some u) h = (u, refl, h)
 
-  -- the member is there, and the rule on it finds nothing
-  pub needs-none : (name : List ℕ) → needs name rule t ≡ [] → (u : Tree) × (member_of name t ≡ Some u) × (rule u ≡ [])
-  needs-none name h = by-member (member_of name t) h
+  -- the member is there, and the rule on it finds nothing; o is what a look-up of it has answered
+  module _ (name : List ℕ) (none : needs name rule t ≡ []) (o : Option Tree) (is : o ≡ member_of name t) where
+    found : (u : Tree) × (member_of name t ≡ Some u) × (rule u ≡ [])
+    found = by-member (member_of name t) none
+
+    pub is-there : o ≡ None → ⊥
+    is-there e = let has = found in cc
+
+    pub then-none : (u : Tree) → o ≡ Some u → rule u ≡ []
+    then-none u e =
+        let has = found in
+        let same : u ≡ has.0 = cc in
+        rw same has.2

@@ -4,7 +4,11 @@
 
 #[cfg(test)]
 mod examples;
+mod feature;
 mod header;
+mod laws;
 mod member;
 
+pub use feature::{Feature, check_feature};
 pub use header::{Header, HeaderParts, check_header};
+pub use laws::links_are_the_links;
