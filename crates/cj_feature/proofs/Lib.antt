@@ -1,3 +1,4 @@
+pub mod Fixed
 pub mod LinkFaults
 pub mod None
 pub mod Typed

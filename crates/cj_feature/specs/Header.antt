@@ -24,11 +24,11 @@ has_member_named name reason text u = needs name (of_kind is_text (is_named reas
 
 -- ---- the transform
 
--- a number in normal form is a multiple of 10^-18 and below 10^18 in size: its power is -18 or more, or it is 0, and it
--- is below 10^36 units of 10^-18
+-- a number in normal form is a multiple of 10^-18 and below 10^18 in size: its power is -18 or more, and it is below
+-- 10^36 units of 10^-18
 abbrev pub is_fixed_by : ℤ → ℤ → Bool
 is_fixed_by (pos shift) c = nat_lt (unsigned_abs c * 10 ^ shift) (10 ^ 36)
-is_fixed_by (negsuc shift) c = nat_eq (unsigned_abs c) 0
+is_fixed_by (negsuc shift) c = false
 
 abbrev pub is_fixed : Number → Bool
 is_fixed n = is_fixed_by (n.power +ℤ pos 18) n.coefficient

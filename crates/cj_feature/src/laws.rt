@@ -1,9 +1,11 @@
 //! Laws of the definitions, proved once and for all.
-ghost use Rattle.std.specs.Prelude.{◌↔◌, Some};
+ghost use Rattle.std.specs.Prelude.{◌↔◌, Some, ℤ, IsTrue};
 ghost use Rattle.std.specs.List.{Contains};
 ghost use Rattle.cj_spans.specs.Tree.{Tree};
 ghost use Rattle.cj_spans.specs.declared.finding.Finding.{Finding};
 ghost use Rattle.cj_spans.specs.Parts.{members_of};
+ghost use Rattle.cj_decimal.specs.Number.{Number, IsNormal, IsFixed};
+ghost use Rattle.cj_feature.specs.Header.{is_fixed};
 ghost use Rattle.cj_feature.specs.Links.{links};
 ghost use Rattle.cj_feature.specs.Relations.{IsLinkFault};
 
@@ -11,4 +13,10 @@ ghost use Rattle.cj_feature.specs.Relations.{IsLinkFault};
 /// compute, and by relations between ids. Both say the same, finding by finding.
 pub fn links_are_the_links()
     ensures { (t : Tree) (f : Finding) → Contains (links (Some t)) f ↔ IsLinkFault (members_of t) f }
+{}
+
+/// The test for a fixed number in the rule on a transform beside a box is right: it answers true for
+/// the numbers in normal form that are whole numbers of units of 10^-18, below 10^18 in size.
+pub fn fixed_numbers_are_fixed()
+    ensures { (n : Number) → IsNormal n → (IsTrue (is_fixed n) ↔ ((u : ℤ) × IsFixed n u)) }
 {}

@@ -8,7 +8,9 @@ mod feature;
 mod header;
 mod laws;
 mod member;
+#[cfg(test)]
+mod tests;
 
 pub use feature::{CityObject, Feature, Geometries, Objects, Vertices, check_feature};
 pub use header::{Header, HeaderParts, check_header};
-pub use laws::links_are_the_links;
+pub use laws::{fixed_numbers_are_fixed, links_are_the_links};

@@ -1,0 +1,35 @@
+-- The test for a fixed number.
+use Rattle.std.proofs.Common.{◌≡◌, ℕ, ◌+◌, ◌*◌, ◌^◌, ◌<◌, Bool, true, false, nat_lt, ℤ, pos, negsuc, neg_ℤ, ◌+ℤ◌, ◌*ℤ◌, ◌<ℤ◌, ◌≤ℤ◌, refl, arith}
+use Rattle.std.specs.Prelude.{unsigned_abs}
+use Rattle.std.proofs.lemmas.Int.{ints}
+use Rattle.std.proofs.lemmas.Bool.Decides.{nat_tests}
+use Rattle.cj_decimal.specs.Number.{Number, number, SameValue, IsNormal, IsFixed}
+use Rattle.cj_decimal.proofs.Values.{abs_times}
+use Rattle.cj_decimal.proofs.Scales.{units_below, units_same, size_of_units}
+use Rattle.cj_feature.specs.Header.{is_fixed_by, is_fixed}
+
+below-is : (a b : ℕ) → nat_lt a b ≡ true → a < b
+below-is a b h = grind (arith, nat_tests)
+
+is-below : (a b : ℕ) → a < b → nat_lt a b ≡ true
+is-below a b h = grind (arith, nat_tests)
+
+module _ (n : Number) (normal : IsNormal n) where
+  test-of : (shift : ℤ) → n.power +ℤ pos 18 ≡ shift → is_fixed_by shift n.coefficient ≡ true → (u : ℤ) × IsFixed n u
+  test-of (pos k) e h =
+      let u = n.coefficient *ℤ pos (10 ^ k) in
+      let small : unsigned_abs u < 10 ^ 36 = omega (arith, abs_times n.coefficient (10 ^ k), below-is (unsigned_abs n.coefficient * 10 ^ k) (10 ^ 36) h) in
+      (u, record { same = units_same n u (neg_ℤ (pos 18)) k (omega (arith, ints, e)) refl; small = small })
+  test-of (negsuc k) e h = absurd (cc h)
+
+  of-test : (shift : ℤ) → n.power +ℤ pos 18 ≡ shift → (u : ℤ) × IsFixed n u → is_fixed_by shift n.coefficient ≡ true
+  of-test (pos k) e f =
+      let size : unsigned_abs f.0 ≡ unsigned_abs n.coefficient * 10 ^ k = size_of_units n f.0 (neg_ℤ (pos 18)) k (omega (arith, ints, e)) f.1.same in
+      is-below (unsigned_abs n.coefficient * 10 ^ k) (10 ^ 36) (omega (arith, size, f.1.small))
+  of-test (negsuc k) e f = absurd (units_below n f.0 (neg_ℤ (pos 18)) normal f.1.same (omega (arith, ints, e)) (omega (arith, ints)))
+
+  pub fixed-test : is_fixed n ≡ true → (u : ℤ) × IsFixed n u
+  fixed-test = test-of (n.power +ℤ pos 18) refl
+
+  pub test-fixed : (u : ℤ) × IsFixed n u → is_fixed n ≡ true
+  test-fixed = of-test (n.power +ℤ pos 18) refl
