@@ -1,0 +1,143 @@
+//! Rows of headers and features: what is wrong with each is told from the rules, and not by the program. A
+//! table has a row a line, with bars between its cells: a name, what stands in the hole `_` of the
+//! table's line, and the code and the text of the reason, or `none`. The mark `^` stands where the
+//! finding is, and is no part of the line; without a mark a row counts the place itself.
+ghost use Rattle.cj_spans.specs.Sound.{AreOf};
+
+mod headers;
+mod links;
+mod objects;
+mod pairs;
+mod shown;
+mod templates;
+mod worked;
+
+use crate::{check_feature, check_header};
+use cj_budget::{Bounded, Stack};
+use cj_spans::{Doc, Finding, Token, scan};
+use std::alloc::{AllocError, Global};
+use std::process::Abort;
+
+/// A header without templates.
+const HEADER: &str =
+    r#"{"type":"CityJSON","version":"2.0","transform":{"scale":[0.001,0.001,0.001],"translate":[1000.0,2000.0,0.0]},"CityObjects":{},"vertices":[]}"#;
+
+/// The tokens of a line that is a JSON text.
+fn tokens_of(rt: &impl Abort, alloc: Global, line: &[u8]) -> Bounded<Token>
+    ensures { AreOf line.now result.elements }
+{
+    assert!(rt; line.len() <= 2_000);
+    let mut tokens: Bounded<Token> = Bounded::new(alloc, 2_000);
+    let mut stack = Stack::new(alloc, 64);
+    match scan(line, &mut tokens, &mut stack) {
+        Ok(()) => {}
+        Err(fault) => panic!(rt; "{fault:?}"),
+    }
+    tokens
+}
+
+/// The finding of a line that is judged as a header.
+fn header_finding(rt: &impl Abort, alloc: Global, line: &[u8]) -> Option<Finding> {
+    let tokens = tokens_of(rt, alloc, line);
+    match check_header(Doc::of(line, tokens.as_slice()), false) {
+        Ok(_) => None,
+        Err(finding) => Some(finding),
+    }
+}
+
+/// The finding of a line that is judged as a feature, beside a header.
+fn feature_finding(
+    rt: &impl Abort,
+    alloc: Global,
+    header_line: &[u8],
+    line: &[u8],
+) -> Option<Finding> {
+    let header_tokens = tokens_of(rt, alloc, header_line);
+    let tokens = tokens_of(rt, alloc, line);
+    match check_header(Doc::of(header_line, header_tokens.as_slice()), false) {
+        Ok(header) => match check_feature(Doc::of(line, tokens.as_slice()), &header) {
+            Ok(_) => None,
+            Err(finding) => Some(finding),
+        },
+        Err(_) => panic!(rt; "no header"),
+    }
+}
+
+/// A finding as a row tells it: its place, and the code and the text of its reason.
+fn finding_text(alloc: Global, found: Option<Finding>) -> Result<String, AllocError> {
+    match found {
+        Some(Finding { place, reason }) => {
+            format!(in alloc; "{place} {} {}", reason.code(), reason.text())
+        }
+        None => String::from_str(alloc, "none"),
+    }
+}
+
+/// The line with a cell in the hole.
+fn filled(alloc: Global, pattern: &str, cell: &str) -> Result<String, AllocError> {
+    match pattern.split_once('_') {
+        Some((front, back)) => format!(in alloc; "{front}{cell}{back}"),
+        None => String::from_str(alloc, pattern),
+    }
+}
+
+/// The line without its mark, and what is wanted with the place of the mark.
+fn unmarked(alloc: Global, line: &str, want: &str) -> Result<(String, String), AllocError> {
+    match line.split_once('^') {
+        Some((front, back)) => Ok((
+            format!(in alloc; "{front}{back}")?,
+            format!(in alloc; "{} {want}", front.len())?,
+        )),
+        None => Ok((
+            String::from_str(alloc, line)?,
+            String::from_str(alloc, want)?,
+        )),
+    }
+}
+
+/// The line of a row, and what the row wants there.
+fn line_of(
+    rt: &impl Abort,
+    alloc: Global,
+    pattern: &str,
+    row: &str,
+) -> Result<(String, String), AllocError> {
+    let mut cells = row.split('|');
+    let _name = cells.next().expect(rt, "a name");
+    let cell = cells.next().expect(rt, "a cell").trim();
+    let want = cells.next().expect(rt, "what is wanted").trim();
+    let line = filled(alloc, pattern, cell)?;
+    unmarked(alloc, &line, want)
+}
+
+/// Each row of the table, as a header, has the finding that it wants.
+fn headers_meet(
+    rt: &impl Abort,
+    alloc: Global,
+    pattern: &str,
+    rows: &str,
+) -> Result<(), AllocError> {
+    for row in rows.trim().lines() {
+        let (line, want) = line_of(rt, alloc, pattern, row)?;
+        let found = finding_text(alloc, header_finding(rt, alloc, line.as_bytes()))?;
+        assert_eq!(rt; found.as_str(), want.as_str(), "{row}");
+    }
+    Ok(())
+}
+
+/// Each row of the table, as a feature beside this header, has the finding that it wants.
+fn features_meet(
+    rt: &impl Abort,
+    alloc: Global,
+    header: &str,
+    pattern: &str,
+    rows: &str,
+) -> Result<(), AllocError> {
+    for row in rows.trim().lines() {
+        let (line, want) = line_of(rt, alloc, pattern, row)?;
+        let found = feature_finding(rt, alloc, header.as_bytes(), line.as_bytes());
+        let found = finding_text(alloc, found)?;
+        assert_eq!(rt; found.as_str(), want.as_str(), "{row}");
+    }
+    Ok(())
+}

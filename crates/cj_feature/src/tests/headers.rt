@@ -1,0 +1,183 @@
+//! Headers, rule by rule.
+use super::headers_meet;
+use std::test::Fail;
+
+#[test]
+fn roots(rt: HostRuntime) -> Result<(), Fail> {
+    headers_meet(
+        &rt,
+        rt.alloc(),
+        r#"_"#,
+        r#"
+        an object of all members | {"type":"CityJSON","version":"2.0","transform":{"scale":[1,1,1],"translate":[0,0,0]},"CityObjects":{},"vertices":[]} | none
+        white space round it |   {"type":"CityJSON","version":"2.0","transform":{"scale":[1,1,1],"translate":[0,0,0]},"CityObjects":{},"vertices":[]}  | none
+        a number | ^3 | 12 wrong kind
+        null | ^null | 12 wrong kind
+        a text | ^"CityJSON" | 12 wrong kind
+        an array of a header | ^[{"type":"CityJSON","version":"2.0","transform":{"scale":[1,1,1],"translate":[0,0,0]},"CityObjects":{},"vertices":[]}] | 12 wrong kind
+        no members | ^{} | 10 member missing
+        "#,
+    )?;
+    Ok(())
+}
+
+#[test]
+fn members_that_are_missing(rt: HostRuntime) -> Result<(), Fail> {
+    headers_meet(
+        &rt,
+        rt.alloc(),
+        r#"_"#,
+        r#"
+        a type | ^{"version":"2.0","transform":{"scale":[1,1,1],"translate":[0,0,0]},"CityObjects":{},"vertices":[]} | 10 member missing
+        a version | ^{"type":"CityJSON","transform":{"scale":[1,1,1],"translate":[0,0,0]},"CityObjects":{},"vertices":[]} | 10 member missing
+        a transform | ^{"type":"CityJSON","version":"2.0","CityObjects":{},"vertices":[]} | 10 member missing
+        city objects | ^{"type":"CityJSON","version":"2.0","transform":{"scale":[1,1,1],"translate":[0,0,0]},"vertices":[]} | 10 member missing
+        vertices | ^{"type":"CityJSON","version":"2.0","transform":{"scale":[1,1,1],"translate":[0,0,0]},"CityObjects":{}} | 10 member missing
+        a name of another case | ^{"Type":"CityJSON","version":"2.0","transform":{"scale":[1,1,1],"translate":[0,0,0]},"CityObjects":{},"vertices":[]} | 10 member missing
+        a name by an escape is not | {"\u0074ype":"CityJSON","version":"2.0","transform":{"scale":[1,1,1],"translate":[0,0,0]},"CityObjects":{},"vertices":[]} | none
+        "#,
+    )?;
+    Ok(())
+}
+
+#[test]
+fn types(rt: HostRuntime) -> Result<(), Fail> {
+    headers_meet(
+        &rt,
+        rt.alloc(),
+        r#"{"type":_,"version":"2.0","transform":{"scale":[1,1,1],"translate":[0,0,0]},"CityObjects":{},"vertices":[]}"#,
+        r#"
+        the type | "CityJSON" | none
+        by an escape | "\u0043ityJSON" | none
+        that of a feature | ^"CityJSONFeature" | 14 wrong type
+        another case | ^"cityJSON" | 14 wrong type
+        a blank more | ^"CityJSON " | 14 wrong type
+        the empty text | ^"" | 14 wrong type
+        a number | ^3 | 12 wrong kind
+        null | ^null | 12 wrong kind
+        an array of it | ^["CityJSON"] | 12 wrong kind
+        "#,
+    )?;
+    Ok(())
+}
+
+#[test]
+fn versions(rt: HostRuntime) -> Result<(), Fail> {
+    headers_meet(
+        &rt,
+        rt.alloc(),
+        r#"{"type":"CityJSON","version":_,"transform":{"scale":[1,1,1],"translate":[0,0,0]},"CityObjects":{},"vertices":[]}"#,
+        r#"
+        the version | "2.0" | none
+        by an escape | "2\u002e0" | none
+        an older one | ^"1.1" | 15 wrong version
+        a digit more | ^"2.00" | 15 wrong version
+        a digit less | ^"2" | 15 wrong version
+        another part | ^"2.0.0" | 15 wrong version
+        the empty text | ^"" | 15 wrong version
+        a number | ^2.0 | 12 wrong kind
+        null | ^null | 12 wrong kind
+        "#,
+    )?;
+    Ok(())
+}
+
+#[test]
+fn transforms(rt: HostRuntime) -> Result<(), Fail> {
+    headers_meet(
+        &rt,
+        rt.alloc(),
+        r#"{"type":"CityJSON","version":"2.0","transform":_,"CityObjects":{},"vertices":[]}"#,
+        r#"
+        members in the other order | {"translate":[0,0,0],"scale":[1,1,1]} | none
+        a member more | {"scale":[1,1,1],"translate":[0,0,0],"rotate":0} | none
+        an array | ^[] | 12 wrong kind
+        null | ^null | 12 wrong kind
+        no members | ^{} | 10 member missing
+        no scale | ^{"translate":[0,0,0]} | 10 member missing
+        no translation | ^{"scale":[1,1,1]} | 10 member missing
+        a scale that is an object | {"scale":^{},"translate":[0,0,0]} | 12 wrong kind
+        a translation that is a number | {"scale":[1,1,1],"translate":^0} | 12 wrong kind
+        two scales | {"scale":[1,1,1],"translate":[0,0,0],^"scale":[1,1,1]} | 11 duplicate name
+        two unread members | {"scale":[1,1,1],"a":0,"translate":[0,0,0],^"\u0061":0} | 11 duplicate name
+        "#,
+    )?;
+    Ok(())
+}
+
+#[test]
+fn scales(rt: HostRuntime) -> Result<(), Fail> {
+    headers_meet(
+        &rt,
+        rt.alloc(),
+        r#"{"type":"CityJSON","version":"2.0","transform":{"scale":_,"translate":[0,0,0]},"CityObjects":{},"vertices":[]}"#,
+        r#"
+        three numbers | [0.001,-1e3,0] | none
+        two numbers | ^[1,1] | 17 not three items
+        four numbers | ^[1,1,1,1] | 17 not three items
+        no numbers | ^[] | 17 not three items
+        two numbers and a text | [1,1,^"1"] | 12 wrong kind
+        null | [1,^null,1] | 12 wrong kind
+        an array | [1,1,^[1]] | 12 wrong kind
+        37 digits | [^1111111111111111111111111111111111111,1,1] | 13 number out of range
+        36 digits | [111111111111111111111111111111111111,1,1] | none
+        a power too great | [1,1,^1e1000001] | 13 number out of range
+        a small power, where there is no box | [1e-19,1e18,1] | none
+        two numbers, of which the second is a text | ^[1,"1"] | 17 not three items
+        "#,
+    )?;
+    Ok(())
+}
+
+#[test]
+fn translations(rt: HostRuntime) -> Result<(), Fail> {
+    headers_meet(
+        &rt,
+        rt.alloc(),
+        r#"{"type":"CityJSON","version":"2.0","transform":{"scale":[1,1,1],"translate":_},"CityObjects":{},"vertices":[]}"#,
+        r#"
+        three numbers | [1000.0,2000.0,0.0] | none
+        two numbers | ^[1,1] | 17 not three items
+        four numbers | ^[1,1,1,1] | 17 not three items
+        a truth | [^true,1,1] | 12 wrong kind
+        a power too small | [1,^1e-1000001,1] | 13 number out of range
+        "#,
+    )?;
+    Ok(())
+}
+
+#[test]
+fn city_objects_and_vertices(rt: HostRuntime) -> Result<(), Fail> {
+    headers_meet(
+        &rt,
+        rt.alloc(),
+        r#"_"#,
+        r#"
+        a city object | {"type":"CityJSON","version":"2.0","transform":{"scale":[1,1,1],"translate":[0,0,0]},"CityObjects":^{"b":{"type":"Building"}},"vertices":[]} | 16 not empty
+        two of one name, which stand later | {"type":"CityJSON","version":"2.0","transform":{"scale":[1,1,1],"translate":[0,0,0]},"CityObjects":^{"b":0,"b":0},"vertices":[]} | 16 not empty
+        an array of city objects | {"type":"CityJSON","version":"2.0","transform":{"scale":[1,1,1],"translate":[0,0,0]},"CityObjects":^[],"vertices":[]} | 12 wrong kind
+        null for city objects | {"type":"CityJSON","version":"2.0","transform":{"scale":[1,1,1],"translate":[0,0,0]},"CityObjects":^null,"vertices":[]} | 12 wrong kind
+        a vertex | {"type":"CityJSON","version":"2.0","transform":{"scale":[1,1,1],"translate":[0,0,0]},"CityObjects":{},"vertices":^[[0,0,0]]} | 16 not empty
+        an object of vertices | {"type":"CityJSON","version":"2.0","transform":{"scale":[1,1,1],"translate":[0,0,0]},"CityObjects":{},"vertices":^{}} | 12 wrong kind
+        null for vertices | {"type":"CityJSON","version":"2.0","transform":{"scale":[1,1,1],"translate":[0,0,0]},"CityObjects":{},"vertices":^null} | 12 wrong kind
+        "#,
+    )?;
+    Ok(())
+}
+
+#[test]
+fn names_of_a_header_are_distinct(rt: HostRuntime) -> Result<(), Fail> {
+    headers_meet(
+        &rt,
+        rt.alloc(),
+        r#"{"type":"CityJSON","version":"2.0","transform":{"scale":[1,1,1],"translate":[0,0,0]},"CityObjects":{},"vertices":[],_}"#,
+        r#"
+        another member | "metadata":{"a":1,"a":2} | none
+        a member of an extension | "+a":1 | none
+        a type | ^"type":"CityJSON" | 11 duplicate name
+        vertices by an escape | ^"vertice\u0073":[] | 11 duplicate name
+        two that are not read | "a":1,^"a":1 | 11 duplicate name
+        "#,
+    )?;
+    Ok(())
+}

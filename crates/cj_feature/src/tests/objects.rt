@@ -1,0 +1,207 @@
+//! Features, rule by rule, but for links.
+use super::{HEADER, features_meet};
+use std::test::Fail;
+
+#[test]
+fn roots(rt: HostRuntime) -> Result<(), Fail> {
+    features_meet(
+        &rt,
+        rt.alloc(),
+        HEADER,
+        r#"_"#,
+        r#"
+        an object of all members | {"type":"CityJSONFeature","id":"b","CityObjects":{"b":{"type":"Building"}},"vertices":[]} | none
+        a number | ^3 | 12 wrong kind
+        an array of a feature | ^[{"type":"CityJSONFeature","id":"b","CityObjects":{"b":{"type":"Building"}},"vertices":[]}] | 12 wrong kind
+        no members | ^{} | 10 member missing
+        a header | ^{"type":"CityJSON","version":"2.0","transform":{"scale":[1,1,1],"translate":[0,0,0]},"CityObjects":{},"vertices":[]} | 10 member missing
+        no type | ^{"id":"b","CityObjects":{"b":{"type":"Building"}},"vertices":[]} | 10 member missing
+        no id | ^{"type":"CityJSONFeature","CityObjects":{"b":{"type":"Building"}},"vertices":[]} | 10 member missing
+        no city objects | ^{"type":"CityJSONFeature","id":"b","vertices":[]} | 10 member missing
+        no vertices | ^{"type":"CityJSONFeature","id":"b","CityObjects":{"b":{"type":"Building"}}} | 10 member missing
+        "#,
+    )?;
+    Ok(())
+}
+
+#[test]
+fn types(rt: HostRuntime) -> Result<(), Fail> {
+    features_meet(
+        &rt,
+        rt.alloc(),
+        HEADER,
+        r#"{"type":_,"id":"b","CityObjects":{"b":{"type":"Building"}},"vertices":[]}"#,
+        r#"
+        the type | "CityJSONFeature" | none
+        by an escape | "CityJSON\u0046eature" | none
+        that of a header | ^"CityJSON" | 14 wrong type
+        a letter more | ^"CityJSONFeatures" | 14 wrong type
+        a number | ^1 | 12 wrong kind
+        "#,
+    )?;
+    Ok(())
+}
+
+#[test]
+fn ids(rt: HostRuntime) -> Result<(), Fail> {
+    features_meet(
+        &rt,
+        rt.alloc(),
+        HEADER,
+        r#"{"type":"CityJSONFeature","id":_,"CityObjects":{"b":{"type":"Building"}},"vertices":[]}"#,
+        r#"
+        the name of a city object | "b" | none
+        the same by an escape | "\u0062" | none
+        another name | ^"c" | 20 id not among the city objects
+        the empty text | ^"" | 20 id not among the city objects
+        a letter more | ^"bb" | 20 id not among the city objects
+        a number | ^3 | 12 wrong kind
+        null | ^null | 12 wrong kind
+        "#,
+    )?;
+    Ok(())
+}
+
+#[test]
+fn ids_beside_other_names(rt: HostRuntime) -> Result<(), Fail> {
+    features_meet(
+        &rt,
+        rt.alloc(),
+        HEADER,
+        r#"{"type":"CityJSONFeature","id":"b",_,"vertices":[]}"#,
+        r#"
+        the second of two | "CityObjects":{"a":{"type":"Road"},"b":{"type":"Road"}} | none
+        a name by an escape | "CityObjects":{"\u0062":{"type":"Road"}} | none
+        a name whose value is no object | "CityObjects":{"b":^3} | 12 wrong kind
+        city objects that are no object | "CityObjects":^[] | 12 wrong kind
+        null for city objects | "CityObjects":^null | 12 wrong kind
+        "#,
+    )?;
+    Ok(())
+}
+
+#[test]
+fn values_of_city_objects(rt: HostRuntime) -> Result<(), Fail> {
+    features_meet(
+        &rt,
+        rt.alloc(),
+        HEADER,
+        r#"{"type":"CityJSONFeature","id":"b","CityObjects":{"b":_},"vertices":[]}"#,
+        r#"
+        a city object | {"type":"Road"} | none
+        a number | ^3 | 12 wrong kind
+        null | ^null | 12 wrong kind
+        an array | ^[] | 12 wrong kind
+        no type | ^{} | 10 member missing
+        an unknown type | {"type":^"Shed"} | 19 unknown object type
+        a type of an extension | {"type":^"+Shed"} | 19 unknown object type
+        a small letter | {"type":^"road"} | 19 unknown object type
+        a type by an escape | {"type":"\u0052oad"} | none
+        a type that is a number | {"type":^3} | 12 wrong kind
+        null for a type | {"type":^null} | 12 wrong kind
+        doubled names | {"type":"Road",^"type":"Road"} | 11 duplicate name
+        doubled names of a member that is not read | {"type":"Road","attributes":{"a":1,"a":2}} | none
+        "#,
+    )?;
+    Ok(())
+}
+
+#[test]
+fn members_of_city_objects(rt: HostRuntime) -> Result<(), Fail> {
+    features_meet(
+        &rt,
+        rt.alloc(),
+        HEADER,
+        r#"{"type":"CityJSONFeature","id":"b","CityObjects":{"b":{"type":"Building",_}},"vertices":[]}"#,
+        r#"
+        no geometries | "geometry":[] | none
+        an object of geometries | "geometry":^{} | 12 wrong kind
+        null for geometries | "geometry":^null | 12 wrong kind
+        a geometry that is a number | "geometry":[^3] | 12 wrong kind
+        a geometry of no type | "geometry":[^{}] | 10 member missing
+        an index where there are no vertices | "geometry":[{"type":"MultiPoint","lod":"1","boundaries":[^0]}] | 25 vertex index out of range
+        the second geometry | "geometry":[{"type":"MultiPoint","lod":"1","boundaries":[]},{"type":^"Cone"}] | 24 unknown geometry type
+        no children | "children":[] | none
+        null for children | "children":^null | 12 wrong kind
+        an object of children | "children":^{} | 12 wrong kind
+        a child that is a number | "children":[^3] | 12 wrong kind
+        a child that is an array | "children":[^["b"]] | 12 wrong kind
+        no parents | "parents":[] | none
+        null for parents | "parents":^null | 12 wrong kind
+        a parent that is a number | "parents":["q",^3] | 12 wrong kind
+        roles of children that are not read | "children_roles":3 | none
+        "#,
+    )?;
+    Ok(())
+}
+
+#[test]
+fn vertices(rt: HostRuntime) -> Result<(), Fail> {
+    features_meet(
+        &rt,
+        rt.alloc(),
+        HEADER,
+        r#"{"type":"CityJSONFeature","id":"b","CityObjects":{"b":{"type":"Building"}},"vertices":_}"#,
+        r#"
+        whole numbers | [[0,-1,999999999999999999],[3.0,3e0,-0]] | none
+        an object | ^{} | 12 wrong kind
+        null | ^null | 12 wrong kind
+        a number | [[0,0,0],^0] | 12 wrong kind
+        two numbers | [^[0,0]] | 17 not three items
+        four numbers | [^[0,0,0,0]] | 17 not three items
+        a text | [[0,^"0",0]] | 12 wrong kind
+        a half | [[0,0,^0.5]] | 18 not a whole number
+        a number too great | [[^1e18,0,0]] | 18 not a whole number
+        37 digits | [[0,^1111111111111111111111111111111111111,0]] | 13 number out of range
+        two numbers, of which one is a text | [^["0",0]] | 17 not three items
+        "#,
+    )?;
+    Ok(())
+}
+
+#[test]
+fn indices_of_vertices(rt: HostRuntime) -> Result<(), Fail> {
+    features_meet(
+        &rt,
+        rt.alloc(),
+        HEADER,
+        r#"{"type":"CityJSONFeature","id":"b","CityObjects":{"b":{"type":"Building","geometry":[{"type":"MultiPoint","lod":"1","boundaries":[_]}]}},"vertices":[[0,0,0],[1,1,1]]}"#,
+        r#"
+        the last vertex | 0,1 | none
+        past the last | 0,^2 | 25 vertex index out of range
+        below 0 | ^-1 | 25 vertex index out of range
+        "#,
+    )?;
+    Ok(())
+}
+
+#[test]
+fn indices_beside_vertices_that_are_no_array(rt: HostRuntime) -> Result<(), Fail> {
+    features_meet(
+        &rt,
+        rt.alloc(),
+        HEADER,
+        r#"{"type":"CityJSONFeature","id":"b","CityObjects":{"b":{"type":"Building","geometry":[{"type":"MultiPoint","lod":"1","boundaries":[_]}]}},"vertices":{}}"#,
+        r#"
+        any index | 9 | 148 12 wrong kind
+        a half | ^0.5 | 18 not a whole number
+        "#,
+    )?;
+    Ok(())
+}
+
+#[test]
+fn names_of_a_feature_are_distinct(rt: HostRuntime) -> Result<(), Fail> {
+    features_meet(
+        &rt,
+        rt.alloc(),
+        HEADER,
+        r#"{"type":"CityJSONFeature","id":"b","CityObjects":{"b":{"type":"Building"}},"vertices":[],_}"#,
+        r#"
+        another member | "a":{"b":1,"b":2} | none
+        a type | ^"type":"CityJSONFeature" | 11 duplicate name
+        an id by an escape | ^"\u0069d":"b" | 11 duplicate name
+        "#,
+    )?;
+    Ok(())
+}

@@ -1,0 +1,169 @@
+//! What valid headers and features show: places of values, counted in the lines, and numbers.
+ghost use Rattle.std.specs.Prelude.{◌≡◌};
+ghost use Rattle.cj_spans.specs.View.{document};
+ghost use Rattle.cj_feature.specs.View.{header_tree};
+
+use super::templates::TEMPLATES;
+use super::{HEADER, tokens_of};
+use crate::{Feature, Header, check_feature, check_header};
+use cj_decimal::Decimal;
+use cj_geometry::lod_of;
+use cj_spans::Doc;
+use std::alloc::{AllocError, Global};
+use std::process::Abort;
+use std::test::Fail;
+
+/// A building of one surface.
+const BUILDING: &str =
+    r#"{"type":"CityJSONFeature","id":"b1","CityObjects":{"b1":{"type":"Building","geometry":[{"type":"MultiSurface","lod":"2.2","boundaries":[[[0,1,2,3]]]}]}},"vertices":[[0,0,0],[1000,0,0],[1000,1000,0],[0,1000,0]]}"#;
+
+/// A tree that names the first template, beside a part of a building and its parent.
+const TREE: &str =
+    r#"{"type":"CityJSONFeature","id":"t","CityObjects":{"t":{"type":"SolitaryVegetationObject","geometry":[{"type":"GeometryInstance","template":0,"boundaries":[0],"transformationMatrix":[1,0,0,0,0,1,0,0,0,0,1,0,0,0,0,1]}]},"p":{"type":"BuildingPart","parents":["b"]},"b":{"type":"Building","children":["p"]}},"vertices":[[-1,2e1,3.0]]}"#;
+
+/// Three numbers as coefficient and power.
+fn three_text(alloc: Global, numbers: [Decimal; 3]) -> Result<String, AllocError> {
+    let [x, y, z] = numbers;
+    format!(in alloc;
+        "{}e{} {}e{} {}e{}",
+        x.coefficient(),
+        x.power(),
+        y.coefficient(),
+        y.power(),
+        z.coefficient(),
+        z.power()
+    )
+}
+
+/// What a header shows.
+fn header_text(alloc: Global, header: &Header) -> Result<String, AllocError> {
+    let scale = three_text(alloc, header.scale())?;
+    let translate = three_text(alloc, header.translate())?;
+    format!(in alloc;
+        "{scale}, {translate}, {} bytes, box {}",
+        header.bytes().len(),
+        header.affine().is_some()
+    )
+}
+
+/// The header again, of its parts.
+fn again<'a>(doc: Doc<'a>, header: &Header<'a>) -> Header<'a>
+    requires { header_tree header.now ≡ document doc }
+{
+    Header::of(doc, header.parts())
+}
+
+/// What a line shows as a header, and as the header that is made of its parts.
+fn header_texts(
+    rt: &impl Abort,
+    alloc: Global,
+    line: &[u8],
+) -> Result<(String, String), AllocError> {
+    let tokens = tokens_of(rt, alloc, line);
+    let doc = Doc::of(line, tokens.as_slice());
+    match check_header(doc, false) {
+        Ok(header) => {
+            let second = again(doc, &header);
+            Ok((header_text(alloc, &header)?, header_text(alloc, &second)?))
+        }
+        Err(_) => panic!(rt; "no header"),
+    }
+}
+
+#[test]
+fn a_header_of_its_parts_shows_the_same(rt: HostRuntime) -> Result<(), Fail> {
+    let want = "1e-3 1e-3 1e-3, 1e3 2e3 0e0, 140 bytes, box false";
+    let (text, second) = header_texts(&rt, rt.alloc(), HEADER.as_bytes())?;
+    assert_eq!(&rt; text.as_str(), want);
+    assert_eq!(&rt; second.as_str(), want);
+    Ok(())
+}
+
+/// The places of id, type and object of each city object.
+fn objects_text(alloc: Global, feature: &Feature) -> Result<String, AllocError> {
+    let mut text = String::new(alloc);
+    for object in feature.objects() {
+        let one = format!(in alloc;
+            " {} {} {}",
+            object.id.start(),
+            object.object_type.name(),
+            object.node.start()
+        )?;
+        text.push_str(&one)?;
+    }
+    Ok(text)
+}
+
+/// The places of geometries, and of their levels of detail.
+fn geometries_text(alloc: Global, feature: &Feature) -> Result<String, AllocError> {
+    let mut text = String::new(alloc);
+    for geometry in feature.geometries() {
+        let level = match lod_of(geometry, feature.templates()) {
+            Some(level) => level.start(),
+            None => 0,
+        };
+        let one = format!(in alloc; " {} {level}", geometry.start())?;
+        text.push_str(&one)?;
+    }
+    Ok(text)
+}
+
+/// The numbers of vertices.
+fn vertices_text(alloc: Global, feature: &Feature) -> Result<String, AllocError> {
+    let mut text = String::new(alloc);
+    for [x, y, z] in feature.vertices() {
+        let one = format!(in alloc; " {x},{y},{z}")?;
+        text.push_str(&one)?;
+    }
+    Ok(text)
+}
+
+/// What a feature shows.
+fn feature_text(alloc: Global, feature: &Feature) -> Result<String, AllocError> {
+    let objects = objects_text(alloc, feature)?;
+    let geometries = geometries_text(alloc, feature)?;
+    let vertices = vertices_text(alloc, feature)?;
+    format!(in alloc;
+        "id {}, objects{objects}, geometries{geometries}, vertices{vertices}, {} bytes",
+        feature.id().start(),
+        feature.bytes().len()
+    )
+}
+
+/// What a line shows as a feature beside a header.
+fn line_text(
+    rt: &impl Abort,
+    alloc: Global,
+    header_line: &[u8],
+    line: &[u8],
+) -> Result<String, AllocError> {
+    let header_tokens = tokens_of(rt, alloc, header_line);
+    let tokens = tokens_of(rt, alloc, line);
+    match check_header(Doc::of(header_line, header_tokens.as_slice()), false) {
+        Ok(header) => match check_feature(Doc::of(line, tokens.as_slice()), &header) {
+            Ok(feature) => feature_text(alloc, &feature),
+            Err(_) => panic!(rt; "no feature"),
+        },
+        Err(_) => panic!(rt; "no header"),
+    }
+}
+
+#[test]
+fn a_building_shows_its_parts(rt: HostRuntime) -> Result<(), Fail> {
+    let text = line_text(&rt, rt.alloc(), HEADER.as_bytes(), BUILDING.as_bytes())?;
+    assert_eq!(&rt;
+        text.as_str(),
+        "id 31, objects 51 Building 56, geometries 87 116, vertices 0,0,0 1000,0,0 1000,1000,0 0,1000,0, 210 bytes"
+    );
+    Ok(())
+}
+
+#[test]
+fn an_instance_shows_the_level_of_its_template(rt: HostRuntime) -> Result<(), Fail> {
+    let text = line_text(&rt, rt.alloc(), TEMPLATES.as_bytes(), TREE.as_bytes())?;
+    assert_eq!(&rt;
+        text.as_str(),
+        "id 31, objects 50 SolitaryVegetationObject 54 218 BuildingPart 222 262 Building 266, geometries 101 204, vertices -1,20,3, 330 bytes"
+    );
+    Ok(())
+}
