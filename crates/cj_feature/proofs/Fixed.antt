@@ -1,9 +1,9 @@
 -- The test for a fixed number.
-use Rattle.std.proofs.Common.{◌≡◌, ℕ, ◌+◌, ◌*◌, ◌^◌, ◌<◌, Bool, true, false, nat_lt, ℤ, pos, negsuc, neg_ℤ, ◌+ℤ◌, ◌*ℤ◌, ◌<ℤ◌, ◌≤ℤ◌, refl, arith}
+use Rattle.std.proofs.Common.{◌≡◌, ℕ, ◌*◌, ◌^◌, ◌<◌, true, nat_lt, ℤ, pos, negsuc, neg_ℤ, ◌+ℤ◌, ◌*ℤ◌, refl, arith}
 use Rattle.std.specs.Prelude.{unsigned_abs}
 use Rattle.std.proofs.lemmas.Int.{ints}
 use Rattle.std.proofs.lemmas.Bool.Decides.{nat_tests}
-use Rattle.cj_decimal.specs.Number.{Number, number, SameValue, IsNormal, IsFixed}
+use Rattle.cj_decimal.specs.Number.{Number, IsNormal, IsFixed}
 use Rattle.cj_decimal.proofs.Values.{abs_times}
 use Rattle.cj_decimal.proofs.Scales.{units_below, units_same, size_of_units}
 use Rattle.cj_feature.specs.Header.{is_fixed_by, is_fixed}

@@ -1,13 +1,16 @@
 //! Laws of the definitions, proved once and for all.
-ghost use Rattle.std.specs.Prelude.{◌↔◌, Some, ℤ, IsTrue};
+ghost use Rattle.std.specs.Prelude.{◌≡◌, ◌↔◌, Some, ℤ, IsTrue};
 ghost use Rattle.std.specs.List.{Contains};
 ghost use Rattle.cj_spans.specs.Tree.{Tree};
 ghost use Rattle.cj_spans.specs.declared.finding.Finding.{Finding};
 ghost use Rattle.cj_spans.specs.Parts.{members_of};
-ghost use Rattle.cj_decimal.specs.Number.{Number, IsNormal, IsFixed};
+ghost use Rattle.cj_decimal.specs.Number.{Number, IsNormal, IsWhole, IsFixed};
+ghost use Rattle.cj_decimal.specs.Spelling.{IsValue};
+ghost use Rattle.cj_geometry.specs.Rule.{spelling, whole_of};
 ghost use Rattle.cj_feature.specs.Header.{is_fixed};
 ghost use Rattle.cj_feature.specs.Links.{links};
 ghost use Rattle.cj_feature.specs.Relations.{IsLinkFault};
+ghost use Rattle.cj_feature.specs.Shown.{value_of};
 
 /// What is wrong with the links of city objects is told twice: by tests on their members, which
 /// compute, and by relations between ids. Both say the same, finding by finding.
@@ -19,4 +22,11 @@ pub fn links_are_the_links()
 /// the numbers in normal form that are whole numbers of units of 10^-18, below 10^18 in size.
 pub fn fixed_numbers_are_fixed()
     ensures { (n : Number) → IsNormal n → (IsTrue (is_fixed n) ↔ ((u : ℤ) × IsFixed n u)) }
+{}
+
+/// The numbers that headers and features show are the values of their spellings.
+pub fn numbers_have_their_values()
+    ensures value { (t : Tree) (v : Number) → value_of t ≡ Some v → IsValue (spelling t) v }
+    ensures whole { (t : Tree) (w : ℤ) → whole_of t ≡ Some w
+        → (v : Number) × IsValue (spelling t) v × IsWhole v w }
 {}

@@ -13,4 +13,4 @@ mod tests;
 
 pub use feature::{CityObject, Feature, Geometries, Objects, Vertices, check_feature};
 pub use header::{Header, HeaderParts, check_header};
-pub use laws::{fixed_numbers_are_fixed, links_are_the_links};
+pub use laws::{fixed_numbers_are_fixed, links_are_the_links, numbers_have_their_values};
