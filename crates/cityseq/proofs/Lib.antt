@@ -1,5 +1,6 @@
 pub mod BlankLemmas
 pub mod CutLemmas
+pub mod DeviceLemmas
 pub mod EngineLemmas
 pub mod FinishLemmas
 pub mod GoodLemmas

@@ -1,6 +1,7 @@
 pub mod Bound
 pub mod Command
 pub mod Cut
+pub mod Device
 pub mod Engine
 pub mod IsLines
 pub mod LentSink

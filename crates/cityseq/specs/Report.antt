@@ -1,7 +1,11 @@
 -- What the program says of an end.
-use Rattle.std.specs.Prelude.{◌≡◌, ◌⊎◌, ℕ, List, [], ◌∷◌, Option, codes, decimal}
+use Rattle.std.specs.Prelude.{◌≡◌, ℕ, List, [], ◌∷◌, Option, Result, OnOk, OnErr, codes, decimal}
+use Rattle.std.specs.Io.KnownBytes.{Appends}
 use Rattle.cityseq.specs.Cut.{joined}
 use Rattle.cityseq.specs.Sink.{AppendsPart}
+use Rattle.cityseq.specs.Device.{shown_end}
+use Rattle.cityseq.specs.declared.report.Shown.{Shown}
+use Rattle.cityseq.specs.declared.sink.WriteFault.{WriteFault as Unwritten}
 use Rattle.cj_spans.specs.Reason.{code_of, text_of}
 use Rattle.cityseq.specs.declared.reason.End.{End}
 use Rattle.cityseq.specs.declared.reason.End.TheVariants.{Complete, Refused, ReadFault, ReadLimit, WriteFault, Memory}
@@ -25,10 +29,10 @@ fault_line ReadLimit = codes "read limit\n"
 fault_line WriteFault = codes "write fault\n"
 fault_line Memory = codes "out of memory\n"
 
--- a run ended so, and the program says it: the end itself, or a write fault where the flush failed, by its status
--- and its line, of which standard error has taken a front at least
-pub record Reports (e : End) (status : ℕ) (old new : Option (List ℕ)) : Type 0 where
-  pub shown : End
-  pub cause : (shown ≡ e) ⊎ (shown ≡ WriteFault)
-  pub answer : status ≡ status_of shown
-  pub line : AppendsPart old new (fault_line shown)
+-- a run ended so, and this is shown of it: its end, or a write fault where the flush after it failed; and the line of
+-- that end, of which standard error has taken all, or a front where it failed
+pub record Reports (e : End) (shown : Shown) (old new : Option (List ℕ)) : Type 0 where
+  pub flushed : Result (Unit {0}) Unwritten
+  pub end : shown.end ≡ shown_end flushed e
+  pub whole : OnOk shown.line (Appends old new (fault_line shown.end))
+  pub front : OnErr shown.line (AppendsPart old new (fault_line shown.end))

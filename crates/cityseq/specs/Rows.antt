@@ -4,6 +4,7 @@ use Rattle.cj_budget.specs.Limits.{LimitPair}
 use Rattle.cj_spans.specs.declared.reason.Reason.TheVariants.{NoHeader, LineTooLong, NotUtf8, Syntax, TooDeep}
 use Rattle.cityseq.specs.declared.reason.End.{End}
 use Rattle.cityseq.specs.declared.reason.End.TheVariants.{Complete, Refused}
+use Rattle.cityseq.specs.Command.{usual_limits}
 use Rattle.cityseq.specs.Verdict.{output, ending}
 
 -- a header
@@ -13,10 +14,6 @@ header_row = codes "{\"type\":\"CityJSON\",\"version\":\"2.0\",\"transform\":{\"
 -- a feature
 abbrev pub feature_row : List ℕ
 feature_row = codes "{\"type\":\"CityJSONFeature\",\"id\":\"b1\",\"CityObjects\":{\"b1\":{\"type\":\"Building\",\"geometry\":[{\"type\":\"MultiSurface\",\"lod\":\"2.2\",\"boundaries\":[[[0,1,2,3]]]}]}},\"vertices\":[[0,0,0],[1000,0,0],[1000,1000,0],[0,1000,0]]}"
-
--- the limits where none are given
-abbrev pub usual_limits : LimitPair
-usual_limits = record { line = 8388608; depth = 64 }
 
 -- limits that the feature just meets
 abbrev pub tight_limits : LimitPair

@@ -20,9 +20,9 @@ mod sink;
 #[cfg(test)]
 mod tests;
 
-use crate::command::{WRONG_WORDS, command};
+use crate::command::command;
 use crate::reason::End;
-use crate::report::{status, write_fault_line};
+use crate::report::{WRONG_WORDS, status, write_fault_line};
 use std::alloc::{AllocError, Global};
 use std::env;
 use std::io::{BufWriter, ErrorKind};

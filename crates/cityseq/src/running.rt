@@ -1,22 +1,30 @@
 //! A whole run, from a reader to a sink.
-ghost use Rattle.std.specs.Prelude.{◌≡◌, ℕ, List, [], None, length};
-ghost use Rattle.std.specs.Io.KnownBytes.{Consumes, IsAtEnd};
+ghost use Rattle.std.specs.Prelude.{◌≡◌, ◌↔◌, ℕ, List, [], None, length, false, is_err, IsTrue, IsOk};
+ghost use Rattle.std.specs.Io.{ReadsAtMost};
+ghost use Rattle.std.specs.Io.KnownBytes.{Consumes, IsAtEnd, ReadConsumes};
 ghost use Rattle.cityseq.specs.Sink.{HasRisen};
 ghost use Rattle.cityseq.specs.Engine.{StandsFor, limits_of, lines_of, peaks_of};
 ghost use Rattle.cityseq.specs.Run.{Runs};
+ghost use Rattle.cityseq.specs.Device.{given_by};
 
 use crate::engine::Engine;
 use crate::reason::End;
 use crate::sink::LineSink;
 use cj_budget::{Limits, NoMemory, Peaks};
 use std::alloc::Global;
+use std::io;
 use std::io::Read;
 
-/// The most reads of one run: 2^40.
+/// The most reads of one run.
 const MOST_READS: u64 = 1_099_511_627_776;
+const _: () = prove!(MOST_READS == 1 << 40);
 
 /// The bytes of one read at most.
 const PIECE_LENGTH: usize = 8_192;
+
+/// A read failed.
+#[derive(Clone, Copy, Debug, PartialEq, Eq)]
+struct ReadFault;
 
 /// How a run went.
 #[derive(Clone, Copy, Debug, PartialEq, Eq)]
@@ -49,14 +57,43 @@ impl Outcome {
     }
 }
 
-// Feeds what the reader gives, by pieces of at most the buffer's length, and finishes at its end.
+// What a read says by its answer: how many bytes it gave, or that it failed. Each error is a failure,
+// also `Interrupted`.
+fn bytes_given(answer: io::Result<usize>) -> Result<usize, ReadFault>
+    ensures { result ≡ given_by answer }
+{
+    match answer {
+        Ok(n) => Ok(n),
+        Err(_) => Err(ReadFault),
+    }
+}
+
+// Reads once, and notes whether the read has failed.
+fn read_once<R: Read>(
+    reader: &mut R,
+    buffer: &mut [u8],
+    failed: &mut bool,
+) -> Result<usize, ReadFault>
+    ensures bound { ReadsAtMost result buffer.new }
+    ensures bytes { ReadConsumes (R.remaining reader.old) (R.remaining reader.new) result buffer.new }
+    ensures failed { failed.new ≡ is_err result }
+{
+    let given = bytes_given(reader.read(buffer));
+    *failed = given.is_err();
+    given
+}
+
+// Feeds what the reader gives, by pieces of at most the buffer's length, and finishes at its end. The
+// first read that fails is the end.
 fn drive<R: Read, S: LineSink>(
     engine: &mut Engine,
     buffer: &mut [u8],
     reader: &mut R,
+    failed: &mut bool,
     sink: &mut S,
 ) -> End
-    requires piece { length buffer.old ≡ 8192 }
+    requires piece { length buffer.old ≡ PIECE_LENGTH }
+    requires unfailed { failed.old ≡ false }
     requires start { engine.old.taken ≡ 0 }
     requires open { engine.old.ended ≡ None }
     requires stands { StandsFor engine.old [] }
@@ -65,10 +102,11 @@ fn drive<R: Read, S: LineSink>(
         × Runs S.takes S.leaves (limits_of engine.old) r (IsAtEnd (R.remaining reader.new)) sink.old sink.new
         (lines_of engine.new) engine.new.reading.kept (peaks_of engine.new) result }
     ensures cause { result ≡ End.WriteFault → HasRisen (S.failures sink.old) (S.failures sink.new) }
+    ensures failed { IsTrue failed.new ↔ (result ≡ End.ReadFault) }
 {
     for _i in 0..MOST_READS {
-        match reader.read(buffer) {
-            Err(_) => return End::ReadFault,
+        match read_once(reader, buffer, failed) {
+            Err(ReadFault) => return End::ReadFault,
             Ok(0) => return engine.finish(sink),
             Ok(n) => {
                 if let Err(end) = engine.feed(&buffer[..n], sink) {
@@ -97,7 +135,8 @@ pub fn run<R: Read, S: LineSink>(
         Err(NoMemory) => return Outcome::refused(),
     };
     let mut buffer = [0u8; PIECE_LENGTH];
-    let ended = drive(&mut engine, &mut buffer, reader, sink);
+    let mut failed = false;
+    let ended = drive(&mut engine, &mut buffer, reader, &mut failed, sink);
     Outcome {
         lines: engine.lines(),
         kept: engine.kept(),
