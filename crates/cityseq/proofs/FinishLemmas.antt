@@ -1,6 +1,7 @@
 -- What the end of a text makes of an engine.
 use Rattle.std.proofs.Common.{◌≡◌, ℕ, ◌+◌, ◌<◌, ◌≤◌, ◌⊎◌, inl, inr, max, List, [], ◌∷◌, ◌++◌, Bool, true, false, cond, eqb, length, take, map, Some, None, Result, Ok, Err, arith, refl, sym, ap, ◌∙◌, length-append}
-use Rattle.std.specs.Prelude.{unwrap_or, OnOk, if◌then◌else◌, IsUtf8}
+use Rattle.std.specs.Prelude.{unwrap_or, OnOk, if◌then◌else◌, ◌≢◌}
+use Rattle.cityseq.specs.Verdict.{WantsTokens}
 use Rattle.std.proofs.lemmas.List.{append-nil}
 use Rattle.std.proofs.lemmas.Bool.Decides.{nat_tests}
 use Rattle.cj_budget.specs.Limits.{LimitPair}
@@ -278,9 +279,9 @@ module _ {S : Type 0} (takes leaves : S → Line → S → Type 0) (f g : Readin
       go (b ∷ c) r (inl d) h = dealt _ (unended b c) r d h
       go (b ∷ c) r (inr m) h = memory r m.0 h
 
-  -- a last line for whose tokens no memory was granted is UTF-8
-  pub utf8-finished : (r : Result (Unit {0}) End) → Finishes takes leaves f s p r g t → end_of r ≡ Memory → IsUtf8 (begun p)
-  utf8-finished r d h = go (begun p) r d h
+  -- there is a last line for whose tokens no memory was granted, and it is UTF-8 and not blank
+  pub tokens-finished : (r : Result (Unit {0}) End) → Finishes takes leaves f s p r g t → end_of r ≡ Memory → (begun p ≢ []) × WantsTokens (f.lines + 1) (begun p)
+  tokens-finished r d h = go (begun p) r d h
     where
       clash : (e : End) (r : Result (Unit {0}) End) → r ≡ Err e → (e ≡ Memory → ⊥) → end_of r ≡ Memory → ⊥
       clash e r is other h = other (sym (ap end_of is) ∙ h)
@@ -299,10 +300,10 @@ module _ {S : Type 0} (takes leaves : S → Line → S → Type 0) (f g : Readin
       dealt Valid l (Ok x) d h = cc
       dealt Valid l (Err x) d h = let e : x ≡ WriteFault = d.0 in cc
 
-      go : (x : List ℕ) (r : Result (Unit {0}) End) → FinishesWith takes leaves x f s r g t → end_of r ≡ Memory → IsUtf8 x
+      go : (x : List ℕ) (r : Result (Unit {0}) End) → FinishesWith takes leaves x f s r g t → end_of r ≡ Memory → (x ≢ []) × WantsTokens (f.lines + 1) x
       go [] r d h = absurd (none (eqb f.lines 0) r d.0 h)
       go (b ∷ c) r (inl d) h = absurd (dealt _ (unended b c) r d h)
-      go (b ∷ c) r (inr m) h = m.3
+      go (b ∷ c) r (inr m) h = (λ e. cc, m.3)
 
   -- and of all three counts
   pub peaks-finished : (r : Result (Unit {0}) End) (sc : Scanning) → Finishes takes leaves f s p r g t → end_of r ≡ Complete → Scanned f.limits (contents p) sc

@@ -1,6 +1,7 @@
 -- How a framer advances over a piece, and where it stops.
 use Rattle.std.proofs.Common.{◌≡◌, ℕ, ◌+◌, ◌<◌, ◌⊎◌, inl, inr, List, [], ◌∷◌, ◌++◌, Bool, true, false, ltb, length, map, Some, None, Result, Ok, Err, arith, refl, sym, ap, ◌∙◌, subst, append_assoc, length-append}
-use Rattle.std.specs.Prelude.{if◌then◌else◌, slice_get, IsUtf8}
+use Rattle.std.specs.Prelude.{if◌then◌else◌, slice_get}
+use Rattle.cityseq.specs.Verdict.{WantsTokens}
 use Rattle.std.proofs.lemmas.List.{append-nil}
 use Rattle.std.proofs.lemmas.Bool.Decides.{nat_tests}
 use Rattle.cj_budget.specs.Limits.{LimitPair}
@@ -210,7 +211,7 @@ module _ {S : Type 0} (takes leaves : S → Line → S → Type 0) where
           record {
             line = ended_line (begun p ++ part);
             next = next-line g.limits g.lines (p ++ part) (p ++ (part ++ 10 ∷ more)) (ended_line (begun p ++ part)) (IsNext-ended g.limits p part more n) len;
-            cause = inr (subst IsUtf8 b m.3);
+            cause = inr (subst (WantsTokens (g.lines + 1)) b m.3);
           },
         ),
       )

@@ -1,5 +1,5 @@
 -- What is held of a stream while its lines are read, and which bytes it stands for.
-use Rattle.std.specs.Prelude.{◌≡◌, ◌⊎◌, ℕ, ◌+◌, ◌<◌, ◌≤◌, List, [], ◌∷◌, ◌++◌, Bool, true, false, ◌&&◌, ◌==◌, nat_lt, if◌then◌else◌, Some, None, Result, Ok, Err, length, map, max, MatchResult, slice_get, IsUtf8}
+use Rattle.std.specs.Prelude.{◌≡◌, ◌⊎◌, ℕ, ◌+◌, ◌<◌, ◌≤◌, List, [], ◌∷◌, ◌++◌, Bool, true, false, ◌&&◌, ◌==◌, nat_lt, if◌then◌else◌, Some, None, Result, Ok, Err, length, map, max, MatchResult, slice_get}
 use Rattle.cj_budget.specs.Bounded.{BoundedList, IsWithin, Becomes}
 use Rattle.cj_budget.specs.Limits.{LimitPair, InLine}
 use Rattle.cityseq.specs.declared.framer.Framer.{Framer}
@@ -9,7 +9,7 @@ use Rattle.cj_spans.specs.declared.reason.Reason.TheVariants.{NoHeader}
 use Rattle.cityseq.specs.declared.reason.End.{End}
 use Rattle.cityseq.specs.declared.reason.End.TheVariants.{Complete, Refused, ReadFault, ReadLimit, WriteFault, Memory}
 use Rattle.cityseq.specs.Lines.{Line, lines, closed, begun, begun_later, ended_line, first_content, later_of}
-use Rattle.cityseq.specs.Verdict.{verdict, is_kept, refusal_from, kept_from, judged}
+use Rattle.cityseq.specs.Verdict.{WantsTokens, verdict, is_kept, refusal_from, kept_from, judged}
 use Rattle.cityseq.specs.Bound.{greatest}
 use Rattle.cityseq.specs.Sink.{Took}
 
@@ -60,9 +60,9 @@ Deals takes leaves Blank line f s r g t = (r ≡ Ok tt) × Passes false f g × (
 Deals takes leaves Valid line f s r g t = MatchResult r (λ _. Passes true f g × takes s line t) (λ e. (e ≡ WriteFault) × (g ≡ f) × leaves s line t)
 
 -- what comes of a line with this verdict, or no memory was granted for its tokens, and nothing comes of it; so it is
--- only with a line that is UTF-8
+-- only with a line that is UTF-8 and not blank
 abbrev pub Settles : {S : Type 0} → (S → Line → S → Type 0) → (S → Line → S → Type 0) → Verdict → Line → Reading → S → Result (Unit {0}) End → Reading → S → Type 0
-Settles takes leaves v line f s r g t = Deals takes leaves v line f s r g t ⊎ ((r ≡ Err Memory) × (g ≡ f) × (t ≡ s) × IsUtf8 line.content)
+Settles takes leaves v line f s r g t = Deals takes leaves v line f s r g t ⊎ ((r ≡ Err Memory) × (g ≡ f) × (t ≡ s) × WantsTokens (f.lines + 1) line.content)
 
 -- these bytes have been read, and no line of them was refused
 pub record Reads (f : Reading) (p : List ℕ) : Type 0 where
@@ -96,11 +96,11 @@ abbrev pub IsNext : LimitPair → List ℕ → List ℕ → Line → Type 0
 IsNext limits p q l = (others : List Line) × (judged limits q ≡ map ended_line (closed p) ++ l ∷ others)
 
 -- no memory was granted for the line of q after the first n: for its bytes, of which no more than these are held, or for
--- its tokens and open containers, and then the line is UTF-8
+-- its tokens and open containers, and then the line is UTF-8 and not blank
 pub record LacksMemory (q : List ℕ) (n : ℕ) (held : List ℕ) : Type 0 where
   pub line : Line
   pub next : slice_get (lines q) n ≡ Some line
-  pub cause : (length held < length line.content) ⊎ IsUtf8 line.content
+  pub cause : (length held < length line.content) ⊎ WantsTokens (n + 1) line.content
 
 -- why reading stopped after the lines that LF ended in p, of q, and what the sink is then
 abbrev pub HasCause : {S : Type 0} → (S → Line → S → Type 0) → LimitPair → List ℕ → List ℕ → ℕ → S → S → End → Type 0

@@ -1,5 +1,5 @@
 -- Which lines are refused, which are blank, and what is kept of a text.
-use Rattle.std.specs.Prelude.{ℕ, ◌+◌, List, [], ◌∷◌, ◌++◌, Bool, true, false, not, ◌&&◌, ◌||◌, ◌==◌, nat_lt, if◌then◌else◌, Option, Some, None, length, take, map, unwrap_or, is_some}
+use Rattle.std.specs.Prelude.{◌≡◌, IsUtf8, ℕ, ◌+◌, List, [], ◌∷◌, ◌++◌, Bool, true, false, not, ◌&&◌, ◌||◌, ◌==◌, nat_lt, if◌then◌else◌, Option, Some, None, length, take, map, unwrap_or, is_some}
 use Rattle.std.specs.List.{flat_map, list_all}
 use Rattle.std.specs.Str.{is_utf8}
 use Rattle.std.specs.Str.Lossy.{utf8_valid_len}
@@ -17,6 +17,15 @@ use Rattle.cityseq.specs.Lines.{Line, raw, lines, closed, begun, ended_line, las
 abbrev pub is_blank_byte : ℕ → Bool
 is_blank_byte b = b == 32 || (b == 9 || b == 13)
 
+-- a later line of such bytes alone is blank
+abbrev pub is_blank_line : ℕ → List ℕ → Bool
+is_blank_line number content = nat_lt 1 number && list_all is_blank_byte content
+
+-- the line of this number may want memory for its tokens: it is UTF-8, and not blank
+pub record WantsTokens (number : ℕ) (content : List ℕ) : Type 0 where
+  pub text : IsUtf8 content
+  pub not_blank : is_blank_line number content ≡ false
+
 -- the verdict on bytes of UTF-8, by what they are as a JSON text under a depth limit
 abbrev pub text_verdict : {c : List ℕ} {depth : ℕ} → Judgement c depth → Verdict
 text_verdict (spelled tree json shallow) = Valid
@@ -29,7 +38,7 @@ unfoldable pub verdict : LimitPair → ℕ → List ℕ → Verdict
 verdict limits number content =
     if nat_lt limits.line (length content) then Refuse limits.line LineTooLong
     else (if not (is_utf8 content) then Refuse (utf8_valid_len content) NotUtf8
-    else (if nat_lt 1 number && list_all is_blank_byte content then Blank
+    else (if is_blank_line number content then Blank
     else text_verdict (judgement content limits.depth)))
 
 -- the end that a refusal makes

@@ -1,9 +1,10 @@
 //! The engine: it takes a stream in pieces, and puts each kept line to a sink.
-ghost use Rattle.std.specs.Prelude.{◌≡◌, ◌+◌, ◌^◌, ◌≤◌, ℕ, List, [], ◌∷◌, ◌++◌, length, OnOk, OnErr, IfOk, IfErr, IsErrOf, IsOk, Some, None, Err, IsUtf8};
+ghost use Rattle.std.specs.Prelude.{◌≡◌, ◌≢◌, ◌+◌, ◌^◌, ◌≤◌, ℕ, List, [], ◌∷◌, ◌++◌, length, OnOk, OnErr, IfOk, IfErr, IsErrOf, IsOk, Some, None, Err};
 ghost use Rattle.cityseq.specs.Bound.{IsBelow, exact_peaks};
 ghost use Rattle.cityseq.specs.Lines.{begun};
 ghost use Rattle.cityseq.specs.Reading.{begun_of, LacksMemory};
 ghost use Rattle.cityseq.specs.Sink.{HasRisen};
+ghost use Rattle.cityseq.specs.Verdict.{WantsTokens};
 ghost use Rattle.cityseq.specs.Engine.{StandsFor, given, limits_of, lines_of, held_by, peaks_of, Delivers, Going, Tells, Concludes, end_of};
 
 use crate::framer::Framer;
@@ -115,7 +116,8 @@ impl Engine {
             Concludes (limits_of self.old) p (lines_of self.new) result }
         ensures exact { (p : List ℕ) → StandsFor self.old p → self.old.ended ≡ None →
             result ≡ End.Complete → peaks_of self.new ≡ exact_peaks (limits_of self.old) p }
-        ensures memory { (p : List ℕ) → StandsFor self.old p → self.old.ended ≡ None → result ≡ End.Memory → IsUtf8 (begun p) }
+        ensures memory { (p : List ℕ) → StandsFor self.old p → self.old.ended ≡ None → result ≡ End.Memory →
+            (begun p ≢ []) × WantsTokens (lines_of self.old + 1) (begun p) }
         ensures sink { (p : List ℕ) → StandsFor self.old p → self.old.ended ≡ None →
             Delivers S.takes S.leaves (limits_of self.old) p
             (lines_of self.old) (lines_of self.new) sink.old sink.new self.new.ended }

@@ -1,9 +1,9 @@
 //! Cuts pieces into lines, and deals with each.
-ghost use Rattle.std.specs.Prelude.{◌≡◌, ◌+◌, ◌^◌, ◌<◌, ◌≤◌, ◌⊎◌, ℕ, List, [], ◌∷◌, ◌++◌, length, OnOk, OnErr, IfOk, IfErr, IsErrOf, IsUtf8};
+ghost use Rattle.std.specs.Prelude.{◌≡◌, ◌+◌, ◌^◌, ◌<◌, ◌≤◌, ◌⊎◌, ℕ, List, [], ◌∷◌, ◌++◌, length, OnOk, OnErr, IfOk, IfErr, IsErrOf};
 ghost use Rattle.cityseq.specs.Bound.{contents};
 ghost use Rattle.cityseq.specs.Lines.{NoLf, closed, first_of, first_content};
 ghost use Rattle.cityseq.specs.Sink.{HasRisen};
-ghost use Rattle.cityseq.specs.Verdict.{verdict};
+ghost use Rattle.cityseq.specs.Verdict.{WantsTokens, verdict};
 
 use crate::judge::judge;
 use crate::reason::{End, Verdict};
@@ -121,7 +121,7 @@ impl Framer {
         ensures reading { reading self.new ≡ reading self.old }
         ensures verdict { IfOk result (λ v. v ≡ verdict self.old.limits (self.old.lines + 1) (begun_of (reading self.old))) }
         ensures lists { JudgesLine self.old.lines (begun_of (reading self.old)) (scanning self.old) (scanning self.new) result }
-        ensures memory { OnErr result (IsUtf8 (begun_of (reading self.old))) }
+        ensures memory { OnErr result (WantsTokens (self.old.lines + 1) (begun_of (reading self.old))) }
     {
         if self.lines == 0 {
             judge(

@@ -1,8 +1,8 @@
 //! The verdict on a line.
-ghost use Rattle.std.specs.Prelude.{◌≡◌, ◌≤◌, ◌+◌, ◌/◌, ◌&&◌, nat_lt, length, IfOk, OnErr, IsUtf8};
+ghost use Rattle.std.specs.Prelude.{◌≡◌, ◌≤◌, ◌+◌, ◌/◌, length, IfOk, OnErr};
 ghost use Rattle.std.specs.List.{list_all};
 ghost use Rattle.cj_budget.specs.Limits.{LimitPair};
-ghost use Rattle.cityseq.specs.Verdict.{is_blank_byte, verdict};
+ghost use Rattle.cityseq.specs.Verdict.{is_blank_byte, is_blank_line, WantsTokens, verdict};
 ghost use Rattle.cityseq.specs.Scanning.{Judges};
 
 use crate::reason::Verdict;
@@ -20,7 +20,7 @@ fn is_white(content: &[u8]) -> bool
 
 // Whether a line is blank, which the first one never is.
 fn is_blank(number: u64, content: &[u8]) -> bool
-    ensures { result ≡ (nat_lt 1 number && list_all is_blank_byte content.now) }
+    ensures { result ≡ is_blank_line number content.now }
 {
     number > 1 && is_white(content)
 }
@@ -38,7 +38,7 @@ pub fn judge(
     ensures verdict { IfOk result (λ v. (limits : LimitPair) → length content.now ≤ limits.line → limits.depth ≡ opened.old.limit
         → v ≡ verdict limits number content.now) }
     ensures lists { Judges content.now tokens.old tokens.new opened.old opened.new result }
-    ensures memory { OnErr result (IsUtf8 content.now) }
+    ensures memory { OnErr result (WantsTokens number content.now) }
 {
     if is_blank(number, content) {
         return Ok(Verdict::Blank);

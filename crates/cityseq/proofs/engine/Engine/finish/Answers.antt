@@ -4,7 +4,7 @@ use Rattle.cityseq.specs.Reading.{reading}
 use Rattle.cityseq.specs.Scanning.{scanning}
 use Rattle.cityseq.proofs.EngineLemmas.{none_from_not_some}
 use Rattle.cityseq.specs.Engine.{end_of}
-use Rattle.cityseq.proofs.FinishLemmas.{Finishes-concludes, Finishes-delivers, StandsFor-finished, finished-ok, utf8-finished, peaks-finished}
+use Rattle.cityseq.proofs.FinishLemmas.{Finishes-concludes, Finishes-delivers, StandsFor-finished, finished-ok, tokens-finished, peaks-finished}
 use Rattle.cityseq.proofs.engine.Engine.finish.Goals as goal
 
 pub returns-clause-stands : goal.returns-clause-stands
@@ -44,4 +44,4 @@ returns-clause-memory g c = λ p st going memory.
     let stands = rw (← c.self.view_is) at st in
     let open_now = rw (← c.self.view_is) at going in
     let reads = (stands.going open_now).0 in
-    utf8-finished g.S.LineSink.takes g.S.LineSink.leaves (reading c.self.inside.framer) (reading c.finish.new.self) _ _ p reads c.finish.result (c.finish.ensures.finishes p reads) (sym c.last_end-end.ensures ∙ memory)
+    rw (← c.self.view_is) (tokens-finished g.S.LineSink.takes g.S.LineSink.leaves (reading c.self.inside.framer) (reading c.finish.new.self) _ _ p reads c.finish.result (c.finish.ensures.finishes p reads) (sym c.last_end-end.ensures ∙ memory))

@@ -5,6 +5,7 @@ use Rattle.cityseq.specs.Reading.{reading}
 use Rattle.cityseq.specs.Scanning.{scanning}
 use Rattle.cityseq.proofs.PieceLemmas.{Stops-unstored, Stops-undealt, Advances-line}
 use Rattle.cityseq.proofs.ScanningLemmas.{few-scanned, first-closed, few-line, scanned-line}
+use Rattle.cityseq.proofs.StaysLemmas.{Stays-stored, Stays-then, Stays-settled}
 use Rattle.cityseq.proofs.framer.Framer.take_line.Goals as goal
 
 pub returns-in_err-store-clause-err : goal.returns-in_err-store-clause-err
@@ -34,3 +35,8 @@ returns-in_err-deal-clause-held g c =
 pub returns-clause-scanned : goal.returns-clause-scanned
 returns-clause-scanned g c = λ q reads s. scanned-line (reading c.args.self.now) (reading c.store.new.self) q c.args.part.now (scanning c.args.self.now) (scanning c.store.new.self) (scanning c.deal.new.self)
     reads c.requires.one c.in_ok-store.ensures.ok c.store.ensures.lists s c.in_ok-deal.ensures.scanned
+
+pub returns-in_err-deal-clause-stays : goal.returns-in_err-deal-clause-stays
+returns-in_err-deal-clause-stays g c =
+    let stored = Stays-stored (reading c.args.self.now) (reading c.store.new.self) c.args.part.now c.requires.sound c.in_ok-store.ensures.ok in
+    Stays-then _ _ _ stored (Stays-settled g.S.LineSink.takes g.S.LineSink.leaves _ (reading c.store.new.self) (reading c.deal.new.self) _ _ _ _ stored.sound c.deal.ensures.settles)
