@@ -1,10 +1,10 @@
 //! A sink over a writer that is lent.
-ghost use Rattle.std.specs.Prelude.{◌≡◌};
+ghost use Rattle.std.specs.Prelude.{◌≡◌, ◌≤◌, OnOk, OnErr};
 ghost use Rattle.std.specs.Io.KnownBytes.{Appends};
 ghost use Rattle.cityseq.specs.Lines.{raw};
-ghost use Rattle.cityseq.specs.Sink.{AppendsPart};
+ghost use Rattle.cityseq.specs.Sink.{HasRisen, AppendsPart, counted};
 
-use crate::sink::{LineSink, WriteFault, write_line};
+use crate::sink::{LineSink, WriteFault, count_failure, write_line};
 use std::io::Write;
 
 /// Writes lines to a writer that is lent, as `WriteSink` does to one of its own.
@@ -39,11 +39,17 @@ impl<W: Write> LineSink for LentSink<'_, W> {
 
     ghost failures = { lent_failures };
 
-    fn line(&mut self, content: &[u8], lf: bool) -> Result<(), WriteFault> {
-        let result = write_line(self.writer, content, lf);
-        if result.is_err() {
-            self.failures = self.failures.saturating_add(1);
-        }
-        result
+    fn line(&mut self, content: &[u8], lf: bool) -> Result<(), WriteFault>
+        ensures ok { OnOk result ((lent_name self.new ≡ lent_name self.old)
+            × Appends (W.contents (lent_writer self.old)) (W.contents (lent_writer self.new)) (raw (record { content = content.now; lf = lf }))) }
+        ensures fault { OnErr result ((lent_name self.new ≡ lent_name self.old)
+            × AppendsPart (W.contents (lent_writer self.old)) (W.contents (lent_writer self.new)) (raw (record { content = content.now; lf = lf }))) }
+        ensures cause { OnErr result (HasRisen (lent_failures self.old) (lent_failures self.new)) }
+        ensures counts { lent_failures self.old ≤ lent_failures self.new }
+        ensures counted { lent_failures self.new ≡ counted (lent_failures self.old) result }
+    {
+        let answer = write_line(self.writer, content, lf);
+        self.failures = count_failure(self.failures, answer);
+        answer
     }
 }

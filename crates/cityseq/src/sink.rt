@@ -3,7 +3,7 @@ ghost use Rattle.std.specs.Prelude.{◌≡◌, ◌≤◌, ℕ, OnOk, OnErr};
 ghost use Rattle.std.specs.List.{flat_map};
 ghost use Rattle.std.specs.Io.KnownBytes.{Appends};
 ghost use Rattle.cityseq.specs.Lines.{Line, raw};
-ghost use Rattle.cityseq.specs.Sink.{HasRisen, AppendsPart};
+ghost use Rattle.cityseq.specs.Sink.{HasRisen, AppendsPart, counted};
 
 use std::io::Write;
 use thiserror::Error;
@@ -67,6 +67,17 @@ impl<W: Write + Drop> WriteSink<W> {
     }
 }
 
+/// The count of failures after a call that answered so: one more where it failed. At 2^64 - 1 it
+/// stays.
+pub fn count_failure(failures: u64, answer: Result<(), WriteFault>) -> u64
+    ensures { result ≡ counted failures answer }
+{
+    match answer {
+        Ok(()) => failures,
+        Err(WriteFault) => failures.saturating_add(1),
+    }
+}
+
 /// Writes all of the bytes, by one write after another, or as many as the writer takes before it
 /// fails. An error of a write, also `Interrupted`, and a write that takes none are failures.
 pub fn write_whole<W: Write>(writer: &mut W, bytes: &[u8]) -> Result<(), WriteFault>
@@ -106,11 +117,17 @@ impl<W: Write + Drop> LineSink for WriteSink<W> {
 
     ghost failures = { failures_of };
 
-    fn line(&mut self, content: &[u8], lf: bool) -> Result<(), WriteFault> {
-        let result = write_line(&mut self.writer, content, lf);
-        if result.is_err() {
-            self.failures = self.failures.saturating_add(1);
-        }
-        result
+    fn line(&mut self, content: &[u8], lf: bool) -> Result<(), WriteFault>
+        ensures ok { OnOk result (Appends (W.contents (writer_of self.old)) (W.contents (writer_of self.new))
+            (raw (record { content = content.now; lf = lf }))) }
+        ensures fault { OnErr result (AppendsPart (W.contents (writer_of self.old)) (W.contents (writer_of self.new))
+            (raw (record { content = content.now; lf = lf }))) }
+        ensures cause { OnErr result (HasRisen (failures_of self.old) (failures_of self.new)) }
+        ensures counts { failures_of self.old ≤ failures_of self.new }
+        ensures counted { failures_of self.new ≡ counted (failures_of self.old) result }
+    {
+        let answer = write_line(&mut self.writer, content, lf);
+        self.failures = count_failure(self.failures, answer);
+        answer
     }
 }
