@@ -10,19 +10,22 @@ use Rattle.cj_budget.specs.declared.limits.Peaks.{Peaks}
 use Rattle.cj_spans.specs.declared.reason.Reason.TheVariants.{LineTooLong}
 use Rattle.cityseq.specs.declared.reason.End.{End}
 use Rattle.cityseq.specs.declared.reason.End.TheVariants.{Complete, Refused, ReadFault, ReadLimit, WriteFault, Memory}
-use Rattle.cityseq.specs.Lines.{Line, raw, NoLf, closed, begun, first_of, ended_line, last_line, lines}
-use Rattle.cityseq.specs.Verdict.{verdict, refusal_of, refusal_from, good_from, kept_from, output, ending, judged, long_line}
-use Rattle.cityseq.specs.Cut.{joined, Copies, IsUnread}
-use Rattle.cityseq.specs.Engine.{Tells, Concludes}
+use Rattle.cityseq.specs.Lines.{Line, raw, NoLf, closed, begun, first_of, ended_line, last_line, lines, whole}
+use Rattle.cityseq.specs.Verdict.{verdict, refusal_of, refusal_from, good_from, kept_from, kept, output, ending, judged, long_line}
+use Rattle.cityseq.specs.Cut.{joined, AppendsMore, Copies, TookWhole, IsUnread}
+use Rattle.cityseq.specs.Engine.{State, limits_of, lines_of, Delivers, Faults, Tells, Concludes}
+use Rattle.cityseq.specs.Reading.{Reads}
 use Rattle.cityseq.specs.Run.{Runs}
 use Rattle.cityseq.specs.Sink.{AppendsPart}
 use Rattle.cityseq.proofs.JoinedLemmas.{joined-cut}
 use Rattle.cityseq.proofs.LineLemmas.{closed-then, begun-then, NoLf-begun, first_content-long}
 use Rattle.cityseq.proofs.VerdictLemmas.{refusal-append, verdict-long}
-use Rattle.cityseq.proofs.ReadingLemmas.{map_lines-append}
+use Rattle.cityseq.proofs.IsLinesLemmas.{lines-whole}
+use Rattle.cityseq.proofs.KnownLemmas.{Appends-then, Appends-nothing}
+use Rattle.cityseq.proofs.ReadingLemmas.{map_lines-append, length-map_lines}
 use Rattle.cityseq.proofs.GoodLemmas.{good-append, good-all}
-use Rattle.cityseq.proofs.RunLemmas.{refusal-stays, ending-refused}
-use Rattle.cityseq.proofs.OutputLemmas.{Writes-runs}
+use Rattle.cityseq.proofs.RunLemmas.{refusal-stays, ending-refused, whole-good}
+use Rattle.cityseq.proofs.OutputLemmas.{Writes-runs, Took-appends, kept-whole}
 
 -- a text that goes on: the lines that LF ended, and those of what had begun
 lines-more : (q more : List ℕ) → lines (q ++ more) ≡ map ended_line (closed q) ++ lines (begun q ++ more)
@@ -113,29 +116,57 @@ refused-more limits q more e k =
     let same : good_from limits 1 (lines q) ≡ good_from limits 1 (map ended_line (closed q)) = let z = front.1 in rw (append-nil q) at z in
     (ending-refused limits (lines (q ++ more)) e all.0, ap (λ z. flat_map raw (kept_from limits 1 z)) (all.1 ∙ sym same))
 
+-- what a failed step left of a line, in bytes
+module _ {S : Type 0} (contents : S → Option (List ℕ)) (limits : LimitPair) (q : List ℕ) (n : ℕ) (s t : S) where
+  left-more : (e : End) → Faults (λ a l b. AppendsPart (contents a) (contents b) (raw l)) limits q n s t (Some e) → (more : List ℕ) × Appends (contents s) (contents t) more
+  left-more Complete h = ([], rw h (Appends-nothing (contents s)))
+  left-more (Refused number place reason) h = ([], rw h (Appends-nothing (contents s)))
+  left-more ReadFault h = ([], rw h (Appends-nothing (contents s)))
+  left-more ReadLimit h = ([], rw h (Appends-nothing (contents s)))
+  left-more WriteFault h = (h.3.front, h.3.grows)
+  left-more Memory h = ([], rw h (Appends-nothing (contents s)))
+
+-- the output of the whole lines of the pieces that were wholly taken is there
+whole-taken : {S : Type 0} (contents : S → Option (List ℕ)) (limits : LimitPair) (pieces : List (List ℕ)) (n count : ℕ) (s t : S) (e : End)
+    → TookWhole (λ a l b. Appends (contents a) (contents b) (raw l)) (λ a l b. AppendsPart (contents a) (contents b) (raw l)) limits pieces n count s t e
+    → AppendsMore (contents s) (contents t) (output limits (whole (joined (take n pieces))))
+whole-taken contents limits pieces n count s t e h =
+    let r = joined (take n pieces) in
+    let all : length (closed (joined (take n pieces))) ≡ length (lines (whole (joined (take n pieces)))) = sym (ap length (lines-whole r) ∙ length-map_lines (closed r)) in
+    let k : h.before.added ≡ kept limits (whole (joined (take n pieces))) = sym h.before.kept ∙ kept-whole limits (length (closed r)) r h.good all in
+    let more = left-more contents limits (joined (take (n + 1) pieces)) count h.after.middle t e h.after.fault in
+    record {
+      middle = contents h.middle;
+      more = flat_map raw h.after.added ++ more.0;
+      first = rw (← k, h.before.fault) (Took-appends contents s h.before.middle h.before.added h.before.took);
+      grows = Appends-then (contents h.middle) (contents h.after.middle) (contents t) (flat_map raw h.after.added) more.0 (Took-appends contents h.middle h.after.middle h.after.added h.after.took) more.1;
+    }
+
 module _ {S : Type 0} (contents : S → Option (List ℕ)) (limits : LimitPair) (pieces : List (List ℕ)) (n : ℕ) (s t : S) (count features : ℕ) (peaks : Peaks) where
   -- what a run over pieces has written
   pub Copies-runs : (e : End) → Runs (λ a l b. Appends (contents a) (contents b) (raw l)) (λ a l b. AppendsPart (contents a) (contents b) (raw l)) limits
-      (joined (take n pieces)) (joined (take n pieces) ≡ joined pieces) s t count features peaks e → IsUnread e → Copies limits pieces e (contents s) (contents t)
-  Copies-runs Complete h u =
-      let w = Writes-runs contents limits (joined (take n pieces)) _ s t count features peaks Complete h in
+      (joined (take (n + 1) pieces)) (joined (take (n + 1) pieces) ≡ joined pieces) s t count features peaks e
+      → TookWhole (λ a l b. Appends (contents a) (contents b) (raw l)) (λ a l b. AppendsPart (contents a) (contents b) (raw l)) limits pieces n count s t e
+      → IsUnread e → Copies limits pieces n e (contents s) (contents t)
+  Copies-runs Complete h k u =
+      let w = Writes-runs contents limits (joined (take (n + 1) pieces)) _ s t count features peaks Complete h in
       rw (← h.account.ends.2) (h.account.ends.0, w)
-  Copies-runs (Refused number place reason) h u = go h.account.ends.2
+  Copies-runs (Refused number place reason) h k u = go h.account.ends.2
     where
-      w : Appends (contents s) (contents t) (output limits (joined (take n pieces)))
-      w = Writes-runs contents limits (joined (take n pieces)) _ s t count features peaks (Refused number place reason) h
+      w : Appends (contents s) (contents t) (output limits (joined (take (n + 1) pieces)))
+      w = Writes-runs contents limits (joined (take (n + 1) pieces)) _ s t count features peaks (Refused number place reason) h
 
-      go : (joined (take n pieces) ≡ joined pieces) ⊎ (refusal_from limits 1 (judged limits (joined (take n pieces))) ≡ Some (Refused number place reason)) → Copies limits pieces (Refused number place reason) (contents s) (contents t)
+      go : (joined (take (n + 1) pieces) ≡ joined pieces) ⊎ (refusal_from limits 1 (judged limits (joined (take (n + 1) pieces))) ≡ Some (Refused number place reason)) → Copies limits pieces n (Refused number place reason) (contents s) (contents t)
       go (inl same) = rw (← same) (h.account.ends.0, w)
       go (inr told) =
-          let more = refused-more limits (joined (take n pieces)) (joined (drop n pieces)) (Refused number place reason) told in
-          let out : output limits (joined (take n pieces)) ≡ output limits (joined (take n pieces) ++ joined (drop n pieces)) = sym more.1 in
+          let more = refused-more limits (joined (take (n + 1) pieces)) (joined (drop (n + 1) pieces)) (Refused number place reason) told in
+          let out : output limits (joined (take (n + 1) pieces)) ≡ output limits (joined (take (n + 1) pieces) ++ joined (drop (n + 1) pieces)) = sym more.1 in
           let v = rw out at w in
-          rw (← joined-cut n pieces) (more.0, v)
-  Copies-runs ReadFault h u = absurd u
-  Copies-runs ReadLimit h u = absurd u
-  Copies-runs WriteFault h u = (n, Writes-runs contents limits (joined (take n pieces)) _ s t count features peaks WriteFault h)
-  Copies-runs Memory h u = (n, Writes-runs contents limits (joined (take n pieces)) _ s t count features peaks Memory h)
+          rw (← joined-cut (n + 1) pieces) (more.0, v)
+  Copies-runs ReadFault h k u = absurd u
+  Copies-runs ReadLimit h k u = absurd u
+  Copies-runs WriteFault h k u = (Writes-runs contents limits (joined (take (n + 1) pieces)) _ s t count features peaks WriteFault h, whole-taken contents limits pieces n count s t WriteFault k)
+  Copies-runs Memory h k u = (Writes-runs contents limits (joined (take (n + 1) pieces)) _ s t count features peaks Memory h, whole-taken contents limits pieces n count s t Memory k)
 
 pub unread-told : (limits : LimitPair) (q : List ℕ) (n : ℕ) (e : End) → Tells limits q n e → IsUnread e
 unread-told limits q n Complete h = tt
@@ -152,3 +183,14 @@ unread-concludes limits q n ReadFault h = h
 unread-concludes limits q n ReadLimit h = h
 unread-concludes limits q n WriteFault h = tt
 unread-concludes limits q n Memory h = tt
+
+-- what an engine that had read some pieces did with the next, or at the end
+pub TookWhole-left : {S : Type 0} (takes leaves : S → Line → S → Type 0) (e : State) (limits : LimitPair) (pieces : List (List ℕ)) (n count : ℕ) (s m t : S) (end : End)
+    → limits_of e ≡ limits → Reads e.reading (joined (take n pieces)) → Delivers takes leaves limits (joined (take n pieces)) 0 (lines_of e) s m None
+    → Delivers takes leaves limits (joined (take (n + 1) pieces)) (lines_of e) count m t (Some end) → TookWhole takes leaves limits pieces n count s t end
+TookWhole-left takes leaves e limits pieces n count s m t end same reads before after = record {
+  middle = m;
+  good = let x = (whole-good e (joined (take n pieces)) reads).0 in rw same at x;
+  before = rw (← reads.lines) before;
+  after = rw (← reads.lines) after;
+}

@@ -30,7 +30,7 @@ AppendsPart-whole : (a b : Option (List ℕ)) (x y : List ℕ) → Appends a b x
 AppendsPart-whole a b x y h = record { front = x; rest = y; whole = refl; grows = h }
 
 -- what is kept of the whole lines of a text, of which none is refused
-kept-whole : (limits : LimitPair) (n : ℕ) (r : List ℕ) → refusal_from limits 1 (lines (whole r)) ≡ None → n ≡ length (lines (whole r)) → kept_first limits n r ≡ kept limits (whole r)
+pub kept-whole : (limits : LimitPair) (n : ℕ) (r : List ℕ) → refusal_from limits 1 (lines (whole r)) ≡ None → n ≡ length (lines (whole r)) → kept_first limits n r ≡ kept limits (whole r)
 kept-whole limits n r none e =
     let count : n ≡ length (closed r) = e ∙ (ap length (lines-whole r) ∙ length-map_lines (closed r)) in
     let front = rw (append-nil r) at (kept_first-front limits n r [] count) in

@@ -5,6 +5,7 @@ use Rattle.cityseq.proofs.copying.copy_pieces.Goals as goal
 
 pub returns : goal.returns
 returns g c =
-    let e = c.feed_all.ensures.runs in
-    let runs = rw c.in-Ok.ensures.empty.1 at e.1 in
-    Copies-runs (λ s. g.W.Write.contents (writer_of s)) c.args.limits (map (λ piece. piece.now) c.args.pieces.now) e.0 c.args.sink.now c.feed_all.new.sink _ _ _ c.feed_all.result runs c.feed_all.ensures.unread
+    let e = c.feed_all.ensures in
+    let runs = rw c.in-Ok.ensures.empty.1 at e.runs in
+    let taken = rw c.in-Ok.ensures.empty.1 at e.taken in
+    Copies-runs (λ s. g.W.Write.contents (writer_of s)) c.args.limits (map (λ piece. piece.now) c.args.pieces.now) c.feed_all.result.taken c.args.sink.now c.feed_all.new.sink _ _ _ c.feed_all.result.ended runs taken e.unread
