@@ -26,6 +26,7 @@ use Rattle.cityseq.proofs.ReadingLemmas.{map_lines-append, length-map_lines}
 use Rattle.cityseq.proofs.GoodLemmas.{good-append, good-all}
 use Rattle.cityseq.proofs.RunLemmas.{refusal-stays, ending-refused, whole-good}
 use Rattle.cityseq.proofs.OutputLemmas.{Writes-runs, Took-appends, kept-whole}
+use Rattle.cityseq.proofs.Apart.{none-some}
 
 -- a text that goes on: the lines that LF ended, and those of what had begun
 lines-more : (q more : List ℕ) → lines (q ++ more) ≡ map ended_line (closed q) ++ lines (begun q ++ more)
@@ -44,10 +45,7 @@ first-line c t free some = go (closed (c ++ t)) (begun (c ++ t)) (first_content-
 
 -- lines after a refusal change nothing of what is good
 good-stays : (limits : LimitPair) (n : ℕ) (xs ys : List Line) (e : End) → refusal_from limits n xs ≡ Some e → good_from limits n (xs ++ ys) ≡ good_from limits n xs
-good-stays limits n [] ys e h = absurd (clash h)
-  where
-    clash : ◌≡◌ {A = Option End} None (Some e) → ⊥
-    clash x = cc
+good-stays limits n [] ys e h = absurd (none-some e h)
 good-stays limits n (x ∷ xs) ys e h = step (refusal_of n (verdict limits n x.content)) (good-stays limits (n + 1) xs ys e) h
   where
     step : (first : Option End) → (refusal_from limits (n + 1) xs ≡ Some e → good_from limits (n + 1) (xs ++ ys) ≡ good_from limits (n + 1) xs)
@@ -92,10 +90,7 @@ module _ (limits : LimitPair) (q more : List ℕ) (e : End) where
           → Some (Refused (1 + length (map ended_line (closed q))) limits.line LineTooLong) ≡ Some e
       refused_now [] long k = absurd (omega arith)
       refused_now (b ∷ c) long k = sym (refusal-long limits (1 + length (map ended_line (closed q))) (record { content = b ∷ c; lf = false }) [] long).0 ∙ k
-  long-stays false is h k = absurd (clash k)
-    where
-      clash : ◌≡◌ {A = Option End} None (Some e) → ⊥
-      clash x = cc
+  long-stays false is h k = absurd (none-some e k)
 
   judged-stays : refusal_from limits 1 (judged limits q) ≡ Some e → Stays
   judged-stays k = go (refusal_from limits 1 (map ended_line (closed q))) refl

@@ -20,6 +20,7 @@ use Rattle.cityseq.proofs.IsLinesLemmas.{lines-whole}
 use Rattle.cityseq.proofs.VerdictLemmas.{refusal-append}
 use Rattle.cityseq.proofs.ScanningLemmas.{few-scanned, first-closed}
 use Rattle.cityseq.proofs.ReadingLemmas.{length-map_lines, map_lines-append, begun_of-first, begun_of-later, zero_or}
+use Rattle.cityseq.proofs.Apart.{some-none}
 
 -- what is held is within the peaks
 pub held-below : (e : State) → IsWithin e.reading.header → IsWithin e.reading.line → HasRoom (limits_of e) e.scanning → IsBelow (held_by e) (peaks_of e)
@@ -153,9 +154,6 @@ StandsFor-reads e p taken s room h sc = record {
   going = λ _. (h, sc, taken);
 }
 
-pub some_not_none : (x : End) → ◌≡◌ {A = Option End} (Some x) None → ⊥
-some_not_none x e = cc
-
 module _ {S : Type 0} (takes leaves : S → Line → S → Type 0) where
   pub Tells-stops : (f g : Reading) (s t : S) (p more : List ℕ) (e : End) → Stops takes leaves f s p more e g t → Tells f.limits (p ++ more) g.lines e
   Tells-stops f g s t p more e h =
@@ -200,7 +198,7 @@ module _ {S : Type 0} (takes leaves : S → Line → S → Type 0) where
         held = held-below new h.reads.header_within h.reads.line_within room;
         bounded = peaks-bounded (limits_of new) (p ++ more) (new.reading.header.peak + new.reading.line.peak) new.scanning (rw whole (peak-le new.reading (p ++ h.done) h.left sound h.reads)) room few;
         counts = rw whole (Counts-front new.reading (p ++ h.done) h.left h.reads);
-        going = λ none. absurd (some_not_none e (sym ended ∙ none));
+        going = λ none. absurd (some-none e (sym ended ∙ none));
       }
 
 -- what an end for want of memory tells

@@ -21,9 +21,10 @@ use Rattle.cityseq.specs.Scanning.{Scanning, Scanned, HasRoom, HoldsFew}
 use Rattle.cityseq.specs.Engine.{StandsFor, Counts, Faults, Delivers, Concludes, end_of}
 use Rattle.cityseq.proofs.LineLemmas.{none-from_length, begun_after-empty}
 use Rattle.cityseq.proofs.VerdictLemmas.{refusal-append, kept-append}
-use Rattle.cityseq.proofs.ReadingLemmas.{length-map_lines, zero_or, kept-next, longest-later}
+use Rattle.cityseq.proofs.ReadingLemmas.{length-map_lines, zero_or, kept-next, longest-later, max-zero}
+use Rattle.cityseq.proofs.Apart.{some-none}
 use Rattle.cityseq.proofs.GoodLemmas.{good-complete, good-refused}
-use Rattle.cityseq.proofs.EngineLemmas.{held-below, peaks-bounded, same-peaks, take-front, get-next, lines-front, Counts-front, some_not_none}
+use Rattle.cityseq.proofs.EngineLemmas.{held-below, peaks-bounded, same-peaks, take-front, get-next, lines-front, Counts-front}
 
 -- the end of a text, by the number of its lines
 abbrev pub Concluded : LimitPair → List ℕ → ℕ → End → Type 0
@@ -58,9 +59,6 @@ contents-closed (c ∷ cs) = ap (λ z. c ∷ z) (contents-closed cs)
 pub contents-last : (cs : List (List ℕ)) (c : List ℕ) → map (λ l. l.content) (map ended_line cs ++ record { content = c; lf = false } ∷ []) ≡ cs ++ c ∷ []
 contents-last [] c = refl
 contents-last (d ∷ cs) c = ap (λ z. d ∷ z) (contents-last cs c)
-
-max-zero : (n : ℕ) → max n 0 ≡ n
-max-zero n = omega arith
 
 -- what follows of an answer Ok
 pub ok-then : {T E : Type 0} (P Q : Type 0) (r : Result T E) → (P → Q) → OnOk r P → OnOk r Q
@@ -210,7 +208,7 @@ module _ {S : Type 0} (takes leaves : S → Line → S → Type 0) (f g : Readin
         held = held-below (record { reading = g; scanning = sc; taken = n; ended = Some e }) k.header k.line (rw k.limits room);
         bounded = rw k.limits (peaks-bounded f.limits p (g.header.peak + g.line.peak) sc (omega (arith, k.peaks, bounded)) room few);
         counts = rw k.limits counts;
-        going = λ none. absurd (some_not_none e none);
+        going = λ none. absurd (some-none e none);
       }
 
   -- what was held at most, of all lines

@@ -12,6 +12,7 @@ use Rattle.cityseq.specs.declared.reason.End.TheVariants.{Complete, Refused}
 use Rattle.cityseq.specs.Lines.{Line, lines}
 use Rattle.cityseq.specs.Verdict.{verdict, refusal_of, is_kept, refusal_from, good_from, kept_from, good, kept, kept_first, ending, ending_of}
 use Rattle.cityseq.proofs.VerdictLemmas.{kept-append}
+use Rattle.cityseq.proofs.Apart.{false-true, none-some, some-none}
 
 -- good lines are a front
 pub good-take : (limits : LimitPair) (n : ℕ) (ls : List Line) → take (length (good_from limits n ls)) ls ≡ good_from limits n ls
@@ -37,10 +38,7 @@ good-append limits n (l ∷ xs) ys h = step (refusal_of n (verdict limits n l.co
     step None later h =
         let at : n + suc (length xs) ≡ n + 1 + length xs = omega arith in
         rw at (ap (λ z. l ∷ z) (later h))
-    step (Some x) later h = absurd (clash x h)
-      where
-        clash : (x : End) → ◌≡◌ {A = Option End} (Some x) None → ⊥
-        clash x y = cc
+    step (Some x) later h = absurd (some-none x h)
 
 pub good-all : (limits : LimitPair) (n : ℕ) (ls : List Line) → refusal_from limits n ls ≡ None → good_from limits n ls ≡ ls
 good-all limits n [] h = refl
@@ -48,17 +46,11 @@ good-all limits n (l ∷ ls) h = step (refusal_of n (verdict limits n l.content)
   where
     step : (first rest : Option End) → (rest ≡ None → good_from limits (n + 1) ls ≡ ls) → cond (is_some first) first rest ≡ None → cond (is_some first) [] (l ∷ good_from limits (n + 1) ls) ≡ l ∷ ls
     step None rest k h = ap (λ z. l ∷ z) (k h)
-    step (Some x) rest k h = absurd (clash h)
-      where
-        clash : ◌≡◌ {A = Option End} (Some x) None → ⊥
-        clash y = cc
+    step (Some x) rest k h = absurd (some-none x h)
 
 -- the first refusal among lines stands after the good ones
 refusal-good : (limits : LimitPair) (n m place : ℕ) (reason : Reason) (ls : List Line) → refusal_from limits n ls ≡ Some (Refused m place reason) → m ≡ n + length (good_from limits n ls)
-refusal-good limits n m place reason [] h = absurd (clash h)
-  where
-    clash : ◌≡◌ {A = Option End} None (Some (Refused m place reason)) → ⊥
-    clash y = cc
+refusal-good limits n m place reason [] h = absurd (none-some (Refused m place reason) h)
 refusal-good limits n m place reason (l ∷ ls) h = step (verdict limits n l.content) (refusal-good limits (n + 1) m place reason ls) h
   where
     step : (v : Verdict) → (refusal_from limits (n + 1) ls ≡ Some (Refused m place reason) → m ≡ n + 1 + length (good_from limits (n + 1) ls))
@@ -70,10 +62,7 @@ refusal-good limits n m place reason (l ∷ ls) h = step (verdict limits n l.con
 
 -- a refusal is no completion
 refusal-kind : (limits : LimitPair) (n : ℕ) (ls : List Line) → refusal_from limits n ls ≡ Some Complete → ⊥
-refusal-kind limits n [] h = clash h
-  where
-    clash : ◌≡◌ {A = Option End} None (Some Complete) → ⊥
-    clash y = cc
+refusal-kind limits n [] h = none-some Complete h
 refusal-kind limits n (l ∷ ls) h = step (verdict limits n l.content) (refusal-kind limits (n + 1) ls) h
   where
     step : (v : Verdict) → (refusal_from limits (n + 1) ls ≡ Some Complete → ⊥) → cond (is_some (refusal_of n v)) (refusal_of n v) (refusal_from limits (n + 1) ls) ≡ Some Complete → ⊥
@@ -123,10 +112,7 @@ kept-split limits n r few h =
     ap (λ z. kept_from limits 1 (good_from limits 1 z)) whole ∙ (ap (λ z. kept_from limits 1 z) g2 ∙ k2)
 
 drop-next : (ls : List Line) (n : ℕ) (l : Line) → slice_get ls n ≡ Some l → (rest : List Line) × (drop n ls ≡ l ∷ rest)
-drop-next [] n l h = absurd (clash h)
-  where
-    clash : ◌≡◌ {A = Option Line} None (Some l) → ⊥
-    clash y = cc
+drop-next [] n l h = absurd (none-some l h)
 drop-next (x ∷ ls) zero l h = (ls, ap (λ z. z ∷ ls) (same h))
   where
     same : ◌≡◌ {A = Option Line} (Some x) (Some l) → x ≡ l
@@ -139,14 +125,8 @@ kept-head : (limits : LimitPair) (n : ℕ) (l : Line) (rest : List Line) → is_
 kept-head limits n l rest h = step (verdict limits n l.content) refl h
   where
     step : (v : Verdict) → verdict limits n l.content ≡ v → is_kept v ≡ true → kept_from limits n (good_from limits n (l ∷ rest)) ≡ l ∷ kept_from limits (n + 1) (good_from limits (n + 1) rest)
-    step (Refuse place reason) e k = absurd (clash k)
-      where
-        clash : false ≡ true → ⊥
-        clash y = cc
-    step Blank e k = absurd (clash k)
-      where
-        clash : false ≡ true → ⊥
-        clash y = cc
+    step (Refuse place reason) e k = absurd (false-true k)
+    step Blank e k = absurd (false-true k)
     step Valid e k = rw e (rw e refl)
 
 -- where the line after the first n ones is kept: it follows what is kept of them

@@ -1,3 +1,4 @@
+pub mod Apart
 pub mod BlankLemmas
 pub mod CutLemmas
 pub mod DeviceLemmas

@@ -139,7 +139,7 @@ pub greatest-append : (measure : List ℕ → ℕ) (cs : List (List ℕ)) (c : L
 greatest-append measure [] c = omega arith
 greatest-append measure (d ∷ cs) c = omega (arith, greatest-append measure cs c)
 
-max-zero : (n : ℕ) → max n 0 ≡ n
+pub max-zero : (n : ℕ) → max n 0 ≡ n
 max-zero n = omega arith
 
 -- the longest later content, after one line more

@@ -18,6 +18,7 @@ use Rattle.cityseq.proofs.EngineLemmas.{judged-front, kept_first-front}
 use Rattle.cityseq.proofs.ReadingLemmas.{length-map_lines, zero_or}
 use Rattle.cityseq.proofs.IsLinesLemmas.{lines-whole}
 use Rattle.cityseq.proofs.GoodLemmas.{good-refused}
+use Rattle.cityseq.proofs.Apart.{none-some}
 
 pub Consumes-then : (a b c : Option (List ℕ)) (x y : List ℕ) → Consumes a b x → Consumes b c y → Consumes a c (x ++ y)
 Consumes-then None b c x y p q = tt
@@ -50,10 +51,7 @@ Ends-finished limits r n at_end WriteFault h c = tt
 Ends-finished limits r n at_end Memory h c = tt
 
 pub refusal-stays : (limits : LimitPair) (n : ℕ) (xs ys : List Line) (e : End) → refusal_from limits n xs ≡ Some e → refusal_from limits n (xs ++ ys) ≡ Some e
-refusal-stays limits n [] ys e h = absurd (clash h)
-  where
-    clash : ◌≡◌ {A = Option End} None (Some e) → ⊥
-    clash x = cc
+refusal-stays limits n [] ys e h = absurd (none-some e h)
 refusal-stays limits n (x ∷ xs) ys e h = step (refusal_of n (verdict limits n x.content)) _ _ (refusal-stays limits (n + 1) xs ys e) h
   where
     step : (first rest all : Option End) → (rest ≡ Some e → all ≡ Some e) → cond (is_some first) first rest ≡ Some e → cond (is_some first) first all ≡ Some e
@@ -61,10 +59,7 @@ refusal-stays limits n (x ∷ xs) ys e h = step (refusal_of n (verdict limits n 
     step (Some y) rest all k h = h
 
 pub ending-refused : (limits : LimitPair) (ls : List Line) (e : End) → refusal_from limits 1 ls ≡ Some e → ending_of limits ls ≡ e
-ending-refused limits [] e h = absurd (clash h)
-  where
-    clash : ◌≡◌ {A = Option End} None (Some e) → ⊥
-    clash x = cc
+ending-refused limits [] e h = absurd (none-some e h)
 ending-refused limits (l ∷ ls) e h = rw h refl
 
 pub ending-told : (limits : LimitPair) (q : List ℕ) (e : End) → refusal_from limits 1 (judged limits q) ≡ Some e → ending limits q ≡ e

@@ -1,7 +1,7 @@
 -- What it means to be the lines of a text.
 use Rattle.std.specs.Prelude.{◌≡◌, ◌⊎◌, ℕ, List, [], ◌∷◌, ◌++◌, true, false}
 use Rattle.std.specs.List.{flat_map}
-use Rattle.cityseq.specs.Lines.{Line, raw, NoLf}
+use Rattle.cityseq.specs.Lines.{newline, Line, raw, NoLf}
 
 -- LF ended each line but perhaps the last, which is then not empty
 abbrev pub AreEnded : List Line → Type 0
@@ -25,4 +25,4 @@ pub record IsWhole (s w : List ℕ) : Type 0 where
   pub rest : List ℕ
   pub cut : s ≡ w ++ rest
   pub no_lf : NoLf rest
-  pub ended : (w ≡ [] → ⊥) → (front : List ℕ) × (w ≡ front ++ 10 ∷ [])
+  pub ended : (w ≡ [] → ⊥) → (front : List ℕ) × (w ≡ front ++ newline ∷ [])

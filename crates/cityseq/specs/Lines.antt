@@ -2,6 +2,10 @@
 use Rattle.std.specs.Prelude.{◌≡◌, ℕ, List, [], ◌∷◌, ◌++◌, Bool, true, false, ◌==◌, if◌then◌else◌, map}
 use Rattle.std.specs.List.{flat_map}
 
+-- the byte that ends a line
+abbrev pub newline : ℕ
+newline = 10
+
 -- a line: its content, and whether LF ended it
 pub record Line : Type 0 where
   pub content : List ℕ
@@ -9,12 +13,12 @@ pub record Line : Type 0 where
 
 -- the bytes of a line
 abbrev pub raw : Line → List ℕ
-raw l = if l.lf then l.content ++ 10 ∷ [] else l.content
+raw l = if l.lf then l.content ++ newline ∷ [] else l.content
 
 -- no byte is LF
 abbrev pub NoLf : List ℕ → Type 0
 NoLf [] = Unit {0}
-NoLf (b ∷ s) = ((b == 10) ≡ false) × NoLf s
+NoLf (b ∷ s) = ((b == newline) ≡ false) × NoLf s
 
 -- a byte in front of the first content
 abbrev pub onto_first : ℕ → List (List ℕ) → List (List ℕ)
@@ -24,7 +28,7 @@ onto_first b (c ∷ cs) = (b ∷ c) ∷ cs
 -- the contents of the lines that LF ended
 abbrev pub closed : List ℕ → List (List ℕ)
 closed [] = []
-closed (b ∷ s) = if b == 10 then [] ∷ closed s else onto_first b (closed s)
+closed (b ∷ s) = if b == newline then [] ∷ closed s else onto_first b (closed s)
 
 -- the bytes after the last LF of b and s, where these are the lines that LF ended in s
 abbrev pub begun_with : List (List ℕ) → ℕ → List ℕ → List ℕ
@@ -34,7 +38,7 @@ begun_with (c ∷ cs) b s = s
 -- the bytes after the last LF
 abbrev pub begun : List ℕ → List ℕ
 begun [] = []
-begun (b ∷ s) = if b == 10 then begun s else begun_with (closed s) b (begun s)
+begun (b ∷ s) = if b == newline then begun s else begun_with (closed s) b (begun s)
 
 -- a content that LF ended
 abbrev pub ended_line : List ℕ → Line

@@ -57,7 +57,7 @@ pub record Rises (old new : Scanning) : Type 0 where
   pub opened : old.opened.peak ≤ new.opened.peak
 
 -- the lists have taken the tree that a content spells
-pub record Takes (c : List ℕ) (old new : BoundedList Token) (old_open new_open : BoundedList ℕ) : Type 0 where
+pub record HoldsTree (c : List ℕ) (old new : BoundedList Token) (old_open new_open : BoundedList ℕ) : Type 0 where
   pub count : length new.elements ≡ judged_size (judgement c old_open.limit)
   pub peak : new.peak ≡ max old.peak (judged_size (judgement c old_open.limit))
   pub closed : new_open.elements ≡ []
@@ -67,7 +67,7 @@ pub record Takes (c : List ℕ) (old new : BoundedList Token) (old_open new_open
 -- case no more than the law of a scan allows
 abbrev pub Judges : List ℕ → BoundedList Token → BoundedList Token → BoundedList ℕ → BoundedList ℕ → Result Verdict NoMemory → Type 0
 Judges c old new old_open new_open (Ok Blank) = (new ≡ old) × (new_open ≡ old_open)
-Judges c old new old_open new_open (Ok Valid) = Takes c old new old_open new_open × KeepsLaw c old new old_open new_open
+Judges c old new old_open new_open (Ok Valid) = HoldsTree c old new old_open new_open × KeepsLaw c old new old_open new_open
 Judges c old new old_open new_open (Ok (Refuse place reason)) = KeepsLaw c old new old_open new_open
 Judges c old new old_open new_open (Err e) = KeepsLaw c old new old_open new_open
 

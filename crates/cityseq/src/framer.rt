@@ -1,7 +1,7 @@
 //! Cuts pieces into lines, and deals with each.
 ghost use Rattle.std.specs.Prelude.{◌≡◌, ◌+◌, ◌^◌, ◌<◌, ◌≤◌, ◌⊎◌, ℕ, List, [], ◌∷◌, ◌++◌, length, OnOk, OnErr, IfOk, IfErr, IsErrOf};
 ghost use Rattle.cityseq.specs.Bound.{contents};
-ghost use Rattle.cityseq.specs.Lines.{NoLf, closed, first_of, first_content};
+ghost use Rattle.cityseq.specs.Lines.{newline, NoLf, closed, first_of, first_content};
 ghost use Rattle.cityseq.specs.Sink.{HasRisen};
 ghost use Rattle.cityseq.specs.Verdict.{WantsTokens, verdict};
 
@@ -191,15 +191,15 @@ impl Framer {
         ensures counts { S.failures sink.old ≤ S.failures sink.new }
         ensures cause { IsErrOf result End.WriteFault → HasRisen (S.failures sink.old) (S.failures sink.new) }
         ensures ok { OnOk result ((p : List ℕ) → Reads (reading self.old) p →
-            Advances S.takes (reading self.old) sink.old p (part.now ++ 10 ∷ []) (reading self.new) sink.new) }
+            Advances S.takes (reading self.old) sink.old p (part.now ++ newline ∷ []) (reading self.new) sink.new) }
         ensures err { IfErr result (λ e. (p more : List ℕ) → Reads (reading self.old) p →
-            Stops S.takes S.leaves (reading self.old) sink.old p (part.now ++ 10 ∷ more) e (reading self.new) sink.new) }
+            Stops S.takes S.leaves (reading self.old) sink.old p (part.now ++ newline ∷ more) e (reading self.new) sink.new) }
         ensures room { HasRoom self.old.limits (scanning self.new) }
         ensures rises { Rises (scanning self.old) (scanning self.new) }
         ensures scanned { OnOk result ((p : List ℕ) → Reads (reading self.old) p → Scanned self.old.limits (closed p) (scanning self.old)
-            → Scanned self.old.limits (closed (p ++ (part.now ++ 10 ∷ []))) (scanning self.new)) }
+            → Scanned self.old.limits (closed (p ++ (part.now ++ newline ∷ []))) (scanning self.new)) }
         ensures held { OnErr result ((p more : List ℕ) → Reads (reading self.old) p → Scanned self.old.limits (closed p) (scanning self.old)
-            → HoldsFew self.old.limits (length (first_content (p ++ (part.now ++ 10 ∷ more)))) (scanning self.new)) }
+            → HoldsFew self.old.limits (length (first_content (p ++ (part.now ++ newline ∷ more)))) (scanning self.new)) }
     {
         self.store(part)?;
         self.deal(true, sink)?;
