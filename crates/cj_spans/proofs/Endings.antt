@@ -1,7 +1,8 @@
 -- A front is what a text begins with: some bytes more make it one.
-use Rattle.std.proofs.Common.{◌≡◌, ℕ, zero, suc, ◌+◌, ◌<◌, ◌≤◌, List, [], ◌∷◌, ◌++◌, length, take, get_or, Option, Some, None, Result, Err, refl, sym, ap, subst, arith, ◌∙◌, slice_get, slice_set, length-append}
+use Rattle.std.proofs.Common.{◌≡◌, ◌⊎◌, inl, inr, ℕ, zero, suc, ◌+◌, ◌<◌, ◌≤◌, List, [], ◌∷◌, ◌++◌, length, take, drop, get_or, Option, Some, None, Result, Err, refl, sym, ap, subst, arith, ◌∙◌, slice_get, slice_set, length-append}
 use Rattle.std.specs.Prelude.{option_map}
 use Rattle.std.proofs.lemmas.Grind.{common_steps}
+use Rattle.std.proofs.lemmas.List.{take-append-drop}
 use Rattle.cj_budget.specs.Bounded.{BoundedList}
 use Rattle.cj_spans.specs.declared.fault.ScanFault.{ScanFault}
 use Rattle.cj_spans.specs.declared.fault.ScanFault.TheVariants.{Syntax, TooDeep}
@@ -365,6 +366,7 @@ pub first_fault : (b : List ℕ) (i : ℕ) → SyntaxAt b i → IsFirstFault b i
 first_fault b i s =
     let w = syntax_within s in
     record {
+      within = w;
       earlier = λ k h. front_text b (suc k) (omega arith) (fronts_below s k h);
       here = λ l x. here_not s l x;
       whole = λ e t j. whole_not s e t j;
@@ -377,6 +379,16 @@ first_fault b i s =
     whole_not : SyntaxAt b i → i ≡ length b → (t : Tree) → Json b t → ⊥
     whole_not (stuck l f n) e t j = absurd (omega arith)
     whole_not (short e f n) h t j = n t j
+
+-- a text has none
+pub text_no_fault : (b : List ℕ) (t : Tree) → Json b t → (i : ℕ) → IsFirstFault b i → ⊥
+text_no_fault b t j i f = elim (inside_or_end i (length b) f.within) [
+  | inl l ↦ f.here l (record { rest = drop (suc i) b; tree = t; json = subst (λ c. Json c t) (sym (take-append-drop (suc i) b)) j })
+  | inr e ↦ f.whole e t j
+]
+  where
+    inside_or_end : (i n : ℕ) → i ≤ n → (i < n) ⊎ (i ≡ n)
+    inside_or_end i n h = grind arith
 
 -- a text that begins so opens as many containers as the line does
 text_nest : (b : List ℕ) (i n : ℕ) → i ≤ length b → Front b 0 i n → (x : BeginsText b i) → n ≤ nest x.tree
