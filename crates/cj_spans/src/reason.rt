@@ -2,8 +2,8 @@
 ghost use Rattle.std.specs.Prelude.{◌≡◌};
 ghost use Rattle.cj_spans.specs.Reason.{code_of, text_of};
 
-/// Why a line is refused, in the order of the codes.
-#[derive(Clone, Copy, Debug, PartialEq, Eq, PartialOrd, Ord)]
+/// Why a line is refused. Each reason has a code, by which a [`crate::Finding`] is ordered, and a text.
+#[derive(Clone, Copy, Debug, PartialEq, Eq)]
 pub enum Reason {
     /// There is no line.
     NoHeader,
