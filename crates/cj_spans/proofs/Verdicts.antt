@@ -192,7 +192,7 @@ sinks_deep b d i a = by_step (step (byte b i) a.last) refl a.deep
 
 -- ---- each line has one verdict
 
-one_deep : (b : List ℕ) (d i j : ℕ) → DeepAt b d i → DeepAt b d j → i ≡ j
+pub one_deep : (b : List ℕ) (d i j : ℕ) → DeepAt b d i → DeepAt b d j → i ≡ j
 one_deep b d i j x y = elim (three i j) [ inl e ↦ e | inr o ↦ elim o [ inl l ↦ absurd (y.least i l x.deep) | inr g ↦ absurd (x.least j g y.deep) ] ]
   where
     three : (x y : ℕ) → (x ≡ y) ⊎ ((x < y) ⊎ (y < x))
@@ -211,19 +211,19 @@ not_earlier : {b : List ℕ} {i j : ℕ} → SyntaxAt b i → SyntaxAt b j → i
 not_earlier (stuck l f n) y h = n (fronts_below y _ h)
 not_earlier (short e f n) y h = let w = syntax_within y in absurd (omega arith)
 
-one_syntax : (b : List ℕ) (i j : ℕ) → SyntaxAt b i → SyntaxAt b j → i ≡ j
+pub one_syntax : (b : List ℕ) (i j : ℕ) → SyntaxAt b i → SyntaxAt b j → i ≡ j
 one_syntax b i j x y = elim (three i j) [ inl e ↦ e | inr o ↦ elim o [ inl l ↦ absurd (not_earlier x y l) | inr g ↦ absurd (not_earlier y x g) ] ]
   where
     three : (x y : ℕ) → (x ≡ y) ⊎ ((x < y) ⊎ (y < x))
     three x y = grind arith
 
-json_no_syntax : {b : List ℕ} {i : ℕ} → (t : Tree) → Json b t → SyntaxAt b i → ⊥
+pub json_no_syntax : {b : List ℕ} {i : ℕ} → (t : Tree) → Json b t → SyntaxAt b i → ⊥
 json_no_syntax {b} {i} t j (stuck l f n) =
     let v = run_json b t j in let p = (settled v.at _ v.settles).place in
     n (front_before b v.at (suc i) v.reached (omega arith))
 json_no_syntax t j (short e f n) = n t j
 
-json_nowhere : (b : List ℕ) (d : ℕ) (t : Tree) → Json b t → nest t ≤ d → NowhereDeep b d
+pub json_nowhere : (b : List ℕ) (d : ℕ) (t : Tree) → Json b t → nest t ≤ d → NowhereDeep b d
 json_nowhere b d t j h =
     let v = run_json b t j in
     let e = settled v.at _ v.settles in

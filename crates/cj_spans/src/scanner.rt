@@ -176,7 +176,8 @@ pub fn scan(line: &[u8], tokens: &mut Bounded<Token>, stack: &mut Stack) -> Resu
         → (i : ℕ) → SyntaxAt line.now i
         → IsErrOf result (ScanFault.Syntax i) ⊎ IsErrOf result ScanFault.Memory }
 
-    // In one: each line has a judgement, and the answer is that judgement's.
+    // In one: each line has a judgement, by the law `one_judgement` no second one, and the answer is
+    // that judgement's.
     ensures judgement { Judgement line.now stack.old.limit }
     ensures judged { (j : Judgement line.now stack.old.limit) → IsUtf8 line.now → IsAnswerOf j result }
 
