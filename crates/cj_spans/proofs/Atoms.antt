@@ -1,5 +1,6 @@
 -- Scalars and names in a line: what has been read of one, and the machine over it.
 use Rattle.std.proofs.Common.{◌≡◌, ℕ, zero, suc, ◌+◌, ◌-◌, ◌<◌, ◌≤◌, List, [], ◌∷◌, ◌++◌, length, true, Option, Some, None, refl, sym, ap, subst, arith, ◌∙◌, ◌⊎◌, inl, inr}
+use Rattle.std.proofs.lemmas.Bool.{cases_lt}
 use Rattle.std.specs.Prelude.{option_and_then}
 use Rattle.cj_spans.specs.declared.token.Kind.{Kind}
 use Rattle.cj_spans.specs.declared.token.Token.{Token}
@@ -98,14 +99,11 @@ ends_err b i k p x y m ks ts c h l kind =
         reached = continues_reaches c (state (in_atom m i x) ks ts (suc i) p) m i ks ts p here;
         at = refl;
         within = l;
-        stuck = stuck_at (split k (length b));
+        stuck = stuck_at (cases_lt k (length b));
       };
       flat = refl;
     }
   where
-    split : (a b : ℕ) → (a < b) ⊎ (b ≤ a)
-    split a b = grind arith
-
     stuck_at : (k < length b) ⊎ (length b ≤ k) → ((k < length b) × (step (byte b k) (state (in_atom m i y) ks ts k p) ≡ None)) ⊎ ((k ≡ length b) × ((us : List Token) (q : ℕ) → settle (state (in_atom m i y) ks ts k p) ≡ Some (state (between After) [] us (length b) q) → ⊥))
     stuck_at (inl g) = elim h [ inl n ↦ absurd (omega arith) | inr none ↦ inl (g, halted b ks ts m i k p y None none kind) ]
     stuck_at (inr g) = inr (omega arith, λ us q e. none_some _ (sym (ap (λ r. end_atom m i r (state (in_atom m i y) ks ts k p)) kind) ∙ e))

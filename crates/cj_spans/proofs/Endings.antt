@@ -1,5 +1,6 @@
 -- A front is what a text begins with: some bytes more make it one.
-use Rattle.std.proofs.Common.{◌≡◌, ◌⊎◌, inl, inr, ℕ, zero, suc, ◌+◌, ◌<◌, ◌≤◌, List, [], ◌∷◌, ◌++◌, length, take, drop, get_or, Option, Some, None, Result, Err, refl, sym, ap, subst, arith, ◌∙◌, slice_get, slice_set, length-append}
+use Rattle.std.proofs.Common.{◌≡◌, inl, inr, ℕ, zero, suc, ◌+◌, ◌<◌, ◌≤◌, List, [], ◌∷◌, ◌++◌, length, take, drop, get_or, Option, Some, None, Result, Err, refl, sym, ap, subst, arith, ◌∙◌, slice_get, slice_set, length-append}
+use Rattle.std.proofs.Math.Nat.{eq-or-lt_of_le}
 use Rattle.std.specs.Prelude.{option_map}
 use Rattle.std.proofs.lemmas.Grind.{common_steps}
 use Rattle.std.proofs.lemmas.List.{take-append-drop}
@@ -382,13 +383,10 @@ first_fault b i s =
 
 -- a text has none
 pub text_no_fault : (b : List ℕ) (t : Tree) → Json b t → (i : ℕ) → IsFirstFault b i → ⊥
-text_no_fault b t j i f = elim (inside_or_end i (length b) f.within) [
-  | inl l ↦ f.here l (record { rest = drop (suc i) b; tree = t; json = subst (λ c. Json c t) (sym (take-append-drop (suc i) b)) j })
-  | inr e ↦ f.whole e t j
+text_no_fault b t j i f = elim (eq-or-lt_of_le f.within) [
+  | inr l ↦ f.here l (record { rest = drop (suc i) b; tree = t; json = subst (λ c. Json c t) (sym (take-append-drop (suc i) b)) j })
+  | inl e ↦ f.whole e t j
 ]
-  where
-    inside_or_end : (i n : ℕ) → i ≤ n → (i < n) ⊎ (i ≡ n)
-    inside_or_end i n h = grind arith
 
 -- a text that begins so opens as many containers as the line does
 text_nest : (b : List ℕ) (i n : ℕ) → i ≤ length b → Front b 0 i n → (x : BeginsText b i) → n ≤ nest x.tree

@@ -1,5 +1,6 @@
 -- What each step keeps: the place goes one on, the count of tokens stays within the bytes read and the open containers.
-use Rattle.std.proofs.Common.{◌≡◌, ℕ, suc, ◌+◌, ◌*◌, ◌<◌, ◌≤◌, List, [], ◌∷◌, ◌++◌, length, max, Bool, true, false, cond, nat_eq, Option, Some, None, refl, sym, ap, subst, arith, ◌∙◌, ◌⊎◌, inl, inr, slice_get, slice_set, length-append}
+use Rattle.std.proofs.Common.{◌≡◌, ℕ, suc, ◌+◌, ◌*◌, ◌<◌, ◌≤◌, List, [], ◌∷◌, ◌++◌, length, max, Bool, true, false, cond, nat_eq, Option, Some, None, refl, sym, ap, subst, arith, ◌∙◌, inl, inr, slice_get, slice_set, length-append}
+use Rattle.std.proofs.Math.Nat.{eq-or-lt_of_le}
 use Rattle.std.specs.Prelude.{option_and_then, option_map}
 use Rattle.std.proofs.Math.ListN.{length-set}
 use Rattle.cj_spans.specs.declared.token.Kind.{Kind}
@@ -203,13 +204,10 @@ before b s k here h = record { at = start; reached = here; place = omega arith; 
 before b s k (on t v r e) h =
     let g = goes t v (byte b t.place) (lawful_reaches t r) e in
     let p = g.place in let d = g.deepest in
-    elim (last_or k v.place h) [
-      | inl l ↦ let z = before b t k r (omega arith) in let y = z.below in record { at = z.at; reached = z.reached; place = z.place; below = omega arith }
-      | inr q ↦ record { at = v; reached = on t v r e; place = sym q; below = omega arith }
+    elim (eq-or-lt_of_le h) [
+      | inr l ↦ let z = before b t k r (omega arith) in let y = z.below in record { at = z.at; reached = z.reached; place = z.place; below = omega arith }
+      | inl q ↦ record { at = v; reached = on t v r e; place = sym q; below = omega arith }
     ]
-  where
-    last_or : (k n : ℕ) → k ≤ n → (k < n) ⊎ (k ≡ n)
-    last_or k n h = grind arith
 
 -- a run after a run
 pub reaches_both : {b : List ℕ} {s t u : State} → Reaches b s t → Reaches b t u → Reaches b s u

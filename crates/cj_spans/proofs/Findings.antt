@@ -1,5 +1,6 @@
 -- The least of findings.
 use Rattle.std.proofs.Common.{◌≡◌, ℕ, zero, suc, ◌<◌, ◌≤◌, ◌⊎◌, inl, inr, ◌||◌, ◌&&◌, nat_lt, nat_eq, Bool, true, false, cond, List, [], ◌∷◌, ◌++◌, length, get_or, Option, Some, None, refl, sym, ap, subst, arith, ◌∙◌, append_assoc}
+use Rattle.std.proofs.lemmas.Bool.{cases_order}
 use Rattle.std.specs.Prelude.{All, Contains, flat_map}
 use Rattle.std.proofs.lemmas.List.{append-nil}
 use Rattle.std.proofs.lemmas.List.Elements.{All-contains, Contains-get_or, Contains-append_left, Contains-append_right, Contains-append_cases}
@@ -76,23 +77,20 @@ no_later_more f g h (inl a) (inr b) = let e = b.0 in inl (omega arith)
 no_later_more f g h (inr a) (inl b) = let e = a.0 in inl (omega arith)
 no_later_more f g h (inr a) (inr b) = let x = a.1 in let y = b.1 in inr (a.0 ∙ b.0, omega arith)
 
-order_cases : (m n : ℕ) → (m < n) ⊎ ((m ≡ n) ⊎ (n < m))
-order_cases m n = grind (arith)
-
 -- the test, on numbers
 lower_first : (a b c d : ℕ) → nat_lt a b || (nat_eq a b && nat_lt c d) ≡ true → (a < b) ⊎ ((a ≡ b) × (c ≤ d))
 lower_first a b c d h =
-    elim (order_cases a b) [
-      | inl l ↦ inl l
-      | inr (inl e) ↦ let l : c < d = grind (arith, nat_tests) in inr (e, omega arith)
+    elim (cases_order a b) [
+      | inr (inl l) ↦ inl l
+      | inl e ↦ let l : c < d = grind (arith, nat_tests) in inr (e, omega arith)
       | inr (inr g) ↦ let n : ⊥ = grind (arith, nat_tests) in absurd n
     ]
 
 not_lower : (a b c d : ℕ) → nat_lt a b || (nat_eq a b && nat_lt c d) ≡ false → (b < a) ⊎ ((b ≡ a) × (d ≤ c))
 not_lower a b c d h =
-    elim (order_cases a b) [
-      | inl l ↦ let n : ⊥ = grind (arith, nat_tests) in absurd n
-      | inr (inl e) ↦ let l : d ≤ c = grind (arith, nat_tests) in inr (sym e, l)
+    elim (cases_order a b) [
+      | inr (inl l) ↦ let n : ⊥ = grind (arith, nat_tests) in absurd n
+      | inl e ↦ let l : d ≤ c = grind (arith, nat_tests) in inr (sym e, l)
       | inr (inr g) ↦ inl g
     ]
 

@@ -1,5 +1,6 @@
 -- The machine is at a state after the first i bytes exactly where they are a front.
-use Rattle.std.proofs.Common.{◌≡◌, ℕ, suc, ◌+◌, ◌<◌, ◌≤◌, List, [], ◌∷◌, ◌++◌, length, max, refl, ap, subst, arith, ◌⊎◌, inl, inr}
+use Rattle.std.proofs.Common.{◌≡◌, ℕ, suc, ◌+◌, List, [], ◌∷◌, ◌++◌, length, max, refl, ap, subst, arith, inl, inr}
+use Rattle.std.proofs.lemmas.Bool.{cases_lt}
 use Rattle.cj_spans.specs.declared.token.Kind.TheVariants.{Array, Object}
 use Rattle.cj_spans.specs.declared.token.Token.{Token}
 use Rattle.cj_spans.specs.declared.step.Mode.{Mode}
@@ -83,10 +84,7 @@ front_runs {b} (front_member i j k l m2 n us nm w o ld named_at f) s m ks ts p h
 white_join : {b : List ℕ} {i j k : ℕ} → White b i j → White b j k → White b i k
 white_join {b} {i} {j} {k} v w =
     let o = v.order in let p = w.order in
-    record { order = omega arith; each = λ n l u. elim (where_is n j) [ inl s ↦ v.each n l s | inr g ↦ w.each n g u ] }
-  where
-    where_is : (n j : ℕ) → (n < j) ⊎ (j ≤ n)
-    where_is n j = grind arith
+    record { order = omega arith; each = λ n l u. elim (cases_lt n j) [ inl s ↦ v.each n l s | inr g ↦ w.each n g u ] }
 
 front_white : {b : List ℕ} {i j k n : ℕ} → White b i j → Front b j k n → Front b i k n
 front_white {i = i} v (blank j k w) = blank i k (white_join v w)

@@ -1,10 +1,10 @@
 -- Scalars and names by their places.
-use Rattle.std.proofs.Common.{◌≡◌, ℕ, suc, ◌+◌, ◌-◌, ◌<◌, ◌≤◌, List, [], ◌∷◌, ◌++◌, length, take, drop, get_or, slice_range, Bool, true, false, cond, nat_eq, Option, Some, None, refl, sym, ap, subst, arith, ◌∙◌, ◌⊎◌, inl, inr}
+use Rattle.std.proofs.Common.{◌≡◌, ℕ, suc, ◌+◌, ◌-◌, ◌<◌, ◌≤◌, List, [], ◌∷◌, ◌++◌, length, take, drop, get_or, slice_range, Bool, true, false, cond, nat_eq, Option, Some, None, refl, sym, ap, subst, arith, ◌∙◌, inl, inr}
 use Rattle.std.specs.Prelude.{option_and_then, option_map}
 use Rattle.std.proofs.lemmas.Grind.{common_steps}
 use Rattle.std.proofs.Math.Seq.{take-suc}
 use Rattle.std.proofs.lemmas.List.{get_or-drop, length-drop, length-take, get_or-take, append-nil}
-use Rattle.std.proofs.lemmas.Bool.{eqb-true}
+use Rattle.std.proofs.lemmas.Bool.{eqb-true, cases_lt}
 use Rattle.cj_spans.specs.declared.token.Kind.{Kind}
 use Rattle.cj_spans.specs.declared.token.Kind.TheVariants.{Text}
 use Rattle.cj_spans.specs.declared.token.Token.{Token}
@@ -76,14 +76,11 @@ no_zero Hex2 = refl
 no_zero Hex1 = refl
 no_zero TextDone = refl
 
-pub split : (a b : ℕ) → (a < b) ⊎ (b ≤ a)
-split a b = grind arith
-
 within_step : (b : List ℕ) (k : ℕ) (x y : Lex) → lex_step x (get_or b k 0) ≡ Some y → k < length b
-within_step b k x y h = elim (split k (length b)) [ inl l ↦ l | inr g ↦ none_some y (sym (no_zero x) ∙ ap (lex_step x) (sym (past_end b k g)) ∙ h) ]
+within_step b k x y h = elim (cases_lt k (length b)) [ inl l ↦ l | inr g ↦ none_some y (sym (no_zero x) ∙ ap (lex_step x) (sym (past_end b k g)) ∙ h) ]
 
 within_start : (b : List ℕ) (k : ℕ) (y : Lex) → lex_start (get_or b k 0) ≡ Some y → k < length b
-within_start b k y h = elim (split k (length b)) [ inl l ↦ l | inr g ↦ none_some y (ap lex_start (sym (past_end b k g)) ∙ h) ]
+within_start b k y h = elim (cases_lt k (length b)) [ inl l ↦ l | inr g ↦ none_some y (ap lex_start (sym (past_end b k g)) ∙ h) ]
 
 start_one : (o : Option Lex) → option_and_then (lex_run []) o ≡ o
 start_one None = refl
@@ -192,6 +189,9 @@ stepped : (f : Lex → Option Lex) (o : Option Lex) (y : Lex) → option_and_the
 stepped f None y h = none_some y h
 stepped f (Some z) y h = (z, refl, h)
 
+shift : (k n : ℕ) → suc k + n ≡ k + suc n
+shift k n = omega arith
+
 -- bytes that a reading passes over, by their places
 pub continues_run : (r : List ℕ) (b : List ℕ) (i k : ℕ) (x y z : Lex) → Continues b i x k y → lex_run r y ≡ Some z → ((n : ℕ) → n < length r → byte b (k + n) ≡ get_or r n 0) → Continues b i x (k + length r) z
 continues_run [] b i k x y z c h e =
@@ -203,9 +203,6 @@ continues_run (d ∷ r) b i k x y z c h e =
     let f : byte b k ≡ d = ap (byte b) (plus_zero k) ∙ e 0 (omega arith) in
     let a : suc k + length r ≡ k + suc (length r) = omega arith in
     subst (λ n. Continues b i x n z) a (continues_run r b i (suc k) x w.0 z (further k y w.0 c (ap (lex_step y) f ∙ w.1)) w.2 (λ n l. ap (byte b) (shift k n) ∙ e (suc n) (omega arith)))
-  where
-    shift : (k n : ℕ) → suc k + n ≡ k + suc n
-    shift k n = omega arith
 
 -- the first reading of a scalar, and how it goes on
 record Started (b : List ℕ) (i k : ℕ) (y : Lex) : Type 0 where
@@ -216,9 +213,6 @@ record Started (b : List ℕ) (i k : ℕ) (y : Lex) : Type 0 where
 started : (b : List ℕ) (i k : ℕ) (y : Lex) → InAtom b i k y → Started b i k y
 started b i k y r = by_list (slice_range b i k) (slice-length b i k (omega (arith, r.order)) r.within) (slice_has b i k) r.run
   where
-    shift : (k n : ℕ) → suc k + n ≡ k + suc n
-    shift k n = omega arith
-
     by_list : (s : List ℕ) → i + length s ≡ k → ((n : ℕ) → n < length s → byte b (i + n) ≡ get_or s n 0) → reading s ≡ Some y → Started b i k y
     by_list [] l e h = none_some y h
     by_list (c ∷ s) l e h =

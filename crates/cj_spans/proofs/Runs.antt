@@ -1,5 +1,6 @@
 -- Runs of the machine: bytes that end a scalar, and white space.
-use Rattle.std.proofs.Common.{◌≡◌, ℕ, zero, suc, ◌+◌, ◌-◌, ◌<◌, ◌≤◌, List, Bool, true, false, cond, ◌||◌, nat_eq, Option, Some, None, refl, sym, ap, subst, arith, ◌∙◌, ◌⊎◌, inl, inr}
+use Rattle.std.proofs.Common.{◌≡◌, ℕ, zero, suc, ◌+◌, ◌-◌, ◌<◌, ◌≤◌, List, Bool, true, false, cond, ◌||◌, nat_eq, Option, Some, None, refl, sym, ap, subst, arith, ◌∙◌, inl, inr}
+use Rattle.std.proofs.Math.Nat.{eq-or-lt_of_le}
 use Rattle.std.specs.Prelude.{option_and_then}
 use Rattle.std.proofs.lemmas.Bool.{eqb-true}
 use Rattle.cj_spans.specs.declared.token.Kind.{Kind}
@@ -11,7 +12,7 @@ use Rattle.cj_spans.specs.declared.step.Mode.TheVariants.{Ready, FirstItem, Firs
 use Rattle.cj_spans.specs.Spelling.{is_blank}
 use Rattle.cj_spans.specs.Json.{byte, White}
 use Rattle.cj_spans.specs.Machine.{is_digit, Phase, State, state, between, in_atom, read, end_atom, go_on, step, settle, lex_step, lex_kind, point_or_mark, Reaches, on}
-use Rattle.cj_spans.proofs.Spellings.{none_some, some_same}
+use Rattle.cj_spans.proofs.Spellings.{none_some, some_same, either}
 
 -- between scalars and names
 abbrev pub idle : Mode → List ℕ → List Token → ℕ → ℕ → State
@@ -97,20 +98,16 @@ atom_ends Hex3 c k h e = cc
 atom_ends Hex2 c k h e = cc
 atom_ends Hex1 c k h e = cc
 
-pub or_cases : (v w : Bool) → v || w ≡ true → (v ≡ true) ⊎ (w ≡ true)
-or_cases true w h = inl refl
-or_cases false w h = inr h
-
 end_at : (c d : ℕ) → IsEnd d → nat_eq c d ≡ true → IsEnd c
 end_at c d e h = subst IsEnd (sym (eqb-true c d h)) e
 
 pub blank_end : (c : ℕ) → is_blank c ≡ true → IsEnd c
 blank_end c h =
-    elim (or_cases (nat_eq c 32 || nat_eq c 9 || nat_eq c 10) (nat_eq c 13) h) [
+    elim (either (nat_eq c 32 || nat_eq c 9 || nat_eq c 10) (nat_eq c 13) h) [
       | inr q ↦ end_at c 13 «return» q
-      | inl p ↦ elim (or_cases (nat_eq c 32 || nat_eq c 9) (nat_eq c 10) p) [
+      | inl p ↦ elim (either (nat_eq c 32 || nat_eq c 9) (nat_eq c 10) p) [
         | inr q ↦ end_at c 10 feed q
-        | inl o ↦ elim (or_cases (nat_eq c 32) (nat_eq c 9) o) [ inl q ↦ end_at c 32 space q | inr q ↦ end_at c 9 tab q ]
+        | inl o ↦ elim (either (nat_eq c 32) (nat_eq c 9) o) [ inl q ↦ end_at c 32 space q | inr q ↦ end_at c 9 tab q ]
       ]
     ]
 
@@ -188,16 +185,16 @@ white_rest b i j w h = record { order = omega arith; each = λ k l u. w.each k (
 -- the same where a scalar may just have ended
 pub skip_after : {b : List ℕ} {i j : ℕ} → White b i j → (s : State) (m : Mode) (ks : List ℕ) (ts : List Token) (p : ℕ) → Arrives b s (idle m ks ts i p) → Arrives b s (idle m ks ts j p)
 skip_after {b} {i} {j} w s m ks ts p a =
-    elim (same_or i j w.order) [
+    elim (eq-or-lt_of_le w.order) [
       | inl e ↦ subst (λ k. Arrives b s (idle m ks ts k p)) e a
       | inr l ↦
           let white = w.each i (omega arith) l in
           let r = arrive_on b s (idle m ks ts i p) (idle m ks ts (suc i) p) (blank_end (byte b i) white) a (cond_true (is_blank (byte b i)) _ _ white) in
           arrived b s m ks ts j p (skip (white_rest b i j w l) s m ks ts p r)
     ]
-  where
-    same_or : (i j : ℕ) → i ≤ j → (i ≡ j) ⊎ (i < j)
-    same_or i j h = grind arith
+
+pub same_mode : (m n : Mode) → between m ≡ between n → m ≡ n
+same_mode m n h = cc
 
 -- the modes in which a value may begin, and those in which a name may
 abbrev pub Begins : Mode → Type 0

@@ -1,5 +1,6 @@
 -- Tokens that show the tree of a line: what is known of each.
-use Rattle.std.proofs.Common.{◌≡◌, ℕ, zero, suc, ◌+◌, ◌<◌, ◌≤◌, List, [], ◌∷◌, ◌++◌, length, drop, slice_get, slice_range, true, ◌⊎◌, inl, inr, Some, refl, sym, ap, subst, arith, ◌∙◌, append_assoc}
+use Rattle.std.proofs.Common.{◌≡◌, ℕ, zero, suc, ◌+◌, ◌<◌, ◌≤◌, List, [], ◌∷◌, ◌++◌, length, drop, slice_get, slice_range, true, inl, inr, Some, refl, sym, ap, subst, arith, ◌∙◌, append_assoc}
+use Rattle.std.proofs.lemmas.Bool.{cases_lt}
 use Rattle.std.proofs.lemmas.List.{append-nil}
 use Rattle.std.proofs.lemmas.Bool.Decides.{nat_tests}
 use Rattle.cj_spans.specs.declared.token.Token.{Token}
@@ -14,7 +15,7 @@ use Rattle.cj_spans.specs.Sound.{AreOf, AreWithin, AreNested, AreNamed, AreLinke
 use Rattle.cj_spans.specs.View.{tree_at}
 use Rattle.cj_spans.proofs.Lists.{items_preorder-add, members_preorder-add}
 use Rattle.cj_spans.proofs.Verdicts.{json_only}
-use Rattle.cj_spans.proofs.Forests.{atom_kind, Beyond, held_all, names_and_values, padded_order, led_order, led_members_order, named_order, Shows, shows_more, shows_add_member, shows_led_members, shows_padded}
+use Rattle.cj_spans.proofs.Forests.{atom_kind, Beyond, held_all, names_and_values, led_order, led_members_order, Shows, shows_more, shows_add_member, shows_led_members, shows_padded, padded_ends, named_ends, start-node}
 
 -- ---- as many spans as the trees have values and names: none is left out
 
@@ -95,18 +96,15 @@ preorders-append : (ts us : List Tree) → preorders (ts ++ us) ≡ preorders ts
 preorders-append [] us = refl
 preorders-append (t ∷ ts) us = ap (λ ss. preorder t ++ ss) (preorders-append ts us) ∙ sym (append_assoc (preorder t) (preorders ts) (preorders us))
 
-split : (m n : ℕ) → (m < n) ⊎ (n ≤ m)
-split m n = grind arith
+held-past_on : (t : Tree) (ts : List Tree) (j : ℕ) → start_of t < j → held j (t ∷ ts) ++ past j (t ∷ ts) ≡ t ∷ (held j ts ++ past j ts)
+held-past_on t ts j h = grind (arith, nat_tests)
 
-held_first : (t : Tree) (ts : List Tree) (j : ℕ) → start_of t < j → held j (t ∷ ts) ++ past j (t ∷ ts) ≡ t ∷ (held j ts ++ past j ts)
-held_first t ts j h = grind (arith, nat_tests)
-
-held_none : (t : Tree) (ts : List Tree) (j : ℕ) → j ≤ start_of t → held j (t ∷ ts) ++ past j (t ∷ ts) ≡ t ∷ ts
-held_none t ts j h = grind (arith, nat_tests)
+held-past_here : (t : Tree) (ts : List Tree) (j : ℕ) → j ≤ start_of t → held j (t ∷ ts) ++ past j (t ∷ ts) ≡ t ∷ ts
+held-past_here t ts j h = grind (arith, nat_tests)
 
 held-past : (j : ℕ) (ts : List Tree) → held j ts ++ past j ts ≡ ts
 held-past j [] = refl
-held-past j (t ∷ ts) = elim (split (start_of t) j) [ inl l ↦ held_first t ts j l ∙ ap (λ us. t ∷ us) (held-past j ts) | inr g ↦ held_none t ts j g ]
+held-past j (t ∷ ts) = elim (cases_lt (start_of t) j) [ inl l ↦ held-past_on t ts j l ∙ ap (λ us. t ∷ us) (held-past j ts) | inr g ↦ held-past_here t ts j g ]
 
 held_sizes : (j : ℕ) (ts : List Tree) → sizes (held j ts) + sizes (past j ts) ≡ sizes ts
 held_sizes j ts = sym (sizes-append (held j ts) (past j ts)) ∙ ap sizes (held-past j ts)
@@ -252,14 +250,6 @@ alternate : (ms : Members) → are_members (names_and_values ms) ≡ true
 alternate no_members = refl
 alternate (member n t ms) = alternate ms
 
-start-node : (b : List ℕ) (k : Kind) (i j : ℕ) (ts : List Tree) → start_of (node b k i j ts) ≡ i
-start-node b Null i j ts = refl
-start-node b Truth i j ts = refl
-start-node b Number i j ts = refl
-start-node b Text i j ts = refl
-start-node b Array i j ts = refl
-start-node b Object i j ts = refl
-
 from_beyond : (b : List ℕ) (j : ℕ) (ss : List Span) → From j ss → Beyond j (forest b ss)
 unfolding forest
 from_beyond b j [] h = tt
@@ -270,12 +260,6 @@ alternate_held : (b : List ℕ) (j : ℕ) (ms : Members) (rest : List Span) → 
 alternate_held b j ms rest s f =
     let o = from_beyond b j rest f in
     ap (λ ts. are_members (held j ts)) (s.shows rest o) ∙ ap are_members (held_all j (names_and_values ms) (forest b rest) s.all o) ∙ alternate ms
-
-padded_ends : {b : List ℕ} {i j : ℕ} {t : Tree} → Padded b i j t → i ≤ j
-padded_ends p = let q = padded_order p in let f = q.0 in let g = q.1 in omega arith
-
-named_ends : {b : List ℕ} {i j : ℕ} {n : Atom} → Named b i j n → i ≤ j
-named_ends p = let q = named_order p in let f = q.0 in let g = q.1 in let h = q.2 in omega arith
 
 mutual
   good_value : {b : List ℕ} {i j : ℕ} {t : Tree} → Value b i j t → Good b i j (preorder t)

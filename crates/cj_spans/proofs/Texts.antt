@@ -1,5 +1,6 @@
 -- Characters and code points, read one at a time.
 use Rattle.std.proofs.Common.{◌≡◌, ℕ, zero, suc, ◌+◌, ◌-◌, ◌*◌, ◌<◌, ◌≤◌, List, [], ◌∷◌, length, take, drop, get_or, Bool, true, false, cond, ◌&&◌, nat_eq, Option, Some, refl, sym, ap, arith, ◌∙◌, add-one, drop-cons}
+use Rattle.std.specs.Cmp.Derive.{both_true}
 use Rattle.std.proofs.lemmas.List.{drop-drop, drop-take}
 use Rattle.std.proofs.lemmas.Bool.Decides.{nat_tests}
 use Rattle.std.proofs.lemmas.Grind.{common_steps}
@@ -102,11 +103,8 @@ rest_three bs cs y r u = u.rest ∙ drop-drop 1 2 cs
 
 -- ---- code points
 
-both : (a b : Bool) → a ≡ true → b ≡ true → a && b ≡ true
-both a b h e = grind (arith)
-
 pub pair_shown : (cs : List ℕ) → is_unicode cs ≡ true → is_high_surrogate (unit cs) ≡ true → is_unicode (drop 6 cs) ≡ true → is_low_surrogate (unit (drop 6 cs)) ≡ true → is_pair cs ≡ true
-pair_shown cs a b c d = both _ _ (both _ _ (both _ _ a b) c) d
+pair_shown cs a b c d = both_true (both_true (both_true a b) c) d
 
 first_not : (a b c d : Bool) → b ≡ false → a && b && c && d ≡ false
 first_not a b c d h = grind (arith)

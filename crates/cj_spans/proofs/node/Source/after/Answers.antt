@@ -5,7 +5,8 @@ use Rattle.cj_spans.specs.Forest.{forest, past}
 use Rattle.cj_spans.specs.Preorder.{spans_of}
 use Rattle.cj_spans.specs.Sound.{link_of}
 use Rattle.cj_spans.proofs.Links.{before_length}
-use Rattle.cj_spans.proofs.Views.{link_past, same_some}
+use Rattle.cj_spans.proofs.Spellings.{some_same}
+use Rattle.cj_spans.proofs.Views.{link_past}
 use Rattle.cj_spans.proofs.node.Source.after.Goals as goal
 
 pub returns-clause-order : goal.returns-clause-order
@@ -22,6 +23,6 @@ pub returns-clause-rest : goal.returns-clause-rest
 returns-clause-rest c = λ t h.
     let s = c.args.self in
     let u = c.token_at.result in
-    let e : u ≡ t = same_some u t (sym c.token_at.ensures ∙ h) in
+    let e : u ≡ t = some_same u t (sym c.token_at.ensures ∙ h) in
     let p = link_past s.line.now s.tokens.now (c.args.number + 1) u.stop (link_of u) (s.nested c.args.number u c.token_at.ensures) (s.linked c.args.number u c.token_at.ensures) in
     p ∙ ap (λ (v : Token). past v.stop (forest s.line.now (drop (c.args.number + 1) (spans_of s.tokens.now)))) e
