@@ -19,10 +19,10 @@ use Rattle.cj_spans.specs.Json.{byte, Json}
 use Rattle.cj_spans.specs.Front.{Front, IsFront, SyntaxAt, stuck, short}
 use Rattle.cj_spans.specs.Begins.{BeginsText, IsFirstFault, IsFirstTooDeep}
 use Rattle.cj_spans.specs.Preorder.{token_at, flatten, flatten_items, flatten_members}
-use Rattle.cj_spans.specs.Machine.{State, state, in_atom, step, end_atom, after_token, after_in, still, Reaches, here, on, start, SinksAt, RunAnswers}
+use Rattle.cj_spans.specs.Machine.{State, state, in_atom, step, end_atom, after_token, after_in, still, Reaches, here, on, start, SinksAt, RunAnswers, BeginsValue}
 use Rattle.cj_spans.proofs.Spellings.{some_same, can_end, text_end}
 use Rattle.cj_spans.proofs.Lists.{slice_get-append, slice_get-seam, rise-nest}
-use Rattle.cj_spans.proofs.Runs.{IsEnd, colon, bracket, brace, Arrives, arrive_on, arrived, settled, idle, Begins, NameBegins}
+use Rattle.cj_spans.proofs.Runs.{IsEnd, colon, bracket, brace, Arrives, arrive_on, arrived, settled, idle, BeginsName}
 use Rattle.cj_spans.proofs.Follows.{run_json}
 use Rattle.cj_spans.proofs.Places.{InAtom, in_text, continues_run, name_34}
 use Rattle.cj_spans.proofs.Atoms.{continues_reaches}
@@ -175,12 +175,12 @@ close_all (k ∷ ks) c cs ts j p a all e h =
 -- ---- a value after the front
 
 -- a number after a place where a value may begin
-zero_step : (m : Mode) (ks : List ℕ) (ts : List Token) (j p : ℕ) → Begins m → step 48 (idle m ks ts j p) ≡ Some (state (in_atom After j Zero) ks ts (suc j) p)
+zero_step : (m : Mode) (ks : List ℕ) (ts : List Token) (j p : ℕ) → BeginsValue m → step 48 (idle m ks ts j p) ≡ Some (state (in_atom After j Zero) ks ts (suc j) p)
 zero_step Ready ks ts j p h = refl
 zero_step FirstItem ks ts j p h = refl
 zero_step _ ks ts j p h = absurd h
 
-read_zero : (c : List ℕ) (m : Mode) (ks : List ℕ) (ts : List Token) (j p : ℕ) → Begins m → byte c j ≡ 48 → Reaches c start (idle m ks ts j p) → Arrives c start (idle After ks (ts ++ token_at j (suc j) (suc (length ts)) Number ∷ []) (suc j) p)
+read_zero : (c : List ℕ) (m : Mode) (ks : List ℕ) (ts : List Token) (j p : ℕ) → BeginsValue m → byte c j ≡ 48 → Reaches c start (idle m ks ts j p) → Arrives c start (idle After ks (ts ++ token_at j (suc j) (suc (length ts)) Number ∷ []) (suc j) p)
 read_zero c m ks ts j p h e r = record {
   at = state (in_atom After j Zero) ks ts (suc j) p;
   reached = on (idle m ks ts j p) (state (in_atom After j Zero) ks ts (suc j) p) r (ap (λ z. step z (idle m ks ts j p)) e ∙ zero_step m ks ts j p h);
@@ -194,7 +194,7 @@ read_value : (c : List ℕ) (ks : List ℕ) (ts : List Token) (j p : ℕ) → by
 read_value c ks ts j p e f a = read_zero c Ready ks ts (suc j) p tt f (read_colon c ks ts j p e a)
 
 -- an empty name
-read_name : (c : List ℕ) (m : Mode) (ks : List ℕ) (ts : List Token) (j p : ℕ) → NameBegins m → byte c j ≡ 34 → byte c (suc j) ≡ 34 → Reaches c start (idle m ks ts j p)
+read_name : (c : List ℕ) (m : Mode) (ks : List ℕ) (ts : List Token) (j p : ℕ) → BeginsName m → byte c j ≡ 34 → byte c (suc j) ≡ 34 → Reaches c start (idle m ks ts j p)
     → Arrives c start (idle AfterName ks (ts ++ token_at j (suc (suc j)) (suc (length ts)) Text ∷ []) (suc (suc j)) p)
 read_name c m ks ts j p h e f r =
     let s = state (in_atom AfterName j InText) ks ts (suc j) p in
@@ -205,7 +205,7 @@ read_name c m ks ts j p h e f r =
       settles = refl;
     }
 
-read_member : (c : List ℕ) (m : Mode) (ks : List ℕ) (ts : List Token) (j p : ℕ) → NameBegins m → byte c j ≡ 34 → byte c (suc j) ≡ 34 → byte c (suc (suc j)) ≡ 58 → byte c (suc (suc (suc j))) ≡ 48 → Reaches c start (idle m ks ts j p)
+read_member : (c : List ℕ) (m : Mode) (ks : List ℕ) (ts : List Token) (j p : ℕ) → BeginsName m → byte c j ≡ 34 → byte c (suc j) ≡ 34 → byte c (suc (suc j)) ≡ 58 → byte c (suc (suc (suc j))) ≡ 48 → Reaches c start (idle m ks ts j p)
     → Arrives c start (idle After ks (let us = with_name ts j (suc (suc j)) in us ++ token_at (suc (suc (suc j))) (suc (suc (suc (suc j)))) (suc (length us)) Number ∷ []) (suc (suc (suc (suc j)))) p)
 read_member c m ks ts j p h e f g i r = read_value c ks (with_name ts j (suc (suc j))) (suc (suc j)) p g i (read_name c m ks ts j p h e f r)
 
@@ -223,7 +223,7 @@ place_at c j k x e h = ap (byte c) e ∙ h
 arrives_at : (c ks : List ℕ) (ts : List Token) (j k p : ℕ) → j ≡ k → Arrives c start (idle After ks ts j p) → Arrives c start (idle After ks ts k p)
 arrives_at c ks ts j k p e a = subst (λ z. Arrives c start (idle After ks ts z p)) e a
 
-finish_value : (m : Mode) (k p : ℕ) (ks : List ℕ) (ts : List Token) → Begins m → AllContainers ks ts → Finish (idle m ks ts k p)
+finish_value : (m : Mode) (k p : ℕ) (ks : List ℕ) (ts : List Token) → BeginsValue m → AllContainers ks ts → Finish (idle m ks ts k p)
 finish_value m k p ks ts h all = record {
   rest = 48 ∷ [];
   stack = ks;
@@ -232,7 +232,7 @@ finish_value m k p ks ts h all = record {
   goes = λ c r b. arrives_at c ks _ (suc k) (k + 1) p (omega arith) (read_zero c m ks ts k p h (place_at c k (k + 0) 48 (omega arith) (b 0 (omega arith))) r);
 }
 
-finish_name : (m : Mode) (k p : ℕ) (ks : List ℕ) (ts : List Token) → NameBegins m → AllContainers ks ts → Finish (idle m ks ts k p)
+finish_name : (m : Mode) (k p : ℕ) (ks : List ℕ) (ts : List Token) → BeginsName m → AllContainers ks ts → Finish (idle m ks ts k p)
 finish_name m k p ks ts h all = record {
   rest = 34 ∷ 34 ∷ 58 ∷ 48 ∷ [];
   stack = ks;

@@ -16,10 +16,10 @@ use Rattle.cj_spans.specs.Spelling.{is_blank, IsScalar}
 use Rattle.cj_spans.specs.Json.{byte, IsAtom}
 use Rattle.cj_spans.specs.Front.{Begun}
 use Rattle.cj_spans.specs.Preorder.{token_at}
-use Rattle.cj_spans.specs.Machine.{State, state, in_atom, step, begin_value, lex_start, lex_step, lex_kind, Continues, still, further, Reaches, on, end_atom}
+use Rattle.cj_spans.specs.Machine.{State, state, in_atom, step, begin_value, lex_start, lex_step, lex_kind, Continues, still, further, Reaches, on, end_atom, BeginsValue}
 use Rattle.cj_spans.proofs.Spellings.{none_some, some_same, lex_run, reading, reading_sound, reading_whole, reading-more, reading-append, reading-prefix, can_end, IsOfText, TextOption, of_text_step, text_kind, text_end}
 use Rattle.cj_spans.proofs.Atoms.{continues_reaches}
-use Rattle.cj_spans.proofs.Runs.{IsEnd, space, tab, feed, «return», comma, colon, bracket, brace, blank_end, Arrives, Begins, NameBegins, idle}
+use Rattle.cj_spans.proofs.Runs.{IsEnd, space, tab, feed, «return», comma, colon, bracket, brace, blank_end, Arrives, BeginsName, idle}
 
 -- the bytes from i to k begin a scalar, and x is how far it is
 pub record InAtom (b : List ℕ) (i k : ℕ) (x : Lex) : Type 0 where
@@ -172,17 +172,17 @@ begin_atom : (c : ℕ) (x : Lex) (m : Mode) (ks : List ℕ) (ts : List Token) (i
 begin_atom c x m ks ts i p h =
     cond_not (nat_eq c 91) _ _ (starts_not c 91 x h refl) ∙ cond_not (nat_eq c 123) _ _ (starts_not c 123 x h refl) ∙ ap (option_map (λ y. state (in_atom After i y) ks ts (suc i) p)) h
 
-step_atom : (c : ℕ) (x : Lex) (m : Mode) (ks : List ℕ) (ts : List Token) (i p : ℕ) → Begins m → lex_start c ≡ Some x → step c (idle m ks ts i p) ≡ Some (state (in_atom After i x) ks ts (suc i) p)
+step_atom : (c : ℕ) (x : Lex) (m : Mode) (ks : List ℕ) (ts : List Token) (i p : ℕ) → BeginsValue m → lex_start c ≡ Some x → step c (idle m ks ts i p) ≡ Some (state (in_atom After i x) ks ts (suc i) p)
 step_atom c x Ready ks ts i p b h = cond_not (is_blank c) _ _ (starts_not_blank c x h) ∙ begin_atom c x Ready ks ts i p h
 step_atom c x FirstItem ks ts i p b h = cond_not (is_blank c) _ _ (starts_not_blank c x h) ∙ cond_not (nat_eq c 93) _ _ (starts_not c 93 x h refl) ∙ begin_atom c x FirstItem ks ts i p h
 step_atom c x _ ks ts i p b h = absurd b
 
-pub name_34 : (m : Mode) (ks : List ℕ) (ts : List Token) (i p : ℕ) → NameBegins m → step 34 (idle m ks ts i p) ≡ Some (state (in_atom AfterName i InText) ks ts (suc i) p)
+pub name_34 : (m : Mode) (ks : List ℕ) (ts : List Token) (i p : ℕ) → BeginsName m → step 34 (idle m ks ts i p) ≡ Some (state (in_atom AfterName i InText) ks ts (suc i) p)
 name_34 FirstName ks ts i p g = refl
 name_34 NextName ks ts i p g = refl
 name_34 _ ks ts i p g = absurd g
 
-step_name : (c : ℕ) (m : Mode) (ks : List ℕ) (ts : List Token) (i p : ℕ) → NameBegins m → c ≡ 34 → step c (idle m ks ts i p) ≡ Some (state (in_atom AfterName i InText) ks ts (suc i) p)
+step_name : (c : ℕ) (m : Mode) (ks : List ℕ) (ts : List Token) (i p : ℕ) → BeginsName m → c ≡ 34 → step c (idle m ks ts i p) ≡ Some (state (in_atom AfterName i InText) ks ts (suc i) p)
 step_name c m ks ts i p g q = ap (λ d. step d (idle m ks ts i p)) q ∙ name_34 m ks ts i p g
 
 stepped : (f : Lex → Option Lex) (o : Option Lex) (y : Lex) → option_and_then f o ≡ Some y → (z : Lex) × (o ≡ Some z) × (f z ≡ Some y)
@@ -225,12 +225,12 @@ started b i k y r = by_list (slice_range b i k) (slice-length b i k (omega (arit
           goes = subst (λ n. Continues b (suc i) z.0 n y) a (continues_run s b (suc i) (suc i) z.0 z.0 y still z.2 (λ n q. ap (byte b) (shift i n) ∙ e (suc n) (omega arith)));
         }
 
-pub run_begun : {b : List ℕ} {i k : ℕ} {y : Lex} → InAtom b i k y → (s : State) (m : Mode) (ks : List ℕ) (ts : List Token) (p : ℕ) → Begins m → Reaches b s (idle m ks ts i p) → Reaches b s (state (in_atom After i y) ks ts k p)
+pub run_begun : {b : List ℕ} {i k : ℕ} {y : Lex} → InAtom b i k y → (s : State) (m : Mode) (ks : List ℕ) (ts : List Token) (p : ℕ) → BeginsValue m → Reaches b s (idle m ks ts i p) → Reaches b s (state (in_atom After i y) ks ts k p)
 run_begun {b} {i} {k} {y} r s m ks ts p g h =
     let z = started b i k y r in
     continues_reaches z.goes s After i ks ts p (on (idle m ks ts i p) (state (in_atom After i z.first) ks ts (suc i) p) h (step_atom (byte b i) z.first m ks ts i p g z.starts))
 
-pub run_begun_name : {b : List ℕ} {i k : ℕ} {y : Lex} → InAtom b i k y → byte b i ≡ 34 → (s : State) (m : Mode) (ks : List ℕ) (ts : List Token) (p : ℕ) → NameBegins m → Reaches b s (idle m ks ts i p) → Reaches b s (state (in_atom AfterName i y) ks ts k p)
+pub run_begun_name : {b : List ℕ} {i k : ℕ} {y : Lex} → InAtom b i k y → byte b i ≡ 34 → (s : State) (m : Mode) (ks : List ℕ) (ts : List Token) (p : ℕ) → BeginsName m → Reaches b s (idle m ks ts i p) → Reaches b s (state (in_atom AfterName i y) ks ts k p)
 run_begun_name {b} {i} {k} {y} r q s m ks ts p g h =
     let z = started b i k y r in
     let e : InText ≡ z.first = some_same InText z.first (sym (ap lex_start q) ∙ z.starts) in
@@ -276,7 +276,7 @@ quote_first b i j r h l w =
 pub name_quote : {b : List ℕ} {i j : ℕ} → IsAtom b Text i j → byte b i ≡ 34
 name_quote {b} {i} {j} w = quote_first b i j [] w.order w.within (subst (IsScalar Text) (sym (append-nil (slice_range b i j))) w.spelled)
 
-pub run_atom : {b : List ℕ} {kd : Kind} {i j : ℕ} → IsAtom b kd i j → (s : State) (m : Mode) (ks : List ℕ) (ts : List Token) (p : ℕ) → Begins m → Reaches b s (idle m ks ts i p)
+pub run_atom : {b : List ℕ} {kd : Kind} {i j : ℕ} → IsAtom b kd i j → (s : State) (m : Mode) (ks : List ℕ) (ts : List Token) (p : ℕ) → BeginsValue m → Reaches b s (idle m ks ts i p)
     → Arrives b s (idle After ks (ts ++ token_at i j (suc (length ts)) kd ∷ []) j p)
 run_atom {b} {kd} {i} {j} w s m ks ts p g r =
     let a = atom_reading w in
@@ -286,7 +286,7 @@ run_atom {b} {kd} {i} {j} w s m ks ts p g r =
       settles = ap (λ q. end_atom After i q (state (in_atom After i a.last) ks ts j p)) a.kind;
     }
 
-pub run_name : {b : List ℕ} {i j : ℕ} → IsAtom b Text i j → (s : State) (m : Mode) (ks : List ℕ) (ts : List Token) (p : ℕ) → NameBegins m → Reaches b s (idle m ks ts i p)
+pub run_name : {b : List ℕ} {i j : ℕ} → IsAtom b Text i j → (s : State) (m : Mode) (ks : List ℕ) (ts : List Token) (p : ℕ) → BeginsName m → Reaches b s (idle m ks ts i p)
     → Arrives b s (idle AfterName ks (ts ++ token_at i j (suc (length ts)) Text ∷ []) j p)
 run_name {b} {i} {j} w s m ks ts p g r =
     let a = atom_reading w in

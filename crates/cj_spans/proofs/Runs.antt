@@ -11,7 +11,7 @@ use Rattle.cj_spans.specs.declared.step.Mode.{Mode}
 use Rattle.cj_spans.specs.declared.step.Mode.TheVariants.{Ready, FirstItem, FirstName, NextName}
 use Rattle.cj_spans.specs.Spelling.{is_blank}
 use Rattle.cj_spans.specs.Json.{byte, White}
-use Rattle.cj_spans.specs.Machine.{is_digit, Phase, State, state, between, in_atom, read, end_atom, go_on, step, settle, lex_step, lex_kind, point_or_mark, Reaches, on}
+use Rattle.cj_spans.specs.Machine.{is_digit, Phase, State, state, between, in_atom, read, end_atom, go_on, step, settle, lex_step, lex_kind, point_or_mark, Reaches, on, BeginsValue}
 use Rattle.cj_spans.proofs.Spellings.{none_some, some_same, either}
 
 -- between scalars and names
@@ -196,13 +196,8 @@ skip_after {b} {i} {j} w s m ks ts p a =
 pub same_mode : (m n : Mode) → between m ≡ between n → m ≡ n
 same_mode m n h = cc
 
--- the modes in which a value may begin, and those in which a name may
-abbrev pub Begins : Mode → Type 0
-Begins Ready = Unit {0}
-Begins FirstItem = Unit {0}
-Begins _ = ⊥
-
-abbrev pub NameBegins : Mode → Type 0
-NameBegins FirstName = Unit {0}
-NameBegins NextName = Unit {0}
-NameBegins _ = ⊥
+-- the modes in which a name may begin
+abbrev pub BeginsName : Mode → Type 0
+BeginsName FirstName = Unit {0}
+BeginsName NextName = Unit {0}
+BeginsName _ = ⊥

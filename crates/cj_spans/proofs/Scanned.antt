@@ -136,9 +136,9 @@ all_shown b ss t h e = let f : sizes (forest b ss) ≡ length ss = ap sizes h �
 -- ---- what is known of each span
 
 -- what starts before the place stops before it
-abbrev Stops : ℕ → List Span → Type 0
-Stops j [] = Unit {0}
-Stops j (s ∷ ss) = (s.start < j → s.stop ≤ j) × Stops j ss
+abbrev StopsBy : ℕ → List Span → Type 0
+StopsBy j [] = Unit {0}
+StopsBy j (s ∷ ss) = (s.start < j → s.stop ≤ j) × StopsBy j ss
 
 -- all start at the place or after it
 abbrev From : ℕ → List Span → Type 0
@@ -154,7 +154,7 @@ Between i j (s ∷ ss) = (i ≤ s.start) × (s.stop ≤ j) × Between i j ss
 record IsGood (b : List ℕ) (s : Span) (ss : List Span) : Type 0 where
   order : s.start < s.stop
   within : s.stop ≤ length b
-  stops : Stops s.stop ss
+  stops : StopsBy s.stop ss
   named : byte b s.start ≡ 123 → are_members (held s.stop (forest b ss)) ≡ true
 
 abbrev AllGood : List ℕ → List Span → Type 0
@@ -166,11 +166,11 @@ record Good (b : List ℕ) (i j : ℕ) (ss : List Span) : Type 0 where
   between : Between i j ss
   good : (rest : List Span) → From j rest → AllGood b rest → AllGood b (ss ++ rest)
 
-stops_from : (j : ℕ) (ss : List Span) → From j ss → Stops j ss
+stops_from : (j : ℕ) (ss : List Span) → From j ss → StopsBy j ss
 stops_from j [] h = tt
 stops_from j (s ∷ ss) h = let l = h.0 in ((λ m. absurd (omega arith)), stops_from j ss h.1)
 
-stops_between : (i j : ℕ) (ss us : List Span) → Between i j ss → Stops j us → Stops j (ss ++ us)
+stops_between : (i j : ℕ) (ss us : List Span) → Between i j ss → StopsBy j us → StopsBy j (ss ++ us)
 stops_between i j [] us h g = g
 stops_between i j (s ∷ ss) us h g = ((λ m. h.1), stops_between i j ss us h.2 g)
 
@@ -307,7 +307,7 @@ good_at b [] k t g h = cc
 good_at b (u ∷ ts) zero t g h = let e : u ≡ t = cc in subst (λ v. IsGood b (span_at v.start v.stop) (spans_of ts)) e g.0
 good_at b (u ∷ ts) (suc k) t g h = good_at b ts k t g.1 h
 
-stops_at : (ts : List Token) (j n i : ℕ) (u : Token) → Stops j (drop n (spans_of ts)) → n ≤ i → slice_get ts i ≡ Some u → u.start < j → u.stop ≤ j
+stops_at : (ts : List Token) (j n i : ℕ) (u : Token) → StopsBy j (drop n (spans_of ts)) → n ≤ i → slice_get ts i ≡ Some u → u.start < j → u.stop ≤ j
 stops_at [] j n i u s l h m = cc
 stops_at (v ∷ ts) j zero zero u s l h m = let e : v ≡ u = cc in let f = ap (λ (w : Token). w.start) e in let g = ap (λ (w : Token). w.stop) e in let n = s.0 in omega arith
 stops_at (v ∷ ts) j zero (suc i) u s l h m = stops_at ts j zero i u s.1 (omega arith) h m

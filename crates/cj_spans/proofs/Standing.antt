@@ -12,7 +12,7 @@ use Rattle.cj_spans.specs.declared.step.Move.TheVariants.{Stay, To, Open, Atom}
 use Rattle.cj_spans.specs.declared.step.Next.{Next}
 use Rattle.cj_spans.specs.Json.{byte}
 use Rattle.cj_spans.specs.Scan.{KeepsLaw}
-use Rattle.cj_spans.specs.Machine.{State, state, step, read, Reaches, here, on, start, Settles, Sticks, phase_after, deepest_after, Answers, Ends, Kept, Grown, BeginsValue, BeginsAtom, SticksAt, RunAnswers}
+use Rattle.cj_spans.specs.Machine.{State, state, step, read, Reaches, here, on, start, ComesTo, Sticks, phase_after, deepest_after, Answers, EndAnswers, Kept, Grown, BeginsValue, BeginsAtom, SticksAt, RunAnswers}
 use Rattle.cj_spans.proofs.Spellings.{some_same}
 use Rattle.cj_spans.proofs.Runs.{idle, settled, same_mode}
 use Rattle.cj_spans.proofs.Facts.{IsLawful, goes, lawful_reaches, lawful_settles, reaches_both}
@@ -20,7 +20,7 @@ use Rattle.cj_spans.proofs.Facts.{IsLawful, goes, lawful_reaches, lawful_settles
 -- the machine has come to the mode m at the place i, and the lists are those that it has
 pub record Standing (b : List ℕ) (tokens0 : BoundedList Token) (stack0 : BoundedList ℕ) (tokens : BoundedList Token) (stack : BoundedList ℕ) (m : Mode) (i : ℕ) : Type 0 where
   pub deepest : ℕ
-  pub settles : Settles b start (idle m stack.elements tokens.elements i deepest)
+  pub settles : ComesTo b start (idle m stack.elements tokens.elements i deepest)
   pub place : i ≤ length b
   pub kept : Kept tokens0 tokens
   pub stack_limit : stack.limit ≡ stack0.limit
@@ -35,10 +35,10 @@ pub record HasRoom (b : List ℕ) (tokens0 : BoundedList Token) (stack0 : Bounde
 
 -- ---- the beginning
 
-empty_settles : (b : List ℕ) (ks : List ℕ) (ts : List Token) → ts ≡ [] → ks ≡ [] → Settles b start (idle Ready ks ts 0 0)
+empty_settles : (b : List ℕ) (ks : List ℕ) (ts : List Token) → ts ≡ [] → ks ≡ [] → ComesTo b start (idle Ready ks ts 0 0)
 empty_settles b ks ts e f =
-    let base : Settles b start start = record { last = start; reached = here; settles = refl; same = λ l. refl } in
-    subst (λ z. Settles b start (idle Ready z ts 0 0)) (sym f) (subst (λ z. Settles b start (idle Ready [] z 0 0)) (sym e) base)
+    let base : ComesTo b start start = record { last = start; reached = here; settles = refl; same = λ l. refl } in
+    subst (λ z. ComesTo b start (idle Ready z ts 0 0)) (sym f) (subst (λ z. ComesTo b start (idle Ready [] z 0 0)) (sym e) base)
 
 pub standing_first : (b : List ℕ) (tokens : BoundedList Token) (stack : BoundedList ℕ) → IsWithin tokens → IsWithin stack → tokens.elements ≡ [] → stack.elements ≡ [] → Standing b tokens stack tokens stack Ready 0
 standing_first b tokens stack w v e f = record {
@@ -157,14 +157,14 @@ stepped_small b tokens0 stack0 tokens stack m i v s h l =
     (omega arith, omega arith)
 
 -- a run goes on
-pub settles_both : {b : List ℕ} {s t u : State} → Reaches b s t → Settles b t u → Settles b s u
+pub settles_both : {b : List ℕ} {s t u : State} → Reaches b s t → ComesTo b t u → ComesTo b s u
 settles_both r h = record { last = h.last; reached = reaches_both r h.reached; settles = h.settles; same = h.same }
 
 abbrev sticks_both : {b : List ℕ} {s t : State} {i : ℕ} → Reaches b s t → Sticks b t i → Sticks b s i
 sticks_both r h = record { last = h.last; reached = reaches_both r h.reached; at = h.at; within = h.within; stuck = h.stuck }
 
 pub stepped_on : (b : List ℕ) (tokens0 : BoundedList Token) (stack0 : BoundedList ℕ) (tokens tokens1 : BoundedList Token) (stack : BoundedList ℕ) (m : Mode) (i : ℕ) (v : Move) (n : Next) → Stepped b tokens0 stack0 tokens stack m i v → Grown tokens tokens1
-    → ((p : ℕ) → Settles b (state (phase_after m i v) stack.elements tokens.elements (suc i) p) (idle n.mode stack.elements tokens1.elements n.place p) × (suc i ≤ n.place) × (n.place ≤ length b))
+    → ((p : ℕ) → ComesTo b (state (phase_after m i v) stack.elements tokens.elements (suc i) p) (idle n.mode stack.elements tokens1.elements n.place p) × (suc i ≤ n.place) × (n.place ≤ length b))
     → Standing b tokens0 stack0 tokens1 stack n.mode n.place
 stepped_on b tokens0 stack0 tokens tokens1 stack m i v n s g h = record {
   deepest = s.deepest;
@@ -269,7 +269,7 @@ standing_fault X b tokens0 stack0 tokens tokens1 stack stack1 m i (TooDeep j) s 
     }
 
 pub stepped_fault : (X : Type 0) (b : List ℕ) (tokens0 : BoundedList Token) (stack0 : BoundedList ℕ) (tokens tokens1 : BoundedList Token) (stack : BoundedList ℕ) (m : Mode) (i : ℕ) (v : Move) (f : ScanFault) → Stepped b tokens0 stack0 tokens stack m i v
-    → ((p : ℕ) → Ends b (state (phase_after m i v) stack.elements tokens.elements (suc i) p) (IsTrue tokens.reserved) (Err f) tokens1.elements)
+    → ((p : ℕ) → EndAnswers b (state (phase_after m i v) stack.elements tokens.elements (suc i) p) (IsTrue tokens.reserved) (Err f) tokens1.elements)
     → RunAnswers {X = X} b stack0 (IsTrue tokens0.reserved × IsTrue stack0.reserved) (Err f) tokens1 stack
 stepped_fault X b tokens0 stack0 tokens tokens1 stack m i v (NotUtf8 j) s h = h 0
 stepped_fault X b tokens0 stack0 tokens tokens1 stack m i v Memory s h = λ g. h 0 (s.kept.room g.0)

@@ -13,12 +13,12 @@ use Rattle.cj_spans.specs.Spelling.{is_plain, is_escape, is_hex, IsBody, nothing
 use Rattle.cj_spans.specs.Text.{char_of, four_digits, unit, is_unicode, is_pair, body_of, StandFor, done, plain, letter, single, pair}
 
 -- how the bytes b and r of a body begin
-data Begins (b : ℕ) (r : List ℕ) : Type 0 where
-  by_plain : is_plain b ≡ true → IsBody r → Begins b r
-  by_escape : b ≡ 92 → (e : ℕ) (s : List ℕ) → r ≡ e ∷ s → is_escape e ≡ true → IsBody s → Begins b r
-  by_unicode : b ≡ 92 → (h i j k : ℕ) (s : List ℕ) → r ≡ 117 ∷ h ∷ i ∷ j ∷ k ∷ s → is_hex h && is_hex i && is_hex j && is_hex k ≡ true → IsBody s → Begins b r
+data BodyBegins (b : ℕ) (r : List ℕ) : Type 0 where
+  by_plain : is_plain b ≡ true → IsBody r → BodyBegins b r
+  by_escape : b ≡ 92 → (e : ℕ) (s : List ℕ) → r ≡ e ∷ s → is_escape e ≡ true → IsBody s → BodyBegins b r
+  by_unicode : b ≡ 92 → (h i j k : ℕ) (s : List ℕ) → r ≡ 117 ∷ h ∷ i ∷ j ∷ k ∷ s → is_hex h && is_hex i && is_hex j && is_hex k ≡ true → IsBody s → BodyBegins b r
 
-begins : {s : List ℕ} → IsBody s → (b : ℕ) (r : List ℕ) → s ≡ b ∷ r → Begins b r
+begins : {s : List ℕ} → IsBody s → (b : ℕ) (r : List ℕ) → s ≡ b ∷ r → BodyBegins b r
 begins nothing b r e = cc
 begins (plain_byte c s p y) b r e = let x : c ≡ b = cc in let z : s ≡ r = cc in by_plain (subst (λ d. is_plain d ≡ true) x p) (subst IsBody z y)
 begins (escape c s p y) b r e = let x : 92 ≡ b = cc in let z : c ∷ s ≡ r = cc in by_escape (sym x) c s (sym z) p y
@@ -101,7 +101,7 @@ record Front (es : List ℕ) : Type 0 where
   is : es ≡ 92 ∷ 117 ∷ l ∷ m ∷ n ∷ o ∷ after
   body : IsBody (encode_utf8_all after)
 
-unit_second : (ds : List ℕ) → char_of (92 ∷ ds) 1 ≡ 117 → Begins 92 (encode_utf8_all ds) → Front (92 ∷ ds)
+unit_second : (ds : List ℕ) → char_of (92 ∷ ds) 1 ≡ 117 → BodyBegins 92 (encode_utf8_all ds) → Front (92 ∷ ds)
 unit_second ds u (by_plain p y) = let n : ⊥ = grind (arith, nat_tests) in absurd n
 unit_second ds u (by_escape q e s f p y) =
     let a = next ds e s (escape_small e p) f in
@@ -136,7 +136,7 @@ unit_case h i j k es ih y true e =
     unit_pair h i j k es ih f.0 f.2 (unit_front es f.1 y)
 unit_case h i j k es ih y false e = let r = ih es (omega arith) y in (four_digits (h ∷ i ∷ j ∷ k ∷ []) ∷ r.0, single h i j k es r.0 e r.1)
 
-ascii_case : (c : ℕ) (cs : List ℕ) → ((ds : List ℕ) → length ds ≤ length cs → IsBody (encode_utf8_all ds) → Stands ds) → Begins c (encode_utf8_all cs) → Stands (c ∷ cs)
+ascii_case : (c : ℕ) (cs : List ℕ) → ((ds : List ℕ) → length ds ≤ length cs → IsBody (encode_utf8_all ds) → Stands ds) → BodyBegins c (encode_utf8_all cs) → Stands (c ∷ cs)
 ascii_case c cs ih (by_plain p y) = let r = ih cs (omega arith) y in (c ∷ r.0, plain c cs r.0 (plain_other c p) r.1)
 ascii_case c cs ih (by_escape q e s f p y) =
     let a = next cs e s (escape_small e p) f in

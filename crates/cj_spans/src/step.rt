@@ -3,7 +3,7 @@ ghost use Rattle.std.specs.Prelude.{◌≡◌, ◌^◌, ◌≤◌, ◌<◌, ◌+
 ghost use Rattle.cj_budget.specs.Bounded.{IsWithin};
 ghost use Rattle.cj_spans.specs.declared.token.Token.{Token as TokenOf};
 ghost use Rattle.cj_spans.specs.declared.step.Mode.{Mode as ModeOf};
-ghost use Rattle.cj_spans.specs.Machine.{state, between, read as read_of, begin_value as begin_value_of, begin_name as begin_name_of, after_value as after_value_of, after_in as after_in_of, close_token as close_token_of, close_empty as close_empty_of, colon_step as colon_step_of, opened, Answers, Grown, Kept, Reads, BeginsValue};
+ghost use Rattle.cj_spans.specs.Machine.{state, between, read as read_of, begin_value as begin_value_of, begin_name as begin_name_of, after_value as after_value_of, after_in as after_in_of, close_token as close_token_of, close_empty as close_empty_of, colon_step as colon_step_of, with_opened, Answers, Grown, Kept, ReadsByte, BeginsValue};
 
 use crate::bytes::is_blank;
 use crate::fault::ScanFault;
@@ -61,7 +61,7 @@ fn open(
     requires small { (place < 2 ^ 31) × (length tokens.old.elements < 2 ^ 31) }
     requires lists { IsWithin tokens.old × IsWithin stack.old }
     requires room { length tokens.old.elements < tokens.old.limit }
-    ensures { Reads (λ s. Some (opened kind next s)) place result tokens.old tokens.new stack.old stack.new }
+    ensures { ReadsByte (λ s. Some (with_opened kind next s)) place result tokens.old tokens.new stack.old stack.new }
 {
     match stack.push(tokens.len() as u32) {
         Ok(()) => {}
@@ -91,7 +91,7 @@ fn begin_value(
     requires small { (place < 2 ^ 31) × (length tokens.old.elements < 2 ^ 31) }
     requires lists { IsWithin tokens.old × IsWithin stack.old }
     requires room { length tokens.old.elements < tokens.old.limit }
-    ensures { Reads (begin_value_of byte) place result tokens.old tokens.new stack.old stack.new }
+    ensures { ReadsByte (begin_value_of byte) place result tokens.old tokens.new stack.old stack.new }
 {
     if byte == b'[' {
         return open(Kind::Array, Mode::FirstItem, place, tokens, stack);
@@ -115,7 +115,7 @@ fn close(
 ) -> Result<Move, ScanFault>
     requires small { (place < 2 ^ 31) × (length tokens.old.elements < 2 ^ 31) }
     requires lists { IsWithin tokens.old × IsWithin stack.old }
-    ensures { Reads (λ s. close_token_of number (slice_get s.tokens number) s) place result tokens.old tokens.new stack.old stack.new }
+    ensures { ReadsByte (λ s. close_token_of number (slice_get s.tokens number) s) place result tokens.old tokens.new stack.old stack.new }
 {
     match token_of(tokens.as_slice(), number) {
         None => Err(ScanFault::Syntax(place as u64)),
@@ -140,7 +140,7 @@ fn close_empty(
 ) -> Result<Move, ScanFault>
     requires small { (place < 2 ^ 31) × (length tokens.old.elements < 2 ^ 31) }
     requires lists { IsWithin tokens.old × IsWithin stack.old }
-    ensures { Reads close_empty_of place result tokens.old tokens.new stack.old stack.new }
+    ensures { ReadsByte close_empty_of place result tokens.old tokens.new stack.old stack.new }
 {
     match stack.top() {
         None => Err(ScanFault::Syntax(place as u64)),
@@ -161,7 +161,7 @@ fn after_in(
     requires small { (place < 2 ^ 31) × (length tokens.old.elements < 2 ^ 31) }
     requires lists { IsWithin tokens.old × IsWithin stack.old }
     ensures { (t : TokenOf) → slice_get tokens.old.elements number ≡ Some t
-        → Reads (after_in_of kind byte number t) place result tokens.old tokens.new stack.old stack.new }
+        → ReadsByte (after_in_of kind byte number t) place result tokens.old tokens.new stack.old stack.new }
 {
     match kind {
         Kind::Array => {
@@ -196,7 +196,7 @@ fn after_value(
 ) -> Result<Move, ScanFault>
     requires small { (place < 2 ^ 31) × (length tokens.old.elements < 2 ^ 31) }
     requires lists { IsWithin tokens.old × IsWithin stack.old }
-    ensures { Reads (after_value_of byte) place result tokens.old tokens.new stack.old stack.new }
+    ensures { ReadsByte (after_value_of byte) place result tokens.old tokens.new stack.old stack.new }
 {
     match stack.top() {
         None => Err(ScanFault::Syntax(place as u64)),
