@@ -9,7 +9,7 @@ use Rattle.cj_spans.specs.declared.token.Token.{Token}
 use Rattle.cj_spans.specs.declared.lex.Lex.{Lex}
 use Rattle.cj_spans.specs.declared.step.Mode.{Mode}
 use Rattle.cj_spans.specs.declared.step.Mode.TheVariants.{Ready, FirstItem, After, FirstName, NextName, AfterName}
-use Rattle.cj_spans.specs.Spelling.{is_blank}
+use Rattle.cj_spans.specs.Spelling.{is_white_space}
 use Rattle.cj_spans.specs.Json.{byte}
 use Rattle.cj_spans.specs.Preorder.{token_at}
 use Rattle.cj_spans.specs.Machine.{Phase, State, state, between, in_atom, step, read, read_in, begin_value, begin_name, after_value, after_token, after_in, close_empty, close_token, end_atom, go_on, settle, lex_start, lex_step, lex_kind, Reaches, here, on, start}
@@ -132,7 +132,7 @@ module _ (i p : ℕ) (ts : List Token) where
   goes_read_in AfterName c ks o d n = goes_cond i p (nat_eq c 58) _ None (goes_to Ready ks o d n) tt
 
   goes_read : (m : Mode) (c : ℕ) (ks : List ℕ) → length ks ≤ i → length ks ≤ p → 2 * length ts ≤ reach_in m i + length ks → GoesIf i p (read m c (idle m ks ts i p))
-  goes_read m c ks o d n = let r = reach_more m i in goes_cond i p (is_blank c) _ _ (goes_to m ks o d (omega arith)) (goes_read_in m c ks o d n)
+  goes_read m c ks o d n = let r = reach_more m i in goes_cond i p (is_white_space c) _ _ (goes_to m ks o d (omega arith)) (goes_read_in m c ks o d n)
 
 -- one token more, where a scalar or a name ends
 ends_count : (m : Mode) (a i d : ℕ) (k : Kind) (ks : List ℕ) (ts : List Token) → EndsAtom m → a < i → 2 * length ts ≤ a + length ks → 2 * length (ts ++ token_at a i d k ∷ []) ≤ reach_in m i + length ks

@@ -9,7 +9,7 @@ use Rattle.cj_spans.specs.declared.token.Token.{Token}
 use Rattle.cj_spans.specs.declared.lex.Lex.{Lex}
 use Rattle.cj_spans.specs.declared.step.Mode.{Mode}
 use Rattle.cj_spans.specs.declared.step.Mode.TheVariants.{Ready, FirstItem, After, FirstName, NextName, AfterName}
-use Rattle.cj_spans.specs.Spelling.{is_blank}
+use Rattle.cj_spans.specs.Spelling.{is_white_space}
 use Rattle.cj_spans.specs.Json.{byte, Json}
 use Rattle.cj_spans.specs.Tree.{Tree, nest}
 use Rattle.cj_spans.specs.Front.{SyntaxAt, DeepAt, NowhereDeep}
@@ -84,7 +84,7 @@ module _ (s : State) where
   climbs_read_in AfterName c = climbs_cond _ (nat_eq c 58) _ None (omega arith) tt
 
   climbs_read : (m : Mode) (c : ℕ) → Climbs (length s.stack) (read m c s)
-  climbs_read m c = climbs_cond _ (is_blank c) _ _ (omega arith) (climbs_read_in m c)
+  climbs_read m c = climbs_cond _ (is_white_space c) _ _ (omega arith) (climbs_read_in m c)
 
 climbs_ended : (m : Mode) (i c : ℕ) (r : Option Kind) (s : State) → Climbs (length s.stack) (option_and_then (read m c) (end_atom m i r s))
 climbs_ended m i c None s = tt

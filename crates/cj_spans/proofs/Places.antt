@@ -12,14 +12,14 @@ use Rattle.cj_spans.specs.declared.lex.Lex.{Lex}
 use Rattle.cj_spans.specs.declared.lex.Lex.TheVariants.{AfterN, AfterNu, AfterNul, NullDone, AfterT, AfterTr, AfterTru, AfterF, AfterFa, AfterFal, AfterFals, TruthDone, Minus, Zero, Whole, Point, Fraction, Mark, MarkSign, Exponent, InText, Escape, Hex4, Hex3, Hex2, Hex1, TextDone}
 use Rattle.cj_spans.specs.declared.step.Mode.{Mode}
 use Rattle.cj_spans.specs.declared.step.Mode.TheVariants.{Ready, FirstItem, After, FirstName, NextName, AfterName}
-use Rattle.cj_spans.specs.Spelling.{is_blank, IsScalar}
+use Rattle.cj_spans.specs.Spelling.{is_white_space, IsScalar}
 use Rattle.cj_spans.specs.Json.{byte, IsAtom}
 use Rattle.cj_spans.specs.Front.{Begun}
 use Rattle.cj_spans.specs.Preorder.{token_at}
 use Rattle.cj_spans.specs.Machine.{State, state, in_atom, step, begin_value, lex_start, lex_step, lex_kind, Continues, still, further, Reaches, on, end_atom, BeginsValue}
 use Rattle.cj_spans.proofs.Spellings.{none_some, some_same, lex_run, reading, reading_sound, reading_whole, reading-more, reading-append, reading-prefix, can_end, IsOfText, TextOption, of_text_step, text_kind, text_end}
 use Rattle.cj_spans.proofs.Atoms.{continues_reaches}
-use Rattle.cj_spans.proofs.Runs.{IsEnd, space, tab, feed, «return», comma, colon, bracket, brace, blank_end, Arrives, BeginsName, idle}
+use Rattle.cj_spans.proofs.Runs.{IsEnd, space, tab, feed, «return», comma, colon, bracket, brace, white_end, Arrives, BeginsName, idle}
 
 -- the bytes from i to k begin a scalar, and x is how far it is
 pub record InAtom (b : List ℕ) (i k : ℕ) (x : Lex) : Type 0 where
@@ -165,16 +165,16 @@ start_end brace = refl
 starts_not : (c d : ℕ) (x : Lex) → lex_start c ≡ Some x → lex_start d ≡ None → nat_eq c d ≡ true → ⊥
 starts_not c d x h n e = none_some x (sym n ∙ sym (ap lex_start (eqb-true c d e)) ∙ h)
 
-starts_not_blank : (c : ℕ) (x : Lex) → lex_start c ≡ Some x → is_blank c ≡ true → ⊥
-starts_not_blank c x h e = none_some x (sym (start_end (blank_end c e)) ∙ h)
+starts_not_white : (c : ℕ) (x : Lex) → lex_start c ≡ Some x → is_white_space c ≡ true → ⊥
+starts_not_white c x h e = none_some x (sym (start_end (white_end c e)) ∙ h)
 
 begin_atom : (c : ℕ) (x : Lex) (m : Mode) (ks : List ℕ) (ts : List Token) (i p : ℕ) → lex_start c ≡ Some x → begin_value c (idle m ks ts i p) ≡ Some (state (in_atom After i x) ks ts (suc i) p)
 begin_atom c x m ks ts i p h =
     cond_not (nat_eq c 91) _ _ (starts_not c 91 x h refl) ∙ cond_not (nat_eq c 123) _ _ (starts_not c 123 x h refl) ∙ ap (option_map (λ y. state (in_atom After i y) ks ts (suc i) p)) h
 
 step_atom : (c : ℕ) (x : Lex) (m : Mode) (ks : List ℕ) (ts : List Token) (i p : ℕ) → BeginsValue m → lex_start c ≡ Some x → step c (idle m ks ts i p) ≡ Some (state (in_atom After i x) ks ts (suc i) p)
-step_atom c x Ready ks ts i p b h = cond_not (is_blank c) _ _ (starts_not_blank c x h) ∙ begin_atom c x Ready ks ts i p h
-step_atom c x FirstItem ks ts i p b h = cond_not (is_blank c) _ _ (starts_not_blank c x h) ∙ cond_not (nat_eq c 93) _ _ (starts_not c 93 x h refl) ∙ begin_atom c x FirstItem ks ts i p h
+step_atom c x Ready ks ts i p b h = cond_not (is_white_space c) _ _ (starts_not_white c x h) ∙ begin_atom c x Ready ks ts i p h
+step_atom c x FirstItem ks ts i p b h = cond_not (is_white_space c) _ _ (starts_not_white c x h) ∙ cond_not (nat_eq c 93) _ _ (starts_not c 93 x h refl) ∙ begin_atom c x FirstItem ks ts i p h
 step_atom c x _ ks ts i p b h = absurd b
 
 pub name_34 : (m : Mode) (ks : List ℕ) (ts : List Token) (i p : ℕ) → BeginsName m → step 34 (idle m ks ts i p) ≡ Some (state (in_atom AfterName i InText) ks ts (suc i) p)

@@ -9,7 +9,7 @@ use Rattle.cj_spans.specs.declared.lex.Lex.{Lex}
 use Rattle.cj_spans.specs.declared.lex.Lex.TheVariants.{AfterN, AfterNu, AfterNul, NullDone, AfterT, AfterTr, AfterTru, AfterF, AfterFa, AfterFal, AfterFals, TruthDone, Minus, Zero, Whole, Point, Fraction, Mark, MarkSign, Exponent, InText, Escape, Hex4, Hex3, Hex2, Hex1, TextDone}
 use Rattle.cj_spans.specs.declared.step.Mode.{Mode}
 use Rattle.cj_spans.specs.declared.step.Mode.TheVariants.{Ready, FirstItem, FirstName, NextName}
-use Rattle.cj_spans.specs.Spelling.{is_blank}
+use Rattle.cj_spans.specs.Spelling.{is_white_space}
 use Rattle.cj_spans.specs.Json.{byte, White}
 use Rattle.cj_spans.specs.Machine.{is_digit, Phase, State, state, between, in_atom, read, end_atom, go_on, step, settle, lex_step, lex_kind, point_or_mark, Reaches, on, BeginsValue}
 use Rattle.cj_spans.proofs.Spellings.{none_some, some_same, either}
@@ -101,8 +101,8 @@ atom_ends Hex1 c k h e = cc
 end_at : (c d : ℕ) → IsEnd d → nat_eq c d ≡ true → IsEnd c
 end_at c d e h = subst IsEnd (sym (eqb-true c d h)) e
 
-pub blank_end : (c : ℕ) → is_blank c ≡ true → IsEnd c
-blank_end c h =
+pub white_end : (c : ℕ) → is_white_space c ≡ true → IsEnd c
+white_end c h =
     elim (either (nat_eq c 32 || nat_eq c 9 || nat_eq c 10) (nat_eq c 13) h) [
       | inr q ↦ end_at c 13 «return» q
       | inl p ↦ elim (either (nat_eq c 32 || nat_eq c 9) (nat_eq c 10) p) [
@@ -164,13 +164,13 @@ arrive_on b s t u e a h =
 pub arrived : (b : List ℕ) (s : State) (m : Mode) (ks : List ℕ) (ts : List Token) (i p : ℕ) → Reaches b s (idle m ks ts i p) → Arrives b s (idle m ks ts i p)
 arrived b s m ks ts i p r = record { at = idle m ks ts i p; reached = r; settles = refl }
 
-skip_some : (n : ℕ) (b : List ℕ) (s : State) (m : Mode) (ks : List ℕ) (ts : List Token) (i p : ℕ) → ((k : ℕ) → i ≤ k → k < i + n → is_blank (byte b k) ≡ true)
+skip_some : (n : ℕ) (b : List ℕ) (s : State) (m : Mode) (ks : List ℕ) (ts : List Token) (i p : ℕ) → ((k : ℕ) → i ≤ k → k < i + n → is_white_space (byte b k) ≡ true)
     → Reaches b s (idle m ks ts i p) → Reaches b s (idle m ks ts (i + n) p)
 skip_some zero b s m ks ts i p each r = let e : i ≡ i + 0 = omega arith in subst (λ k. Reaches b s (idle m ks ts k p)) e r
 skip_some (suc n) b s m ks ts i p each r =
     let white = each i (omega arith) (omega arith) in
     let e : suc i + n ≡ i + suc n = omega arith in
-    let q = on (idle m ks ts i p) (idle m ks ts (suc i) p) r (cond_true (is_blank (byte b i)) _ _ white) in
+    let q = on (idle m ks ts i p) (idle m ks ts (suc i) p) r (cond_true (is_white_space (byte b i)) _ _ white) in
     subst (λ k. Reaches b s (idle m ks ts k p)) e (skip_some n b s m ks ts (suc i) p (λ k l u. each k (omega arith) (omega arith)) q)
 
 pub skip : {b : List ℕ} {i j : ℕ} → White b i j → (s : State) (m : Mode) (ks : List ℕ) (ts : List Token) (p : ℕ) → Reaches b s (idle m ks ts i p) → Reaches b s (idle m ks ts j p)
@@ -189,7 +189,7 @@ skip_after {b} {i} {j} w s m ks ts p a =
       | inl e ↦ subst (λ k. Arrives b s (idle m ks ts k p)) e a
       | inr l ↦
           let white = w.each i (omega arith) l in
-          let r = arrive_on b s (idle m ks ts i p) (idle m ks ts (suc i) p) (blank_end (byte b i) white) a (cond_true (is_blank (byte b i)) _ _ white) in
+          let r = arrive_on b s (idle m ks ts i p) (idle m ks ts (suc i) p) (white_end (byte b i) white) a (cond_true (is_white_space (byte b i)) _ _ white) in
           arrived b s m ks ts j p (skip (white_rest b i j w l) s m ks ts p r)
     ]
 

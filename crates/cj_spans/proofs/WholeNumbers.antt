@@ -12,7 +12,7 @@ use Rattle.cj_spans.specs.declared.step.Mode.{Mode}
 use Rattle.cj_spans.specs.declared.step.Move.{Move}
 use Rattle.cj_spans.specs.declared.step.Move.TheVariants.{To, Open}
 use Rattle.cj_spans.specs.declared.step.Mode.TheVariants.{Ready, FirstItem, After, FirstName, NextName, AfterName}
-use Rattle.cj_spans.specs.Spelling.{is_blank}
+use Rattle.cj_spans.specs.Spelling.{is_white_space}
 use Rattle.cj_spans.specs.Json.{byte}
 use Rattle.cj_spans.specs.Preorder.{token_at}
 use Rattle.cj_spans.specs.Machine.{State, state, between, in_atom, phase_after, read, after_top, after_token, after_in, moved, step, lex_start, Continues, still, Reaches, here, on, ComesTo, BeginsValue, InArray, Grown, StaysInArray, StaysInArrayNext, BeginsValueNext, IsNumberItem, is_digit}
@@ -34,22 +34,22 @@ step_on b s t u h l e =
 not_at : (c n : ℕ) → (c ≡ n → ⊥) → nat_eq c n ≡ false
 not_at c n h = grind (arith, nat_tests)
 
-not_blank : (c : ℕ) → 48 ≤ c → is_blank c ≡ false
-not_blank c h = rw (not_at c 32 (λ e. omega arith), not_at c 9 (λ e. omega arith), not_at c 10 (λ e. omega arith), not_at c 13 (λ e. omega arith)) refl
+not_white : (c : ℕ) → 48 ≤ c → is_white_space c ≡ false
+not_white c h = rw (not_at c 32 (λ e. omega arith), not_at c 9 (λ e. omega arith), not_at c 10 (λ e. omega arith), not_at c 13 (λ e. omega arith)) refl
 
 -- a digit begins a number where a value may begin
 number_begins : (m : Mode) (c : ℕ) (x : Lex) (ks : List ℕ) (ts : List Token) (i p : ℕ) → BeginsValue m → (48 ≤ c) × (c ≤ 57) → lex_start c ≡ Some x → step c (idle m ks ts i p) ≡ Some (state (in_atom After i x) ks ts (suc i) p)
 number_begins Ready c x ks ts i p v d h =
     let low = d.0 in let high = d.1 in
     let s = idle Ready ks ts i p in
-    cond_false (is_blank c) _ _ (not_blank c low)
+    cond_false (is_white_space c) _ _ (not_white c low)
     ∙ cond_false (nat_eq c 91) _ _ (not_at c 91 (λ e. omega arith))
     ∙ cond_false (nat_eq c 123) _ _ (not_at c 123 (λ e. omega arith))
     ∙ ap (option_map (λ y. moved (in_atom After i y) s)) h
 number_begins FirstItem c x ks ts i p v d h =
     let low = d.0 in let high = d.1 in
     let s = idle FirstItem ks ts i p in
-    cond_false (is_blank c) _ _ (not_blank c low)
+    cond_false (is_white_space c) _ _ (not_white c low)
     ∙ cond_false (nat_eq c 93) _ _ (not_at c 93 (λ e. omega arith))
     ∙ cond_false (nat_eq c 91) _ _ (not_at c 91 (λ e. omega arith))
     ∙ cond_false (nat_eq c 123) _ _ (not_at c 123 (λ e. omega arith))

@@ -13,7 +13,7 @@ use Rattle.cj_spans.specs.declared.step.Mode.TheVariants.{Ready, FirstItem, Afte
 use Rattle.cj_spans.specs.declared.step.Move.{Move}
 use Rattle.cj_spans.specs.declared.step.Move.TheVariants.{Stay, To, Open, Atom}
 use Rattle.cj_spans.specs.declared.step.Next.{Next}
-use Rattle.cj_spans.specs.Spelling.{is_blank, is_hex, is_escape}
+use Rattle.cj_spans.specs.Spelling.{is_white_space, is_hex, is_escape}
 use Rattle.cj_spans.specs.Json.{byte}
 use Rattle.cj_spans.specs.Preorder.{token_at}
 
@@ -234,7 +234,7 @@ read_in AfterName c s = colon_step c s
 
 -- a byte, between scalars and names
 abbrev pub read : Mode → ℕ → State → Option State
-read m c s = cond (is_blank c) (Some (moved (between m) s)) (read_in m c s)
+read m c s = cond (is_white_space c) (Some (moved (between m) s)) (read_in m c s)
 
 -- where a scalar or a name may end, it has ended
 abbrev pub end_atom : Mode → ℕ → Option Kind → State → Option State

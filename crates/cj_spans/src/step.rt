@@ -5,7 +5,7 @@ ghost use Rattle.cj_spans.specs.declared.token.Token.{Token as TokenOf};
 ghost use Rattle.cj_spans.specs.declared.step.Mode.{Mode as ModeOf};
 ghost use Rattle.cj_spans.specs.Machine.{state, between, read as read_of, begin_value as begin_value_of, begin_name as begin_name_of, after_value as after_value_of, after_in as after_in_of, close_token as close_token_of, close_empty as close_empty_of, colon_step as colon_step_of, with_opened, Answers, Grown, Kept, ReadsByte, BeginsValue};
 
-use crate::bytes::is_blank;
+use crate::bytes::is_white_space;
 use crate::fault::ScanFault;
 use crate::lex::{Lex, lex_start};
 use crate::token::{Kind, Token};
@@ -254,7 +254,7 @@ pub fn read_byte(
     ensures err { OnErr result ((tokens.new ≡ tokens.old)
         × (length stack.old.elements ≤ length stack.new.elements)) }
 {
-    if is_blank(byte) {
+    if is_white_space(byte) {
         return Ok(Move::Stay);
     }
     match mode {
