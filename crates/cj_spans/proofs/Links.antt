@@ -62,12 +62,12 @@ not_before_append i j (t ∷ ts) us l h g = h
 
 -- ---- links
 
--- each of the tokens, which are numbered from k on, links past those that start before it stops
+-- each of the tokens, which are at the indices from k on, links past those that start before it stops
 abbrev AllLinked : ℕ → List Token → Type 0
 AllLinked k [] = Unit {0}
 AllLinked k (t ∷ ts) = (t.link ≡ suc k + before t.stop ts) × AllLinked (suc k) ts
 
--- tokens between two places, numbered from k on, linked before any that are linked and start later
+-- tokens between two places, at the indices from k on, linked before any that are linked and start later
 record Linked (i j k : ℕ) (ts : List Token) : Type 0 where
   all : AllBefore j ts
   first : NotBefore i ts

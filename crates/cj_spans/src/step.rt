@@ -41,12 +41,12 @@ pub enum Move {
     Atom(Mode, Lex),
 }
 
-/// The token with a number.
+/// The token at an index.
 #[inline(always)]
-fn token_of(tokens: &[Token], number: u32) -> Option<Token>
-    ensures { result ≡ slice_get tokens.now number }
+fn token_of(tokens: &[Token], index: u32) -> Option<Token>
+    ensures { result ≡ slice_get tokens.now index }
 {
-    tokens.get(number as usize).copied()
+    tokens.get(index as usize).copied()
 }
 
 /// Opens a container.
@@ -105,19 +105,19 @@ fn begin_value(
     }
 }
 
-/// Closes the innermost container, whose token has this number.
+/// Closes the innermost container, whose token is at this index.
 #[inline(always)]
 fn close(
-    number: u32,
+    index: u32,
     place: usize,
     tokens: &mut Bounded<Token>,
     stack: &mut Stack,
 ) -> Result<Move, ScanFault>
     requires small { (place < 2 ^ 31) × (length tokens.old.elements < 2 ^ 31) }
     requires lists { IsWithin tokens.old × IsWithin stack.old }
-    ensures { ReadsByte (λ s. close_token_of number (slice_get s.tokens number) s) place result tokens.old tokens.new stack.old stack.new }
+    ensures { ReadsByte (λ s. close_token_of index (slice_get s.tokens index) s) place result tokens.old tokens.new stack.old stack.new }
 {
-    match token_of(tokens.as_slice(), number) {
+    match token_of(tokens.as_slice(), index) {
         None => Err(ScanFault::Syntax(place as u64)),
         Some(token) => {
             let whole = Token {
@@ -125,7 +125,7 @@ fn close(
                 link: tokens.len() as u32,
                 ..token
             };
-            tokens.set(number as usize, whole);
+            tokens.set(index as usize, whole);
             stack.pop();
             Ok(Move::To(Mode::After))
         }
@@ -144,7 +144,7 @@ fn close_empty(
 {
     match stack.top() {
         None => Err(ScanFault::Syntax(place as u64)),
-        Some(number) => close(number, place, tokens, stack),
+        Some(index) => close(index, place, tokens, stack),
     }
 }
 
@@ -152,7 +152,7 @@ fn close_empty(
 #[inline(always)]
 fn after_in(
     kind: Kind,
-    number: u32,
+    index: u32,
     byte: u8,
     place: usize,
     tokens: &mut Bounded<Token>,
@@ -160,15 +160,15 @@ fn after_in(
 ) -> Result<Move, ScanFault>
     requires small { (place < 2 ^ 31) × (length tokens.old.elements < 2 ^ 31) }
     requires lists { IsWithin tokens.old × IsWithin stack.old }
-    ensures { (t : TokenOf) → slice_get tokens.old.elements number ≡ Some t
-        → ReadsByte (after_in_of kind byte number t) place result tokens.old tokens.new stack.old stack.new }
+    ensures { (t : TokenOf) → slice_get tokens.old.elements index ≡ Some t
+        → ReadsByte (after_in_of kind byte index t) place result tokens.old tokens.new stack.old stack.new }
 {
     match kind {
         Kind::Array => {
             if byte == b',' {
                 Ok(Move::To(Mode::Ready))
             } else if byte == b']' {
-                close(number, place, tokens, stack)
+                close(index, place, tokens, stack)
             } else {
                 Err(ScanFault::Syntax(place as u64))
             }
@@ -177,7 +177,7 @@ fn after_in(
             if byte == b',' {
                 Ok(Move::To(Mode::NextName))
             } else if byte == b'}' {
-                close(number, place, tokens, stack)
+                close(index, place, tokens, stack)
             } else {
                 Err(ScanFault::Syntax(place as u64))
             }
@@ -200,9 +200,9 @@ fn after_value(
 {
     match stack.top() {
         None => Err(ScanFault::Syntax(place as u64)),
-        Some(number) => match token_of(tokens.as_slice(), number) {
+        Some(index) => match token_of(tokens.as_slice(), index) {
             None => Err(ScanFault::Syntax(place as u64)),
-            Some(token) => after_in(token.kind, number, byte, place, tokens, stack),
+            Some(token) => after_in(token.kind, index, byte, place, tokens, stack),
         },
     }
 }
