@@ -27,7 +27,7 @@ use Rattle.cj_spans.proofs.Follows.{run_json}
 use Rattle.cj_spans.proofs.Places.{InAtom, in_text, continues_run, name_34}
 use Rattle.cj_spans.proofs.Atoms.{continues_reaches}
 use Rattle.cj_spans.proofs.Sound.{with_name, Context, root, in_array, in_member, Inv, ready, first_item, after_tree, first_name, next_name, after_name, in_scalar, in_name, inv_reaches}
-use Rattle.cj_spans.proofs.Facts.{next_place, same_state, lawful_reaches, before}
+use Rattle.cj_spans.proofs.Facts.{next_place, same_state, lawful_reaches, state_before}
 use Rattle.cj_spans.proofs.Fronts.{front_runs, inv_front}
 use Rattle.cj_spans.proofs.Verdicts.{spells, nest_of, sinks_deep, fronts_below, syntax_within, Cleared, run_syntax}
 
@@ -54,7 +54,7 @@ text_front b i l x =
     let v = run_json c x.tree x.json in
     let p = (settled v.at _ v.settles).place in
     let q = length_with b x.rest i l in
-    let w = before c v.at i v.reached (omega arith) in
+    let w = state_before c v.at i v.reached (omega arith) in
     let e = w.place in
     let r = transfer b i (λ k h. sym (same_byte b x.rest i k l h)) w.at w.reached (omega arith) in
     record { open_count = length w.at.stack; front = subst (λ n. Front b 0 n (length w.at.stack)) w.place (inv_front w.at (inv_reaches b w.at r)) }
@@ -398,7 +398,7 @@ text_nest b i n l f x =
     let e = settled v.at _ v.settles in
     let p = e.place in let d = e.deepest in
     let q = length_with b x.rest i l in
-    let w = before c v.at i v.reached (omega arith) in
+    let w = state_before c v.at i v.reached (omega arith) in
     let same : u.at ≡ w.at = same_state c u.at w.at r w.reached (u.place ∙ sym w.place) in
     let o = u.open_count in let a = (lawful_reaches u.at u.reached).deep in let b2 = w.below in
     let s : u.at.deepest ≡ w.at.deepest = ap (λ z. z.deepest) same in
@@ -419,7 +419,7 @@ first_too_deep b d i a =
     shallow_text : (j : ℕ) → j < i → (x : BeginsText b (suc j)) × (nest x.tree ≤ d)
     shallow_text j h =
         let at = a.at in let w = a.within in
-        let s = before b a.last (suc j) a.reached (omega arith) in
+        let s = state_before b a.last (suc j) a.reached (omega arith) in
         let t = state_text b (suc j) (omega arith) s.at s.reached s.place in
         let n = t.nest_is in let c = s.below in let g = a.shallow in
         (t.text, omega arith)

@@ -199,13 +199,13 @@ pub record Before (b : List ℕ) (s : State) (k : ℕ) : Type 0 where
   pub place : at.place ≡ k
   pub below : at.deepest ≤ s.deepest
 
-pub before : (b : List ℕ) (s : State) (k : ℕ) → Reaches b start s → k ≤ s.place → Before b s k
-before b s k here h = record { at = start; reached = here; place = omega arith; below = omega arith }
-before b s k (on t v r e) h =
+pub state_before : (b : List ℕ) (s : State) (k : ℕ) → Reaches b start s → k ≤ s.place → Before b s k
+state_before b s k here h = record { at = start; reached = here; place = omega arith; below = omega arith }
+state_before b s k (on t v r e) h =
     let g = goes t v (byte b t.place) (lawful_reaches t r) e in
     let p = g.place in let d = g.deepest in
     elim (eq-or-lt_of_le h) [
-      | inr l ↦ let z = before b t k r (omega arith) in let y = z.below in record { at = z.at; reached = z.reached; place = z.place; below = omega arith }
+      | inr l ↦ let z = state_before b t k r (omega arith) in let y = z.below in record { at = z.at; reached = z.reached; place = z.place; below = omega arith }
       | inl q ↦ record { at = v; reached = on t v r e; place = sym q; below = omega arith }
     ]
 

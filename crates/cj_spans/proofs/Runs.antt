@@ -1,30 +1,22 @@
 -- Runs of the machine: bytes that end a scalar, and white space.
-use Rattle.std.proofs.Common.{◌≡◌, ℕ, zero, suc, ◌+◌, ◌-◌, ◌<◌, ◌≤◌, List, Bool, true, false, cond, ◌||◌, nat_eq, Option, Some, None, refl, sym, ap, subst, arith, ◌∙◌, inl, inr}
+use Rattle.std.proofs.Common.{◌≡◌, ℕ, zero, suc, ◌+◌, ◌-◌, ◌<◌, ◌≤◌, List, true, false, ◌||◌, nat_eq, Option, Some, None, refl, sym, ap, subst, arith, ◌∙◌, inl, inr}
 use Rattle.std.proofs.Math.Nat.{eq-or-lt_of_le}
 use Rattle.std.specs.Prelude.{option_and_then}
-use Rattle.std.proofs.lemmas.Bool.{eqb-true}
+use Rattle.std.proofs.lemmas.Bool.{eqb-true, cond-true, cond-false}
 use Rattle.cj_spans.specs.declared.token.Kind.{Kind}
 use Rattle.cj_spans.specs.declared.token.Token.{Token}
 use Rattle.cj_spans.specs.declared.lex.Lex.{Lex}
 use Rattle.cj_spans.specs.declared.lex.Lex.TheVariants.{AfterN, AfterNu, AfterNul, NullDone, AfterT, AfterTr, AfterTru, AfterF, AfterFa, AfterFal, AfterFals, TruthDone, Minus, Zero, Whole, Point, Fraction, Mark, MarkSign, Exponent, InText, Escape, Hex4, Hex3, Hex2, Hex1, TextDone}
 use Rattle.cj_spans.specs.declared.step.Mode.{Mode}
-use Rattle.cj_spans.specs.declared.step.Mode.TheVariants.{Ready, FirstItem, FirstName, NextName}
+use Rattle.cj_spans.specs.declared.step.Mode.TheVariants.{FirstName, NextName}
 use Rattle.cj_spans.specs.Spelling.{is_white_space}
 use Rattle.cj_spans.specs.Json.{byte, White}
-use Rattle.cj_spans.specs.Machine.{is_digit, Phase, State, state, between, in_atom, read, end_atom, go_on, step, settle, lex_step, lex_kind, point_or_mark, Reaches, on, BeginsValue}
+use Rattle.cj_spans.specs.Machine.{is_digit, Phase, State, state, between, in_atom, read, end_atom, go_on, step, settle, lex_step, lex_kind, point_or_mark, Reaches, on}
 use Rattle.cj_spans.proofs.Spellings.{none_some, some_same, either}
 
 -- between scalars and names
 abbrev pub idle : Mode → List ℕ → List Token → ℕ → ℕ → State
 idle m ks ts i p = state (between m) ks ts i p
-
-pub cond_true : {A : Type 0} (v : Bool) (x y : A) → v ≡ true → cond v x y ≡ x
-cond_true true x y h = refl
-cond_true false x y h = cc
-
-pub cond_false : {A : Type 0} (v : Bool) (x y : A) → v ≡ false → cond v x y ≡ y
-cond_false true x y h = cc
-cond_false false x y h = refl
 
 -- ---- the bytes that end a scalar or a name
 
@@ -73,9 +65,9 @@ pub atom_ends : (x : Lex) (c : ℕ) (k : Kind) → lex_kind x ≡ Some k → IsE
 atom_ends NullDone c k h e = refl
 atom_ends TruthDone c k h e = refl
 atom_ends Zero c k h e = point_end e
-atom_ends Whole c k h e = cond_false (is_digit c) _ _ (digit_end e) ∙ point_end e
+atom_ends Whole c k h e = cond-false (is_digit c) _ _ (digit_end e) ∙ point_end e
 atom_ends Fraction c k h e = fraction_end e
-atom_ends Exponent c k h e = cond_false (is_digit c) _ _ (digit_end e)
+atom_ends Exponent c k h e = cond-false (is_digit c) _ _ (digit_end e)
 atom_ends TextDone c k h e = refl
 atom_ends AfterN c k h e = cc
 atom_ends AfterNu c k h e = cc
@@ -170,7 +162,7 @@ skip_some zero b s m ks ts i p each r = let e : i ≡ i + 0 = omega arith in sub
 skip_some (suc n) b s m ks ts i p each r =
     let white = each i (omega arith) (omega arith) in
     let e : suc i + n ≡ i + suc n = omega arith in
-    let q = on (idle m ks ts i p) (idle m ks ts (suc i) p) r (cond_true (is_white_space (byte b i)) _ _ white) in
+    let q = on (idle m ks ts i p) (idle m ks ts (suc i) p) r (cond-true (is_white_space (byte b i)) _ _ white) in
     subst (λ k. Reaches b s (idle m ks ts k p)) e (skip_some n b s m ks ts (suc i) p (λ k l u. each k (omega arith) (omega arith)) q)
 
 pub skip : {b : List ℕ} {i j : ℕ} → White b i j → (s : State) (m : Mode) (ks : List ℕ) (ts : List Token) (p : ℕ) → Reaches b s (idle m ks ts i p) → Reaches b s (idle m ks ts j p)
@@ -189,7 +181,7 @@ skip_after {b} {i} {j} w s m ks ts p a =
       | inl e ↦ subst (λ k. Arrives b s (idle m ks ts k p)) e a
       | inr l ↦
           let white = w.each i (omega arith) l in
-          let r = arrive_on b s (idle m ks ts i p) (idle m ks ts (suc i) p) (white_end (byte b i) white) a (cond_true (is_white_space (byte b i)) _ _ white) in
+          let r = arrive_on b s (idle m ks ts i p) (idle m ks ts (suc i) p) (white_end (byte b i) white) a (cond-true (is_white_space (byte b i)) _ _ white) in
           arrived b s m ks ts j p (skip (white_rest b i j w l) s m ks ts p r)
     ]
 

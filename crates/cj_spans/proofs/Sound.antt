@@ -1,5 +1,6 @@
 -- What the machine has read, by its state.
-use Rattle.std.proofs.Common.{◌≡◌, ℕ, suc, ◌<◌, List, [], ◌∷◌, ◌++◌, length, max, Bool, true, false, cond, nat_eq, Option, Some, None, refl, sym, ap, subst, arith, ◌∙◌, ◌⊎◌, inl, inr, slice_set}
+use Rattle.std.proofs.Common.{◌≡◌, ℕ, suc, List, [], ◌∷◌, ◌++◌, length, max, Bool, true, false, cond, nat_eq, Option, Some, None, refl, sym, ap, subst, arith, ◌∙◌, ◌≤◌, ◌⊎◌, inl, inr, slice_set}
+use Rattle.std.proofs.Math.Nat.{eq-or-lt_of_le}
 use Rattle.std.specs.Prelude.{option_and_then, option_map}
 use Rattle.std.proofs.lemmas.List.{append-nil}
 use Rattle.std.proofs.lemmas.Bool.{eqb-true}
@@ -38,11 +39,8 @@ no_white b i = record { order = omega arith; each = λ k h l. absurd (omega arit
 last_white : (b : List ℕ) (j k : ℕ) → is_white_space (byte b j) ≡ true → k ≡ j → is_white_space (byte b k) ≡ true
 last_white b j k h e = subst (λ i. is_white_space (byte b i) ≡ true) (sym e) h
 
-either : (k j : ℕ) → k < suc j → (k < j) ⊎ (k ≡ j)
-either k j h = grind arith
-
 pub white_more : (b : List ℕ) (i j : ℕ) → White b i j → is_white_space (byte b j) ≡ true → White b i (suc j)
-white_more b i j w h = let o = w.order in record { order = omega arith; each = λ k l u. elim (either k j u) [ inl s ↦ w.each k l s | inr e ↦ last_white b j k h e ] }
+white_more b i j w h = let o = w.order in record { order = omega arith; each = λ k l u. let m : k ≤ j = omega arith in elim (eq-or-lt_of_le m) [ inl e ↦ last_white b j k h e | inr s ↦ w.each k l s ] }
 
 -- ---- the invariant
 

@@ -18,18 +18,18 @@ data BodyBegins (b : ℕ) (r : List ℕ) : Type 0 where
   by_escape : b ≡ 92 → (e : ℕ) (s : List ℕ) → r ≡ e ∷ s → is_escape e ≡ true → IsBody s → BodyBegins b r
   by_unicode : b ≡ 92 → (h i j k : ℕ) (s : List ℕ) → r ≡ 117 ∷ h ∷ i ∷ j ∷ k ∷ s → is_hex h && is_hex i && is_hex j && is_hex k ≡ true → IsBody s → BodyBegins b r
 
-begins : {s : List ℕ} → IsBody s → (b : ℕ) (r : List ℕ) → s ≡ b ∷ r → BodyBegins b r
-begins nothing b r e = cc
-begins (plain_byte c s p y) b r e = let x : c ≡ b = cc in let z : s ≡ r = cc in by_plain (subst (λ d. is_plain d ≡ true) x p) (subst IsBody z y)
-begins (escape c s p y) b r e = let x : 92 ≡ b = cc in let z : c ∷ s ≡ r = cc in by_escape (sym x) c s (sym z) p y
-begins (unicode h i j k s p y) b r e = let x : 92 ≡ b = cc in let z : 117 ∷ h ∷ i ∷ j ∷ k ∷ s ≡ r = cc in by_unicode (sym x) h i j k s (sym z) p y
+body_begins : {s : List ℕ} → IsBody s → (b : ℕ) (r : List ℕ) → s ≡ b ∷ r → BodyBegins b r
+body_begins nothing b r e = cc
+body_begins (plain_byte c s p y) b r e = let x : c ≡ b = cc in let z : s ≡ r = cc in by_plain (subst (λ d. is_plain d ≡ true) x p) (subst IsBody z y)
+body_begins (escape c s p y) b r e = let x : 92 ≡ b = cc in let z : c ∷ s ≡ r = cc in by_escape (sym x) c s (sym z) p y
+body_begins (unicode h i j k s p y) b r e = let x : 92 ≡ b = cc in let z : 117 ∷ h ∷ i ∷ j ∷ k ∷ s ≡ r = cc in by_unicode (sym x) h i j k s (sym z) p y
 
 -- bytes of longer characters are no escapes
 strip : (xs r : List ℕ) → ((k : ℕ) → k < length xs → 128 ≤ get_or xs k 0) → IsBody (xs ++ r) → IsBody r
 strip [] r h y = y
 strip (x ∷ xs) r h y =
     let l : 128 ≤ x = h 0 (omega arith) in
-    elim (begins y x (xs ++ r) refl) [
+    elim (body_begins y x (xs ++ r) refl) [
       | by_plain p z ↦ strip xs r (λ k m. h (suc k) (omega arith)) z
       | by_escape e c s f p z ↦ absurd (omega arith)
       | by_unicode e a b c d s f p z ↦ absurd (omega arith)
@@ -92,7 +92,7 @@ abbrev Stands : List ℕ → Type 0
 Stands cs = (ps : List ℕ) × StandFor cs ps
 
 -- another unit is at the front
-record Front (es : List ℕ) : Type 0 where
+record NextUnit (es : List ℕ) : Type 0 where
   l : ℕ
   m : ℕ
   n : ℕ
@@ -101,7 +101,7 @@ record Front (es : List ℕ) : Type 0 where
   is : es ≡ 92 ∷ 117 ∷ l ∷ m ∷ n ∷ o ∷ after
   body : IsBody (encode_utf8_all after)
 
-unit_second : (ds : List ℕ) → char_of (92 ∷ ds) 1 ≡ 117 → BodyBegins 92 (encode_utf8_all ds) → Front (92 ∷ ds)
+unit_second : (ds : List ℕ) → char_of (92 ∷ ds) 1 ≡ 117 → BodyBegins 92 (encode_utf8_all ds) → NextUnit (92 ∷ ds)
 unit_second ds u (by_plain p y) = let n : ⊥ = grind (arith, nat_tests) in absurd n
 unit_second ds u (by_escape q e s f p y) =
     let a = next ds e s (escape_small e p) f in
@@ -113,16 +113,16 @@ unit_second ds u (by_unicode q h i j k s f p y) =
     let a = unit4 ds h i j k s f p in
     record { l = h; m = i; n = j; o = k; after = a.after; is = ap (λ xs. 92 ∷ xs) a.is; body = subst IsBody (sym a.left) y }
 
-unit_front : (es : List ℕ) → is_unicode es ≡ true → IsBody (encode_utf8_all es) → Front es
+unit_front : (es : List ℕ) → is_unicode es ≡ true → IsBody (encode_utf8_all es) → NextUnit es
 unit_front [] u y = let n : ⊥ = cc in absurd n
 unit_front (c ∷ ds) u y =
     let e : c ≡ 92 = eqb-true c 92 (first_so _ _ u) in
     let f : char_of (c ∷ ds) 1 ≡ 117 = eqb-true (char_of (c ∷ ds) 1) 117 (second_so _ _ u) in
     let y0 = subst (λ x. IsBody (encode_utf8_all (x ∷ ds))) e y in
     let y1 = subst (λ xs. IsBody (xs ++ encode_utf8_all ds)) (encode_ascii 92 (omega arith)) y0 in
-    subst (λ x. Front (x ∷ ds)) (sym e) (unit_second ds (subst (λ x. char_of (x ∷ ds) 1 ≡ 117) e f) (begins y1 92 (encode_utf8_all ds) refl))
+    subst (λ x. NextUnit (x ∷ ds)) (sym e) (unit_second ds (subst (λ x. char_of (x ∷ ds) 1 ≡ 117) e f) (body_begins y1 92 (encode_utf8_all ds) refl))
 
-unit_pair : (h i j k : ℕ) (es : List ℕ) → ((ds : List ℕ) → length ds ≤ length es → IsBody (encode_utf8_all ds) → Stands ds) → is_high_surrogate (four_digits (h ∷ i ∷ j ∷ k ∷ [])) ≡ true → is_low_surrogate (unit es) ≡ true → Front es
+unit_pair : (h i j k : ℕ) (es : List ℕ) → ((ds : List ℕ) → length ds ≤ length es → IsBody (encode_utf8_all ds) → Stands ds) → is_high_surrogate (four_digits (h ∷ i ∷ j ∷ k ∷ [])) ≡ true → is_low_surrogate (unit es) ≡ true → NextUnit es
     → Stands (92 ∷ 117 ∷ h ∷ i ∷ j ∷ k ∷ es)
 unit_pair h i j k es ih a b f =
     let g : length f.after ≤ length es = let e = ap (λ (xs : List ℕ). length xs) f.is in omega arith in
@@ -154,7 +154,7 @@ stands n [] l y = ([], done)
 stands zero (c ∷ cs) l y = absurd (omega arith)
 stands (suc n) (c ∷ cs) l y =
     elim (cases_lt c 128) [
-      | inl m ↦ ascii_case c cs (λ ds g b. stands n ds (omega arith) b) (begins (subst (λ xs. IsBody (xs ++ encode_utf8_all cs)) (encode_ascii c m) y) c (encode_utf8_all cs) refl)
+      | inl m ↦ ascii_case c cs (λ ds g b. stands n ds (omega arith) b) (body_begins (subst (λ xs. IsBody (xs ++ encode_utf8_all cs)) (encode_ascii c m) y) c (encode_utf8_all cs) refl)
       | inr g ↦ let r = stands n cs (omega arith) (strip (encode_utf8 c) (encode_utf8_all cs) (long_bytes c g) y) in let p : nat_eq c 92 ≡ false = grind (arith, nat_tests) in (c ∷ r.0, plain c cs r.0 p r.1)
     ]
 

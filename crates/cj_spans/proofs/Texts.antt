@@ -268,15 +268,15 @@ points_between s = ap (λ bs. points_after 0 (chars bs)) (body_place s (length s
 
 -- ---- the relation has one answer, the function's
 
-goes_on : (c : ℕ) (cs ds ps : List ℕ) (x n : ℕ) → (first_point (c ∷ cs) ≡ x) × (first_width (c ∷ cs) ≡ n) → drop n (c ∷ cs) ≡ ds → points_after 0 ds ≡ ps → points_after 0 (c ∷ cs) ≡ x ∷ ps
-goes_on c cs ds ps x n e d h =
+points_go_on : (c : ℕ) (cs ds ps : List ℕ) (x n : ℕ) → (first_point (c ∷ cs) ≡ x) × (first_width (c ∷ cs) ≡ n) → drop n (c ∷ cs) ≡ ds → points_after 0 ds ≡ ps → points_after 0 (c ∷ cs) ≡ x ∷ ps
+points_go_on c cs ds ps x n e d h =
     points_cons c cs ∙ ap (λ y. y ∷ points_after 0 (drop (first_width (c ∷ cs)) (c ∷ cs))) e.0 ∙ ap (λ m. x ∷ points_after 0 (drop m (c ∷ cs))) e.1 ∙ ap (λ us. x ∷ points_after 0 us) d ∙ ap (λ us. x ∷ us) h
 
 pub stands_once : {cs ps : List ℕ} → StandFor cs ps → points_after 0 cs ≡ ps
 stands_once done = points_nil
-stands_once (plain c cs ps e s) = goes_on c cs cs ps c 1 (first_plain (c ∷ cs) e) refl (stands_once s)
-stands_once (letter c cs ps e s) = goes_on 92 (c ∷ cs) cs ps (escaped c) 2 (first_letter (92 ∷ c ∷ cs) e refl) refl (stands_once s)
-stands_once (single h i j k cs ps e s) = goes_on 92 (117 ∷ h ∷ i ∷ j ∷ k ∷ cs) cs ps _ 6 (first_unit (92 ∷ 117 ∷ h ∷ i ∷ j ∷ k ∷ cs) e refl) refl (stands_once s)
+stands_once (plain c cs ps e s) = points_go_on c cs cs ps c 1 (first_plain (c ∷ cs) e) refl (stands_once s)
+stands_once (letter c cs ps e s) = points_go_on 92 (c ∷ cs) cs ps (escaped c) 2 (first_letter (92 ∷ c ∷ cs) e refl) refl (stands_once s)
+stands_once (single h i j k cs ps e s) = points_go_on 92 (117 ∷ h ∷ i ∷ j ∷ k ∷ cs) cs ps _ 6 (first_unit (92 ∷ 117 ∷ h ∷ i ∷ j ∷ k ∷ cs) e refl) refl (stands_once s)
 stands_once (pair h i j k l m n o cs ps e f s) =
     let cs0 = 92 ∷ 117 ∷ h ∷ i ∷ j ∷ k ∷ 92 ∷ 117 ∷ l ∷ m ∷ n ∷ o ∷ cs in
-    goes_on 92 (117 ∷ h ∷ i ∷ j ∷ k ∷ 92 ∷ 117 ∷ l ∷ m ∷ n ∷ o ∷ cs) cs ps _ 12 (first_pair cs0 (pair_shown cs0 refl e refl f)) refl (stands_once s)
+    points_go_on 92 (117 ∷ h ∷ i ∷ j ∷ k ∷ 92 ∷ 117 ∷ l ∷ m ∷ n ∷ o ∷ cs) cs ps _ 12 (first_pair cs0 (pair_shown cs0 refl e refl f)) refl (stands_once s)

@@ -27,7 +27,7 @@ use Rattle.cj_spans.proofs.Runs.{idle, settled, same_mode}
 use Rattle.cj_spans.proofs.Follows.{run_json}
 use Rattle.cj_spans.proofs.Places.{atom_sound}
 use Rattle.cj_spans.proofs.Sound.{Context, root, in_array, in_member, Inv, ready, first_item, after_tree, first_name, next_name, after_name, in_scalar, in_name, inv_reaches, no_white}
-use Rattle.cj_spans.proofs.Facts.{lawful_reaches, next_place, same_state, before}
+use Rattle.cj_spans.proofs.Facts.{lawful_reaches, next_place, same_state, state_before}
 use Rattle.cj_spans.proofs.Fronts.{Live, front_runs, inv_front}
 use Rattle.cj_spans.proofs.Forests.{json_shown, tree_by_preorder}
 use Rattle.cj_spans.specs.Sound.{AreLinked}
@@ -108,7 +108,7 @@ next_stuck b s u r n (on t v q h) e =
 
 front_before : (b : List ℕ) (s : State) (k : ℕ) → Reaches b start s → k ≤ s.place → IsFront b k
 front_before b s k r l =
-    let v = before b s k r l in
+    let v = state_before b s k r l in
     record { open_count = length v.at.stack; front = subst (λ n. Front b 0 n (length v.at.stack)) v.place (inv_front v.at (inv_reaches b v.at v.reached)) }
 
 live_at : (b : List ℕ) (i n : ℕ) → Front b 0 i n → Live b start i (n + 0)
@@ -128,10 +128,10 @@ sticks_syntax b i a =
     ]
 
 -- no state that the machine comes to on its way has more containers open
-not_before : (b : List ℕ) (s : State) (d i n : ℕ) → Reaches b start s → s.deepest ≤ d → i ≤ s.place → Front b 0 i n → d < n → ⊥
-not_before b s d i n r h l f g =
+not_deeper : (b : List ℕ) (s : State) (d i n : ℕ) → Reaches b start s → s.deepest ≤ d → i ≤ s.place → Front b 0 i n → d < n → ⊥
+not_deeper b s d i n r h l f g =
     let v = live_at b i n f in
-    let w = before b s i r l in
+    let w = state_before b s i r l in
     let e : v.at ≡ w.at = same_state b v.at w.at v.reached w.reached (v.place ∙ sym w.place) in
     let a = (lawful_reaches v.at v.reached).deep in
     let c = w.below in let o = v.open_count in
@@ -141,14 +141,14 @@ not_before b s d i n r h l f g =
 nowhere_deep : (b : List ℕ) (s : State) (d : ℕ) → Reaches b start s → s.deepest ≤ d → (length b ≤ s.place) ⊎ (step (byte b s.place) s ≡ None) → NowhereDeep b d
 nowhere_deep b s d r h stop i a =
     elim (cases_lt (suc i) s.place) [
-      | inl l ↦ not_before b s d (suc i) (suc d) r h (omega arith) a.deep (omega arith)
+      | inl l ↦ not_deeper b s d (suc i) (suc d) r h (omega arith) a.deep (omega arith)
       | inr g ↦ elim (eq-or-lt_of_le g) [
-        | inl e ↦ not_before b s d (suc i) (suc d) r h (omega arith) a.deep (omega arith)
+        | inl e ↦ not_deeper b s d (suc i) (suc d) r h (omega arith) a.deep (omega arith)
         | inr l ↦ elim stop [
           | inl e ↦ let w = a.within in absurd (omega arith)
           | inr n ↦
               let v = live_at b (suc i) (suc d) a.deep in let p = v.place in
-              let w = before b v.at (suc s.place) v.reached (omega arith) in
+              let w = state_before b v.at (suc s.place) v.reached (omega arith) in
               next_stuck b s w.at r n w.reached w.place
         ]
       ]
@@ -180,7 +180,7 @@ sinks_deep b d i a = by_step (step (byte b i) a.last) refl a.deep
         record {
           within = a.within;
           deep = subst (λ n. Front b 0 (suc i) n) h f;
-          least = λ k l g. not_before b a.last d (suc k) (suc d) a.reached a.shallow (omega arith) g (omega arith);
+          least = λ k l g. not_deeper b a.last d (suc k) (suc d) a.reached a.shallow (omega arith) g (omega arith);
         }
 
 -- ---- each line has one verdict

@@ -1,5 +1,6 @@
 -- Whole numbers in an array: the machine over them.
 use Rattle.std.proofs.Common.{◌≡◌, ℕ, suc, ◌+◌, ◌*◌, ◌/◌, ◌<◌, ◌≤◌, List, [], ◌∷◌, ◌++◌, length, Bool, true, false, nat_eq, Option, Some, None, refl, sym, ap, subst, arith, ◌∙◌, ◌⊎◌, inl, inr, slice_get, max, length-append}
+use Rattle.std.proofs.lemmas.Bool.{cond-false}
 use Rattle.std.specs.Prelude.{option_map}
 use Rattle.std.proofs.lemmas.Bool.Decides.{nat_tests}
 use Rattle.cj_budget.specs.Bounded.{BoundedList, Becomes}
@@ -18,7 +19,7 @@ use Rattle.cj_spans.specs.Preorder.{token_at}
 use Rattle.cj_spans.specs.Machine.{State, state, between, in_atom, phase_after, read, after_top, after_token, after_in, moved, step, lex_start, Continues, still, Reaches, here, on, ComesTo, BeginsValue, InArray, Grown, StaysInArray, StaysInArrayNext, BeginsValueNext, IsNumberItem, is_digit}
 use Rattle.cj_spans.proofs.Spellings.{some_same, none_some}
 use Rattle.cj_spans.proofs.Lists.{slice_get-append, slice_get-seam}
-use Rattle.cj_spans.proofs.Runs.{idle, settled, atom_ends, IsEnd, comma, bracket, cond_false}
+use Rattle.cj_spans.proofs.Runs.{idle, settled, atom_ends, IsEnd, comma, bracket}
 use Rattle.cj_spans.proofs.Atoms.{ends_ok}
 use Rattle.cj_spans.proofs.Facts.{lawful_reaches, IsLawful}
 use Rattle.cj_spans.proofs.Standing.{settles_both, count_before, Stepped}
@@ -42,17 +43,17 @@ number_begins : (m : Mode) (c : ℕ) (x : Lex) (ks : List ℕ) (ts : List Token)
 number_begins Ready c x ks ts i p v d h =
     let low = d.0 in let high = d.1 in
     let s = idle Ready ks ts i p in
-    cond_false (is_white_space c) _ _ (not_white c low)
-    ∙ cond_false (nat_eq c 91) _ _ (not_at c 91 (λ e. omega arith))
-    ∙ cond_false (nat_eq c 123) _ _ (not_at c 123 (λ e. omega arith))
+    cond-false (is_white_space c) _ _ (not_white c low)
+    ∙ cond-false (nat_eq c 91) _ _ (not_at c 91 (λ e. omega arith))
+    ∙ cond-false (nat_eq c 123) _ _ (not_at c 123 (λ e. omega arith))
     ∙ ap (option_map (λ y. moved (in_atom After i y) s)) h
 number_begins FirstItem c x ks ts i p v d h =
     let low = d.0 in let high = d.1 in
     let s = idle FirstItem ks ts i p in
-    cond_false (is_white_space c) _ _ (not_white c low)
-    ∙ cond_false (nat_eq c 93) _ _ (not_at c 93 (λ e. omega arith))
-    ∙ cond_false (nat_eq c 91) _ _ (not_at c 91 (λ e. omega arith))
-    ∙ cond_false (nat_eq c 123) _ _ (not_at c 123 (λ e. omega arith))
+    cond-false (is_white_space c) _ _ (not_white c low)
+    ∙ cond-false (nat_eq c 93) _ _ (not_at c 93 (λ e. omega arith))
+    ∙ cond-false (nat_eq c 91) _ _ (not_at c 91 (λ e. omega arith))
+    ∙ cond-false (nat_eq c 123) _ _ (not_at c 123 (λ e. omega arith))
     ∙ ap (option_map (λ y. moved (in_atom After i y) s)) h
 number_begins _ c x ks ts i p v d h = absurd v
 
