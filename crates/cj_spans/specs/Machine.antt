@@ -1,5 +1,5 @@
 -- The machine that reads a line byte by byte. Only private clauses cite it.
-use Rattle.std.specs.Prelude.{◌≡◌, ℕ, suc, ◌<◌, ◌≤◌, List, [], ◌∷◌, ◌++◌, length, drop, max, slice_get, slice_set, Bool, cond, ◌⊎◌, ◌||◌, ◌&&◌, nat_eq, nat_le, Option, Some, None, IsSomeAnd, option_map, option_and_then, Result, Ok, Err, OnErr, IsTrue}
+use Rattle.std.specs.Prelude.{◌≡◌, ℕ, suc, ◌^◌, ◌<◌, ◌≤◌, List, [], ◌∷◌, ◌++◌, length, drop, max, slice_get, slice_set, Bool, cond, ◌⊎◌, ◌||◌, ◌&&◌, nat_eq, nat_le, Option, Some, None, IsSomeAnd, option_map, option_and_then, Result, Ok, Err, OnErr, IsTrue}
 use Rattle.cj_budget.specs.Bounded.{BoundedList, IsWithin}
 use Rattle.cj_spans.specs.declared.fault.ScanFault.{ScanFault}
 use Rattle.cj_spans.specs.declared.fault.ScanFault.TheVariants.{NotUtf8, Syntax, TooDeep, Memory}
@@ -321,6 +321,10 @@ EndAnswers b s granted (Err (Syntax j)) ts = SticksFlat b s j
 EndAnswers b s granted (Err (TooDeep j)) ts = ⊥
 EndAnswers b s granted (Err Memory) ts = granted → ⊥
 EndAnswers b s granted (Err (NotUtf8 j)) ts = ⊥
+
+-- a place and the count of the tokens are within what a token's fields hold, with a bit to spare
+abbrev pub FitsToken : ℕ → BoundedList Token → Type 0
+FitsToken i tokens = (i < 2 ^ 31) × (length tokens.elements < 2 ^ 31)
 
 -- what calls leave of a list: the limit, the peak, and room that is there
 pub record Kept {T : Type 0} (old new : BoundedList T) : Type 0 where

@@ -1,9 +1,9 @@
 //! One byte of a line: what may come, and what the byte makes of the open containers and the tokens.
-ghost use Rattle.std.specs.Prelude.{◌≡◌, ◌^◌, ◌≤◌, ◌<◌, ◌++◌, ◌∷◌, [], length, List, ℕ, slice_get, Some, None, OnErr, IsTrue};
+ghost use Rattle.std.specs.Prelude.{◌≡◌, ◌≤◌, ◌<◌, ◌++◌, ◌∷◌, [], length, List, ℕ, slice_get, Some, None, OnErr, IsTrue};
 ghost use Rattle.cj_budget.specs.Bounded.{IsWithin};
 ghost use Rattle.cj_spans.specs.declared.token.Token.{Token as TokenOf};
 ghost use Rattle.cj_spans.specs.declared.step.Mode.{Mode as ModeOf};
-ghost use Rattle.cj_spans.specs.Machine.{state, between, read as read_of, begin_value as begin_value_of, begin_name as begin_name_of, after_value as after_value_of, after_in as after_in_of, close_token as close_token_of, close_empty as close_empty_of, colon_step as colon_step_of, with_opened, Answers, Grown, Kept, ReadsByte, BeginsValue};
+ghost use Rattle.cj_spans.specs.Machine.{state, between, read as read_of, begin_value as begin_value_of, begin_name as begin_name_of, after_value as after_value_of, after_in as after_in_of, close_token as close_token_of, close_empty as close_empty_of, colon_step as colon_step_of, with_opened, Answers, Grown, Kept, ReadsByte, BeginsValue, FitsToken};
 
 use crate::bytes::is_white_space;
 use crate::fault::ScanFault;
@@ -58,7 +58,7 @@ fn open(
     tokens: &mut Bounded<Token>,
     stack: &mut Stack,
 ) -> Result<Move, ScanFault>
-    requires small { (place < 2 ^ 31) × (length tokens.old.elements < 2 ^ 31) }
+    requires small { FitsToken place tokens.old }
     requires lists { IsWithin tokens.old × IsWithin stack.old }
     requires room { length tokens.old.elements < tokens.old.limit }
     ensures { ReadsByte (λ s. Some (with_opened kind next s)) place result tokens.old tokens.new stack.old stack.new }
@@ -88,7 +88,7 @@ fn begin_value(
     tokens: &mut Bounded<Token>,
     stack: &mut Stack,
 ) -> Result<Move, ScanFault>
-    requires small { (place < 2 ^ 31) × (length tokens.old.elements < 2 ^ 31) }
+    requires small { FitsToken place tokens.old }
     requires lists { IsWithin tokens.old × IsWithin stack.old }
     requires room { length tokens.old.elements < tokens.old.limit }
     ensures { ReadsByte (begin_value_of byte) place result tokens.old tokens.new stack.old stack.new }
@@ -113,7 +113,7 @@ fn close(
     tokens: &mut Bounded<Token>,
     stack: &mut Stack,
 ) -> Result<Move, ScanFault>
-    requires small { (place < 2 ^ 31) × (length tokens.old.elements < 2 ^ 31) }
+    requires small { FitsToken place tokens.old }
     requires lists { IsWithin tokens.old × IsWithin stack.old }
     ensures { ReadsByte (λ s. close_token_of index (slice_get s.tokens index) s) place result tokens.old tokens.new stack.old stack.new }
 {
@@ -138,7 +138,7 @@ fn close_empty(
     tokens: &mut Bounded<Token>,
     stack: &mut Stack,
 ) -> Result<Move, ScanFault>
-    requires small { (place < 2 ^ 31) × (length tokens.old.elements < 2 ^ 31) }
+    requires small { FitsToken place tokens.old }
     requires lists { IsWithin tokens.old × IsWithin stack.old }
     ensures { ReadsByte close_empty_of place result tokens.old tokens.new stack.old stack.new }
 {
@@ -158,7 +158,7 @@ fn after_in(
     tokens: &mut Bounded<Token>,
     stack: &mut Stack,
 ) -> Result<Move, ScanFault>
-    requires small { (place < 2 ^ 31) × (length tokens.old.elements < 2 ^ 31) }
+    requires small { FitsToken place tokens.old }
     requires lists { IsWithin tokens.old × IsWithin stack.old }
     ensures { (t : TokenOf) → slice_get tokens.old.elements index ≡ Some t
         → ReadsByte (after_in_of kind byte index t) place result tokens.old tokens.new stack.old stack.new }
@@ -194,7 +194,7 @@ fn after_value(
     tokens: &mut Bounded<Token>,
     stack: &mut Stack,
 ) -> Result<Move, ScanFault>
-    requires small { (place < 2 ^ 31) × (length tokens.old.elements < 2 ^ 31) }
+    requires small { FitsToken place tokens.old }
     requires lists { IsWithin tokens.old × IsWithin stack.old }
     ensures { ReadsByte (after_value_of byte) place result tokens.old tokens.new stack.old stack.new }
 {
@@ -242,7 +242,7 @@ pub fn read_byte(
     tokens: &mut Bounded<Token>,
     stack: &mut Stack,
 ) -> Result<Move, ScanFault>
-    requires small { (place < 2 ^ 31) × (length tokens.old.elements < 2 ^ 31) }
+    requires small { FitsToken place tokens.old }
     requires lists { IsWithin tokens.old × IsWithin stack.old }
     requires room { BeginsValue mode → length tokens.old.elements < tokens.old.limit }
     ensures answer { (p : ℕ) → Answers

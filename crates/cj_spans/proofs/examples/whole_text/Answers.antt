@@ -1,5 +1,4 @@
 use Rattle.std.proofs.Common.{refl}
-use Rattle.cj_spans.specs.Tree.{no_members}
 use Rattle.cj_spans.specs.Json.{padded, empty_object}
 use Rattle.cj_spans.proofs.Sound.{no_white}
 use Rattle.cj_spans.proofs.Endings.{text_no_fault}
