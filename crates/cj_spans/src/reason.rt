@@ -2,7 +2,7 @@
 ghost use Rattle.std.specs.Prelude.{◌≡◌};
 ghost use Rattle.cj_spans.specs.Reason.{code_of, words_of};
 
-/// Why a line is refused. Each reason has a code, by which a [`crate::Finding`] is ordered, and a text.
+/// Why a line is refused. A reason has a code, which orders the findings at one place, and a text.
 #[derive(Clone, Copy, Debug, PartialEq, Eq)]
 pub enum Reason {
     /// There is no line.
