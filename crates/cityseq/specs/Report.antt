@@ -6,7 +6,7 @@ use Rattle.cityseq.specs.Sink.{AppendsPart}
 use Rattle.cityseq.specs.Device.{shown_end}
 use Rattle.cityseq.specs.declared.report.Shown.{Shown}
 use Rattle.cityseq.specs.declared.sink.WriteFault.{WriteFault as Unwritten}
-use Rattle.cj_spans.specs.Reason.{code_of, text_of}
+use Rattle.cj_spans.specs.Reason.{code_of, words_of}
 use Rattle.cityseq.specs.declared.reason.End.{End}
 use Rattle.cityseq.specs.declared.reason.End.TheVariants.{Complete, Refused, ReadFault, ReadLimit, WriteFault, Memory}
 
@@ -23,7 +23,7 @@ status_of Memory = 5
 abbrev pub fault_line : End → List ℕ
 fault_line Complete = []
 fault_line (Refused line place reason) =
-    joined (codes "line " ∷ decimal line ∷ codes ", byte " ∷ decimal place ∷ codes ": " ∷ decimal (code_of reason) ∷ codes " " ∷ text_of reason ∷ codes "\n" ∷ [])
+    joined (codes "line " ∷ decimal line ∷ codes ", byte " ∷ decimal place ∷ codes ": " ∷ decimal (code_of reason) ∷ codes " " ∷ words_of reason ∷ codes "\n" ∷ [])
 fault_line ReadFault = codes "read fault\n"
 fault_line ReadLimit = codes "read limit\n"
 fault_line WriteFault = codes "write fault\n"
