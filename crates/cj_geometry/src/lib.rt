@@ -6,14 +6,17 @@ mod boundaries;
 #[cfg(test)]
 mod examples;
 mod form;
+mod geometry;
 mod grammar;
+mod instance;
 mod lod;
 pub mod rule;
-mod rules;
 mod semantics;
+mod templates;
 #[cfg(test)]
 mod tests;
 
+pub use geometry::check_geometry;
 pub use grammar::one_grammar_of_numbers;
 pub use lod::lod_of;
-pub use rules::{Templates, check_geometry};
+pub use templates::Templates;

@@ -9,7 +9,7 @@ ghost use Rattle.cj_geometry.specs.Rule.{whole_of};
 
 use crate::form::INSTANCE;
 use crate::rule::read_whole;
-use crate::rules::Templates;
+use crate::templates::Templates;
 use cj_spans::Node;
 
 /// The item of this number, from 0.

@@ -6,7 +6,7 @@ use Rattle.cj_geometry.specs.Rule.{distinct}
 use Rattle.cj_geometry.specs.Geometry.{typed_rules}
 use Rattle.cj_spans.proofs.Findings.{least-two}
 use Rattle.cj_geometry.proofs.OfKind.{of_kind-then}
-use Rattle.cj_geometry.proofs.rules.check_geometry.Goals as goal
+use Rattle.cj_geometry.proofs.geometry.check_geometry.Goals as goal
 
 pub returns-then-check_object : goal.returns-then-check_object
 returns-then-check_object c =

@@ -4,7 +4,7 @@ use Rattle.cj_spans.specs.declared.reason.Reason.TheVariants.{TemplateIndex, Ver
 use Rattle.cj_spans.specs.View.{tree}
 use Rattle.cj_geometry.specs.Rule.{needs, index, number, of_length}
 use Rattle.cj_spans.proofs.Findings.{least-three}
-use Rattle.cj_geometry.proofs.rules.check_instance.Goals as goal
+use Rattle.cj_geometry.proofs.instance.check_instance.Goals as goal
 
 pub returns : goal.returns
 returns c =

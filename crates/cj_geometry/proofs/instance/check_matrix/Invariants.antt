@@ -4,7 +4,7 @@ use Rattle.cj_spans.specs.Finding.{least}
 use Rattle.cj_spans.specs.Parts.{items_of}
 use Rattle.cj_spans.specs.View.{tree, items_left}
 use Rattle.cj_geometry.specs.Rule.{number}
-use Rattle.cj_geometry.proofs.rules.check_matrix.Given as goal
+use Rattle.cj_geometry.proofs.instance.check_matrix.Given as goal
 
 abbrev pub invariant-loop-item : goal.invariant-loop-item
 invariant-loop-item l = least l.found (flat_map (number) (items_left l.item-iterator)) ≡ least l.initial.found (flat_map (number) (items_of (tree l.node)))

@@ -5,7 +5,7 @@ use Rattle.cj_spans.specs.Kinds.{is_text}
 use Rattle.cj_geometry.specs.Rule.{needs, of_kind, nothing}
 use Rattle.cj_geometry.specs.Geometry.{shape, semantics_if}
 use Rattle.cj_spans.proofs.Findings.{least-three}
-use Rattle.cj_geometry.proofs.rules.check_parts.Goals as goal
+use Rattle.cj_geometry.proofs.geometry.check_parts.Goals as goal
 
 pub returns : goal.returns
 returns c =
