@@ -53,6 +53,13 @@ abbrev pub whole-if : Result (Option ℤ) DecimalFault → Option ℤ
 whole-if (Ok o) = o
 whole-if (Err e) = None
 
+-- what reads as a whole number, or as one in range that is not whole, is a number in range
+read-class : (s : List ℕ) (t : Tree) (c : Class s) (o : Option ℤ) → whole_answer c ≡ Ok o → number_findings t c ≡ []
+read-class s t (no_number n) o e = cc
+read-class s t (out_of_range n) o e = cc
+read-class s t (not_whole v value range n) o e = refl
+read-class s t (whole v w value range is) o e = refl
+
 whole-class : (s : List ℕ) (c : Class s) → whole_by c ≡ whole-if (whole_answer c)
 whole-class s (no_number n) = refl
 whole-class s (out_of_range n) = refl
@@ -91,3 +98,6 @@ module _ (line : List ℕ) (t : Tree) (kind : kind_of t ≡ Number) where
 
     pub whole-read : whole_of t ≡ whole-if q
     whole-read = rw kind (whole-class (spelling t) (class (spelling t)) ∙ ap whole-if answer)
+
+    pub number-read : (o : Option ℤ) → q ≡ Ok o → number t ≡ []
+    number-read o e = rw kind (read-class (spelling t) t (class (spelling t)) o (answer ∙ e))

@@ -1,7 +1,7 @@
 -- Worked geometries: lines and their trees.
-use Rattle.std.specs.Prelude.{◌≡◌, ℕ, ◌+◌, List, ◌++◌, length, true, false, [], ◌∷◌, Some, codes}
+use Rattle.std.specs.Prelude.{◌≡◌, ℕ, zero, suc, ◌+◌, List, ◌++◌, length, true, false, [], ◌∷◌, Some, codes}
 use Rattle.cj_spans.specs.declared.token.Kind.TheVariants.{Null, Number, Text}
-use Rattle.cj_spans.specs.Tree.{Tree, scalar, array, object, no_items, item, no_members, member}
+use Rattle.cj_spans.specs.Tree.{Tree, Items, scalar, array, object, no_items, item, no_members, member}
 use Rattle.cj_spans.specs.Json.{atom_at}
 use Rattle.cj_spans.specs.Parts.{has_text}
 use Rattle.cj_geometry.specs.Table.{Row, form_of}
@@ -39,6 +39,62 @@ instance_line = codes "{\"type\":\"GeometryInstance\"}"
 
 abbrev pub bare_instance : Tree
 bare_instance = object 0 27 (member (atom_at instance_line 1 7) (scalar Text (atom_at instance_line 8 26)) no_members)
+
+-- a list of one template, with a level of detail
+abbrev pub templates_line : List ℕ
+templates_line = codes "[{\"lod\":\"2\"}]"
+
+abbrev pub templates : Tree
+templates = array 0 13 (item (object 1 12 (member (atom_at templates_line 2 7) (scalar Text (atom_at templates_line 8 11)) no_members)) no_items)
+
+-- an instance of the template of this number, at this vertex, with a matrix of these numbers
+abbrev pub placed_line : List ℕ → List ℕ → List ℕ → List ℕ
+placed_line template vertex matrix =
+    codes "{\"type\":\"GeometryInstance\",\"template\":" ++ template ++ codes ",\"boundaries\":[" ++ vertex ++ codes "],\"transformationMatrix\":[" ++ matrix ++ codes "]}"
+
+-- so many numbers of one digit with commas between them, from a place on
+abbrev pub digits_from : List ℕ → ℕ → ℕ → Items
+digits_from line i zero = no_items
+digits_from line i (suc n) = item (scalar Number (atom_at line i (i + 1))) (digits_from line (i + 2) n)
+
+-- its tree, by the number of the matrix's numbers; the template's number ends at 39, where it is of one digit
+abbrev pub placed : List ℕ → List ℕ → List ℕ → ℕ → Tree
+placed template vertex matrix count =
+    let line = placed_line template vertex matrix in
+    let a = 38 + length template in
+    let b = a + 15 + length vertex in
+    let c = b + 26 + length matrix in
+    object 0 (c + 2)
+    (member (atom_at line 1 7) (scalar Text (atom_at line 8 26))
+    (member (atom_at line 27 37) (scalar Number (atom_at line 38 a))
+    (member (atom_at line (a + 1) (a + 13)) (array (a + 14) (b + 1) (item (scalar Number (atom_at line (a + 15) b)) no_items))
+    (member (atom_at line (b + 2) (b + 24)) (array (b + 25) (c + 1) (digits_from line (b + 26) count)) no_members))))
+
+-- matrices of 16 numbers, of one less and of one more
+abbrev pub sixteen : List ℕ
+sixteen = codes "1,0,0,0,0,1,0,0,0,0,1,0,0,0,0,1"
+
+abbrev pub fifteen : List ℕ
+fifteen = codes "1,0,0,0,0,1,0,0,0,0,1,0,0,0,0"
+
+abbrev pub seventeen : List ℕ
+seventeen = codes "1,0,0,0,0,1,0,0,0,0,1,0,0,0,0,1,0"
+
+-- a whole instance, and one with something wrong in it
+abbrev pub whole_instance : Tree
+whole_instance = placed (codes "0") (codes "0") sixteen 16
+
+abbrev pub short_instance : Tree
+short_instance = placed (codes "0") (codes "0") fifteen 15
+
+abbrev pub long_instance : Tree
+long_instance = placed (codes "0") (codes "0") seventeen 17
+
+abbrev pub negative_instance : Tree
+negative_instance = placed (codes "0") (codes "-1") sixteen 16
+
+abbrev pub past_instance : Tree
+past_instance = placed (codes "1") (codes "0") sixteen 16
 
 -- two types, of which the second name is spelled by an escape
 abbrev pub doubled_line : List ℕ
