@@ -65,10 +65,10 @@ module _ (i j : ℕ) where
     index-minus_one = of_read (codes "-1") (negsuc 0) minus_one_read
 
   pub number-zero : number (number_at (codes "0") i j) ≡ []
-  number-zero = number-read [] (number_at (codes "0") i j) refl (codes "0") refl (Ok (Some (pos 0))) (Ok (Some (pos 0))) zero_read refl (Some (pos 0)) refl
+  number-zero = number-read [] (number_at (codes "0") i j) refl (codes "0") refl (Ok (Some (pos 0))) (Ok (Some (pos 0))) zero_read refl
 
   pub number-one : number (number_at (codes "1") i j) ≡ []
-  number-one = number-read [] (number_at (codes "1") i j) refl (codes "1") refl (Ok (Some (pos 1))) (Ok (Some (pos 1))) one_read refl (Some (pos 1)) refl
+  number-one = number-read [] (number_at (codes "1") i j) refl (codes "1") refl (Ok (Some (pos 1))) (Ok (Some (pos 1))) one_read refl
 
   pub whole-zero : whole_of (number_at (codes "0") i j) ≡ Some (pos 0)
   whole-zero = whole-read [] (number_at (codes "0") i j) refl (codes "0") refl (Ok (Some (pos 0))) (Ok (Some (pos 0))) zero_read refl

@@ -23,8 +23,8 @@ abbrev pub three : Tree
 three = scalar Number (atom_at (codes "3") 0 1)
 
 -- an object of no member
-abbrev pub nothing : Tree
-nothing = object 0 2 no_members
+abbrev pub empty_object : Tree
+empty_object = object 0 2 no_members
 
 -- a type that is not in the table
 abbrev pub cone_line : List ℕ
@@ -80,9 +80,9 @@ fifteen = codes "1,0,0,0,0,1,0,0,0,0,1,0,0,0,0"
 abbrev pub seventeen : List ℕ
 seventeen = codes "1,0,0,0,0,1,0,0,0,0,1,0,0,0,0,1,0"
 
--- a whole instance, and one with something wrong in it
-abbrev pub whole_instance : Tree
-whole_instance = placed (codes "0") (codes "0") sixteen 16
+-- a complete instance, and one with something wrong in it
+abbrev pub complete_instance : Tree
+complete_instance = placed (codes "0") (codes "0") sixteen 16
 
 abbrev pub short_instance : Tree
 short_instance = placed (codes "0") (codes "0") fifteen 15
@@ -114,8 +114,8 @@ ring line i = array i (i + 7) (item (scalar Number (atom_at line (i + 1) (i + 2)
 abbrev pub shell : List ℕ → Tree
 shell line = array 39 62 (item (array 40 61 (item (array 41 50 (item (ring line 42) no_items)) (item (array 51 60 (item (ring line 52) no_items)) no_items))) no_items)
 
-abbrev pub surfaces : List ℕ → Tree
-surfaces line = array 87 111 (item (object 88 110 (member (atom_at line 89 95) (scalar Text (atom_at line 96 109)) no_members)) no_items)
+abbrev pub roof_surfaces : List ℕ → Tree
+roof_surfaces line = array 87 111 (item (object 88 110 (member (atom_at line 89 95) (scalar Text (atom_at line 96 109)) no_members)) no_items)
 
 -- its tree, by the tree of the values
 abbrev pub solid : List ℕ → (List ℕ → Tree) → Tree
@@ -126,7 +126,7 @@ solid values tree_of =
     (member (atom_at line 16 21) (scalar Text (atom_at line 22 25))
     (member (atom_at line 26 38) (shell line)
     (member (atom_at line 63 74)
-    (object 75 (122 + length values) (member (atom_at line 76 86) (surfaces line) (member (atom_at line 112 120) (tree_of line) no_members))) no_members))))
+    (object 75 (122 + length values) (member (atom_at line 76 86) (roof_surfaces line) (member (atom_at line 112 120) (tree_of line) no_members))) no_members))))
 
 -- null as a whole, for the shell, and for the second surface
 abbrev pub null_whole : Tree
