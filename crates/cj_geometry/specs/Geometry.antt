@@ -10,7 +10,7 @@ use Rattle.cj_spans.specs.View.{items_left}
 use Rattle.cj_spans.specs.Parts.{kind_of, items_of, member_of}
 use Rattle.cj_geometry.specs.Table.{Form, parts, instance, form_of}
 use Rattle.cj_spans.specs.Kinds.{is_null, is_text, is_array, is_object}
-use Rattle.cj_geometry.specs.Rule.{one, of_kind, nothing, needs, may_have, number, index, distinct}
+use Rattle.cj_geometry.specs.Rule.{one, of_kind, nothing, needs, may_have, number, index, distinct, of_length}
 
 -- the templates that a geometry may name: those of a list, none, or the mark that it is one itself
 pub data Given : Type 0 where
@@ -109,10 +109,6 @@ abbrev pub semantics_if : Option ℕ → Tree → List Finding
 semantics_if None g = []
 semantics_if (Some depth) g = may_have (chars (codes "semantics")) (semantics depth (member_of (chars (codes "boundaries")) g)) g
 
--- an array of just so many items, each by a rule
-abbrev pub of_length : ℕ → (Tree → List Finding) → Tree → List Finding
-of_length n rule t = of_kind is_array (λ u. cond (nat_eq (length (items_of u)) n) [] (one BadInstance u) ++ flat_map rule (items_of u)) t
-
 -- the rules on boundaries of some depth, with semantic values of a depth or unread ones
 abbrev pub part_rules : Option ℕ → ℕ → Option ℕ → Tree → List Finding
 part_rules vertices depth semantic g =
@@ -124,8 +120,8 @@ part_rules vertices depth semantic g =
 abbrev pub instance_rules : Option ℕ → ℕ → Tree → List Finding
 instance_rules vertices templates g =
     needs (chars (codes "template")) (index TemplateIndex (Some templates)) g
-    ++ needs (chars (codes "boundaries")) (of_length 1 (index VertexIndex vertices)) g
-    ++ needs (chars (codes "transformationMatrix")) (of_length 16 number) g
+    ++ needs (chars (codes "boundaries")) (of_length BadInstance 1 (index VertexIndex vertices)) g
+    ++ needs (chars (codes "transformationMatrix")) (of_length BadInstance 16 number) g
 
 -- the rules of a form; the type's value is the second
 abbrev pub form_rules : Option ℕ → Given → Tree → Tree → Option Form → List Finding

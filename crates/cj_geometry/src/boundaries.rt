@@ -6,7 +6,7 @@ ghost use Rattle.cj_spans.specs.View.{tree};
 ghost use Rattle.cj_geometry.specs.Rule.{needs};
 ghost use Rattle.cj_geometry.specs.Geometry.{shape};
 
-use crate::number::{add, check_index};
+use crate::rule::{add, check_index, needed};
 use cj_spans::{Kind, Least, Node, Reason};
 
 /// The value is a list of indices of vertices: the lowest level, where nearly all numbers are.
@@ -74,8 +74,7 @@ fn check_shape(node: Node, depth: u8, vertices: Option<u64>, found: &mut Least)
 pub fn check_boundaries(object: Node, depth: u8, vertices: Option<u64>, found: &mut Least)
     ensures { found.new ≡ least found.old (needs (chars (codes "boundaries")) (shape vertices depth) (tree object.entry)) }
 {
-    match object.get("boundaries") {
-        Some(boundaries) => check_shape(boundaries, depth, vertices, found),
-        None => add(object, Reason::MissingMember, found),
+    if let Some(boundaries) = needed(object, "boundaries", found) {
+        check_shape(boundaries, depth, vertices, found);
     }
 }

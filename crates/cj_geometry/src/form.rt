@@ -6,6 +6,9 @@ ghost use Rattle.cj_geometry.specs.Table.{form_of, parts as parts_of_form};
 
 use cj_spans::Node;
 
+/// The type of an instance of a template.
+pub const INSTANCE: &str = "GeometryInstance";
+
 /// How deep the lists of a geometry type are.
 #[derive(Clone, Copy)]
 pub enum Form {
@@ -49,7 +52,7 @@ pub fn form_of(name: Node) -> Option<Form>
     if name.text_is("CompositeSolid") {
         return Some(Form::parts(5, Some(3)));
     }
-    if name.text_is("GeometryInstance") {
+    if name.text_is(INSTANCE) {
         return Some(Form::Instance);
     }
     None

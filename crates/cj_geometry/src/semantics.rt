@@ -8,8 +8,10 @@ ghost use Rattle.cj_spans.specs.View.{tree};
 ghost use Rattle.cj_geometry.specs.Rule.{needs};
 ghost use Rattle.cj_geometry.specs.Geometry.{first_part, other_parts, left_of, parts_of, other_count, entry, values, surface, surfaces, count_of, semantics, semantics_if};
 
-use crate::member::{check_names, check_text_member};
-use crate::number::{add, check_index, count_items};
+use crate::rule::{
+    add, check_array, check_index, check_names, check_object, check_text_member, count_items,
+    needed,
+};
 use cj_spans::{Items, Kind, Least, Node, Reason};
 
 /// A walk over the parts of a part, if there is one.
@@ -111,12 +113,9 @@ fn check_values(node: Node, part: Option<Node>, depth: u8, surfaces: Option<u64>
 fn check_surface(node: Node, found: &mut Least)
     ensures { found.new ≡ least found.old (surface (tree node.entry)) }
 {
-    match node.kind() {
-        Kind::Object => {
-            check_names(node, found);
-            check_text_member(node, "type", found);
-        }
-        _ => add(node, Reason::WrongKind, found),
+    if check_object(node, found) {
+        check_names(node, found);
+        check_text_member(node, "type", found);
     }
 }
 
@@ -124,13 +123,10 @@ fn check_surface(node: Node, found: &mut Least)
 fn check_surfaces(node: Node, found: &mut Least)
     ensures { found.new ≡ least found.old (surfaces (tree node.entry)) }
 {
-    match node.kind() {
-        Kind::Array => {
-            for item in node.items() {
-                check_surface(item, found);
-            }
+    if check_array(node, found) {
+        for item in node.items() {
+            check_surface(item, found);
         }
-        _ => add(node, Reason::WrongKind, found),
     }
 }
 
@@ -138,9 +134,8 @@ fn check_surfaces(node: Node, found: &mut Least)
 fn check_surfaces_member(object: Node, found: &mut Least)
     ensures { found.new ≡ least found.old (needs (chars (codes "surfaces")) surfaces (tree object.entry)) }
 {
-    match object.get("surfaces") {
-        Some(value) => check_surfaces(value, found),
-        None => add(object, Reason::MissingMember, found),
+    if let Some(value) = needed(object, "surfaces", found) {
+        check_surfaces(value, found);
     }
 }
 
@@ -161,9 +156,8 @@ fn count_surfaces(object: Node) -> Option<u64>
 fn check_values_member(object: Node, boundaries: Option<Node>, depth: u8, found: &mut Least)
     ensures { found.new ≡ least found.old (needs (chars (codes "values")) (λ v. values (count_of (member_of (chars (codes "surfaces")) (tree object.entry))) depth v (option_map tree boundaries.entry)) (tree object.entry)) }
 {
-    match object.get("values") {
-        Some(value) => check_values(value, boundaries, depth, count_surfaces(object), found),
-        None => add(object, Reason::MissingMember, found),
+    if let Some(value) = needed(object, "values", found) {
+        check_values(value, boundaries, depth, count_surfaces(object), found);
     }
 }
 
@@ -171,13 +165,10 @@ fn check_values_member(object: Node, boundaries: Option<Node>, depth: u8, found:
 fn check_semantics(node: Node, boundaries: Option<Node>, depth: u8, found: &mut Least)
     ensures { found.new ≡ least found.old (semantics depth (option_map tree boundaries.entry) (tree node.entry)) }
 {
-    match node.kind() {
-        Kind::Object => {
-            check_names(node, found);
-            check_surfaces_member(node, found);
-            check_values_member(node, boundaries, depth, found);
-        }
-        _ => add(node, Reason::WrongKind, found),
+    if check_object(node, found) {
+        check_names(node, found);
+        check_surfaces_member(node, found);
+        check_values_member(node, boundaries, depth, found);
     }
 }
 

@@ -1,0 +1,30 @@
+//! Arrays: how many items they have.
+ghost use Rattle.std.specs.Prelude.{◌≡◌, length};
+ghost use Rattle.cj_spans.specs.Finding.{least};
+ghost use Rattle.cj_spans.specs.Kinds.{is_array};
+ghost use Rattle.cj_spans.specs.Parts.{items_of};
+ghost use Rattle.cj_spans.specs.View.{tree};
+ghost use Rattle.cj_geometry.specs.Rule.{of_kind, has_length};
+
+use crate::rule::{add, check_array};
+use cj_spans::{Least, Node, Reason};
+
+/// How many items an array has; 0 of any other value. It goes over them.
+pub fn count_items(node: Node) -> u64
+    ensures { result ≡ length (items_of (tree node.entry)) }
+{
+    let mut count = 0;
+    for _ in node.items() {
+        count += 1;
+    }
+    count
+}
+
+/// The value is an array of just so many items: of another length it has `reason`.
+pub fn check_length(node: Node, count: u64, reason: Reason, found: &mut Least)
+    ensures { found.new ≡ least found.old (of_kind is_array (has_length reason count) (tree node.entry)) }
+{
+    if check_array(node, found) && count_items(node) != count {
+        add(node, reason, found);
+    }
+}

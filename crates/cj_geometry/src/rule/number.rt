@@ -1,0 +1,83 @@
+//! Numbers that rules read.
+ghost use Rattle.std.specs.Prelude.{◌≡◌};
+ghost use Rattle.cj_spans.specs.Finding.{least};
+ghost use Rattle.cj_spans.specs.View.{tree};
+ghost use Rattle.cj_geometry.specs.Rule.{number, index, whole_number, is_outside as is_outside_of, whole_of, fault_reason};
+
+use crate::rule::add;
+use cj_decimal::{Decimal, DecimalFault};
+use cj_spans::{Kind, Least, Node, Reason};
+
+/// What is wrong with a number of this fault. What is no number at all is of the wrong kind.
+fn reason_of(fault: DecimalFault) -> Reason
+    ensures { result ≡ fault_reason fault }
+{
+    match fault {
+        DecimalFault::NotANumber => Reason::WrongKind,
+        DecimalFault::NumberRange => Reason::NumberRange,
+    }
+}
+
+/// The value is a number in range.
+pub fn check_number(node: Node, found: &mut Least)
+    ensures { found.new ≡ least found.old (number (tree node.entry)) }
+{
+    match node.kind() {
+        Kind::Number => match Decimal::read(node.bytes()) {
+            Ok(_) => {}
+            Err(fault) => add(node, reason_of(fault), found),
+        },
+        _ => add(node, Reason::WrongKind, found),
+    }
+}
+
+/// Whether a whole number is below 0, or not below a count that is known.
+fn is_outside(count: Option<u64>, whole: i64) -> bool
+    ensures { result ≡ is_outside_of count whole }
+{
+    match count {
+        Some(count) => whole < 0 || whole as u64 >= count,
+        None => false,
+    }
+}
+
+/// The value of a number that is in range and whole; None of any other number and of any other value.
+pub fn read_whole(node: Node) -> Option<i64>
+    ensures { result ≡ whole_of (tree node.entry) }
+{
+    match node.kind() {
+        Kind::Number => match Decimal::read_whole(node.bytes()) {
+            Ok(whole) => whole,
+            Err(_) => None,
+        },
+        _ => None,
+    }
+}
+
+/// The value is a number in range and whole, and names one of `count` things, counted from 0, if that is
+/// known: where it names none it has `outside`.
+#[inline(always)]
+pub fn check_index(node: Node, outside: Reason, count: Option<u64>, found: &mut Least)
+    ensures { found.new ≡ least found.old (index outside count (tree node.entry)) }
+{
+    match node.kind() {
+        Kind::Number => match Decimal::read_whole(node.bytes()) {
+            Ok(Some(whole)) => {
+                if is_outside(count, whole) {
+                    add(node, outside, found);
+                }
+            }
+            Ok(None) => add(node, Reason::NotWhole, found),
+            Err(fault) => add(node, reason_of(fault), found),
+        },
+        _ => add(node, Reason::WrongKind, found),
+    }
+}
+
+/// The value is a number in range and whole, of any sign and size.
+#[inline(always)]
+pub fn check_whole(node: Node, found: &mut Least)
+    ensures { found.new ≡ least found.old (whole_number (tree node.entry)) }
+{
+    check_index(node, Reason::NotWhole, None, found);
+}
