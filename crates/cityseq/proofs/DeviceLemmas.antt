@@ -1,8 +1,8 @@
 -- What the answers of devices say of an end.
 use Rattle.std.proofs.Common.{◌≡◌, Bool, true, false, subst}
 use Rattle.std.specs.Prelude.{◌↔◌, IsTrue}
-use Rattle.cityseq.specs.declared.reason.End.{End}
-use Rattle.cityseq.specs.declared.reason.End.TheVariants.{ReadFault, ReadLimit}
+use Rattle.cityseq.specs.declared.ending.End.{End}
+use Rattle.cityseq.specs.declared.ending.End.TheVariants.{ReadFault, ReadLimit}
 use Rattle.cityseq.specs.Cut.{IsUnread}
 
 -- where no read has failed, an end that no reader makes is no read fault

@@ -9,10 +9,10 @@ use Rattle.cj_budget.specs.Bounded.{IsWithin}
 use Rattle.cj_budget.specs.declared.limits.Peaks.{Peaks}
 use Rattle.cj_spans.specs.declared.reason.Reason.{Reason}
 use Rattle.cj_spans.specs.declared.reason.Reason.TheVariants.{NoHeader}
-use Rattle.cityseq.specs.declared.reason.Verdict.{Verdict}
-use Rattle.cityseq.specs.declared.reason.Verdict.TheVariants.{Refuse, Blank, Valid}
-use Rattle.cityseq.specs.declared.reason.End.{End}
-use Rattle.cityseq.specs.declared.reason.End.TheVariants.{Complete, Refused, ReadFault, ReadLimit, WriteFault, Memory}
+use Rattle.cityseq.specs.declared.judge.Verdict.{Verdict}
+use Rattle.cityseq.specs.declared.judge.Verdict.TheVariants.{Refuse, Blank, Valid}
+use Rattle.cityseq.specs.declared.ending.End.{End}
+use Rattle.cityseq.specs.declared.ending.End.TheVariants.{Complete, Refused, ReadFault, ReadLimit, WriteFault, Memory}
 use Rattle.cityseq.specs.Lines.{Line, closed, begun, begun_after, first_content, ended_line, last_line, later_of, lines}
 use Rattle.cityseq.specs.Verdict.{verdict, refusal_of, is_kept, refusal_from, kept_from, ending, ending_of, kept_first}
 use Rattle.cityseq.specs.Bound.{bytes_bound, greatest, contents, exact_peaks}

@@ -9,7 +9,7 @@ use Rattle.cj_spans.specs.declared.reason.Reason.TheVariants.{Syntax as SyntaxRe
 use Rattle.cj_spans.specs.Tree.{Tree, size, nest}
 use Rattle.cj_spans.specs.Json.{Json}
 use Rattle.cj_spans.specs.Judgement.{Judgement, spelled, broken, sunk, IsAnswerOf, judged_size, judged_nest}
-use Rattle.cityseq.specs.declared.reason.Verdict.TheVariants.{Refuse, Valid}
+use Rattle.cityseq.specs.declared.judge.Verdict.TheVariants.{Refuse, Valid}
 use Rattle.cityseq.specs.Verdict.{text_verdict}
 
 -- a scan that answers Ok has found the tree

@@ -6,10 +6,10 @@ use Rattle.std.proofs.lemmas.List.{append-nil}
 use Rattle.std.proofs.lemmas.Bool.Decides.{nat_tests}
 use Rattle.cj_budget.specs.Limits.{LimitPair}
 use Rattle.cj_spans.specs.declared.reason.Reason.TheVariants.{LineTooLong}
-use Rattle.cityseq.specs.declared.reason.Verdict.{Verdict}
-use Rattle.cityseq.specs.declared.reason.Verdict.TheVariants.{Refuse, Blank, Valid}
-use Rattle.cityseq.specs.declared.reason.End.{End}
-use Rattle.cityseq.specs.declared.reason.End.TheVariants.{Refused, WriteFault, Memory}
+use Rattle.cityseq.specs.declared.judge.Verdict.{Verdict}
+use Rattle.cityseq.specs.declared.judge.Verdict.TheVariants.{Refuse, Blank, Valid}
+use Rattle.cityseq.specs.declared.ending.End.{End}
+use Rattle.cityseq.specs.declared.ending.End.TheVariants.{Refused, WriteFault, Memory}
 use Rattle.cityseq.specs.Lines.{Line, lines, closed, begun, ended_line, last_line, NoLf}
 use Rattle.cityseq.specs.Verdict.{verdict, refusal_of, is_kept, long_line}
 use Rattle.cityseq.specs.Reading.{Reading, begun_of, Stores, Passes, Deals, Settles, Reads, kept_closed, Puts, Advances, IsNext, HasCause, Stops}

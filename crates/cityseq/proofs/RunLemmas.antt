@@ -3,8 +3,8 @@ use Rattle.std.proofs.Common.{◌≡◌, inl, inr, ℕ, ◌+◌, ◌-◌, ◌⊎
 use Rattle.std.specs.Prelude.{is_some}
 use Rattle.std.proofs.lemmas.List.{append-nil}
 use Rattle.std.specs.Io.KnownBytes.{Consumes, Keeps}
-use Rattle.cityseq.specs.declared.reason.End.{End}
-use Rattle.cityseq.specs.declared.reason.End.TheVariants.{Complete, Refused, ReadFault, ReadLimit, WriteFault, Memory}
+use Rattle.cityseq.specs.declared.ending.End.{End}
+use Rattle.cityseq.specs.declared.ending.End.TheVariants.{Complete, Refused, ReadFault, ReadLimit, WriteFault, Memory}
 use Rattle.cj_budget.specs.Limits.{LimitPair}
 use Rattle.cityseq.specs.Lines.{Line, closed, lines, whole}
 use Rattle.cityseq.specs.Verdict.{verdict, refusal_of, refusal_from, judged, ending, ending_of}

@@ -7,8 +7,8 @@ use Rattle.cj_spans.specs.declared.token.Token.{Token}
 use Rattle.cj_spans.specs.Judgement.{judged_size, judged_nest}
 use Rattle.cj_spans.specs.Scan.{KeepsLaw}
 use Rattle.cj_spans.proofs.Judgements.{judgement}
-use Rattle.cityseq.specs.declared.reason.Verdict.{Verdict}
-use Rattle.cityseq.specs.declared.reason.Verdict.TheVariants.{Refuse, Blank, Valid}
+use Rattle.cityseq.specs.declared.judge.Verdict.{Verdict}
+use Rattle.cityseq.specs.declared.judge.Verdict.TheVariants.{Refuse, Blank, Valid}
 use Rattle.cityseq.specs.Lines.{closed, begun, first_of, first_content, NoLf}
 use Rattle.cityseq.specs.Bound.{tree_size, tree_nest}
 use Rattle.cityseq.specs.Scanning.{Scanning, HasRoom, Scanned, HoldsFew, Rises, Judges, JudgesLine, Forgets}

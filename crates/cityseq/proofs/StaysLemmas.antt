@@ -1,8 +1,8 @@
 -- What stays of a reading, whatever comes of some bytes.
 use Rattle.std.proofs.Common.{◌≡◌, ℕ, ◌+◌, ◌<◌, ◌≤◌, ◌⊎◌, inl, inr, List, Bool, true, false, cond, length, Result, Ok, Err, arith, refl, sym, ap, ◌∙◌}
-use Rattle.cityseq.specs.declared.reason.Verdict.{Verdict}
-use Rattle.cityseq.specs.declared.reason.Verdict.TheVariants.{Refuse, Blank, Valid}
-use Rattle.cityseq.specs.declared.reason.End.{End}
+use Rattle.cityseq.specs.declared.judge.Verdict.{Verdict}
+use Rattle.cityseq.specs.declared.judge.Verdict.TheVariants.{Refuse, Blank, Valid}
+use Rattle.cityseq.specs.declared.ending.End.{End}
 use Rattle.cityseq.specs.Lines.{Line}
 use Rattle.cityseq.specs.Reading.{Reading, begun_of, IsSound, Stays, Stores, Passes, Deals, Settles}
 use Rattle.cityseq.proofs.ReadingLemmas.{begun_of-first, begun_of-later, zero_or}

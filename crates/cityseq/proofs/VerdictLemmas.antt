@@ -12,8 +12,8 @@ use Rattle.cj_spans.specs.declared.reason.Reason.TheVariants.{LineTooLong, NotUt
 use Rattle.cj_spans.specs.Judgement.{Judgement, spelled, broken, sunk}
 use Rattle.cj_spans.proofs.Judgements.{judgement}
 use Rattle.std.proofs.lemmas.Bool.{ltb-true}
-use Rattle.cityseq.specs.declared.reason.Verdict.TheVariants.{Refuse, Blank}
-use Rattle.cityseq.specs.declared.reason.End.{End}
+use Rattle.cityseq.specs.declared.judge.Verdict.TheVariants.{Refuse, Blank}
+use Rattle.cityseq.specs.declared.ending.End.{End}
 use Rattle.cityseq.specs.Lines.{Line}
 use Rattle.cityseq.specs.Verdict.{verdict, text_verdict, is_blank_byte, refusal_of, is_kept, refusal_from, kept_from}
 use Rattle.cityseq.proofs.LineLemmas.{not_true}

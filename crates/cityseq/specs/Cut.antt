@@ -2,8 +2,8 @@
 use Rattle.std.specs.Prelude.{◌≡◌, ℕ, ◌+◌, List, [], ◌∷◌, ◌++◌, Option, Some, None, length, take}
 use Rattle.std.specs.Io.KnownBytes.{Appends}
 use Rattle.cj_budget.specs.Limits.{LimitPair}
-use Rattle.cityseq.specs.declared.reason.End.{End}
-use Rattle.cityseq.specs.declared.reason.End.TheVariants.{Complete, Refused, ReadFault, ReadLimit, WriteFault, Memory}
+use Rattle.cityseq.specs.declared.ending.End.{End}
+use Rattle.cityseq.specs.declared.ending.End.TheVariants.{Complete, Refused, ReadFault, ReadLimit, WriteFault, Memory}
 use Rattle.cityseq.specs.Lines.{Line, closed, lines, whole}
 use Rattle.cityseq.specs.Verdict.{refusal_from, ending, output}
 use Rattle.cityseq.specs.Engine.{Delivers}

@@ -1,7 +1,7 @@
 -- What the answer of a device says.
 use Rattle.std.specs.Prelude.{ℕ, Result, Ok, Err}
-use Rattle.cityseq.specs.declared.reason.End.{End}
-use Rattle.cityseq.specs.declared.reason.End.TheVariants.{WriteFault}
+use Rattle.cityseq.specs.declared.ending.End.{End}
+use Rattle.cityseq.specs.declared.ending.End.TheVariants.{WriteFault}
 use Rattle.cityseq.specs.declared.running.ReadFault.{ReadFault}
 use Rattle.cityseq.specs.declared.sink.WriteFault.{WriteFault as Unwritten}
 

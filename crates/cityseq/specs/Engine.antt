@@ -2,8 +2,8 @@
 use Rattle.std.specs.Prelude.{◌≡◌, ℕ, ◌+◌, ◌≤◌, List, ◌++◌, true, Option, Some, None, is_none, Result, Ok, Err, if◌then◌else◌, length, take, slice_get}
 use Rattle.cj_budget.specs.Limits.{LimitPair}
 use Rattle.cj_budget.specs.declared.limits.Peaks.{Peaks}
-use Rattle.cityseq.specs.declared.reason.End.{End}
-use Rattle.cityseq.specs.declared.reason.End.TheVariants.{Complete, Refused, ReadFault, ReadLimit, WriteFault, Memory}
+use Rattle.cityseq.specs.declared.ending.End.{End}
+use Rattle.cityseq.specs.declared.ending.End.TheVariants.{Complete, Refused, ReadFault, ReadLimit, WriteFault, Memory}
 use Rattle.cityseq.specs.Lines.{Line, closed, lines, whole, first_content, begun_later}
 use Rattle.cityseq.specs.Verdict.{refusal_from, judged, verdict, is_kept, good, ending, kept_first, features_first}
 use Rattle.cityseq.specs.Bound.{IsBounded, IsBelow, of_first, tree_size}

@@ -3,11 +3,11 @@ use Rattle.std.specs.Prelude.{◌≡◌, ◌⊎◌, ℕ, ◌+◌, ◌<◌, ◌�
 use Rattle.cj_budget.specs.Bounded.{BoundedList, IsWithin, Becomes}
 use Rattle.cj_budget.specs.Limits.{LimitPair, InLine}
 use Rattle.cityseq.specs.declared.framer.Framer.{Framer}
-use Rattle.cityseq.specs.declared.reason.Verdict.{Verdict}
-use Rattle.cityseq.specs.declared.reason.Verdict.TheVariants.{Refuse, Blank, Valid}
+use Rattle.cityseq.specs.declared.judge.Verdict.{Verdict}
+use Rattle.cityseq.specs.declared.judge.Verdict.TheVariants.{Refuse, Blank, Valid}
 use Rattle.cj_spans.specs.declared.reason.Reason.TheVariants.{NoHeader}
-use Rattle.cityseq.specs.declared.reason.End.{End}
-use Rattle.cityseq.specs.declared.reason.End.TheVariants.{Complete, Refused, ReadFault, ReadLimit, WriteFault, Memory}
+use Rattle.cityseq.specs.declared.ending.End.{End}
+use Rattle.cityseq.specs.declared.ending.End.TheVariants.{Complete, Refused, ReadFault, ReadLimit, WriteFault, Memory}
 use Rattle.cityseq.specs.Lines.{Line, lines, closed, begun, begun_later, ended_line, first_content, later_of}
 use Rattle.cityseq.specs.Verdict.{WantsTokens, verdict, is_kept, refusal_from, kept_from, judged}
 use Rattle.cityseq.specs.Bound.{greatest}

@@ -7,8 +7,8 @@ use Rattle.cityseq.specs.Device.{shown_end}
 use Rattle.cityseq.specs.declared.report.Shown.{Shown}
 use Rattle.cityseq.specs.declared.sink.WriteFault.{WriteFault as Unwritten}
 use Rattle.cj_spans.specs.Reason.{code_of, words_of}
-use Rattle.cityseq.specs.declared.reason.End.{End}
-use Rattle.cityseq.specs.declared.reason.End.TheVariants.{Complete, Refused, ReadFault, ReadLimit, WriteFault, Memory}
+use Rattle.cityseq.specs.declared.ending.End.{End}
+use Rattle.cityseq.specs.declared.ending.End.TheVariants.{Complete, Refused, ReadFault, ReadLimit, WriteFault, Memory}
 
 -- the status of the program
 abbrev pub status_of : End → ℕ

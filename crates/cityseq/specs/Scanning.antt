@@ -8,8 +8,8 @@ use Rattle.cj_spans.specs.Judgement.{judged_size, judged_nest}
 use Rattle.cj_spans.specs.Scan.{KeepsLaw}
 use Rattle.cj_spans.proofs.Judgements.{judgement}
 use Rattle.cityseq.specs.declared.framer.Framer.{Framer}
-use Rattle.cityseq.specs.declared.reason.Verdict.{Verdict}
-use Rattle.cityseq.specs.declared.reason.Verdict.TheVariants.{Refuse, Blank, Valid}
+use Rattle.cityseq.specs.declared.judge.Verdict.{Verdict}
+use Rattle.cityseq.specs.declared.judge.Verdict.TheVariants.{Refuse, Blank, Valid}
 use Rattle.cityseq.specs.Lines.{first_of, later_of}
 use Rattle.cityseq.specs.Bound.{tree_size, tree_nest, of_first, greatest}
 

@@ -5,7 +5,7 @@ ghost use Rattle.std.specs.Io.KnownBytes.{Consumes, IsAtEnd};
 ghost use Rattle.cj_budget.specs.declared.limits.Peaks.{Peaks};
 ghost use Rattle.cityseq.specs.Command.{usual_limits};
 ghost use Rattle.cityseq.specs.declared.report.Shown.{Shown};
-ghost use Rattle.cityseq.specs.declared.reason.End.{End};
+ghost use Rattle.cityseq.specs.declared.ending.End.{End};
 ghost use Rattle.cityseq.specs.Report.{Reports, status_of};
 ghost use Rattle.cityseq.specs.Run.{Account, Writes};
 

@@ -6,9 +6,9 @@ ghost use Rattle.cityseq.specs.Engine.{StandsFor, limits_of, lines_of, peaks_of}
 ghost use Rattle.cityseq.specs.Run.{Account, Runs, Writes};
 ghost use Rattle.cityseq.specs.WriteSink.{writer_of};
 
+use crate::ending::End;
 use crate::engine::Engine;
 use crate::lent::LentSink;
-use crate::reason::End;
 use crate::running::{Outcome, run};
 use crate::sink::{LineSink, WriteSink};
 use cj_budget::{Limits, NoMemory};

@@ -7,8 +7,8 @@ ghost use Rattle.cityseq.specs.Sink.{HasRisen};
 ghost use Rattle.cityseq.specs.Verdict.{WantsTokens};
 ghost use Rattle.cityseq.specs.Engine.{StandsFor, given, limits_of, lines_of, held_by, peaks_of, Delivers, Going, Tells, Concludes, end_of};
 
+use crate::ending::End;
 use crate::framer::Framer;
-use crate::reason::End;
 use crate::sink::LineSink;
 use cj_budget::{Limits, NoMemory, Peaks};
 use std::alloc::Global;

@@ -5,8 +5,8 @@ ghost use Rattle.cityseq.specs.Lines.{newline, NoLf, closed, first_of, first_con
 ghost use Rattle.cityseq.specs.Sink.{HasRisen};
 ghost use Rattle.cityseq.specs.Verdict.{WantsTokens, verdict};
 
-use crate::judge::judge;
-use crate::reason::{End, Verdict};
+use crate::ending::End;
+use crate::judge::{Verdict, judge};
 use crate::sink::LineSink;
 use cj_budget::{Bounded, ExtendFault, Limits, NoMemory, Peaks, Stack};
 use cj_spans::{Reason, Token};

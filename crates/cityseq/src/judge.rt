@@ -5,9 +5,19 @@ ghost use Rattle.cj_budget.specs.Limits.{LimitPair};
 ghost use Rattle.cityseq.specs.Verdict.{is_blank_byte, is_blank_line, WantsTokens, verdict};
 ghost use Rattle.cityseq.specs.Scanning.{Judges};
 
-use crate::reason::Verdict;
 use cj_budget::{Bounded, NoMemory, Stack};
 use cj_spans::{Reason, ScanFault, Token, scan};
+
+/// What the rules say of a line.
+#[derive(Clone, Copy, Debug, PartialEq, Eq)]
+pub enum Verdict {
+    /// The line breaks a rule at this byte offset of its content.
+    Refuse { place: u64, reason: Reason },
+    /// The line is counted, and not written.
+    Blank,
+    /// The line is the header, or a feature.
+    Valid,
+}
 
 // Whether there are spaces, tabs and CR alone.
 fn is_white(content: &[u8]) -> bool

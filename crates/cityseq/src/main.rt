@@ -8,12 +8,12 @@
 
 mod command;
 mod copying;
+mod ending;
 mod engine;
 mod framer;
 mod judge;
 mod laws;
 mod lent;
-mod reason;
 mod report;
 mod running;
 mod sink;
@@ -21,7 +21,7 @@ mod sink;
 mod tests;
 
 use crate::command::command;
-use crate::reason::End;
+use crate::ending::End;
 use crate::report::{WRONG_WORDS, status, write_fault_line};
 use std::alloc::{AllocError, Global};
 use std::env;

@@ -6,7 +6,7 @@ ghost use Rattle.cityseq.specs.Sink.{AppendsPart};
 ghost use Rattle.cityseq.specs.Device.{flushed_by, shown_end};
 ghost use Rattle.cityseq.specs.Report.{fault_line, status_of};
 
-use crate::reason::End;
+use crate::ending::End;
 use crate::sink::{WriteFault, write_whole};
 use cj_spans::Reason;
 use itoa::Buffer;

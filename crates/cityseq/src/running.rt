@@ -7,8 +7,8 @@ ghost use Rattle.cityseq.specs.Engine.{StandsFor, limits_of, lines_of, peaks_of}
 ghost use Rattle.cityseq.specs.Run.{Runs};
 ghost use Rattle.cityseq.specs.Device.{given_by};
 
+use crate::ending::End;
 use crate::engine::Engine;
-use crate::reason::End;
 use crate::sink::LineSink;
 use cj_budget::{Limits, NoMemory, Peaks};
 use std::alloc::Global;
@@ -17,6 +17,7 @@ use std::io::Read;
 
 /// The most reads of one run.
 const MOST_READS: u64 = 1_099_511_627_776;
+
 const _: () = prove!(MOST_READS == 1 << 40);
 
 /// The bytes of one read at most.

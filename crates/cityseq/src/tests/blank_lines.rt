@@ -2,7 +2,7 @@
 //! any other is refused at the first byte that no JSON text has there, or at its end.
 use super::calls::{held, joined, outcome, refused};
 use super::rows::{FEATURE, HEADER, Wanted, check_place, check_run};
-use crate::reason::End;
+use crate::ending::End;
 use cj_budget::Limits;
 use cj_spans::Reason;
 use std::alloc::Global;

@@ -2,8 +2,8 @@
 //! say. A test compares values when it runs, and its proof grows with each fact that a call leaves.
 use super::devices::{SlowReader, SlowWriter};
 use crate::copying::{copy, copy_out};
+use crate::ending::End;
 use crate::engine::Engine;
-use crate::reason::End;
 use crate::running::Outcome;
 use crate::sink::{LineSink, WriteSink};
 use cj_budget::{Limits, Peaks};

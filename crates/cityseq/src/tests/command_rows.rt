@@ -3,7 +3,7 @@ use super::calls::{check_bytes, check_number, joined, refused};
 use super::devices::{SlowReader, SlowWriter};
 use super::rows::{FEATURE, HEADER};
 use crate::command::{command, filter};
-use crate::reason::End;
+use crate::ending::End;
 use crate::report::{status, write_fault_line};
 use cj_budget::Limits;
 use cj_spans::Reason;
@@ -82,7 +82,7 @@ fn other_words_are_refused_in_silence(rt: HostRuntime) -> Result<(), Fail> {
 fn filtered(alloc: Global, limits: Limits, reader: &mut SlowReader) -> Written {
     let mut out = Vec::new(alloc);
     let mut err = Vec::new(alloc);
-    let status = filter(alloc, limits, reader, &mut out, &mut err);
+    let status = status(filter(alloc, limits, reader, &mut out, &mut err).end);
     Written { status, out, err }
 }
 
@@ -123,7 +123,7 @@ fn check_write_fault(
     let limits = Limits::new(8_388_608, 64)?;
     let mut err = Vec::new(alloc);
     let mut reader = SlowReader::new(text, 100);
-    let status = filter(alloc, limits, &mut reader, &mut out, &mut err);
+    let status = status(filter(alloc, limits, &mut reader, &mut out, &mut err).end);
     let out = out.bytes;
     check_written(
         rt,
@@ -160,7 +160,7 @@ fn check_failing_error(rt: &impl Abort, alloc: Global, fails_at: u64) -> Result<
     let mut err = SlowWriter::new(Vec::new(alloc), 100);
     err.fails_at = fails_at;
     let mut reader = SlowReader::new(b"", 100);
-    let status = filter(alloc, limits, &mut reader, &mut out, &mut err);
+    let status = status(filter(alloc, limits, &mut reader, &mut out, &mut err).end);
     check_number(rt, status.into(), 1, "status", fails_at);
     check_bytes(rt, &out, b"", "standard output", fails_at);
     Ok(())

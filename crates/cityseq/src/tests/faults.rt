@@ -5,9 +5,9 @@ use super::calls::{
 use super::devices::{SlowReader, SlowWriter};
 use super::rows::{FEATURE, HEADER};
 use crate::copying::copy;
+use crate::ending::End;
 use crate::engine::Engine;
 use crate::lent::LentSink;
-use crate::reason::End;
 use crate::running::{Outcome, run};
 use crate::sink::{LineSink, WriteFault, WriteSink};
 use cj_budget::Limits;

@@ -4,8 +4,8 @@ use super::calls::{
 };
 use super::devices::SlowReader;
 use crate::copying::copy_pieces;
+use crate::ending::End;
 use crate::laws;
-use crate::reason::End;
 use crate::running::Outcome;
 use crate::sink::WriteSink;
 use cj_budget::{Limits, Peaks};
@@ -65,8 +65,14 @@ fn check_cut(
     assert!(rt; at <= text.len());
     assert!(rt; text.len() <= 1_000);
     let mut sink = WriteSink::new(Vec::new(alloc));
-    let ended = copy_pieces(alloc, &[&text[..at], &text[at..]], &mut sink, limits);
-    check_ended(rt, ended, wanted.outcome.ended, wanted.name, at as u64);
+    let copied = copy_pieces(alloc, &[&text[..at], &text[at..]], &mut sink, limits);
+    check_ended(
+        rt,
+        copied.ended,
+        wanted.outcome.ended,
+        wanted.name,
+        at as u64,
+    );
     let written = sink.into_inner();
     check_bytes(rt, &written, wanted.written, wanted.name, at as u64);
 }

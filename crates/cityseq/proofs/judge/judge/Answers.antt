@@ -6,7 +6,7 @@ use Rattle.std.specs.Str.{IsValidUpTo}
 use Rattle.std.proofs.lemmas.Str.{utf8_valid_len-IsValidUpTo}
 use Rattle.cj_spans.specs.declared.fault.ScanFault.TheVariants.{Syntax, TooDeep}
 use Rattle.cj_spans.specs.declared.reason.Reason.TheVariants.{NotUtf8}
-use Rattle.cityseq.specs.declared.reason.Verdict.TheVariants.{Refuse}
+use Rattle.cityseq.specs.declared.judge.Verdict.TheVariants.{Refuse}
 use Rattle.cityseq.specs.Verdict.{is_blank_byte}
 use Rattle.cityseq.proofs.VerdictLemmas.{verdict-bytes, verdict-blank, verdict-json}
 use Rattle.cityseq.proofs.JudgeLemmas.{ok-valid, syntax-refused, deep-refused, not_text, syntax-text, deep-text}

@@ -1,6 +1,6 @@
 use Rattle.std.proofs.Common.{◌++◌, ◌∙◌, length-take, take, refl, ap, arith, Err}
 use Rattle.std.proofs.lemmas.List.{append-nil}
-use Rattle.cityseq.specs.declared.reason.End.TheVariants.{ReadFault, ReadLimit}
+use Rattle.cityseq.specs.declared.ending.End.TheVariants.{ReadFault, ReadLimit}
 use Rattle.cityseq.specs.Engine.{limits_of, lines_of}
 use Rattle.cityseq.proofs.RunLemmas.{Consumes-then, Consumes-kept, Delivers-then, Runs-left, kept_first-same, Ends-finished, Ends-fed, whole-good, HasRisen-after, told-not_complete, fault-not_complete, limit-not_complete}
 use Rattle.std.specs.Prelude.{is_err}

@@ -1,5 +1,5 @@
 use Rattle.std.proofs.Common.{◌≡◌, ◌+◌, ◌++◌, length, length-append, refl, arith, None, Some}
-use Rattle.cityseq.specs.declared.reason.End.TheVariants.{Memory}
+use Rattle.cityseq.specs.declared.ending.End.TheVariants.{Memory}
 use Rattle.cityseq.specs.Lines.{closed}
 use Rattle.cityseq.specs.Reading.{reading}
 use Rattle.cityseq.specs.Scanning.{scanning}

@@ -1,5 +1,5 @@
 use Rattle.std.proofs.Common.{◌≡◌, ◌∙◌, sym, None}
-use Rattle.cityseq.specs.declared.reason.End.TheVariants.{Complete}
+use Rattle.cityseq.specs.declared.ending.End.TheVariants.{Complete}
 use Rattle.cityseq.specs.Reading.{reading}
 use Rattle.cityseq.specs.Scanning.{scanning}
 use Rattle.cityseq.proofs.EngineLemmas.{none_from_not_some}

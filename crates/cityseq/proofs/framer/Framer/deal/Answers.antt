@@ -1,5 +1,5 @@
 use Rattle.std.proofs.Common.{◌≡◌, ◌+◌, ◌∙◌, sym, ap, arith, Ok}
-use Rattle.cityseq.specs.declared.reason.Verdict.TheVariants.{Blank, Valid}
+use Rattle.cityseq.specs.declared.judge.Verdict.TheVariants.{Blank, Valid}
 use Rattle.cityseq.specs.Reading.{reading, begun_of}
 use Rattle.cityseq.specs.Scanning.{scanning}
 use Rattle.cityseq.specs.Verdict.{verdict}

@@ -1,4 +1,4 @@
-//! What is said of a line, and how a stream ends.
+//! How a stream ends.
 
 use cj_spans::Reason;
 
@@ -21,15 +21,4 @@ pub enum End {
     WriteFault,
     /// No memory was granted.
     Memory,
-}
-
-/// What the rules say of a line.
-#[derive(Clone, Copy, Debug, PartialEq, Eq)]
-pub enum Verdict {
-    /// The line breaks a rule at this byte offset of its content.
-    Refuse { place: u64, reason: Reason },
-    /// The line is counted, and not written.
-    Blank,
-    /// The line is the header, or a feature.
-    Valid,
 }
