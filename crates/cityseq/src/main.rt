@@ -1,9 +1,9 @@
 //! The program `cityseq`: it reads a CityJSONSeq stream from standard input, once and within a
 //! bound, and writes the lines that are kept to standard output.
 //!
-//! A line takes this way: `main` reads standard input by the piece, the `running` module feeds
-//! each piece to the `engine`, its `framer` cuts the piece into lines, `judge` gives the verdict on
-//! each, and the `sink` writes what is kept. `report` says how the run ended.
+//! A line takes this way: the `running` module reads standard input by the piece and feeds each piece to
+//! the `engine`, whose `framer` cuts it into lines; `judge` gives the verdict on each, and a `sink` writes
+//! what is kept. `report` says how the run ended.
 #![tactic(auto)]
 
 mod command;
