@@ -4,5 +4,6 @@ pub mod Geometry
 pub mod Given
 pub mod Grammar
 pub mod Lod
+pub mod ObjectTypes
 pub mod Rule
 pub mod Table

@@ -1,5 +1,7 @@
-//! The rules at worked geometries, and the table of types: each contract is a theorem in which nothing runs.
-ghost use Rattle.std.specs.Prelude.{◌≡◌, ◌∷◌, [], codes, Some, None};
+//! The rules at worked geometries, and the tables of types: each contract is a theorem in which nothing runs.
+ghost use Rattle.std.specs.Prelude.{◌≡◌, ◌<◌, ◌∷◌, [], ℕ, length, nat_le, true, codes, Some, None};
+ghost use Rattle.std.specs.Str.{chars};
+ghost use Rattle.cj_spans.specs.Parts.{has_text};
 ghost use Rattle.cj_spans.specs.declared.reason.Reason.TheVariants.{MissingMember, DuplicateName, WrongKind, UnknownGeometryType, VertexIndex, SemanticsCount, SemanticsIndex, TemplateIndex, BadInstance};
 ghost use Rattle.cj_spans.specs.Finding.{least, found_at};
 ghost use Rattle.cj_spans.specs.Tree.{Tree, scalar};
@@ -9,6 +11,7 @@ ghost use Rattle.cj_spans.specs.Forest.{forest};
 ghost use Rattle.cj_spans.specs.Preorder.{preorder};
 ghost use Rattle.cj_geometry.specs.Geometry.{geometry, listed, empty, itself};
 ghost use Rattle.cj_geometry.specs.Lod.{lod};
+ghost use Rattle.cj_geometry.specs.ObjectTypes.{object_types, row_of, row_at};
 ghost use Rattle.cj_geometry.specs.Table.{parts, instance, table, form_of};
 ghost use Rattle.cj_geometry.specs.Examples.{points_line, points, three, empty_object, cone_line, cone, instance_line, bare_instance, templates_line, templates, placed_line, sixteen, fifteen, seventeen, complete_instance, short_instance, long_instance, negative_instance, past_instance, doubled_line, doubled, solid_line, null_whole, null_shell, null_surface, no_shell, one_surface, past_surfaces, string, HaveTheirForms, HasNoName};
 
@@ -149,4 +152,14 @@ pub fn no_form_of_other_values()
     ensures longer { form_of (string (codes "\"Solids\"")) ≡ None }
     ensures empty { form_of (string (codes "\"\"")) ≡ None }
     ensures number { form_of three ≡ None }
+{}
+
+/// The types of city objects: as many as there are, each at the place of its number, those of the second
+/// level from 16 on, and no name twice.
+pub fn table_of_object_types()
+    ensures count { length object_types ≡ 33 }
+    ensures number { (n : ℕ) → n < 33 → (row_at n).number ≡ n }
+    ensures level { (n : ℕ) → n < 33 → (row_at n).is_second ≡ nat_le 16 n }
+    ensures name { (n : ℕ) (t : Tree) → n < 33 → has_text (chars (row_at n).name) t ≡ true
+        → row_of t ≡ Some (row_at n) }
 {}

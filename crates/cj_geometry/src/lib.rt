@@ -1,9 +1,10 @@
 //! Geometries of city objects (CityJSON 2.0, section 3): what is wrong with them, and their level of
-//! detail.
+//! detail; and the types of city objects (section 2).
 //!
 //! [`check_geometry`] adds what the rules find in a geometry to a [`cj_spans::Least`], which keeps the least
 //! of it; [`lod_of`] answers a geometry's level of detail. Both are told the [`Templates`] that the geometry
-//! may name. [`rule`] has the words that these rules are written in, for the rules of the layers above.
+//! may name. [`rule`] has the words that these rules are written in, for the rules of the layers above. [`ObjectType`] is
+//! the type of a city object.
 //!
 //! ```text
 //! let templates = Templates::list(list); // the header's array of templates, counted here
@@ -24,6 +25,7 @@ mod geometry;
 mod grammar;
 mod instance;
 mod lod;
+mod object_type;
 pub mod rule;
 mod semantics;
 mod templates;
@@ -33,4 +35,5 @@ mod tests;
 pub use geometry::check_geometry;
 pub use grammar::one_grammar_of_numbers;
 pub use lod::lod_of;
+pub use object_type::ObjectType;
 pub use templates::Templates;

@@ -9,6 +9,7 @@ mod indices;
 mod instances;
 mod lod;
 mod names;
+mod object_types;
 mod pairs;
 mod surfaces;
 mod types;

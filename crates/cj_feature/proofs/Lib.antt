@@ -1,0 +1,5 @@
+pub mod LinkFaults
+pub mod None
+pub mod Valid
+pub mod Values
+pub mod Verdict

@@ -1,0 +1,40 @@
+-- What follows where a rule finds nothing.
+use Rattle.std.proofs.Common.{◌≡◌, ℕ, List, [], ◌∷◌, ◌++◌, Bool, true, false, cond, Option, Some, None, refl}
+use Rattle.cj_spans.specs.declared.token.Kind.{Kind}
+use Rattle.cj_spans.specs.declared.reason.Reason.TheVariants.{WrongKind}
+use Rattle.cj_spans.specs.declared.finding.Finding.{Finding}
+use Rattle.cj_spans.specs.Tree.{Tree}
+use Rattle.cj_spans.specs.Parts.{kind_of, member_of}
+use Rattle.cj_geometry.specs.Rule.{one, of_kind, needed, needs}
+
+-- neither of two lists has one
+pub none-both : (fs gs : List Finding) → fs ++ gs ≡ [] → (fs ≡ []) × (gs ≡ [])
+none-both [] gs h = (refl, h)
+none-both (f ∷ fs) gs h = absurd (cc h)
+
+-- the value is of the kind, and the rule on it finds nothing
+module _ (rule : Tree → List Finding) (t : Tree) where
+  by-kind : (b : Bool) → cond b (rule t) (one WrongKind t) ≡ [] → (b ≡ true) × (rule t ≡ [])
+  by-kind true h = (refl, h)
+  by-kind false h = absurd (cc h)
+
+  pub of_kind-none : (is : Kind → Bool) → of_kind is rule t ≡ [] → (is (kind_of t) ≡ true) × (rule t ≡ [])
+  of_kind-none is h = by-kind (is (kind_of t)) h
+
+  by-member : (o : Option Tree) → needed rule t o ≡ [] → (u : Tree) × (o ≡ Some u) × (rule u ≡ [])
+  by-member None h = absurd (cc h)
+  by-member (Some u) h = (u, refl, h)
+
+  -- the member is there, and the rule on it finds nothing; o is what a look-up of it has answered
+  module _ (name : List ℕ) (none : needs name rule t ≡ []) (o : Option Tree) (is : o ≡ member_of name t) where
+    found : (u : Tree) × (member_of name t ≡ Some u) × (rule u ≡ [])
+    found = by-member (member_of name t) none
+
+    pub is-there : o ≡ None → ⊥
+    is-there e = let has = found in cc
+
+    pub then-none : (u : Tree) → o ≡ Some u → rule u ≡ []
+    then-none u e =
+        let has = found in
+        let same : u ≡ has.0 = cc in
+        rw same has.2

@@ -1,0 +1,42 @@
+-- What headers and features of no findings have.
+use Rattle.std.proofs.Common.{◌≡◌, [], ◌++◌, false, codes}
+use Rattle.std.specs.Str.{chars}
+use Rattle.cj_spans.specs.Tree.{Tree}
+use Rattle.cj_spans.specs.Kinds.{is_text, is_object}
+use Rattle.cj_spans.specs.Parts.{member_of}
+use Rattle.cj_geometry.specs.Rule.{of_kind, needs, distinct}
+use Rattle.cj_geometry.specs.Geometry.{Given, count_of}
+use Rattle.cj_feature.specs.Feature.{id_in, city_objects, vertex_list, feature_rules}
+use Rattle.cj_feature.specs.Header.{three_numbers, transform, header_rules, header}
+use Rattle.cj_feature.proofs.None.{none-both, of_kind-none}
+
+-- a transform
+pub has-transform : (t : Tree) → header false t ≡ [] → needs (chars (codes "transform")) (transform false) t ≡ []
+has-transform t valid =
+    let rules : header_rules false t ≡ [] = (of_kind-none (header_rules false) t is_object valid).1 in
+    (none-both _ _ (none-both _ _ (none-both _ _ (none-both _ _ rules).0).0).0).1
+
+-- and in it three numbers twice
+module _ (u : Tree) (valid : transform false u ≡ []) where
+  rules : distinct u ++ needs (chars (codes "scale")) (three_numbers false) u ++ needs (chars (codes "translate")) (three_numbers false) u ≡ []
+  rules = (of_kind-none (λ v. distinct v ++ needs (chars (codes "scale")) (three_numbers false) v ++ needs (chars (codes "translate")) (three_numbers false) v) u is_object valid).1
+
+  pub has-scale : needs (chars (codes "scale")) (three_numbers false) u ≡ []
+  has-scale = (none-both _ _ (none-both _ _ rules).0).1
+
+  pub has-translate : needs (chars (codes "translate")) (three_numbers false) u ≡ []
+  has-translate = (none-both _ _ rules).1
+
+-- of a feature, an id, city objects and vertices
+module _ (templates : Given) (t : Tree) (valid : of_kind is_object (feature_rules templates) t ≡ []) where
+  feature_none : feature_rules templates t ≡ []
+  feature_none = (of_kind-none (feature_rules templates) t is_object valid).1
+
+  pub has-id : needs (chars (codes "id")) (of_kind is_text (id_in (member_of (chars (codes "CityObjects")) t))) t ≡ []
+  has-id = (none-both _ _ (none-both _ _ (none-both _ _ (none-both _ _ feature_none).0).0).0).1
+
+  pub has-objects : needs (chars (codes "CityObjects")) (city_objects (count_of (member_of (chars (codes "vertices")) t)) templates) t ≡ []
+  has-objects = (none-both _ _ (none-both _ _ (none-both _ _ feature_none).0).0).1
+
+  pub has-vertices : needs (chars (codes "vertices")) vertex_list t ≡ []
+  has-vertices = (none-both _ _ (none-both _ _ feature_none).0).1

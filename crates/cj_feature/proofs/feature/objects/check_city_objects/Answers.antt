@@ -1,0 +1,23 @@
+use Rattle.std.proofs.Common.{sym, ◌++◌}
+use Rattle.std.specs.List.{flat_map}
+use Rattle.cj_spans.specs.Tree.{Tree}
+use Rattle.cj_spans.specs.Kinds.{is_object}
+use Rattle.cj_spans.specs.Parts.{members_of}
+use Rattle.cj_spans.specs.View.{tree}
+use Rattle.cj_spans.proofs.Findings.{least_on, least-two}
+use Rattle.cj_geometry.specs.Given.{given}
+use Rattle.cj_geometry.specs.Rule.{distinct}
+use Rattle.cj_geometry.proofs.OfKind.{of_kind-then}
+use Rattle.cj_feature.specs.Feature.{city_object}
+use Rattle.cj_feature.proofs.feature.objects.check_city_objects.Goals as goal
+
+pub loop-object-preserved : goal.loop-object-preserved
+loop-object-preserved c = least_on (λ m. city_object c.args.vertices (given c.args.templates) m.1) _ _ _ _ _ _ c.loop-object.invariant c.in-Some.ensures.steps.0 c.check_city_object.ensures
+
+pub returns-in-None : goal.returns-in-None
+returns-in-None c =
+    let n = tree c.args.node in
+    let each = λ (u : Tree). flat_map (λ m. city_object c.args.vertices (given c.args.templates) m.1) (members_of u) in
+    let walked = rw c.in-None.ensures.steps.0.0 at c.loop-object.invariant in
+    of_kind-then is_object (λ u. distinct u ++ each u) n _ _ _ (sym c.if-check_object.ensures.is) c.check_object.ensures.found
+    (least-two c.check_object.new.found c.check_names.new.found c.loop-object.found (distinct n) (each n) c.check_names.ensures walked)

@@ -1,0 +1,30 @@
+use Rattle.std.proofs.Common.{sym, codes, ◌++◌}
+use Rattle.std.specs.Str.{chars}
+use Rattle.cj_spans.specs.declared.reason.Reason.TheVariants.{WrongType}
+use Rattle.cj_spans.specs.Kinds.{is_object}
+use Rattle.cj_spans.specs.Parts.{member_of}
+use Rattle.cj_spans.specs.View.{tree}
+use Rattle.cj_spans.proofs.Findings.{least-two, least-three}
+use Rattle.cj_geometry.specs.Geometry.{count_of}
+use Rattle.cj_geometry.specs.Given.{given}
+use Rattle.cj_geometry.specs.Rule.{needs, distinct}
+use Rattle.cj_geometry.proofs.OfKind.{of_kind-then}
+use Rattle.cj_feature.specs.Header.{has_member_named}
+use Rattle.cj_feature.specs.Feature.{id_rule, city_objects, vertex_list, feature_rules}
+use Rattle.cj_feature.specs.Links.{links}
+use Rattle.cj_feature.proofs.feature.rules.check_root.Goals as goal
+
+pub returns-then-check_object : goal.returns-then-check_object
+returns-then-check_object c =
+    let n = tree c.args.node in
+    let o = c.check_object.new.found in
+    let templates = given c.args.templates in
+    let type_rule = has_member_named (chars (codes "type")) WrongType (chars (codes "CityJSONFeature")) n in
+    let objects = needs (chars (codes "CityObjects")) (city_objects (count_of (member_of (chars (codes "vertices")) n)) templates) n in
+    let vertices = needs (chars (codes "vertices")) vertex_list n in
+    let linked = rw c.get.ensures.value at c.check_links.ensures in
+    let counted = rw c.count_member.ensures at c.check_city_objects_member.ensures in
+    let three = least-three o _ _ _ (distinct n) type_rule (id_rule n) c.check_names.ensures c.check_name_member.ensures c.check_id_member.ensures in
+    let five = least-three o _ _ _ (distinct n ++ type_rule ++ id_rule n) objects vertices three counted c.check_vertices_member.ensures in
+    let six = least-two o _ _ (distinct n ++ type_rule ++ id_rule n ++ objects ++ vertices) (links (member_of (chars (codes "CityObjects")) n)) five linked in
+    of_kind-then is_object (feature_rules templates) n _ _ _ (sym c.if-check_object.ensures.is) c.check_object.ensures.found six

@@ -1,0 +1,95 @@
+-- The findings of a feature, rule by rule.
+use Rattle.std.specs.Prelude.{ℕ, List, [], ◌++◌, cond, Option, Some, None, codes}
+use Rattle.std.specs.List.{flat_map}
+use Rattle.std.specs.Str.{chars}
+use Rattle.cj_spans.specs.declared.reason.Reason.TheVariants.{WrongType, NotThree, UnknownObjectType, IdNotFound}
+use Rattle.cj_spans.specs.declared.finding.Finding.{Finding}
+use Rattle.cj_spans.specs.Tree.{Tree}
+use Rattle.cj_spans.specs.Kinds.{is_text, is_array, is_object}
+use Rattle.cj_spans.specs.Parts.{kind_of, items_of, members_of, member_of}
+use Rattle.cj_geometry.specs.Rule.{one, of_kind, nothing, needs, may_have, whole_number, distinct, of_length}
+use Rattle.cj_geometry.specs.ObjectTypes.{ObjectRow, row_of}
+use Rattle.cj_geometry.specs.Geometry.{Given, listed, empty, geometry, count_of}
+use Rattle.cj_feature.specs.Header.{has_member_named}
+use Rattle.cj_feature.specs.Members.{member_if}
+use Rattle.cj_feature.specs.Links.{is_known, is_part, links}
+
+-- ---- the header's templates
+
+abbrev pub given_list : Option Tree → Given
+given_list None = empty
+given_list (Some t) = cond (is_array (kind_of t)) (listed t) empty
+
+-- the list of the header of this tree, or none at all
+abbrev pub templates_of : Tree → Given
+templates_of header = given_list (member_if (chars (codes "templates")) (member_of (chars (codes "geometry-templates")) header))
+
+-- ---- the id
+
+-- where the city objects are an object, one of its names has the text of the id
+abbrev pub id_in : Option Tree → Tree → List Finding
+id_in None id = []
+id_in (Some t) id = cond (is_object (kind_of t)) (cond (is_known (members_of t) id) [] (one IdNotFound id)) []
+
+abbrev pub id_rule : Tree → List Finding
+id_rule u = needs (chars (codes "id")) (of_kind is_text (id_in (member_of (chars (codes "CityObjects")) u))) u
+
+-- ---- city objects
+
+-- the row of a type, if there is one
+abbrev pub known_type : Option ObjectRow → Tree → List Finding
+known_type None t = one UnknownObjectType t
+known_type (Some r) t = []
+
+-- a text that is the name of a type
+abbrev pub object_type : Tree → List Finding
+object_type t = of_kind is_text (λ u. known_type (row_of u) u) t
+
+-- an array of geometries
+abbrev pub geometries : Option ℕ → Given → Tree → List Finding
+geometries vertices templates t = of_kind is_array (λ u. flat_map (geometry vertices templates) (items_of u)) t
+
+-- an array of texts
+abbrev pub texts : Tree → List Finding
+texts t = of_kind is_array (λ u. flat_map (of_kind is_text nothing) (items_of u)) t
+
+-- a city object of the second level needs parents
+abbrev pub second_level : Tree → List Finding
+second_level o = cond (is_part o) (needs (chars (codes "parents")) (of_kind is_array nothing) o) []
+
+-- the rules on a city object, with so many vertices if that is known, and the header's templates
+abbrev pub city_object : Option ℕ → Given → Tree → List Finding
+city_object vertices templates t =
+    of_kind is_object (λ o.
+    distinct o
+    ++ needs (chars (codes "type")) object_type o
+    ++ may_have (chars (codes "geometry")) (geometries vertices templates) o
+    ++ may_have (chars (codes "children")) texts o
+    ++ may_have (chars (codes "parents")) texts o
+    ++ second_level o) t
+
+-- an object of city objects
+abbrev pub city_objects : Option ℕ → Given → Tree → List Finding
+city_objects vertices templates t =
+    of_kind is_object (λ u. distinct u ++ flat_map (λ m. city_object vertices templates m.1) (members_of u)) t
+
+-- ---- vertices
+
+-- an array of arrays of three whole numbers
+abbrev pub vertex_list : Tree → List Finding
+vertex_list t = of_kind is_array (λ u. flat_map (of_length NotThree 3 whole_number) (items_of u)) t
+
+-- ---- the feature
+
+abbrev pub feature_rules : Given → Tree → List Finding
+feature_rules templates u =
+    distinct u
+    ++ has_member_named (chars (codes "type")) WrongType (chars (codes "CityJSONFeature")) u
+    ++ id_rule u
+    ++ needs (chars (codes "CityObjects")) (city_objects (count_of (member_of (chars (codes "vertices")) u)) templates) u
+    ++ needs (chars (codes "vertices")) vertex_list u
+    ++ links (member_of (chars (codes "CityObjects")) u)
+
+-- the findings of a feature, with the templates of the header of this tree
+abbrev pub feature : Tree → Tree → List Finding
+feature header t = of_kind is_object (feature_rules (templates_of header)) t

@@ -1,0 +1,119 @@
+//! The rules at worked features and headers: each contract is a theorem in which nothing runs.
+ghost use Rattle.std.specs.Prelude.{◌≡◌, ◌∷◌, [], false, Some, codes};
+ghost use Rattle.cj_spans.specs.declared.reason.Reason.TheVariants.{MissingMember, DuplicateName, WrongKind, WrongType, WrongVersion, NotEmpty, NotThree, IdNotFound, ChildNotFound, LinkNotMutual, NoParent};
+ghost use Rattle.cj_spans.specs.Finding.{least, found_at};
+ghost use Rattle.cj_spans.specs.Forest.{forest};
+ghost use Rattle.cj_spans.specs.Preorder.{preorder};
+ghost use Rattle.cj_feature.specs.Header.{header};
+ghost use Rattle.cj_feature.specs.Feature.{feature};
+ghost use Rattle.cj_feature.specs.Examples.{bare, itself, lost_child, unlisted_part, unlisted_parent, lost_parent, part_alone, part_of_other, part_of_none, part_of_number, group, unlisted_member, doubled, escaped, same_by_escape, no_object, child_no_object, other_id, unread_names, null_children, plain_header, plain_header_line, other_type, other_type_line, other_version, other_version_line, more_digits, more_digits_line, no_scale, no_scale_line, two_scales, two_scales_line, with_objects, with_objects_line, with_vertices, with_vertices_line};
+
+/// A city object may list itself, as a child and as a parent.
+pub fn children_and_parents_of_itself()
+    ensures { feature bare itself.tree ≡ [] }
+{}
+
+/// Each child is in the feature, and lists the city object as a parent.
+pub fn children()
+    ensures lost { feature bare lost_child.tree ≡ found_at 85 ChildNotFound ∷ [] }
+    ensures unlisted { feature bare unlisted_parent.tree ≡ found_at 85 LinkNotMutual ∷ [] }
+    ensures null { feature bare null_children.tree ≡ found_at 84 WrongKind ∷ [] }
+{}
+
+/// Each parent in the feature lists the city object as a child.
+pub fn parents()
+    ensures lost { feature bare lost_parent.tree ≡ [] }
+    ensures unlisted { feature bare unlisted_part.tree ≡ found_at 112 LinkNotMutual ∷ [] }
+{}
+
+/// A city object of the second level needs a parent in the feature.
+pub fn parts()
+    ensures alone { feature bare part_alone.tree ≡ found_at 54 MissingMember ∷ [] }
+    ensures other { feature bare part_of_other.tree ≡ found_at 54 NoParent ∷ [] }
+    ensures none { feature bare part_of_none.tree ≡ found_at 54 NoParent ∷ [] }
+    ensures number { least None (feature bare part_of_number.tree) ≡ Some (found_at 54 NoParent) }
+{}
+
+/// The children of a group may be anywhere; its members list it as any other parent.
+pub fn groups()
+    ensures group { feature bare group.tree ≡ [] }
+    ensures unlisted { feature bare unlisted_member.tree ≡ found_at 115 LinkNotMutual ∷ [] }
+{}
+
+/// Links are between names, whichever city object of a name has them, and however it is spelled.
+pub fn names_of_city_objects()
+    ensures doubled { feature bare doubled.tree ≡ found_at 74 DuplicateName ∷ [] }
+    ensures escaped { feature bare escaped.tree ≡ [] }
+    ensures same { feature bare same_by_escape.tree ≡ found_at 74 DuplicateName ∷ [] }
+    ensures unread { feature bare unread_names.tree ≡ [] }
+{}
+
+/// A name is an id in the feature also where its value is no city object.
+pub fn values_that_are_no_city_objects()
+    ensures alone { feature bare no_object.tree ≡ found_at 54 WrongKind ∷ [] }
+    ensures child { feature bare child_no_object.tree ≡ found_at 95 WrongKind ∷ found_at 85 LinkNotMutual ∷ [] }
+    ensures least { least None (feature bare child_no_object.tree) ≡ Some (found_at 85 LinkNotMutual) }
+{}
+
+/// The id of the feature is the name of a city object.
+pub fn an_id_of_no_city_object()
+    ensures { feature bare other_id.tree ≡ found_at 31 IdNotFound ∷ [] }
+{}
+
+/// A header has its type and its version, whose digits are those of the version.
+pub fn types_and_versions()
+    ensures plain { header false plain_header ≡ [] }
+    ensures other_type { header false other_type ≡ found_at 8 WrongType ∷ [] }
+    ensures other_version { header false other_version ≡ found_at 29 WrongVersion ∷ [] }
+    ensures more_digits { header false more_digits ≡ found_at 29 WrongVersion ∷ [] }
+{}
+
+/// A transform has three numbers twice, and a header has neither city objects nor vertices.
+pub fn parts_of_a_header()
+    ensures no_scale { header false no_scale ≡ found_at 47 MissingMember ∷ [] }
+    ensures two_scales { header false two_scales ≡ found_at 56 NotThree ∷ [] }
+    ensures with_objects { header false with_objects ≡ found_at 99 NotEmpty ∷ [] }
+    ensures with_vertices { header false with_vertices ≡ found_at 113 NotEmpty ∷ [] }
+{}
+
+/// Neither a header nor a feature is the other.
+pub fn one_taken_for_the_other()
+    ensures feature { least None (header false itself.tree) ≡ Some (found_at 0 MissingMember) }
+    ensures header { least None (feature bare plain_header) ≡ Some (found_at 0 MissingMember) }
+{}
+
+/// The trees of features are those that their lines show.
+pub fn trees_of_features()
+    ensures itself { forest itself.line (preorder itself.tree) ≡ itself.tree ∷ [] }
+    ensures lost_child { forest lost_child.line (preorder lost_child.tree) ≡ lost_child.tree ∷ [] }
+    ensures unlisted_parent { forest unlisted_parent.line (preorder unlisted_parent.tree) ≡ unlisted_parent.tree ∷ [] }
+    ensures null_children { forest null_children.line (preorder null_children.tree) ≡ null_children.tree ∷ [] }
+    ensures lost_parent { forest lost_parent.line (preorder lost_parent.tree) ≡ lost_parent.tree ∷ [] }
+    ensures unlisted_part { forest unlisted_part.line (preorder unlisted_part.tree) ≡ unlisted_part.tree ∷ [] }
+    ensures part_alone { forest part_alone.line (preorder part_alone.tree) ≡ part_alone.tree ∷ [] }
+    ensures part_of_other { forest part_of_other.line (preorder part_of_other.tree) ≡ part_of_other.tree ∷ [] }
+    ensures part_of_none { forest part_of_none.line (preorder part_of_none.tree) ≡ part_of_none.tree ∷ [] }
+    ensures part_of_number { forest part_of_number.line (preorder part_of_number.tree) ≡ part_of_number.tree ∷ [] }
+    ensures group { forest group.line (preorder group.tree) ≡ group.tree ∷ [] }
+    ensures unlisted_member { forest unlisted_member.line (preorder unlisted_member.tree) ≡ unlisted_member.tree ∷ [] }
+    ensures doubled { forest doubled.line (preorder doubled.tree) ≡ doubled.tree ∷ [] }
+    ensures escaped { forest escaped.line (preorder escaped.tree) ≡ escaped.tree ∷ [] }
+    ensures same_by_escape { forest same_by_escape.line (preorder same_by_escape.tree) ≡ same_by_escape.tree ∷ [] }
+    ensures unread_names { forest unread_names.line (preorder unread_names.tree) ≡ unread_names.tree ∷ [] }
+    ensures no_object { forest no_object.line (preorder no_object.tree) ≡ no_object.tree ∷ [] }
+    ensures child_no_object { forest child_no_object.line (preorder child_no_object.tree) ≡ child_no_object.tree ∷ [] }
+    ensures other_id { forest other_id.line (preorder other_id.tree) ≡ other_id.tree ∷ [] }
+{}
+
+/// And so those of headers.
+pub fn trees_of_headers()
+    ensures bare { forest (codes "{}") (preorder bare) ≡ bare ∷ [] }
+    ensures plain { forest plain_header_line (preorder plain_header) ≡ plain_header ∷ [] }
+    ensures other_type { forest other_type_line (preorder other_type) ≡ other_type ∷ [] }
+    ensures other_version { forest other_version_line (preorder other_version) ≡ other_version ∷ [] }
+    ensures more_digits { forest more_digits_line (preorder more_digits) ≡ more_digits ∷ [] }
+    ensures no_scale { forest no_scale_line (preorder no_scale) ≡ no_scale ∷ [] }
+    ensures two_scales { forest two_scales_line (preorder two_scales) ≡ two_scales ∷ [] }
+    ensures with_objects { forest with_objects_line (preorder with_objects) ≡ with_objects ∷ [] }
+    ensures with_vertices { forest with_vertices_line (preorder with_vertices) ≡ with_vertices ∷ [] }
+{}

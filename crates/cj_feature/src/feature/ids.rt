@@ -1,0 +1,61 @@
+//! Ids: names of the city objects of a feature.
+ghost use Rattle.std.specs.Prelude.{◌≡◌, codes, option_map};
+ghost use Rattle.std.specs.Str.{chars};
+ghost use Rattle.cj_spans.specs.Finding.{least};
+ghost use Rattle.cj_spans.specs.Kinds.{is_text};
+ghost use Rattle.cj_spans.specs.Parts.{members_of};
+ghost use Rattle.cj_spans.specs.View.{tree};
+ghost use Rattle.cj_geometry.specs.Rule.{of_kind};
+ghost use Rattle.cj_feature.specs.Feature.{id_in, id_rule};
+ghost use Rattle.cj_feature.specs.Links.{is_known as is_known_in};
+
+use cj_geometry::rule::{add, needed};
+use cj_spans::{Kind, Least, Node, Reason};
+
+/// Whether a city object has the text as its name. Names are searched one after another.
+pub fn is_known(objects: Node, id: Node) -> bool
+    ensures { result ≡ is_known_in (members_of (tree objects.entry)) (tree id.entry) }
+{
+    for (name, _) in objects.members() {
+        if name.same_text(id) {
+            return true;
+        }
+    }
+    false
+}
+
+/// Where the city objects are an object, the text is the name of one.
+fn check_among(id: Node, objects: Option<Node>, found: &mut Least)
+    ensures { found.new ≡ least found.old (id_in (option_map tree objects.entry) (tree id.entry)) }
+{
+    let Some(objects) = objects else {
+        return;
+    };
+    match objects.kind() {
+        Kind::Object => {
+            if !is_known(objects, id) {
+                add(id, Reason::IdNotFound, found);
+            }
+        }
+        _ => {}
+    }
+}
+
+/// The value is a text that is the name of a city object.
+fn check_id(id: Node, objects: Option<Node>, found: &mut Least)
+    ensures { found.new ≡ least found.old (of_kind is_text (id_in (option_map tree objects.entry)) (tree id.entry)) }
+{
+    match id.kind() {
+        Kind::Text => check_among(id, objects, found),
+        _ => add(id, Reason::WrongKind, found),
+    }
+}
+
+/// The feature has an id, which is the name of one of its city objects (own).
+pub fn check_id_member(object: Node, found: &mut Least)
+    ensures { found.new ≡ least found.old (id_rule (tree object.entry)) }
+{
+    if let Some(id) = needed(object, "id", found) {
+        check_id(id, object.get("CityObjects"), found);
+    }
+}

@@ -1,0 +1,157 @@
+//! Links between city objects: who lists whom as a child, and as a parent (own, after CityJSON 2.0,
+//! section 2).
+ghost use Rattle.std.specs.Prelude.{◌≡◌, codes, option_map};
+ghost use Rattle.std.specs.List.{flat_map, list_any};
+ghost use Rattle.std.specs.Str.{chars};
+ghost use Rattle.cj_spans.specs.Finding.{least};
+ghost use Rattle.cj_spans.specs.Parts.{items_of, members_of};
+ghost use Rattle.cj_spans.specs.View.{tree, trees};
+ghost use Rattle.cj_feature.specs.Links.{is_known as is_known_in, has_item as has_item_of, lists as lists_of, listed_in, is_group as is_group_of, child, parent, children, parents, part, object_links, links};
+
+use crate::feature::ids::is_known;
+use crate::feature::objects::is_part;
+use cj_geometry::rule::add;
+use cj_spans::{Kind, Least, Node, Reason};
+
+/// Whether the city object has the text in its member of this name.
+fn has_item(object: Node, list: &str, id: Node) -> bool
+    ensures { result ≡ has_item_of (listed_in (chars list.now) (tree object.entry)) (tree id.entry) }
+{
+    let Some(value) = object.get(list) else {
+        return false;
+    };
+    for item in value.items() {
+        if item.same_text(id) {
+            return true;
+        }
+    }
+    false
+}
+
+/// Whether some city object of the name `from` lists `to` in its member of the name `list`.
+fn lists(objects: Node, list: &str, from: Node, to: Node) -> bool
+    ensures { result ≡ lists_of (chars list.now) (members_of (tree objects.entry)) (tree from.entry) (tree to.entry) }
+{
+    for (name, object) in objects.members() {
+        if name.same_text(from) && has_item(object, list, to) {
+            return true;
+        }
+    }
+    false
+}
+
+/// Whether the city object is a group.
+fn is_group(object: Node) -> bool
+    ensures { result ≡ is_group_of (tree object.entry) }
+{
+    match object.get("type") {
+        Some(name) => name.text_is("CityObjectGroup"),
+        None => false,
+    }
+}
+
+/// A child is in the feature, and lists the city object of this name as a parent.
+fn check_child(objects: Node, name: Node, item: Node, found: &mut Least)
+    ensures { found.new ≡ least found.old (child (members_of (tree objects.entry)) (tree name.entry) (tree item.entry)) }
+{
+    match item.kind() {
+        Kind::Text => {
+            if !is_known(objects, item) {
+                add(item, Reason::ChildNotFound, found);
+            } else if !lists(objects, "parents", item, name) {
+                add(item, Reason::LinkNotMutual, found);
+            }
+        }
+        _ => {}
+    }
+}
+
+/// A parent that is in the feature lists the city object of this name as a child.
+fn check_parent(objects: Node, name: Node, item: Node, found: &mut Least)
+    ensures { found.new ≡ least found.old (parent (members_of (tree objects.entry)) (tree name.entry) (tree item.entry)) }
+{
+    if is_known(objects, item) {
+        if !lists(objects, "children", item, name) {
+            add(item, Reason::LinkNotMutual, found);
+        }
+    }
+}
+
+/// The children of a city object, unless it is a group, which may reach over features.
+fn check_children(objects: Node, name: Node, object: Node, found: &mut Least)
+    ensures { found.new ≡ least found.old (children (members_of (tree objects.entry)) (trees (name.entry, object.entry))) }
+{
+    let Some(value) = object.get("children") else {
+        return;
+    };
+    if is_group(object) {
+        return;
+    }
+    for item in value.items() {
+        check_child(objects, name, item, found);
+    }
+}
+
+/// The parents of a city object.
+fn check_parents(objects: Node, name: Node, object: Node, found: &mut Least)
+    ensures { found.new ≡ least found.old (parents (members_of (tree objects.entry)) (trees (name.entry, object.entry))) }
+{
+    let Some(value) = object.get("parents") else {
+        return;
+    };
+    for item in value.items() {
+        check_parent(objects, name, item, found);
+    }
+}
+
+/// Whether an item of the array is an id in the feature.
+fn has_known_item(objects: Node, array: Node) -> bool
+    ensures { result ≡ list_any (is_known_in (members_of (tree objects.entry))) (items_of (tree array.entry)) }
+{
+    for item in array.items() {
+        if is_known(objects, item) {
+            return true;
+        }
+    }
+    false
+}
+
+/// Of the parents of a city object of the second level, one is in the feature.
+fn check_part(objects: Node, name: Node, object: Node, found: &mut Least)
+    ensures { found.new ≡ least found.old (part (members_of (tree objects.entry)) (trees (name.entry, object.entry))) }
+{
+    let Some(value) = object.get("parents") else {
+        return;
+    };
+    match value.kind() {
+        Kind::Array => {
+            if is_part(object) {
+                if !has_known_item(objects, value) {
+                    add(object, Reason::NoParent, found);
+                }
+            }
+        }
+        _ => {}
+    }
+}
+
+/// The links of a city object.
+fn check_object_links(objects: Node, name: Node, object: Node, found: &mut Least)
+    ensures { found.new ≡ least found.old (object_links (members_of (tree objects.entry)) (trees (name.entry, object.entry))) }
+{
+    check_children(objects, name, object, found);
+    check_parents(objects, name, object, found);
+    check_part(objects, name, object, found);
+}
+
+/// The links of the city objects, if there are any.
+pub fn check_links(objects: Option<Node>, found: &mut Least)
+    ensures { found.new ≡ least found.old (links (option_map tree objects.entry)) }
+{
+    let Some(objects) = objects else {
+        return;
+    };
+    for (name, object) in objects.members() {
+        check_object_links(objects, name, object, found);
+    }
+}

@@ -1,0 +1,145 @@
+//! City objects (CityJSON 2.0, section 2).
+ghost use Rattle.std.specs.Prelude.{◌≡◌, codes};
+ghost use Rattle.std.specs.Str.{chars};
+ghost use Rattle.cj_spans.specs.Finding.{least};
+ghost use Rattle.cj_spans.specs.View.{tree};
+ghost use Rattle.cj_geometry.specs.Given.{given};
+ghost use Rattle.cj_geometry.specs.Rule.{needs, may_have};
+ghost use Rattle.cj_feature.specs.Feature.{object_type, geometries, texts, second_level, city_object, city_objects};
+ghost use Rattle.cj_feature.specs.Links.{is_part as is_part_of};
+
+use cj_geometry::rule::{add, check_array, check_names, check_object, check_text, needed};
+use cj_geometry::{ObjectType, Templates, check_geometry};
+use cj_spans::{Kind, Least, Node, Reason};
+
+/// The value is the name of a type.
+fn check_type(node: Node, found: &mut Least)
+    ensures { found.new ≡ least found.old (object_type (tree node.entry)) }
+{
+    match node.kind() {
+        Kind::Text => {
+            if ObjectType::of(node).is_none() {
+                add(node, Reason::UnknownObjectType, found);
+            }
+        }
+        _ => add(node, Reason::WrongKind, found),
+    }
+}
+
+/// The city object has a type.
+fn check_type_member(object: Node, found: &mut Least)
+    ensures { found.new ≡ least found.old (needs (chars (codes "type")) object_type (tree object.entry)) }
+{
+    if let Some(value) = needed(object, "type", found) {
+        check_type(value, found);
+    }
+}
+
+/// The value is an array of geometries.
+fn check_geometries(node: Node, vertices: Option<u64>, templates: Templates, found: &mut Least)
+    ensures { found.new ≡ least found.old (geometries vertices (given templates.entry) (tree node.entry)) }
+{
+    if check_array(node, found) {
+        for item in node.items() {
+            check_geometry(item, vertices, templates, found);
+        }
+    }
+}
+
+/// The city object may have geometries.
+fn check_geometry_member(
+    object: Node,
+    vertices: Option<u64>,
+    templates: Templates,
+    found: &mut Least,
+)
+    ensures { found.new ≡ least found.old (may_have (chars (codes "geometry")) (geometries vertices (given templates.entry)) (tree object.entry)) }
+{
+    if let Some(value) = object.get("geometry") {
+        check_geometries(value, vertices, templates, found);
+    }
+}
+
+/// The value is an array of texts.
+fn check_texts(node: Node, found: &mut Least)
+    ensures { found.new ≡ least found.old (texts (tree node.entry)) }
+{
+    if check_array(node, found) {
+        for item in node.items() {
+            check_text(item, found);
+        }
+    }
+}
+
+/// The city object may have a member of this name, which is an array of texts.
+fn check_texts_member(object: Node, name: &str, found: &mut Least)
+    ensures { found.new ≡ least found.old (may_have (chars name.now) texts (tree object.entry)) }
+{
+    if let Some(value) = object.get(name) {
+        check_texts(value, found);
+    }
+}
+
+/// Whether the city object is of the second level.
+pub fn is_part(object: Node) -> bool
+    ensures { result ≡ is_part_of (tree object.entry) }
+{
+    match object.get("type") {
+        Some(name) => match ObjectType::of(name) {
+            Some(object_type) => object_type.is_second_level(),
+            None => false,
+        },
+        None => false,
+    }
+}
+
+/// A city object of the second level has parents.
+fn check_second_level(object: Node, found: &mut Least)
+    ensures { found.new ≡ least found.old (second_level (tree object.entry)) }
+{
+    if is_part(object) {
+        if let Some(parents) = needed(object, "parents", found) {
+            check_array(parents, found);
+        }
+    }
+}
+
+/// The value is a city object, over so many vertices if that is known.
+fn check_city_object(node: Node, vertices: Option<u64>, templates: Templates, found: &mut Least)
+    ensures { found.new ≡ least found.old (city_object vertices (given templates.entry) (tree node.entry)) }
+{
+    if check_object(node, found) {
+        check_names(node, found);
+        check_type_member(node, found);
+        check_geometry_member(node, vertices, templates, found);
+        check_texts_member(node, "children", found);
+        check_texts_member(node, "parents", found);
+        check_second_level(node, found);
+    }
+}
+
+/// The value is an object of city objects.
+fn check_city_objects(node: Node, vertices: Option<u64>, templates: Templates, found: &mut Least)
+    ensures { found.new ≡ least found.old (city_objects vertices (given templates.entry) (tree node.entry)) }
+{
+    if check_object(node, found) {
+        check_names(node, found);
+        for (_, object) in node.members() {
+            check_city_object(object, vertices, templates, found);
+        }
+    }
+}
+
+/// The feature has city objects.
+pub fn check_city_objects_member(
+    object: Node,
+    vertices: Option<u64>,
+    templates: Templates,
+    found: &mut Least,
+)
+    ensures { found.new ≡ least found.old (needs (chars (codes "CityObjects")) (city_objects vertices (given templates.entry)) (tree object.entry)) }
+{
+    if let Some(value) = needed(object, "CityObjects", found) {
+        check_city_objects(value, vertices, templates, found);
+    }
+}

@@ -1,0 +1,65 @@
+//! The rules on features, one after another.
+ghost use Rattle.std.specs.Prelude.{◌≡◌, codes};
+ghost use Rattle.std.specs.Str.{chars};
+ghost use Rattle.cj_spans.specs.declared.reason.Reason.TheVariants.{NotThree};
+ghost use Rattle.cj_spans.specs.Finding.{least};
+ghost use Rattle.cj_spans.specs.Kinds.{is_object};
+ghost use Rattle.cj_spans.specs.View.{tree};
+ghost use Rattle.cj_geometry.specs.Given.{given};
+ghost use Rattle.cj_geometry.specs.Rule.{of_kind, needs, whole_number, of_length};
+ghost use Rattle.cj_feature.specs.Feature.{vertex_list, feature_rules};
+
+use crate::feature::ids::check_id_member;
+use crate::feature::links::check_links;
+use crate::feature::objects::check_city_objects_member;
+use crate::header::count_member;
+use crate::member::check_name_member;
+use cj_geometry::Templates;
+use cj_geometry::rule::{
+    check_array, check_length, check_names, check_object, check_whole, needed,
+};
+use cj_spans::{Least, Node, Reason};
+
+/// The value is an array of three whole numbers.
+fn check_vertex(node: Node, found: &mut Least)
+    ensures { found.new ≡ least found.old (of_length NotThree 3 whole_number (tree node.entry)) }
+{
+    check_length(node, 3, Reason::NotThree, found);
+    for item in node.items() {
+        check_whole(item, found);
+    }
+}
+
+/// The value is an array of vertices.
+fn check_vertices(node: Node, found: &mut Least)
+    ensures { found.new ≡ least found.old (vertex_list (tree node.entry)) }
+{
+    if check_array(node, found) {
+        for item in node.items() {
+            check_vertex(item, found);
+        }
+    }
+}
+
+/// The feature has vertices.
+fn check_vertices_member(object: Node, found: &mut Least)
+    ensures { found.new ≡ least found.old (needs (chars (codes "vertices")) vertex_list (tree object.entry)) }
+{
+    if let Some(value) = needed(object, "vertices", found) {
+        check_vertices(value, found);
+    }
+}
+
+/// The value is a feature, beside these templates.
+pub fn check_root(node: Node, templates: Templates, found: &mut Least)
+    ensures { found.new ≡ least found.old (of_kind is_object (feature_rules (given templates.entry)) (tree node.entry)) }
+{
+    if check_object(node, found) {
+        check_names(node, found);
+        check_name_member(node, "type", "CityJSONFeature", Reason::WrongType, found);
+        check_id_member(node, found);
+        check_city_objects_member(node, count_member(node, "vertices"), templates, found);
+        check_vertices_member(node, found);
+        check_links(node.get("CityObjects"), found);
+    }
+}

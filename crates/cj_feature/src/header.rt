@@ -1,0 +1,100 @@
+//! Headers: the first line of a text.
+ghost use Rattle.std.specs.Prelude.{◌≡◌, Some, None, map, codes};
+ghost use Rattle.std.specs.Str.{chars};
+ghost use Rattle.cj_spans.specs.View.{document, document_line};
+ghost use Rattle.cj_geometry.specs.Given.{given};
+ghost use Rattle.cj_feature.specs.Feature.{templates_of};
+ghost use Rattle.cj_feature.specs.Shown.{ArePartsOf};
+
+mod check;
+mod parts;
+mod reading;
+mod rules;
+
+pub use check::check_header;
+use cj_decimal::{Affine, Decimal};
+use cj_geometry::Templates;
+use cj_spans::{Doc, Kind};
+pub use parts::HeaderParts;
+pub(crate) use rules::count_member;
+
+/// A valid header.
+#[derive(Clone, Copy)]
+pub struct Header<'a> {
+    doc: Doc<'a>,
+    parts: HeaderParts,
+    ghost known: { ArePartsOf (document doc) parts },
+}
+
+impl<'a> Header<'a> {
+    ghost use Rattle.cj_feature.specs.Shown.{transform_values};
+    ghost use Rattle.cj_feature.specs.View.{header_tree, header_line};
+
+    /// The header of this document again, where its parts came from it.
+    #[tactic(auto, unfolding(crate::specs::View::header_tree, crate::specs::View::header_line))]
+    pub fn of(doc: Doc<'a>, parts: HeaderParts) -> Header<'a>
+        requires { ArePartsOf (document doc) parts }
+        ensures tree { header_tree result ≡ document doc.entry }
+        ensures line { header_line result ≡ document_line doc.entry }
+    {
+        Header { doc, parts }
+    }
+
+    /// What each axis of a vertex is multiplied by (CityJSON 2.0, section 4).
+    #[tactic(auto, unfolding(crate::specs::View::header_tree, crate::specs::View::header_line))]
+    pub fn scale(&self) -> [Decimal; 3]
+        ensures { transform_values (chars (codes "scale")) (header_tree self.now) ≡ map Some result }
+    {
+        let parts = self.parts;
+        parts.scale
+    }
+
+    /// What is then added to each axis of a vertex.
+    #[tactic(auto, unfolding(crate::specs::View::header_tree, crate::specs::View::header_line))]
+    pub fn translate(&self) -> [Decimal; 3]
+        ensures { transform_values (chars (codes "translate")) (header_tree self.now) ≡ map Some result }
+    {
+        let parts = self.parts;
+        parts.translate
+    }
+
+    /// The templates that instances of later lines name.
+    #[tactic(auto, unfolding(crate::specs::View::header_tree, crate::specs::View::header_line))]
+    pub fn templates(&self) -> Templates<'a>
+        ensures { given result ≡ templates_of (header_tree self.now) }
+    {
+        let Some(templates) = self.doc.root().get("geometry-templates") else {
+            return Templates::empty();
+        };
+        let Some(list) = templates.get("templates") else {
+            return Templates::empty();
+        };
+        match list.kind() {
+            Kind::Array => Templates::list(list),
+            _ => Templates::empty(),
+        }
+    }
+
+    /// The maps of the x and y axes, where the header was checked with a box.
+    pub fn affine(&self) -> Option<[Affine; 2]>
+        ensures { result ≡ None }
+    {
+        None
+    }
+
+    /// The line's content.
+    #[tactic(auto, unfolding(crate::specs::View::header_tree, crate::specs::View::header_line))]
+    pub fn bytes(&self) -> &'a [u8]
+        ensures { result.now ≡ header_line self.now }
+    {
+        self.doc.line()
+    }
+
+    /// What [`Header::of`] makes the same header of.
+    #[tactic(auto, unfolding(crate::specs::View::header_tree, crate::specs::View::header_line))]
+    pub fn parts(&self) -> HeaderParts
+        ensures { ArePartsOf (header_tree self.now) result }
+    {
+        self.parts
+    }
+}

@@ -1,0 +1,10 @@
+//! What is read of a header once.
+use cj_decimal::Decimal;
+
+/// What is read of a header once and for all. It borrows nothing, so that it can be kept beside a copy
+/// of the line and its tokens.
+#[derive(Clone, Copy, Debug)]
+pub struct HeaderParts {
+    pub(crate) scale: [Decimal; 3],
+    pub(crate) translate: [Decimal; 3],
+}

@@ -1,0 +1,183 @@
+//! The rules on headers, one after another.
+ghost use Rattle.std.specs.Prelude.{◌≡◌, false, codes};
+ghost use Rattle.std.specs.Str.{chars};
+ghost use Rattle.cj_spans.specs.declared.reason.Reason.TheVariants.{NotThree};
+ghost use Rattle.cj_spans.specs.Finding.{least};
+ghost use Rattle.cj_spans.specs.View.{tree};
+ghost use Rattle.cj_geometry.specs.Rule.{needs, may_have, number, of_length};
+ghost use Rattle.cj_geometry.specs.Geometry.{count_of};
+ghost use Rattle.cj_spans.specs.Parts.{member_of};
+ghost use Rattle.cj_feature.specs.Header.{three_numbers, transform, no_members, empty_object, empty_array, template_vertices, template_list, geometry_templates, header};
+
+use crate::member::check_name_member;
+use cj_geometry::rule::{
+    add, check_array, check_length, check_names, check_number, check_object, count_items, needed,
+};
+use cj_geometry::{Templates, check_geometry};
+use cj_spans::{Kind, Least, Node, Reason};
+
+/// The value is an array of three numbers.
+pub fn check_three_numbers(node: Node, found: &mut Least)
+    ensures { found.new ≡ least found.old (of_length NotThree 3 number (tree node.entry)) }
+{
+    check_length(node, 3, Reason::NotThree, found);
+    for item in node.items() {
+        check_number(item, found);
+    }
+}
+
+/// The object has a member of this name, which is an array of three numbers.
+fn check_three_numbers_member(object: Node, name: &str, found: &mut Least)
+    ensures { found.new ≡ least found.old (needs (chars name.now) (three_numbers false) (tree object.entry)) }
+{
+    if let Some(value) = needed(object, name, found) {
+        check_three_numbers(value, found);
+    }
+}
+
+/// The value is an object of a scale and a translation.
+fn check_transform(node: Node, found: &mut Least)
+    ensures { found.new ≡ least found.old (transform false (tree node.entry)) }
+{
+    if check_object(node, found) {
+        check_names(node, found);
+        check_three_numbers_member(node, "scale", found);
+        check_three_numbers_member(node, "translate", found);
+    }
+}
+
+/// The header has a transform.
+fn check_transform_member(object: Node, found: &mut Least)
+    ensures { found.new ≡ least found.old (needs (chars (codes "transform")) (transform false) (tree object.entry)) }
+{
+    if let Some(value) = needed(object, "transform", found) {
+        check_transform(value, found);
+    }
+}
+
+/// The object has no members.
+fn check_no_members(object: Node, found: &mut Least)
+    ensures { found.new ≡ least found.old (no_members (tree object.entry)) }
+{
+    let mut members = object.members();
+    if members.next().is_some() {
+        add(object, Reason::NotEmpty, found);
+    }
+}
+
+/// The value is an object of no members, whose names are looked at as those of any other.
+fn check_no_objects(node: Node, found: &mut Least)
+    ensures { found.new ≡ least found.old (empty_object (tree node.entry)) }
+{
+    if check_object(node, found) {
+        check_names(node, found);
+        check_no_members(node, found);
+    }
+}
+
+/// The header has no city objects.
+fn check_no_objects_member(object: Node, found: &mut Least)
+    ensures { found.new ≡ least found.old (needs (chars (codes "CityObjects")) empty_object (tree object.entry)) }
+{
+    if let Some(value) = needed(object, "CityObjects", found) {
+        check_no_objects(value, found);
+    }
+}
+
+/// The header has no vertices.
+fn check_no_vertices_member(object: Node, found: &mut Least)
+    ensures { found.new ≡ least found.old (needs (chars (codes "vertices")) empty_array (tree object.entry)) }
+{
+    if let Some(value) = needed(object, "vertices", found) {
+        check_length(value, 0, Reason::NotEmpty, found);
+    }
+}
+
+/// The value is an array of vertices, each of three numbers.
+fn check_template_vertices(node: Node, found: &mut Least)
+    ensures { found.new ≡ least found.old (template_vertices (tree node.entry)) }
+{
+    if check_array(node, found) {
+        for item in node.items() {
+            check_three_numbers(item, found);
+        }
+    }
+}
+
+/// The templates have vertices.
+fn check_template_vertices_member(object: Node, found: &mut Least)
+    ensures { found.new ≡ least found.old (needs (chars (codes "vertices-templates")) template_vertices (tree object.entry)) }
+{
+    if let Some(value) = needed(object, "vertices-templates", found) {
+        check_template_vertices(value, found);
+    }
+}
+
+/// The value is an array of templates, with so many vertices if that is known.
+fn check_template_list(node: Node, vertices: Option<u64>, found: &mut Least)
+    ensures { found.new ≡ least found.old (template_list vertices (tree node.entry)) }
+{
+    if check_array(node, found) {
+        for item in node.items() {
+            check_geometry(item, vertices, Templates::template(), found);
+        }
+    }
+}
+
+/// How many items the member of this name has, if it is an array.
+pub fn count_member(object: Node, name: &str) -> Option<u64>
+    ensures { result ≡ count_of (member_of (chars name.now) (tree object.entry)) }
+{
+    match object.get(name) {
+        Some(value) => match value.kind() {
+            Kind::Array => Some(count_items(value)),
+            _ => None,
+        },
+        None => None,
+    }
+}
+
+/// The templates are geometries, over the vertices beside them.
+fn check_template_list_member(object: Node, found: &mut Least)
+    ensures { found.new ≡ least found.old (needs (chars (codes "templates")) (template_list (count_of (member_of (chars (codes "vertices-templates")) (tree object.entry)))) (tree object.entry)) }
+{
+    if let Some(value) = needed(object, "templates", found) {
+        let vertices = count_member(object, "vertices-templates");
+        check_template_list(value, vertices, found);
+    }
+}
+
+/// The value is an object of templates and their vertices.
+fn check_templates(node: Node, found: &mut Least)
+    ensures { found.new ≡ least found.old (geometry_templates (tree node.entry)) }
+{
+    if check_object(node, found) {
+        check_names(node, found);
+        check_template_list_member(node, found);
+        check_template_vertices_member(node, found);
+    }
+}
+
+/// The header may have templates.
+fn check_templates_member(object: Node, found: &mut Least)
+    ensures { found.new ≡ least found.old (may_have (chars (codes "geometry-templates")) geometry_templates (tree object.entry)) }
+{
+    if let Some(value) = object.get("geometry-templates") {
+        check_templates(value, found);
+    }
+}
+
+/// The value is a header, where there is no box.
+pub fn check_root(node: Node, found: &mut Least)
+    ensures { found.new ≡ least found.old (header false (tree node.entry)) }
+{
+    if check_object(node, found) {
+        check_names(node, found);
+        check_name_member(node, "type", "CityJSON", Reason::WrongType, found);
+        check_name_member(node, "version", "2.0", Reason::WrongVersion, found);
+        check_transform_member(node, found);
+        check_no_objects_member(node, found);
+        check_no_vertices_member(node, found);
+        check_templates_member(node, found);
+    }
+}

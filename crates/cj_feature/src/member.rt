@@ -1,0 +1,34 @@
+//! Members that have to be a certain text.
+ghost use Rattle.std.specs.Prelude.{◌≡◌};
+ghost use Rattle.std.specs.Str.{chars};
+ghost use Rattle.cj_spans.specs.Finding.{least};
+ghost use Rattle.cj_spans.specs.Kinds.{is_text};
+ghost use Rattle.cj_spans.specs.View.{tree};
+ghost use Rattle.cj_geometry.specs.Rule.{of_kind};
+ghost use Rattle.cj_feature.specs.Header.{is_named, has_member_named};
+
+use cj_geometry::rule::{add, needed};
+use cj_spans::{Kind, Least, Node, Reason};
+
+/// The value is this text; another text has `reason`.
+fn check_name(node: Node, text: &str, reason: Reason, found: &mut Least)
+    ensures { found.new ≡ least found.old (of_kind is_text (is_named reason (chars text.now)) (tree node.entry)) }
+{
+    match node.kind() {
+        Kind::Text => {
+            if !node.text_is(text) {
+                add(node, reason, found);
+            }
+        }
+        _ => add(node, Reason::WrongKind, found),
+    }
+}
+
+/// The object has a member of this name, which is this text; another text has `reason`.
+pub fn check_name_member(object: Node, name: &str, text: &str, reason: Reason, found: &mut Least)
+    ensures { found.new ≡ least found.old (has_member_named (chars name.now) reason (chars text.now) (tree object.entry)) }
+{
+    if let Some(value) = needed(object, name, found) {
+        check_name(value, text, reason, found);
+    }
+}

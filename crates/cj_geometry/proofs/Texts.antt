@@ -1,0 +1,13 @@
+-- A value that has a text.
+use Rattle.std.proofs.Common.{◌≡◌, ℕ, List, Option, Some, None, true, ap}
+use Rattle.std.proofs.lemmas.Slice.Eq.{bytes_eq-Decides}
+use Rattle.cj_spans.specs.Tree.{Tree}
+use Rattle.cj_spans.specs.Parts.{text_of, are_same_texts, has_text}
+
+same-is : (s : List ℕ) (o : Option (List ℕ)) → are_same_texts o (Some s) ≡ true → o ≡ Some s
+same-is s None h = absurd (cc h)
+same-is s (Some u) h = ap Some ((bytes_eq-Decides u s).0 h)
+
+-- it has that text alone
+pub text-is : (s : List ℕ) (t : Tree) → has_text s t ≡ true → text_of t ≡ Some s
+text-is s t h = same-is s (text_of t) h

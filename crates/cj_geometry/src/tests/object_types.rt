@@ -1,0 +1,126 @@
+//! The types of city objects. A row of a table has a value, and what is wanted of it: number, level and
+//! name, or `none`.
+use super::tokens_of;
+use crate::ObjectType;
+use cj_spans::Doc;
+use std::alloc::{AllocError, Global};
+use std::process::Abort;
+use std::test::Fail;
+
+/// A type as a row tells it.
+fn shown(alloc: Global, found: Option<ObjectType>) -> Result<String, AllocError> {
+    match found {
+        Some(object_type) => {
+            let level = if object_type.is_second_level() {
+                "second"
+            } else {
+                "first"
+            };
+            format!(in alloc; "{} {level} {}", object_type.number(), object_type.name())
+        }
+        None => String::from_str(alloc, "none"),
+    }
+}
+
+/// Each row of the table has the type that it wants.
+fn meets(rt: &impl Abort, alloc: Global, rows: &str) -> Result<(), AllocError> {
+    for row in rows.trim().lines() {
+        let (value, want) = row.split_once('|').expect(rt, "two cells");
+        let line = value.trim().as_bytes();
+        let tokens = tokens_of(rt, alloc, line);
+        let found = ObjectType::of(Doc::of(line, tokens.as_slice()).root());
+        assert_eq!(rt; shown(alloc, found)?.as_str(), want.trim(), "{row}");
+    }
+    Ok(())
+}
+
+#[test]
+fn types_of_the_first_level(rt: HostRuntime) -> Result<(), Fail> {
+    meets(
+        &rt,
+        rt.alloc(),
+        r#"
+        "Bridge" | 0 first Bridge
+        "Building" | 1 first Building
+        "CityFurniture" | 2 first CityFurniture
+        "CityObjectGroup" | 3 first CityObjectGroup
+        "GenericCityObject" | 4 first GenericCityObject
+        "LandUse" | 5 first LandUse
+        "OtherConstruction" | 6 first OtherConstruction
+        "PlantCover" | 7 first PlantCover
+        "Railway" | 8 first Railway
+        "Road" | 9 first Road
+        "SolitaryVegetationObject" | 10 first SolitaryVegetationObject
+        "TINRelief" | 11 first TINRelief
+        "TransportSquare" | 12 first TransportSquare
+        "Tunnel" | 13 first Tunnel
+        "WaterBody" | 14 first WaterBody
+        "Waterway" | 15 first Waterway
+        "#,
+    )?;
+    Ok(())
+}
+
+#[test]
+fn types_of_the_second_level(rt: HostRuntime) -> Result<(), Fail> {
+    meets(
+        &rt,
+        rt.alloc(),
+        r#"
+        "BridgeConstructiveElement" | 16 second BridgeConstructiveElement
+        "BridgeFurniture" | 17 second BridgeFurniture
+        "BridgeInstallation" | 18 second BridgeInstallation
+        "BridgePart" | 19 second BridgePart
+        "BridgeRoom" | 20 second BridgeRoom
+        "BuildingConstructiveElement" | 21 second BuildingConstructiveElement
+        "BuildingFurniture" | 22 second BuildingFurniture
+        "BuildingInstallation" | 23 second BuildingInstallation
+        "BuildingPart" | 24 second BuildingPart
+        "BuildingRoom" | 25 second BuildingRoom
+        "BuildingStorey" | 26 second BuildingStorey
+        "BuildingUnit" | 27 second BuildingUnit
+        "TunnelConstructiveElement" | 28 second TunnelConstructiveElement
+        "TunnelFurniture" | 29 second TunnelFurniture
+        "TunnelHollowSpace" | 30 second TunnelHollowSpace
+        "TunnelInstallation" | 31 second TunnelInstallation
+        "TunnelPart" | 32 second TunnelPart
+        "#,
+    )?;
+    Ok(())
+}
+
+#[test]
+fn texts_and_other_values(rt: HostRuntime) -> Result<(), Fail> {
+    meets(
+        &rt,
+        rt.alloc(),
+        r#"
+        "\u0042uilding" | 1 first Building
+        "R\u006f\u0061d" | 9 first Road
+        "" | none
+        "building" | none
+        "BUILDING" | none
+        "Buildin" | none
+        "Buildings" | none
+        " Building" | none
+        "Building " | none
+        "+Building" | none
+        "+Shed" | none
+        "TinRelief" | none
+        "BuildingpArt" | none
+        "Part" | none
+        "TunnelPar" | none
+        "TunnelParts" | none
+        "CityObject" | none
+        "CityJSONFeature" | none
+        "Solid" | none
+        3 | none
+        1 | none
+        true | none
+        null | none
+        ["Building"] | none
+        {"type":"Building"} | none
+        "#,
+    )?;
+    Ok(())
+}
