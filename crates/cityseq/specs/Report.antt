@@ -1,14 +1,13 @@
 -- What the program says of an end.
-use Rattle.std.specs.Prelude.{◌≡◌, ℕ, List, [], ◌∷◌, Option, Result, OnOk, OnErr, codes, decimal}
+use Rattle.std.specs.Prelude.{◌≡◌, ℕ, List, [], ◌∷◌, Option, Result, Ok, Err, OnOk, OnErr, codes, decimal}
 use Rattle.std.specs.Io.KnownBytes.{Appends}
-use Rattle.cityseq.specs.Cut.{joined}
-use Rattle.cityseq.specs.Sink.{AppendsPart}
-use Rattle.cityseq.specs.Device.{shown_end}
+use Rattle.cj_stream.specs.Cut.{joined}
+use Rattle.cj_stream.specs.Sink.{AppendsPart}
 use Rattle.cityseq.specs.declared.report.Shown.{Shown}
-use Rattle.cityseq.specs.declared.sink.WriteFault.{WriteFault as Unwritten}
+use Rattle.cj_stream.specs.declared.sink.WriteFault.{WriteFault as Unwritten}
 use Rattle.cj_spans.specs.Reason.{code_of, words_of}
-use Rattle.cityseq.specs.declared.ending.End.{End}
-use Rattle.cityseq.specs.declared.ending.End.TheVariants.{Complete, Refused, ReadFault, ReadLimit, WriteFault, Memory}
+use Rattle.cj_stream.specs.declared.ending.End.{End}
+use Rattle.cj_stream.specs.declared.ending.End.TheVariants.{Complete, Refused, ReadFault, ReadLimit, WriteFault, Memory}
 
 -- the status of the program
 abbrev pub status_of : End → ℕ
@@ -28,6 +27,16 @@ fault_line ReadFault = codes "read fault\n"
 fault_line ReadLimit = codes "read limit\n"
 fault_line WriteFault = codes "write fault\n"
 fault_line Memory = codes "out of memory\n"
+
+-- whether a flush failed, whatever the error
+abbrev pub flushed_by : {E : Type 0} → Result (Unit {0}) E → Result (Unit {0}) Unwritten
+flushed_by (Ok x) = Ok x
+flushed_by (Err e) = Err (record {})
+
+-- the end that is shown of a run that ended so: a write fault where the flush after it failed
+abbrev pub shown_end : Result (Unit {0}) Unwritten → End → End
+shown_end (Ok x) e = e
+shown_end (Err f) e = WriteFault
 
 -- a run ended so, and this is shown of it: its end, or a write fault where the flush after it failed; and the line of
 -- that end, of which standard error has taken all, or a front where it failed

@@ -5,13 +5,13 @@ ghost use Rattle.std.specs.Io.KnownBytes.{Consumes, IsAtEnd};
 ghost use Rattle.cj_budget.specs.declared.limits.Peaks.{Peaks};
 ghost use Rattle.cityseq.specs.Command.{usual_limits};
 ghost use Rattle.cityseq.specs.declared.report.Shown.{Shown};
-ghost use Rattle.cityseq.specs.declared.ending.End.{End};
+ghost use Rattle.cj_stream.specs.declared.ending.End.{End};
 ghost use Rattle.cityseq.specs.Report.{Reports, status_of};
-ghost use Rattle.cityseq.specs.Run.{Account, Writes};
+ghost use Rattle.cj_stream.specs.Run.{Account, Writes};
 
-use crate::copying::copy_out;
 use crate::report::{Shown, WRONG_WORDS, show, status};
 use cj_budget::Limits;
+use cj_stream::copy_out;
 use std::alloc::Global;
 use std::io::{Read, Write};
 

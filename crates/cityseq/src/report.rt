@@ -1,14 +1,12 @@
 //! What the program says of an end: a line on standard error, and its status.
 ghost use Rattle.std.specs.Prelude.{◌≡◌, OnOk, OnErr, map, ◌∷◌, [], codes, decimal};
 ghost use Rattle.std.specs.Io.KnownBytes.{Appends};
-ghost use Rattle.cityseq.specs.Cut.{joined};
-ghost use Rattle.cityseq.specs.Sink.{AppendsPart};
-ghost use Rattle.cityseq.specs.Device.{flushed_by, shown_end};
-ghost use Rattle.cityseq.specs.Report.{fault_line, status_of};
+ghost use Rattle.cj_stream.specs.Cut.{joined};
+ghost use Rattle.cj_stream.specs.Sink.{AppendsPart};
+ghost use Rattle.cityseq.specs.Report.{fault_line, flushed_by, shown_end, status_of};
 
-use crate::ending::End;
-use crate::sink::{WriteFault, write_whole};
 use cj_spans::Reason;
+use cj_stream::{End, WriteFault, write_whole};
 use itoa::Buffer;
 use std::io;
 use std::io::Write;

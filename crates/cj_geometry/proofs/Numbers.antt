@@ -24,17 +24,6 @@ in-range s t (not_whole v value range n) o = refl
 in-range s t (whole v w value range is) o = refl
 
 -- ---- what reading a whole number answers
--- the findings of a number by it
-abbrev pub number-by : Tree → Result (Option ℤ) DecimalFault → List Finding
-number-by t (Ok o) = []
-number-by t (Err e) = one (fault_reason e) t
-
-number-class : (s : List ℕ) (t : Tree) (c : Class s) → number_findings t c ≡ number-by t (whole_answer c)
-number-class s t (no_number n) = refl
-number-class s t (out_of_range n) = refl
-number-class s t (not_whole v value range n) = refl
-number-class s t (whole v w value range is) = refl
-
 -- the findings of an index by it
 abbrev pub index-by : Reason → Option ℕ → Tree → Result (Option ℤ) DecimalFault → List Finding
 index-by reason count t (Ok None) = one NotWhole t
@@ -97,9 +86,6 @@ module _ (line : List ℕ) (t : Tree) (kind : kind_of t ≡ Number) where
 
     pub index-read : (reason : Reason) (count : Option ℕ) → index reason count t ≡ index-by reason count t q
     index-read reason count = rw kind (index-class (spelling t) reason count t (class (spelling t)) ∙ ap (index-by reason count t) answer)
-
-    pub number-read : number t ≡ number-by t q
-    number-read = rw kind (number-class (spelling t) t (class (spelling t)) ∙ ap (number-by t) answer)
 
     pub whole-read : whole_of t ≡ whole-if q
     whole-read = rw kind (whole-class (spelling t) (class (spelling t)) ∙ ap whole-if answer)

@@ -1,13 +1,9 @@
 //! What the tests share: comparisons, and the calls that are tested without what their contracts
 //! say. A test compares values when it runs, and its proof grows with each fact that a call leaves.
 use super::devices::{SlowReader, SlowWriter};
-use crate::copying::{copy, copy_out};
-use crate::ending::End;
-use crate::engine::Engine;
-use crate::running::Outcome;
-use crate::sink::{LineSink, WriteSink};
 use cj_budget::{Limits, Peaks};
 use cj_spans::Reason;
+use cj_stream::{End, Engine, LineSink, Outcome, WriteSink, copy, copy_out};
 use std::alloc::Global;
 use std::process::Abort;
 use std::test::Fail;

@@ -1,11 +1,9 @@
 //! Rows of an engine that is called step by step.
 use super::calls::{check_bytes, check_feed, check_finish, check_number, held, joined, refused};
 use super::rows::{FEATURE, HEADER};
-use crate::ending::End;
-use crate::engine::Engine;
-use crate::sink::WriteSink;
 use cj_budget::{Limits, Peaks};
 use cj_spans::Reason;
+use cj_stream::{End, Engine, WriteSink};
 use std::process::Abort;
 use std::test::Fail;
 

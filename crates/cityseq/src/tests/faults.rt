@@ -4,13 +4,8 @@ use super::calls::{
 };
 use super::devices::{SlowReader, SlowWriter};
 use super::rows::{FEATURE, HEADER};
-use crate::copying::copy;
-use crate::ending::End;
-use crate::engine::Engine;
-use crate::lent::LentSink;
-use crate::running::{Outcome, run};
-use crate::sink::{LineSink, WriteFault, WriteSink};
 use cj_budget::Limits;
+use cj_stream::{End, Engine, LentSink, LineSink, Outcome, WriteFault, WriteSink, copy, run};
 use std::alloc::Global;
 use std::io::ErrorKind;
 use std::process::Abort;

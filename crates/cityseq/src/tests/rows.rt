@@ -3,13 +3,9 @@ use super::calls::{
     check_bytes, check_ended, check_outcome, copied, held, joined, outcome, refused,
 };
 use super::devices::SlowReader;
-use crate::copying::copy_pieces;
-use crate::ending::End;
-use crate::laws;
-use crate::running::Outcome;
-use crate::sink::WriteSink;
 use cj_budget::{Limits, Peaks};
 use cj_spans::Reason;
+use cj_stream::{End, Outcome, WriteSink, copy_pieces, laws};
 use std::alloc::Global;
 use std::process::Abort;
 use std::test::Fail;

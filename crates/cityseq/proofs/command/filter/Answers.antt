@@ -1,5 +1,5 @@
-use Rattle.cityseq.specs.Device.{flushed_by}
-use Rattle.cityseq.proofs.OutputLemmas.{Writes-kept}
+use Rattle.cityseq.specs.Report.{flushed_by}
+use Rattle.cj_stream.proofs.OutputLemmas.{Writes-kept}
 use Rattle.cityseq.proofs.command.filter.Goals as goal
 
 pub returns : goal.returns
