@@ -40,19 +40,20 @@ run() {
 
 # Whether the run had this status, said this line, or nothing where it is empty, and wrote what standard input has.
 answered() {
-  local status said wanted=$1 line=${2:+$2$'\n'} passed=0
+  local status said line=${2:+$2$'\n'} well=true
   cat > "$scratch/wanted"
   status=$(cat "$scratch/status")
-  [ "$status" = "$wanted" ] || failed "status $wanted" "status $status" || passed=1
+  [ "$status" = "$1" ] || { differs "status $1" "status $status" && well=false; }
   said=$(cat "$scratch/said"; echo .)
-  [ "${said%.}" = "$line" ] || failed "on standard error $(printf %q "$line")" "$(printf %q "${said%.}")" || passed=1
-  cmp -s "$scratch/written" "$scratch/wanted" || failed "$(sketch "$scratch/wanted")" "$(sketch "$scratch/written")" || passed=1
-  return $passed
+  said=${said%.}
+  [ "$said" = "$line" ] || { differs "on standard error $(printf %q "$line")" "$(printf %q "$said")" && well=false; }
+  cmp -s "$scratch/written" "$scratch/wanted" ||
+    { differs "$(sketch "$scratch/wanted")" "$(sketch "$scratch/written")" && well=false; }
+  $well
 }
 
-failed() {
+differs() {
   echo "$row: wanted $1, got $2"
-  return 1
 }
 
 # Describes a file in a line.
@@ -147,7 +148,9 @@ row_64_open_arrays() {
 refuses_words() {
   lines "$header" | { run "$@"; cat > "$scratch/unread"; }
   answered 2 '' < /dev/null || return
-  [ "$(cat "$scratch/unread")" = "$header" ] || failed 'an input that is not read' "$(sketch "$scratch/unread")"
+  [ "$(cat "$scratch/unread")" = "$header" ] && return
+  differs 'an input that is not read' "$(sketch "$scratch/unread")"
+  false
 }
 
 row_no_word() {
@@ -177,8 +180,8 @@ row_a_second_word_that_is_not_utf_8() {
 # Not even the program's name: some systems put an empty one there, and some start no program so.
 row_no_arguments_at_all() {
   command -v python3 > "$scratch/written" || return $skipped
-  python3 -c 'import ctypes, sys
-ctypes.CDLL(None).execv(sys.argv[1].encode(), (ctypes.c_char_p * 1)(None))
+  python3 -c 'import ctypes, os, sys
+ctypes.CDLL(None).execv(os.fsencode(sys.argv[1]), (ctypes.c_char_p * 1)(None))
 sys.exit(int(sys.argv[2]))' "$program" $skipped < /dev/null > "$scratch/written" 2> "$scratch/said"
   echo $? > "$scratch/status"
   [ "$(cat "$scratch/status")" != $skipped ] || return $skipped
@@ -244,17 +247,17 @@ try() {
   case $? in
     0) passed=$((passed + 1)) ;;
     "$skipped") echo "$row: left out, as this system cannot show it" ;;
-    *) echo "$row: FAILED" && missed=$((missed + 1)) ;;
+    *) echo "$row: FAILED" && failed=$((failed + 1)) ;;
   esac
 }
 
-passed=0 missed=0
+passed=0 failed=0
 if program=$(find_program "$@"); then
   for row in $(compgen -A function row_); do
     try "$row"
   done
 else
-  echo "there is no program to test" && missed=1
+  echo "there is no program to test" && failed=1
 fi
-echo "$passed passed, $missed failed"
-[ "$missed" = 0 ]
+echo "$passed passed, $failed failed"
+[ "$failed" = 0 ]

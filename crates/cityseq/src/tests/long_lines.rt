@@ -55,7 +55,8 @@ fn check_pieces(
     Ok(())
 }
 
-// Runs over a header and a line of this many digits by whole reads and by small ones, and feeds them in one piece.
+// Runs over a header and a line of this many digits, by whole reads and by shorter ones. Feeds them
+// in one piece, in one whose LF comes after it, and in pieces of 50 bytes.
 fn check_long_line(rt: &impl Abort, alloc: Global, length: usize) -> Result<(), Fail> {
     let text = long_text(alloc, length)?;
     let bytes = (length as u64).saturating_add(140);
@@ -68,6 +69,7 @@ fn check_long_line(rt: &impl Abort, alloc: Global, length: usize) -> Result<(), 
     check_run(rt, alloc, &text, 1_000_000, limits, &wanted);
     check_run(rt, alloc, &text, 8_191, limits, &wanted);
     check_pieces(rt, alloc, &text, text.len(), &wanted)?;
+    check_pieces(rt, alloc, &text, text.len().saturating_sub(1), &wanted)?;
     check_pieces(rt, alloc, &text, 50, &wanted)
 }
 
