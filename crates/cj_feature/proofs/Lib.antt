@@ -1,5 +1,6 @@
 pub mod LinkFaults
 pub mod None
+pub mod Typed
 pub mod Valid
 pub mod Values
 pub mod Verdict

@@ -1,5 +1,6 @@
 -- What follows where a rule finds nothing.
 use Rattle.std.proofs.Common.{◌≡◌, ℕ, List, [], ◌∷◌, ◌++◌, Bool, true, false, cond, Option, Some, None, refl}
+use Rattle.std.specs.List.{flat_map, list_all}
 use Rattle.cj_spans.specs.declared.token.Kind.{Kind}
 use Rattle.cj_spans.specs.declared.reason.Reason.TheVariants.{WrongKind}
 use Rattle.cj_spans.specs.declared.finding.Finding.{Finding}
@@ -21,7 +22,7 @@ module _ (rule : Tree → List Finding) (t : Tree) where
   pub of_kind-none : (is : Kind → Bool) → of_kind is rule t ≡ [] → (is (kind_of t) ≡ true) × (rule t ≡ [])
   of_kind-none is h = by-kind (is (kind_of t)) h
 
-  by-member : (o : Option Tree) → needed rule t o ≡ [] → (u : Tree) × (o ≡ Some u) × (rule u ≡ [])
+  pub by-member : (o : Option Tree) → needed rule t o ≡ [] → (u : Tree) × (o ≡ Some u) × (rule u ≡ [])
   by-member None h = absurd (cc h)
   by-member (Some u) h = (u, refl, h)
 
@@ -38,3 +39,12 @@ module _ (rule : Tree → List Finding) (t : Tree) where
         let has = found in
         let same : u ≡ has.0 = cc in
         rw same has.2
+
+-- and each of a list, where a rule finds nothing in any, passes a test that the rule decides
+pub none-each : {A : Type 0} (rule : A → List Finding) (test : A → Bool) → ((x : A) → rule x ≡ [] → test x ≡ true) → (xs : List A) → flat_map rule xs ≡ [] → list_all test xs ≡ true
+none-each rule test decides [] h = refl
+none-each rule test decides (x ∷ xs) h =
+    let both = none-both (rule x) (flat_map rule xs) h in
+    let here : test x ≡ true = decides x both.0 in
+    let later : list_all test xs ≡ true = none-each rule test decides xs both.1 in
+    rw (here, later) refl

@@ -1,5 +1,5 @@
 //! Features: the later lines of a text.
-ghost use Rattle.std.specs.Prelude.{◌≡◌, [], Some, codes};
+ghost use Rattle.std.specs.Prelude.{◌≡◌, [], Some, codes, map};
 ghost use Rattle.std.specs.Str.{chars};
 ghost use Rattle.cj_spans.specs.Kinds.{is_object};
 ghost use Rattle.cj_spans.specs.Parts.{member_of};
@@ -9,14 +9,20 @@ ghost use Rattle.cj_geometry.specs.Rule.{of_kind};
 ghost use Rattle.cj_feature.specs.Feature.{feature_rules};
 
 mod check;
+mod city_object;
+mod geometries;
 mod ids;
 mod links;
 mod objects;
 mod rules;
+mod vertices;
 
 pub use check::check_feature;
+pub use city_object::{CityObject, Objects};
 use cj_geometry::Templates;
 use cj_spans::{Doc, Node};
+pub use geometries::Geometries;
+pub use vertices::Vertices;
 
 /// A valid feature, beside the templates of its header.
 #[derive(Clone, Copy)]
@@ -27,7 +33,11 @@ pub struct Feature<'a> {
 }
 
 impl<'a> Feature<'a> {
+    ghost use Rattle.std.specs.List.{flat_map};
+    ghost use Rattle.cj_feature.specs.Members.{items_if};
+    ghost use Rattle.cj_feature.specs.Typed.{members_if, vertex_of};
     ghost use Rattle.cj_feature.specs.View.{feature_tree, feature_line, feature_templates};
+    ghost use Rattle.cj_feature.specs.Walks.{objects_left, objects_line, geometries_left, object_geometries, vertices_left};
 
     /// The feature of a document that has no findings beside these templates.
     #[tactic(auto, unfolding(crate::specs::View::feature_tree, crate::specs::View::feature_line, crate::specs::View::feature_templates))]
@@ -48,6 +58,45 @@ impl<'a> Feature<'a> {
     {
         match self.doc.root().get("id") {
             Some(id) => id,
+            None => unreachable!(),
+        }
+    }
+
+    /// The value that holds the city objects.
+    fn objects_node(&self) -> Node<'a>
+        ensures tree { member_of (chars (codes "CityObjects")) (document self.now.doc) ≡ Some (tree result) }
+        ensures line { line_of result ≡ document_line self.now.doc }
+    {
+        match self.doc.root().get("CityObjects") {
+            Some(objects) => objects,
+            None => unreachable!(),
+        }
+    }
+
+    /// The city objects, in order.
+    #[tactic(auto, unfolding(crate::specs::View::feature_tree, crate::specs::View::feature_line))]
+    pub fn objects(&self) -> Objects<'a>
+        ensures objects { objects_left result ≡ members_if (member_of (chars (codes "CityObjects")) (feature_tree self.now)) }
+        ensures line { objects_line result ≡ feature_line self.now }
+    {
+        Objects::over(self.objects_node().members())
+    }
+
+    /// The geometries of all city objects, in order.
+    #[tactic(auto, unfolding(crate::specs::View::feature_tree))]
+    pub fn geometries(&self) -> Geometries<'a>
+        ensures { geometries_left result ≡ flat_map object_geometries (members_if (member_of (chars (codes "CityObjects")) (feature_tree self.now))) }
+    {
+        Geometries::over(self.objects_node().members())
+    }
+
+    /// The vertices, in order.
+    #[tactic(auto, unfolding(crate::specs::View::feature_tree))]
+    pub fn vertices(&self) -> Vertices<'a>
+        ensures { vertices_left result ≡ map vertex_of (items_if (member_of (chars (codes "vertices")) (feature_tree self.now))) }
+    {
+        match self.doc.root().get("vertices") {
+            Some(vertices) => Vertices::over(vertices.items()),
             None => unreachable!(),
         }
     }

@@ -9,6 +9,6 @@ mod header;
 mod laws;
 mod member;
 
-pub use feature::{Feature, check_feature};
+pub use feature::{CityObject, Feature, Geometries, Objects, Vertices, check_feature};
 pub use header::{Header, HeaderParts, check_header};
 pub use laws::links_are_the_links;

@@ -1,0 +1,78 @@
+-- Where the rules on city objects and vertices find nothing, types are known and vertices have three whole numbers.
+use Rattle.std.proofs.Common.{◌≡◌, ℕ, List, [], ◌∷◌, ◌++◌, length, map, Bool, true, false, nat_eq, cond, Option, Some, None, ℤ, codes, refl, arith}
+use Rattle.std.specs.List.{flat_map, list_all}
+use Rattle.std.proofs.lemmas.Bool.{eqb-true}
+use Rattle.std.specs.Str.{chars}
+use Rattle.cj_spans.specs.declared.reason.Reason.TheVariants.{NotThree}
+use Rattle.cj_spans.specs.Tree.{Tree}
+use Rattle.cj_spans.specs.Kinds.{is_text, is_number, is_array, is_object}
+use Rattle.cj_spans.specs.Parts.{items_of, members_of, member_of}
+use Rattle.cj_decimal.specs.Class.{Class, no_number, out_of_range, not_whole, whole}
+use Rattle.cj_decimal.proofs.Classes.{class}
+use Rattle.cj_geometry.specs.ObjectTypes.{ObjectRow, row_of}
+use Rattle.cj_geometry.specs.Geometry.{Given}
+use Rattle.cj_geometry.specs.Rule.{one, needs, may_have, spelling, whole_findings, whole_by, whole_of, whole_number, distinct, has_length, of_length}
+use Rattle.cj_feature.specs.Feature.{known_type, object_type, geometries, texts, second_level, city_object, city_objects, vertex_list}
+use Rattle.cj_feature.specs.Typed.{is_row, is_typed, are_three, is_vertex}
+use Rattle.cj_feature.proofs.None.{none-both, of_kind-none, by-member, none-each}
+
+-- ---- city objects
+
+known-row : (o : Option ObjectRow) (t : Tree) → known_type o t ≡ [] → is_row o ≡ true
+known-row None t h = absurd (cc h)
+known-row (Some r) t h = refl
+
+typed : (vertices : Option ℕ) (templates : Given) (m : Tree × Tree) → city_object vertices templates m.1 ≡ [] → is_typed m ≡ true
+typed vertices templates m h =
+    let o = m.1 in
+    let name = needs (chars (codes "type")) object_type in
+    let rules : distinct o ++ name o ++ may_have (chars (codes "geometry")) (geometries vertices templates) o ++ may_have (chars (codes "children")) texts o ++ may_have (chars (codes "parents")) texts o ++ second_level o ≡ [] =
+    (of_kind-none (λ u. distinct u ++ name u ++ may_have (chars (codes "geometry")) (geometries vertices templates) u ++ may_have (chars (codes "children")) texts u ++ may_have (chars (codes "parents")) texts u ++ second_level u) o is_object h).1 in
+    let type_rule : name o ≡ [] = (none-both _ _ (none-both _ _ (none-both _ _ (none-both _ _ (none-both _ _ rules).0).0).0).0).1 in
+    let has = by-member object_type o (member_of (chars (codes "type")) o) type_rule in
+    let row : is_row (row_of has.0) ≡ true = known-row (row_of has.0) has.0 (of_kind-none (λ u. known_type (row_of u) u) has.0 is_text has.2).1 in
+    rw has.1 row
+
+pub all-typed : (vertices : Option ℕ) (templates : Given) (t : Tree) → city_objects vertices templates t ≡ [] → list_all is_typed (members_of t) ≡ true
+all-typed vertices templates t h =
+    let each = λ (u : Tree). flat_map (λ m. city_object vertices templates m.1) (members_of u) in
+    let rules : distinct t ++ each t ≡ [] = (of_kind-none (λ u. distinct u ++ each u) t is_object h).1 in
+    none-each (λ m. city_object vertices templates m.1) is_typed (typed vertices templates) (members_of t) (none-both _ _ rules).1
+
+-- ---- vertices
+
+by-class : {s : List ℕ} (t : Tree) (c : Class s) → whole_findings t c ≡ [] → (w : ℤ) × (whole_by c ≡ Some w)
+by-class t (no_number n) h = absurd (cc h)
+by-class t (out_of_range n) h = absurd (cc h)
+by-class t (not_whole v value range n) h = absurd (cc h)
+by-class t (whole v w value range is) h = (w, refl)
+
+whole-value : (t : Tree) → whole_number t ≡ [] → (w : ℤ) × (whole_of t ≡ Some w)
+whole-value t h =
+    let parts = of_kind-none (λ u. whole_findings u (class (spelling u))) t is_number h in
+    let value = by-class t (class (spelling t)) parts.1 in
+    (value.0, rw parts.0 value.1)
+
+by-length : (b : Bool) (t : Tree) → cond b [] (one NotThree t) ≡ [] → b ≡ true
+by-length true t h = refl
+by-length false t h = absurd (cc h)
+
+three : (ts : List Tree) → nat_eq (length ts) 3 ≡ true → flat_map whole_number ts ≡ [] → are_three (map whole_of ts) ≡ true
+three [] n h = absurd (cc n)
+three (x ∷ []) n h = absurd (cc n)
+three (x ∷ y ∷ []) n h = absurd (cc n)
+three (x ∷ y ∷ z ∷ []) n h =
+    let first = none-both (whole_number x) (flat_map whole_number (y ∷ z ∷ [])) h in
+    let second = none-both (whole_number y) (flat_map whole_number (z ∷ [])) first.1 in
+    let third = none-both (whole_number z) [] second.1 in
+    rw ((whole-value x first.0).1, (whole-value y second.0).1, (whole-value z third.0).1) refl
+three (x ∷ y ∷ z ∷ w ∷ ts) n h = let e : length (x ∷ y ∷ z ∷ w ∷ ts) ≡ 3 = eqb-true (length (x ∷ y ∷ z ∷ w ∷ ts)) 3 n in absurd (omega arith)
+
+vertex : (t : Tree) → of_length NotThree 3 whole_number t ≡ [] → is_vertex t ≡ true
+vertex t h =
+    let rules : has_length NotThree 3 t ++ flat_map whole_number (items_of t) ≡ [] = (of_kind-none (λ u. has_length NotThree 3 u ++ flat_map whole_number (items_of u)) t is_array h).1 in
+    let both = none-both (has_length NotThree 3 t) (flat_map whole_number (items_of t)) rules in
+    three (items_of t) (by-length (nat_eq (length (items_of t)) 3) t both.0) both.1
+
+pub all-vertices : (t : Tree) → vertex_list t ≡ [] → list_all is_vertex (items_of t) ≡ true
+all-vertices t h = none-each (of_length NotThree 3 whole_number) is_vertex vertex (items_of t) (of_kind-none (λ u. flat_map (of_length NotThree 3 whole_number) (items_of u)) t is_array h).1

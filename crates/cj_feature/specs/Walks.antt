@@ -1,0 +1,45 @@
+-- Walks over a feature: what of its tree is left.
+use Rattle.std.specs.Prelude.{◌≡◌, ℕ, List, ◌++◌, map, Option, ℤ, IfSome, codes}
+use Rattle.std.specs.List.{flat_map}
+use Rattle.std.specs.Str.{chars}
+use Rattle.std.specs.Iterator.{YieldsFirstBy}
+use Rattle.cj_spans.specs.Tree.{Tree}
+use Rattle.cj_spans.specs.Parts.{member_of}
+use Rattle.cj_spans.specs.View.{tree, line_of, items_left, members_left, members_line}
+use Rattle.cj_geometry.specs.Geometry.{left_of}
+use Rattle.cj_feature.specs.declared.feature.city_object.CityObject.{CityObject}
+use Rattle.cj_feature.specs.declared.feature.city_object.Objects.{Objects}
+use Rattle.cj_feature.specs.declared.feature.geometries.Geometries.{Geometries}
+use Rattle.cj_feature.specs.declared.feature.vertices.Vertices.{Vertices}
+use Rattle.cj_feature.specs.Members.{items_if}
+use Rattle.cj_feature.specs.Typed.{vertex_of}
+
+-- ---- city objects
+
+-- a city object shows its name and its value
+abbrev pub object_trees : CityObject → Tree × Tree
+object_trees o = (tree o.id, tree o.node)
+
+unfoldable pub objects_left : Objects → List (Tree × Tree)
+objects_left w = members_left w.members
+
+unfoldable pub objects_line : Objects → List ℕ
+objects_line w = members_line w.members
+
+-- a step gives the next city object
+abbrev pub YieldsObject : Objects → Option CityObject → Objects → Type 0
+YieldsObject s r t = YieldsFirstBy object_trees objects_left s r t × (objects_line t ≡ objects_line s) × IfSome r (λ o. (line_of o.id ≡ objects_line s) × (line_of o.node ≡ objects_line s))
+
+-- ---- geometries
+
+-- those of a city object
+abbrev pub object_geometries : Tree × Tree → List Tree
+object_geometries m = items_if (member_of (chars (codes "geometry")) m.1)
+
+unfoldable pub geometries_left : Geometries → List Tree
+geometries_left w = left_of w.items ++ flat_map object_geometries (members_left w.objects)
+
+-- ---- vertices
+
+unfoldable pub vertices_left : Vertices → List (List (Option ℤ))
+vertices_left w = map vertex_of (items_left w.items)

@@ -1,0 +1,83 @@
+//! The vertices of a feature, in order.
+ghost use Rattle.std.specs.Prelude.{◌≡◌, ◌∷◌, true, Some, map};
+ghost use Rattle.std.specs.List.{list_all};
+ghost use Rattle.cj_spans.specs.View.{tree, items_left};
+ghost use Rattle.cj_geometry.specs.Rule.{whole_of};
+ghost use Rattle.cj_feature.specs.Typed.{vertex_of, is_vertex, begins_whole};
+
+use cj_geometry::rule::read_whole;
+use cj_spans::{Items, Node};
+
+/// The vertices that are left, in order: three whole numbers each, as they stand in the line.
+#[derive(Clone, Copy)]
+pub struct Vertices<'a> {
+    pub(crate) items: Items<'a>,
+    ghost whole: { list_all is_vertex (items_left items) ≡ true },
+}
+
+/// The next of some whole numbers.
+fn next_whole(items: &mut Items) -> i64
+    requires { begins_whole (map whole_of (items_left items.old)) ≡ true }
+    ensures { map whole_of (items_left items.old) ≡ Some result ∷ map whole_of (items_left items.new) }
+{
+    match items.next() {
+        Some(node) => match read_whole(node) {
+            Some(whole) => whole,
+            None => unreachable!(),
+        },
+        None => unreachable!(),
+    }
+}
+
+/// The whole numbers of a vertex.
+fn read_vertex(node: Node) -> [i64; 3]
+    requires { is_vertex (tree node) ≡ true }
+    ensures { map Some result ≡ vertex_of (tree node.entry) }
+{
+    let mut items = node.items();
+    let x = next_whole(&mut items);
+    let y = next_whole(&mut items);
+    let z = next_whole(&mut items);
+    [x, y, z]
+}
+
+impl<'a> Vertices<'a> {
+    ghost use Rattle.cj_spans.specs.Parts.{items_of};
+    ghost use Rattle.cj_feature.specs.Walks.{vertices_left};
+
+    /// A walk over items that are vertices.
+    #[tactic(auto, unfolding(crate::specs::Walks::vertices_left))]
+    pub(crate) fn over(items: Items<'a>) -> Vertices<'a>
+        requires { list_all is_vertex (items_left items) ≡ true }
+        ensures { vertices_left result ≡ map vertex_of (items_left items.entry) }
+    {
+        Vertices { items }
+    }
+}
+
+impl<'a> Iterator for Vertices<'a> {
+    ghost use Rattle.std.specs.Prelude.{map, Some};
+    ghost use Rattle.std.specs.Iterator.{YieldsFirstBy, item_count};
+    ghost use Rattle.cj_feature.specs.Walks.{vertices_left};
+
+    type Item = [i64; 3];
+
+    ghost next_gives = { YieldsFirstBy (λ v. map Some v) vertices_left };
+
+    ghost remaining = { item_count vertices_left };
+
+    #[tactic(auto, unfolding(crate::specs::Walks::vertices_left))]
+    fn next(&mut self) -> Option<[i64; 3]> {
+        let mut items = self.items;
+        match items.next() {
+            Some(node) => {
+                *self = Vertices { items };
+                Some(read_vertex(node))
+            }
+            None => {
+                *self = Vertices { items };
+                None
+            }
+        }
+    }
+}
