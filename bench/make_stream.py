@@ -1,12 +1,12 @@
 #!/usr/bin/env python3
 """Writes a CityJSONSeq stream of a given shape and size to standard output.
 
-    make_stream.py usual|tiny|huge|text MEGABYTES
+    make_stream.py usual|tiny|huge|text|linked MEGABYTES
 
 usual: features of 5 to 125 KB, about 4 bytes a JSON token, as city models have them;
 tiny: features of about 300 bytes; huge: features of about 6 MB; text: features of 2 to 30 KB, most of
-it long attributes of which half of the letters are not ASCII. The same arguments give the same
-bytes."""
+it long attributes of which half of the letters are not ASCII; linked: features of 10,000 city objects,
+one parent and its children, at least one line. The same arguments give the same bytes."""
 import random
 import sys
 
@@ -55,6 +55,14 @@ def text(rng, number):
             f'"boundaries":[[[0,1,2,3]]]}}]}}}},"vertices":[[0,0,0],[1000,0,0],[1000,1000,0],[0,1000,0]]}}\n')
 
 
+def linked(parts):
+    """A building and its parts, which name each other."""
+    children = ",".join(f'"p{i}"' for i in range(parts))
+    objects = ",".join(f'"p{i}":{{"type":"BuildingPart","parents":["b"]}}' for i in range(parts))
+    return (f'{{"type":"CityJSONFeature","id":"b","CityObjects":{{"b":{{"type":"Building","children":[{children}]}},'
+            f'{objects}}},"vertices":[]}}\n')
+
+
 # about how many bytes one vertex adds to a line
 VERTEX = 72
 
@@ -73,10 +81,12 @@ def main():
         lines = [text(rng, i).encode() for i in range(200)]
     elif shape == "huge":
         lines = [feature(rng, i, 6000000 // VERTEX).encode() for i in range(2)]
+    elif shape == "linked":
+        lines = [linked(9999).encode()]
     else:
         sys.exit(__doc__)
     number = 0
-    while written < size:
+    while written < size or number == 0:
         written += out.write(lines[number % len(lines)])
         number += 1
 

@@ -1,15 +1,2 @@
-pub mod Bound
 pub mod Command
-pub mod Cut
-pub mod Engine
-pub mod IsLines
-pub mod LentSink
-pub mod Lines
-pub mod Reading
 pub mod Report
-pub mod Rows
-pub mod Run
-pub mod Scanning
-pub mod Sink
-pub mod Verdict
-pub mod WriteSink

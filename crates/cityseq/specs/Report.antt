@@ -1,10 +1,13 @@
 -- What the program says of an end.
-use Rattle.std.specs.Prelude.{◌≡◌, ◌⊎◌, ℕ, List, [], ◌∷◌, Option, codes, decimal}
-use Rattle.cityseq.specs.Cut.{joined}
-use Rattle.cityseq.specs.Sink.{AppendsPart}
-use Rattle.cj_spans.specs.Reason.{code_of, text_of}
-use Rattle.cityseq.specs.declared.reason.End.{End}
-use Rattle.cityseq.specs.declared.reason.End.TheVariants.{Complete, Refused, ReadFault, ReadLimit, WriteFault, Memory}
+use Rattle.std.specs.Prelude.{◌≡◌, ℕ, List, [], ◌∷◌, Option, Result, Ok, Err, OnOk, OnErr, codes, decimal}
+use Rattle.std.specs.Io.KnownBytes.{Appends}
+use Rattle.cj_stream.specs.Cut.{joined}
+use Rattle.cj_stream.specs.Sink.{AppendsPart}
+use Rattle.cityseq.specs.declared.report.Shown.{Shown}
+use Rattle.cj_stream.specs.declared.sink.WriteFault.{WriteFault as Unwritten}
+use Rattle.cj_spans.specs.Reason.{code_of, words_of}
+use Rattle.cj_stream.specs.declared.ending.End.{End}
+use Rattle.cj_stream.specs.declared.ending.End.TheVariants.{Complete, Refused, ReadFault, ReadLimit, WriteFault, Memory}
 
 -- the status of the program
 abbrev pub status_of : End → ℕ
@@ -19,16 +22,26 @@ status_of Memory = 5
 abbrev pub fault_line : End → List ℕ
 fault_line Complete = []
 fault_line (Refused line place reason) =
-    joined (codes "line " ∷ decimal line ∷ codes ", byte " ∷ decimal place ∷ codes ": " ∷ decimal (code_of reason) ∷ codes " " ∷ text_of reason ∷ codes "\n" ∷ [])
+    joined (codes "line " ∷ decimal line ∷ codes ", byte " ∷ decimal place ∷ codes ": " ∷ decimal (code_of reason) ∷ codes " " ∷ words_of reason ∷ codes "\n" ∷ [])
 fault_line ReadFault = codes "read fault\n"
 fault_line ReadLimit = codes "read limit\n"
 fault_line WriteFault = codes "write fault\n"
 fault_line Memory = codes "out of memory\n"
 
--- a run ended so, and the program says it: the end itself, or a write fault where the flush failed, by its status
--- and its line, of which standard error has taken a front at least
-pub record Reports (e : End) (status : ℕ) (old new : Option (List ℕ)) : Type 0 where
-  pub shown : End
-  pub cause : (shown ≡ e) ⊎ (shown ≡ WriteFault)
-  pub answer : status ≡ status_of shown
-  pub line : AppendsPart old new (fault_line shown)
+-- whether a flush failed, whatever the error
+abbrev pub flushed_by : {E : Type 0} → Result (Unit {0}) E → Result (Unit {0}) Unwritten
+flushed_by (Ok x) = Ok x
+flushed_by (Err e) = Err (record {})
+
+-- the end that is shown of a run that ended so: a write fault where the flush after it failed
+abbrev pub shown_end : Result (Unit {0}) Unwritten → End → End
+shown_end (Ok x) e = e
+shown_end (Err f) e = WriteFault
+
+-- a run ended so, and this is shown of it: its end, or a write fault where the flush after it failed; and the line of
+-- that end, of which standard error has taken all, or a front where it failed
+pub record Reports (e : End) (shown : Shown) (old new : Option (List ℕ)) : Type 0 where
+  pub flushed : Result (Unit {0}) Unwritten
+  pub end : shown.end ≡ shown_end flushed e
+  pub whole : OnOk shown.line (Appends old new (fault_line shown.end))
+  pub front : OnErr shown.line (AppendsPart old new (fault_line shown.end))

@@ -3,15 +3,15 @@ ghost use Rattle.std.specs.Prelude.{◌≡◌, ℕ, List, map, string_bytes};
 ghost use Rattle.cityseq.specs.Command.{AsksFilter};
 ghost use Rattle.std.specs.Io.KnownBytes.{Consumes, IsAtEnd};
 ghost use Rattle.cj_budget.specs.declared.limits.Peaks.{Peaks};
-ghost use Rattle.cityseq.specs.Rows.{usual_limits};
-ghost use Rattle.cityseq.specs.declared.reason.End.{End};
-ghost use Rattle.cityseq.specs.Report.{Reports};
-ghost use Rattle.cityseq.specs.Run.{Account, Writes};
+ghost use Rattle.cityseq.specs.Command.{usual_limits};
+ghost use Rattle.cityseq.specs.declared.report.Shown.{Shown};
+ghost use Rattle.cj_stream.specs.declared.ending.End.{End};
+ghost use Rattle.cityseq.specs.Report.{Reports, status_of};
+ghost use Rattle.cj_stream.specs.Run.{Account, Writes};
 
-use crate::copying::copy_out;
-use crate::reason::End;
-use crate::report::{status, write_fault_line};
+use crate::report::{Shown, WRONG_WORDS, show, status};
 use cj_budget::Limits;
+use cj_stream::copy_out;
 use std::alloc::Global;
 use std::io::{Read, Write};
 
@@ -21,33 +21,35 @@ const USUAL_LINE: u64 = 8_388_608;
 /// The depth limit where none is given.
 const USUAL_DEPTH: u64 = 64;
 
-/// The status of a command line that is not understood.
-pub const WRONG_WORDS: u8 = 2;
+/// The limits where none are given.
+fn usual() -> Limits
+    ensures { result ≡ usual_limits }
+{
+    match Limits::new(USUAL_LINE, USUAL_DEPTH) {
+        Ok(limits) => limits,
+        Err(_) => unreachable!(),
+    }
+}
 
-/// Copies the kept lines from the reader to `out`, flushes it, and says on `err` how it ended. A
-/// failure to write to `err` is ignored.
+/// Copies the kept lines from the reader to `out`, flushes it, and says on `err` how it ended.
 pub fn filter<R: Read, W: Write, E: Write>(
     alloc: Global,
     limits: Limits,
     reader: &mut R,
     out: &mut W,
     err: &mut E,
-) -> u8
+) -> Shown
     ensures { (r : List ℕ) × (n features : ℕ) × (peaks : Peaks) × (e : End) × Consumes (R.remaining reader.old) (R.remaining reader.new) r
         × Account limits r (IsAtEnd (R.remaining reader.new)) n features peaks e
         × Writes limits r e (W.contents out.old) (W.contents out.new)
         × Reports e result (E.contents err.old) (E.contents err.new) }
 {
     let outcome = copy_out(alloc, reader, out, limits);
-    let end = match out.flush() {
-        Ok(()) => outcome.ended,
-        Err(_) => End::WriteFault,
-    };
-    let _ = write_fault_line(err, end);
-    status(end)
+    show(out.flush(), outcome.ended, err)
 }
 
-/// Runs the command that the words ask for; the first word is the program's name.
+/// Runs the command that the words ask for, and answers the status; the first word is the program's
+/// name. A failure to write to `err` is ignored.
 pub fn command<R: Read, W: Write, E: Write>(
     alloc: Global,
     words: &[String],
@@ -58,15 +60,14 @@ pub fn command<R: Read, W: Write, E: Write>(
     ensures filter { AsksFilter (map string_bytes words.now) → (r : List ℕ) × (n features : ℕ) × (peaks : Peaks) × (e : End) × Consumes (R.remaining reader.old) (R.remaining reader.new) r
         × Account usual_limits r (IsAtEnd (R.remaining reader.new)) n features peaks e
         × Writes usual_limits r e (W.contents out.old) (W.contents out.new)
-        × Reports e result (E.contents err.old) (E.contents err.new) }
+        × (shown : Shown) × Reports e shown (E.contents err.old) (E.contents err.new) × (result ≡ status_of shown.end) }
     ensures other { (AsksFilter (map string_bytes words.now) → ⊥) → (result ≡ 2)
         × (reader.new ≡ reader.old) × (out.new ≡ out.old) × (err.new ≡ err.old) }
 {
     match words {
-        [_, word] if word.as_str() == "filter" => match Limits::new(USUAL_LINE, USUAL_DEPTH) {
-            Ok(limits) => filter(alloc, limits, reader, out, err),
-            Err(_) => unreachable!(),
-        },
+        [_, word] if word.as_str() == "filter" => {
+            status(filter(alloc, usual(), reader, out, err).end)
+        }
         _ => WRONG_WORDS,
     }
 }

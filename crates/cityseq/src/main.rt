@@ -1,28 +1,18 @@
 //! The program `cityseq`: it reads a CityJSONSeq stream from standard input, once and within a
 //! bound, and writes the lines that are kept to standard output.
 //!
-//! A line takes this way: `main` reads standard input by the piece, the `running` module feeds
-//! each piece to the `engine`, its `framer` cuts the piece into lines, `judge` gives the verdict on
-//! each, and the `sink` writes what is kept. `report` says how the run ended.
+//! `command` tells by the words what is asked for, and runs the engine of `cj_stream` over standard input
+//! and output; `report` says how the run ended.
 #![tactic(auto)]
 
 mod command;
-mod copying;
-mod engine;
-mod framer;
-mod judge;
-mod laws;
-mod lent;
-mod reason;
 mod report;
-mod running;
-mod sink;
 #[cfg(test)]
 mod tests;
 
-use crate::command::{WRONG_WORDS, command};
-use crate::reason::End;
-use crate::report::{status, write_fault_line};
+use crate::command::command;
+use crate::report::{WRONG_WORDS, status, write_fault_line};
+use cj_stream::End;
 use std::alloc::{AllocError, Global};
 use std::env;
 use std::io::{BufWriter, ErrorKind};

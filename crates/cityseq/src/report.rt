@@ -1,15 +1,27 @@
 //! What the program says of an end: a line on standard error, and its status.
 ghost use Rattle.std.specs.Prelude.{◌≡◌, OnOk, OnErr, map, ◌∷◌, [], codes, decimal};
 ghost use Rattle.std.specs.Io.KnownBytes.{Appends};
-ghost use Rattle.cityseq.specs.Cut.{joined};
-ghost use Rattle.cityseq.specs.Sink.{AppendsPart};
-ghost use Rattle.cityseq.specs.Report.{fault_line, status_of};
+ghost use Rattle.cj_stream.specs.Cut.{joined};
+ghost use Rattle.cj_stream.specs.Sink.{AppendsPart};
+ghost use Rattle.cityseq.specs.Report.{fault_line, flushed_by, shown_end, status_of};
 
-use crate::reason::End;
-use crate::sink::{WriteFault, write_whole};
 use cj_spans::Reason;
+use cj_stream::{End, WriteFault, write_whole};
 use itoa::Buffer;
+use std::io;
 use std::io::Write;
+
+/// The status of a command line that is not understood. All others are those of an end: [`status`].
+pub const WRONG_WORDS: u8 = 2;
+
+/// What was shown of a run: its end, and whether standard error took the line of it.
+#[derive(Clone, Copy, Debug, PartialEq, Eq)]
+pub struct Shown {
+    /// The run's end, or a write fault where the flush after it failed.
+    pub end: End,
+    /// Whether the line of the end was written.
+    pub line: Result<(), WriteFault>,
+}
 
 /// The status of the program.
 pub fn status(end: End) -> u8
@@ -21,6 +33,26 @@ pub fn status(end: End) -> u8
         End::ReadFault | End::ReadLimit => 3,
         End::WriteFault => 4,
         End::Memory => 5,
+    }
+}
+
+// What a flush says by its answer. Each error is a failure.
+fn flushed(answer: io::Result<()>) -> Result<(), WriteFault>
+    ensures { result ≡ flushed_by answer }
+{
+    match answer {
+        Ok(()) => Ok(()),
+        Err(_) => Err(WriteFault),
+    }
+}
+
+// The end that is shown of a run, by what came of the flush after it.
+fn end_after(flushed: Result<(), WriteFault>, ended: End) -> End
+    ensures { result ≡ shown_end flushed ended }
+{
+    match flushed {
+        Ok(()) => ended,
+        Err(WriteFault) => End::WriteFault,
     }
 }
 
@@ -77,5 +109,19 @@ pub fn write_fault_line<W: Write>(err: &mut W, end: End) -> Result<(), WriteFaul
         End::ReadLimit => write_whole(err, b"read limit\n"),
         End::WriteFault => write_whole(err, b"write fault\n"),
         End::Memory => write_whole(err, b"out of memory\n"),
+    }
+}
+
+/// Says on standard error how a run ended, whose output was then flushed with this answer. A failure
+/// to write there is told by the result alone.
+pub fn show<E: Write>(answer: io::Result<()>, ended: End, err: &mut E) -> Shown
+    ensures end { result.end ≡ shown_end (flushed_by answer) ended }
+    ensures whole { OnOk result.line (Appends (E.contents err.old) (E.contents err.new) (fault_line result.end)) }
+    ensures front { OnErr result.line (AppendsPart (E.contents err.old) (E.contents err.new) (fault_line result.end)) }
+{
+    let end = end_after(flushed(answer), ended);
+    Shown {
+        end,
+        line: write_fault_line(err, end),
     }
 }

@@ -87,12 +87,14 @@ impl<T: Copy> Bounded<T> {
     }
 
     /// Adds all elements of a slice at the end, or none. A refusal changes nothing. To add nothing
-    /// takes no memory.
+    /// takes no memory, nor does it where there is room for the limit.
     pub fn extend_from_slice(&mut self, xs: &[T]) -> Result<(), ExtendFault>
         ensures ok { OnOk result (Becomes self.old (self.old.elements ++ xs.now) self.new) }
         ensures full { IsErrOf result ExtendFault.Full ↔ (self.old.limit < length self.old.elements + length xs.now) }
         ensures err { OnErr result (self.new ≡ self.old) }
         ensures nothing { length xs.now ≡ 0 → IsOk result }
+        ensures room { IsTrue self.old.reserved
+            → length self.old.elements + length xs.now ≤ self.old.limit → IsOk result }
     {
         if self.limit - self.items.len() < xs.len() {
             return Err(ExtendFault::Full);

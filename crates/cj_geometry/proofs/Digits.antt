@@ -1,43 +1,77 @@
--- Numbers that one digit spells.
-use Rattle.std.proofs.Common.{◌≡◌, ◌<◌, ◌^◌, ℕ, List, [], true, cond, Option, Some, Ok, pos, refl, sym, arith}
+-- Numbers of one digit.
+use Rattle.std.proofs.Common.{◌≡◌, ◌<◌, ◌^◌, ℕ, List, [], true, cond, Option, Some, Ok, ℤ, pos, negsuc, inl, inr, refl, sym, arith}
 use Rattle.std.specs.Prelude.{codes}
+use Rattle.std.proofs.lemmas.Int.{ints}
 use Rattle.cj_spans.specs.declared.token.Kind.TheVariants.{Number}
 use Rattle.cj_spans.specs.declared.reason.Reason.{Reason}
 use Rattle.cj_spans.specs.Tree.{Tree, scalar}
-use Rattle.cj_decimal.specs.Spelling.{digits_value}
+use Rattle.cj_decimal.specs.Number.{number as number_of}
+use Rattle.cj_decimal.specs.Spelling.{IsValue, digits_value}
+use Rattle.cj_decimal.specs.Class.{Class, whole_answer}
 use Rattle.cj_decimal.specs.Reading.{digits_front, digits_rest, begins, begins_digit, is_int, is_empty}
-use Rattle.cj_decimal.proofs.Wholes.{answer_digits}
-use Rattle.cj_geometry.specs.Rule.{one, is_outside, number, index}
-use Rattle.cj_geometry.proofs.Numbers.{number-read, index-read}
+use Rattle.cj_decimal.proofs.Wholes.{answer_digits, answer_whole}
+use Rattle.cj_geometry.specs.Rule.{one, is_outside, number, index, whole_of}
+use Rattle.cj_geometry.proofs.Numbers.{index-read, number-read, whole-read}
 
 -- the number that a spelling stands for, at these places
 abbrev pub number_at : List ℕ → ℕ → ℕ → Tree
 number_at s i j = scalar Number (record { start = i; stop = j; spelling = s })
 
-module _ (reason : Reason) (count : Option ℕ) (i j : ℕ) where
-  of_digits : (s : List ℕ) (n : ℕ) → is_int (digits_front s) ≡ true → digits_rest s ≡ [] → n ≡ digits_value (digits_front s) → n < 10 ^ 18 → index reason count (number_at s i j) ≡ cond (is_outside count (pos n)) (one reason (number_at s i j)) []
-  of_digits s n int rest value small = index-read [] (number_at s i j) refl s refl (Ok (Some (pos n))) (Ok (Some (pos n))) (λ c. sym (answer_digits s n c int rest value small)) refl reason count
+-- what a digit reads as
+of_digits : (s : List ℕ) (n : ℕ) → is_int (digits_front s) ≡ true → digits_rest s ≡ [] → n ≡ digits_value (digits_front s) → n < 10 ^ 18 → (c : Class s) → Ok (Some (pos n)) ≡ whole_answer c
+of_digits s n int rest value small c = sym (answer_digits s n c int rest value small)
 
-  pub index-zero : index reason count (number_at (codes "0") i j) ≡ cond (is_outside count (pos 0)) (one reason (number_at (codes "0") i j)) []
-  unfolding digits_front digits_rest begins begins_digit is_int is_empty
-  index-zero = of_digits (codes "0") 0 refl refl refl (omega arith)
+zero_read : (c : Class (codes "0")) → Ok (Some (pos 0)) ≡ whole_answer c
+unfolding digits_front digits_rest begins begins_digit is_int is_empty
+zero_read = of_digits (codes "0") 0 refl refl refl (omega arith)
 
-  pub index-one : index reason count (number_at (codes "1") i j) ≡ cond (is_outside count (pos 1)) (one reason (number_at (codes "1") i j)) []
-  unfolding digits_front digits_rest begins begins_digit is_int is_empty
-  index-one = of_digits (codes "1") 1 refl refl refl (omega arith)
+one_read : (c : Class (codes "1")) → Ok (Some (pos 1)) ≡ whole_answer c
+unfolding digits_front digits_rest begins begins_digit is_int is_empty
+one_read = of_digits (codes "1") 1 refl refl refl (omega arith)
 
-  pub index-two : index reason count (number_at (codes "2") i j) ≡ cond (is_outside count (pos 2)) (one reason (number_at (codes "2") i j)) []
-  unfolding digits_front digits_rest begins begins_digit is_int is_empty
-  index-two = of_digits (codes "2") 2 refl refl refl (omega arith)
+two_read : (c : Class (codes "2")) → Ok (Some (pos 2)) ≡ whole_answer c
+unfolding digits_front digits_rest begins begins_digit is_int is_empty
+two_read = of_digits (codes "2") 2 refl refl refl (omega arith)
+
+-- and one below 0
+minus_one : IsValue (codes "-1") (number_of (negsuc 0) (pos 0))
+minus_one = record {
+  written = record { negative = true; int = codes "1"; frac = []; exponent = pos 0 };
+  spells = record { minus = codes "-"; fraction = []; exp = []; minus_is = refl; int_is = inr (omega arith, omega arith, tt); frac_is = inl (refl, refl); exp_is = inl (refl, refl); joined = refl };
+  same = record { coefficients = refl };
+  normal = record { normal = λ e. absurd (omega (arith, e)) };
+}
+
+minus_one_read : (c : Class (codes "-1")) → Ok (Some (negsuc 0)) ≡ whole_answer c
+minus_one_read c =
+    sym (answer_whole (codes "-1") (number_of (negsuc 0) (pos 0)) minus_one (record { digits = omega arith; power_low = omega (arith, ints); power_high = omega (arith, ints) }) (negsuc 0) c
+    (record { same = record { coefficients = refl }; small = omega arith }))
 
 module _ (i j : ℕ) where
-  number-of : (s : List ℕ) (n : ℕ) → is_int (digits_front s) ≡ true → digits_rest s ≡ [] → n ≡ digits_value (digits_front s) → n < 10 ^ 18 → number (number_at s i j) ≡ []
-  number-of s n int rest value small = number-read [] (number_at s i j) refl s refl (Ok (Some (pos n))) (Ok (Some (pos n))) (λ c. sym (answer_digits s n c int rest value small)) refl
+  module _ (reason : Reason) (count : Option ℕ) where
+    of_read : (s : List ℕ) (w : ℤ) → ((c : Class s) → Ok (Some w) ≡ whole_answer c) → index reason count (number_at s i j) ≡ cond (is_outside count w) (one reason (number_at s i j)) []
+    of_read s w read = index-read [] (number_at s i j) refl s refl (Ok (Some w)) (Ok (Some w)) read refl reason count
+
+    pub index-zero : index reason count (number_at (codes "0") i j) ≡ cond (is_outside count (pos 0)) (one reason (number_at (codes "0") i j)) []
+    index-zero = of_read (codes "0") (pos 0) zero_read
+
+    pub index-one : index reason count (number_at (codes "1") i j) ≡ cond (is_outside count (pos 1)) (one reason (number_at (codes "1") i j)) []
+    index-one = of_read (codes "1") (pos 1) one_read
+
+    pub index-two : index reason count (number_at (codes "2") i j) ≡ cond (is_outside count (pos 2)) (one reason (number_at (codes "2") i j)) []
+    index-two = of_read (codes "2") (pos 2) two_read
+
+    pub index-minus_one : index reason count (number_at (codes "-1") i j) ≡ cond (is_outside count (negsuc 0)) (one reason (number_at (codes "-1") i j)) []
+    index-minus_one = of_read (codes "-1") (negsuc 0) minus_one_read
 
   pub number-zero : number (number_at (codes "0") i j) ≡ []
-  unfolding digits_front digits_rest begins begins_digit is_int is_empty
-  number-zero = number-of (codes "0") 0 refl refl refl (omega arith)
+  number-zero = number-read [] (number_at (codes "0") i j) refl (codes "0") refl (Ok (Some (pos 0))) (Ok (Some (pos 0))) zero_read refl
 
   pub number-one : number (number_at (codes "1") i j) ≡ []
-  unfolding digits_front digits_rest begins begins_digit is_int is_empty
-  number-one = number-of (codes "1") 1 refl refl refl (omega arith)
+  number-one = number-read [] (number_at (codes "1") i j) refl (codes "1") refl (Ok (Some (pos 1))) (Ok (Some (pos 1))) one_read refl
+
+  pub whole-zero : whole_of (number_at (codes "0") i j) ≡ Some (pos 0)
+  whole-zero = whole-read [] (number_at (codes "0") i j) refl (codes "0") refl (Ok (Some (pos 0))) (Ok (Some (pos 0))) zero_read refl
+
+  pub whole-one : whole_of (number_at (codes "1") i j) ≡ Some (pos 1)
+  whole-one = whole-read [] (number_at (codes "1") i j) refl (codes "1") refl (Ok (Some (pos 1))) (Ok (Some (pos 1))) one_read refl

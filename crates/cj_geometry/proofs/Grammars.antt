@@ -13,7 +13,7 @@ use Rattle.cj_decimal.specs.Number.{signed}
 use Rattle.cj_decimal.specs.Spelling.{IsNumber, digits_value}
 use Rattle.cj_decimal.specs.Spelling as read
 use Rattle.cj_decimal.specs.Class.{Class, no_number, out_of_range, not_whole, whole}
-use Rattle.cj_geometry.specs.Grammar.{IsHeld, itself, an_item, a_value, IsOfNumber}
+use Rattle.cj_geometry.specs.Grammar.{IsHeld, the_tree, an_item, a_value, IsOfNumber}
 
 -- ---- what is scanned as a number is read as one
 
@@ -131,7 +131,7 @@ module _ {b : List ℕ} where
   value_spelled (full_object i j k l ms n t opened before name p closed) m h = last_value ms n t m (padded_spelled p) (led_members_spelled before m) h
 
   held_spelled : {t u : Tree} → Spelled b t → IsHeld t u → Spelled b u
-  held_spelled s itself = s
+  held_spelled s the_tree = s
   held_spelled s (an_item u v h c) = let w = held_spelled s h in item_spelled w.2 v c
   held_spelled s (a_value u m h c) = let w = held_spelled s h in value_spelled w.2 m c
 

@@ -4,7 +4,7 @@ use Rattle.std.specs.Prelude.{unsigned_abs}
 use Rattle.std.proofs.lemmas.Int.{to_z-of_z, fits_signed_from_abs}
 use Rattle.cj_spans.specs.declared.token.Kind.TheVariants.{Number}
 use Rattle.cj_spans.specs.declared.reason.Reason.{Reason}
-use Rattle.cj_spans.specs.declared.reason.Reason.TheVariants.{WrongKind, NumberRange, NotWhole}
+use Rattle.cj_spans.specs.declared.reason.Reason.TheVariants.{NotWhole}
 use Rattle.cj_spans.specs.declared.finding.Finding.{Finding}
 use Rattle.cj_spans.specs.Tree.{Tree, scalar, array, object}
 use Rattle.cj_spans.specs.Parts.{kind_of, spelling_of}
@@ -14,39 +14,16 @@ use Rattle.cj_decimal.specs.Spelling.{IsNumber, IsNumberInRange, IsNumberOutOfRa
 use Rattle.cj_decimal.specs.Class.{Class, no_number, out_of_range, not_whole, whole, whole_answer}
 use Rattle.cj_decimal.proofs.Classes.{class}
 use Rattle.cj_decimal.proofs.Law.{not_both, value_is_number}
+use Rattle.cj_decimal.proofs.Wholes.{answer_fault}
 use Rattle.cj_geometry.specs.Rule.{one, spelling, is_outside, fault_reason, number_findings, index_findings, number, index, whole_by, whole_of}
 
-module _ (s : List ℕ) (t : Tree) where
-  out-of-range : (c : Class s) → IsNumberOutOfRange s → number_findings t c ≡ one NumberRange t
-  out-of-range (no_number n) o = absurd (n (value_is_number s o.0 o.1))
-  out-of-range (out_of_range n) o = refl
-  out-of-range (not_whole v value range n) o = absurd (not_both s (v, value, range) o)
-  out-of-range (whole v w value range is) o = absurd (not_both s (v, value, range) o)
-
-  in-range : (c : Class s) → IsNumberInRange s → number_findings t c ≡ []
-  in-range (no_number n) o = absurd (n (value_is_number s o.0 o.1))
-  in-range (out_of_range n) o = absurd (not_both s o n)
-  in-range (not_whole v value range n) o = refl
-  in-range (whole v w value range is) o = refl
-
-  no-number : (c : Class s) → ¬ IsNumber s → number_findings t c ≡ one WrongKind t
-  no-number (no_number n) o = refl
-  no-number (out_of_range n) o = absurd (o (value_is_number s n.0 n.1))
-  no-number (not_whole v value range n) o = absurd (o (value_is_number s v value))
-  no-number (whole v w value range is) o = absurd (o (value_is_number s v value))
+in-range : (s : List ℕ) (t : Tree) (c : Class s) → IsNumberInRange s → number_findings t c ≡ []
+in-range s t (no_number n) o = absurd (n (value_is_number s o.0 o.1))
+in-range s t (out_of_range n) o = absurd (not_both s o n)
+in-range s t (not_whole v value range n) o = refl
+in-range s t (whole v w value range is) o = refl
 
 -- ---- what reading a whole number answers
--- the findings of a number by it
-abbrev pub number-by : Tree → Result (Option ℤ) DecimalFault → List Finding
-number-by t (Ok o) = []
-number-by t (Err e) = one (fault_reason e) t
-
-number-class : (s : List ℕ) (t : Tree) (c : Class s) → number_findings t c ≡ number-by t (whole_answer c)
-number-class s t (no_number n) = refl
-number-class s t (out_of_range n) = refl
-number-class s t (not_whole v value range n) = refl
-number-class s t (whole v w value range is) = refl
-
 -- the findings of an index by it
 abbrev pub index-by : Reason → Option ℕ → Tree → Result (Option ℤ) DecimalFault → List Finding
 index-by reason count t (Ok None) = one NotWhole t
@@ -58,6 +35,17 @@ index-class s reason count t (no_number n) = refl
 index-class s reason count t (out_of_range n) = refl
 index-class s reason count t (not_whole v value range n) = refl
 index-class s reason count t (whole v w value range is) = refl
+
+-- the findings of a number by it
+abbrev pub number-by : Tree → Result (Option ℤ) DecimalFault → List Finding
+number-by t (Ok o) = []
+number-by t (Err e) = one (fault_reason e) t
+
+number-class : (s : List ℕ) (t : Tree) (c : Class s) → number_findings t c ≡ number-by t (whole_answer c)
+number-class s t (no_number n) = refl
+number-class s t (out_of_range n) = refl
+number-class s t (not_whole v value range n) = refl
+number-class s t (whole v w value range is) = refl
 
 -- the whole number by it
 abbrev pub whole-if : Result (Option ℤ) DecimalFault → Option ℤ
@@ -89,8 +77,7 @@ module _ (line : List ℕ) (t : Tree) (kind : kind_of t ≡ Number) where
   number-in o = rw kind (in-range (spelling t) t (class (spelling t)) (rw spelled at o))
 
   pub number-fault : (e : DecimalFault) → (e ≡ NotANumber → ¬ IsNumber (spelling_of line t)) → (e ≡ OutOfRange → IsNumberOutOfRange (spelling_of line t)) → number t ≡ one (fault_reason e) t
-  number-fault NotANumber none out = rw kind (no-number (spelling t) t (class (spelling t)) (rw spelled at (none refl)))
-  number-fault OutOfRange none out = rw kind (out-of-range (spelling t) t (class (spelling t)) (rw spelled at (out refl)))
+  number-fault e none out = rw kind (number-class (spelling t) t (class (spelling t)) ∙ ap (number-by t) (answer_fault (spelling t) e (class (spelling t)) (rw spelled at none) (rw spelled at out)))
 
   -- with what a call has read of the spelling, which is s
   module _ (s : List ℕ) (same : s ≡ spelling_of line t) (r q : Result (Option ℤ) DecimalFault) (read : (c : Class s) → r ≡ whole_answer c) (is : r ≡ q) where
@@ -100,8 +87,8 @@ module _ (line : List ℕ) (t : Tree) (kind : kind_of t ≡ Number) where
     pub index-read : (reason : Reason) (count : Option ℕ) → index reason count t ≡ index-by reason count t q
     index-read reason count = rw kind (index-class (spelling t) reason count t (class (spelling t)) ∙ ap (index-by reason count t) answer)
 
-    pub number-read : number t ≡ number-by t q
-    number-read = rw kind (number-class (spelling t) t (class (spelling t)) ∙ ap (number-by t) answer)
-
     pub whole-read : whole_of t ≡ whole-if q
     whole-read = rw kind (whole-class (spelling t) (class (spelling t)) ∙ ap whole-if answer)
+
+    pub number-read : number t ≡ number-by t q
+    number-read = rw kind (number-class (spelling t) t (class (spelling t)) ∙ ap (number-by t) answer)

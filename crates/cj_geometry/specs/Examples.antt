@@ -1,7 +1,7 @@
 -- Worked geometries: lines and their trees.
-use Rattle.std.specs.Prelude.{◌≡◌, ℕ, ◌+◌, List, ◌++◌, length, true, false, [], ◌∷◌, Some, codes}
+use Rattle.std.specs.Prelude.{◌≡◌, ℕ, zero, suc, ◌+◌, List, ◌++◌, length, true, false, [], ◌∷◌, Some, codes}
 use Rattle.cj_spans.specs.declared.token.Kind.TheVariants.{Null, Number, Text}
-use Rattle.cj_spans.specs.Tree.{Tree, scalar, array, object, no_items, item, no_members, member}
+use Rattle.cj_spans.specs.Tree.{Tree, Items, scalar, array, object, no_items, item, no_members, member}
 use Rattle.cj_spans.specs.Json.{atom_at}
 use Rattle.cj_spans.specs.Parts.{has_text}
 use Rattle.cj_geometry.specs.Table.{Row, form_of}
@@ -23,8 +23,8 @@ abbrev pub three : Tree
 three = scalar Number (atom_at (codes "3") 0 1)
 
 -- an object of no member
-abbrev pub nothing : Tree
-nothing = object 0 2 no_members
+abbrev pub empty_object : Tree
+empty_object = object 0 2 no_members
 
 -- a type that is not in the table
 abbrev pub cone_line : List ℕ
@@ -39,6 +39,62 @@ instance_line = codes "{\"type\":\"GeometryInstance\"}"
 
 abbrev pub bare_instance : Tree
 bare_instance = object 0 27 (member (atom_at instance_line 1 7) (scalar Text (atom_at instance_line 8 26)) no_members)
+
+-- a list of one template, with a level of detail
+abbrev pub templates_line : List ℕ
+templates_line = codes "[{\"lod\":\"2\"}]"
+
+abbrev pub templates : Tree
+templates = array 0 13 (item (object 1 12 (member (atom_at templates_line 2 7) (scalar Text (atom_at templates_line 8 11)) no_members)) no_items)
+
+-- an instance of the template of this number, at this vertex, with a matrix of these numbers
+abbrev pub placed_line : List ℕ → List ℕ → List ℕ → List ℕ
+placed_line template vertex matrix =
+    codes "{\"type\":\"GeometryInstance\",\"template\":" ++ template ++ codes ",\"boundaries\":[" ++ vertex ++ codes "],\"transformationMatrix\":[" ++ matrix ++ codes "]}"
+
+-- so many numbers of one digit with commas between them, from a place on
+abbrev pub digits_from : List ℕ → ℕ → ℕ → Items
+digits_from line i zero = no_items
+digits_from line i (suc n) = item (scalar Number (atom_at line i (i + 1))) (digits_from line (i + 2) n)
+
+-- its tree, by the number of the matrix's numbers; the template's number ends at 39, where it is of one digit
+abbrev pub placed : List ℕ → List ℕ → List ℕ → ℕ → Tree
+placed template vertex matrix count =
+    let line = placed_line template vertex matrix in
+    let a = 38 + length template in
+    let b = a + 15 + length vertex in
+    let c = b + 26 + length matrix in
+    object 0 (c + 2)
+    (member (atom_at line 1 7) (scalar Text (atom_at line 8 26))
+    (member (atom_at line 27 37) (scalar Number (atom_at line 38 a))
+    (member (atom_at line (a + 1) (a + 13)) (array (a + 14) (b + 1) (item (scalar Number (atom_at line (a + 15) b)) no_items))
+    (member (atom_at line (b + 2) (b + 24)) (array (b + 25) (c + 1) (digits_from line (b + 26) count)) no_members))))
+
+-- matrices of 16 numbers, of one less and of one more
+abbrev pub sixteen : List ℕ
+sixteen = codes "1,0,0,0,0,1,0,0,0,0,1,0,0,0,0,1"
+
+abbrev pub fifteen : List ℕ
+fifteen = codes "1,0,0,0,0,1,0,0,0,0,1,0,0,0,0"
+
+abbrev pub seventeen : List ℕ
+seventeen = codes "1,0,0,0,0,1,0,0,0,0,1,0,0,0,0,1,0"
+
+-- a complete instance, and one with something wrong in it
+abbrev pub complete_instance : Tree
+complete_instance = placed (codes "0") (codes "0") sixteen 16
+
+abbrev pub short_instance : Tree
+short_instance = placed (codes "0") (codes "0") fifteen 15
+
+abbrev pub long_instance : Tree
+long_instance = placed (codes "0") (codes "0") seventeen 17
+
+abbrev pub negative_instance : Tree
+negative_instance = placed (codes "0") (codes "-1") sixteen 16
+
+abbrev pub past_instance : Tree
+past_instance = placed (codes "1") (codes "0") sixteen 16
 
 -- two types, of which the second name is spelled by an escape
 abbrev pub doubled_line : List ℕ
@@ -58,8 +114,8 @@ ring line i = array i (i + 7) (item (scalar Number (atom_at line (i + 1) (i + 2)
 abbrev pub shell : List ℕ → Tree
 shell line = array 39 62 (item (array 40 61 (item (array 41 50 (item (ring line 42) no_items)) (item (array 51 60 (item (ring line 52) no_items)) no_items))) no_items)
 
-abbrev pub surfaces : List ℕ → Tree
-surfaces line = array 87 111 (item (object 88 110 (member (atom_at line 89 95) (scalar Text (atom_at line 96 109)) no_members)) no_items)
+abbrev pub roof_surfaces : List ℕ → Tree
+roof_surfaces line = array 87 111 (item (object 88 110 (member (atom_at line 89 95) (scalar Text (atom_at line 96 109)) no_members)) no_items)
 
 -- its tree, by the tree of the values
 abbrev pub solid : List ℕ → (List ℕ → Tree) → Tree
@@ -70,7 +126,7 @@ solid values tree_of =
     (member (atom_at line 16 21) (scalar Text (atom_at line 22 25))
     (member (atom_at line 26 38) (shell line)
     (member (atom_at line 63 74)
-    (object 75 (122 + length values) (member (atom_at line 76 86) (surfaces line) (member (atom_at line 112 120) (tree_of line) no_members))) no_members))))
+    (object 75 (122 + length values) (member (atom_at line 76 86) (roof_surfaces line) (member (atom_at line 112 120) (tree_of line) no_members))) no_members))))
 
 -- null as a whole, for the shell, and for the second surface
 abbrev pub null_whole : Tree

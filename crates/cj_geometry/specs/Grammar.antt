@@ -7,7 +7,7 @@ use Rattle.cj_decimal.specs.Class.{Class, no_number, out_of_range, not_whole, wh
 
 -- a tree itself, an item of what it holds, or the value of a member of what it holds
 pub data IsHeld (t : Tree) : Tree → Type 0 where
-  itself : IsHeld t t
+  the_tree : IsHeld t t
   an_item : (u v : Tree) → IsHeld t u → Contains (items_of u) v → IsHeld t v
   a_value : (u : Tree) (m : Tree × Tree) → IsHeld t u → Contains (members_of u) m → IsHeld t m.1
 

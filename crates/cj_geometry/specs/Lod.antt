@@ -6,14 +6,14 @@ use Rattle.cj_spans.specs.Parts.{items_of, member_of, has_text}
 use Rattle.cj_geometry.specs.Rule.{whole_of}
 use Rattle.cj_geometry.specs.Geometry.{Given, listed, empty, itself}
 
--- the tree of a number that counts from 0
-abbrev pub tree_of_number : List Tree → ℤ → Option Tree
-tree_of_number ts (pos k) = slice_get ts k
-tree_of_number ts (negsuc k) = None
+-- the tree at an index that counts from 0
+abbrev pub at_index : List Tree → ℤ → Option Tree
+at_index ts (pos k) = slice_get ts k
+at_index ts (negsuc k) = None
 
--- the template that a number chooses, if there is one
+-- the template that an index chooses, if there is one
 abbrev pub chosen : Given → Tree → Option Tree
-chosen (listed l) t = option_and_then (tree_of_number (items_of l)) (whole_of t)
+chosen (listed l) t = option_and_then (at_index (items_of l)) (whole_of t)
 chosen empty t = None
 chosen itself t = None
 

@@ -26,26 +26,23 @@ of_kind is rule t = cond (is (kind_of t)) (rule t) (one WrongKind t)
 abbrev pub nothing : Tree → List Finding
 nothing t = []
 
--- the member is there, else a finding at the object
+-- a finding at the object where a member is missing
 abbrev pub missing : Tree → Option Tree → List Finding
 missing g None = one MissingMember g
 missing g (Some t) = []
 
--- and where it is, what a rule says of it
-abbrev pub needed : (Tree → List Finding) → Tree → Option Tree → List Finding
-needed rule g None = one MissingMember g
-needed rule g (Some t) = rule t
-
-abbrev pub needs : List ℕ → (Tree → List Finding) → Tree → List Finding
-needs name rule g = needed rule g (member_of name g)
-
--- what a rule says of the member, where it is there
+-- what a rule says of a member, where it is there
 abbrev pub if_there : (Tree → List Finding) → Option Tree → List Finding
 if_there rule None = []
 if_there rule (Some t) = rule t
 
+-- the object may have the member, by a rule
 abbrev pub may_have : List ℕ → (Tree → List Finding) → Tree → List Finding
 may_have name rule g = if_there rule (member_of name g)
+
+-- the object needs the member, by a rule
+abbrev pub needs : List ℕ → (Tree → List Finding) → Tree → List Finding
+needs name rule g = missing g (member_of name g) ++ may_have name rule g
 
 -- the bytes of a scalar
 abbrev pub spelling : Tree → List ℕ

@@ -2,18 +2,18 @@
 ghost use Rattle.std.specs.Prelude.{◌≡◌, ◌<◌, ◌∷◌, [], ℕ, length, nat_le, true, codes, Some, None};
 ghost use Rattle.std.specs.Str.{chars};
 ghost use Rattle.cj_spans.specs.Parts.{has_text};
-ghost use Rattle.cj_spans.specs.declared.reason.Reason.TheVariants.{MissingMember, DuplicateName, WrongKind, UnknownGeometryType, VertexIndex, SemanticsCount, SemanticsIndex, BadInstance};
+ghost use Rattle.cj_spans.specs.declared.reason.Reason.TheVariants.{MissingMember, DuplicateName, WrongKind, UnknownGeometryType, VertexIndex, SemanticsCount, SemanticsIndex, TemplateIndex, BadInstance};
 ghost use Rattle.cj_spans.specs.Finding.{least, found_at};
 ghost use Rattle.cj_spans.specs.Tree.{Tree, scalar};
 ghost use Rattle.cj_spans.specs.Json.{atom_at};
 ghost use Rattle.cj_spans.specs.declared.token.Kind.TheVariants.{Text};
 ghost use Rattle.cj_spans.specs.Forest.{forest};
 ghost use Rattle.cj_spans.specs.Preorder.{preorder};
-ghost use Rattle.cj_geometry.specs.Geometry.{geometry, empty, itself};
+ghost use Rattle.cj_geometry.specs.Geometry.{geometry, listed, empty, itself};
 ghost use Rattle.cj_geometry.specs.Lod.{lod};
 ghost use Rattle.cj_geometry.specs.ObjectTypes.{object_types, row_of, row_at};
 ghost use Rattle.cj_geometry.specs.Table.{parts, instance, table, form_of};
-ghost use Rattle.cj_geometry.specs.Examples.{points_line, points, three, nothing, cone_line, cone, instance_line, bare_instance, doubled_line, doubled, solid_line, null_whole, null_shell, null_surface, no_shell, one_surface, past_surfaces, string, HaveTheirForms, HasNoName};
+ghost use Rattle.cj_geometry.specs.Examples.{points_line, points, three, empty_object, cone_line, cone, instance_line, bare_instance, templates_line, templates, placed_line, sixteen, fifteen, seventeen, complete_instance, short_instance, long_instance, negative_instance, past_instance, doubled_line, doubled, solid_line, null_whole, null_shell, null_surface, no_shell, one_surface, past_surfaces, string, HaveTheirForms, HasNoName};
 
 /// An index is below the number of vertices, if that is known.
 pub fn two_points_beside_one_vertex()
@@ -28,7 +28,7 @@ pub fn a_number()
 
 /// A geometry needs a type.
 pub fn no_type()
-    ensures { least None (geometry (Some 1) empty nothing) ≡ Some (found_at 0 MissingMember) }
+    ensures { least None (geometry (Some 1) empty empty_object) ≡ Some (found_at 0 MissingMember) }
 {}
 
 /// The type is one of the table.
@@ -40,6 +40,22 @@ pub fn no_type_of_the_table()
 pub fn an_instance_of_nothing()
     ensures instance { least None (geometry (Some 1) empty bare_instance) ≡ Some (found_at 0 MissingMember) }
     ensures template { least None (geometry (Some 1) itself bare_instance) ≡ Some (found_at 8 BadInstance) }
+{}
+
+/// A complete instance: a template of the list, one vertex and 16 numbers.
+pub fn a_complete_instance()
+    ensures { least None (geometry (Some 1) (listed templates) complete_instance) ≡ None }
+{}
+
+/// The matrix has neither less nor more numbers, the vertex is none below 0, and the template is one of the
+/// list.
+pub fn what_an_instance_needs()
+    ensures short { least None (geometry (Some 1) (listed templates) short_instance) ≡ Some (found_at 80 BadInstance) }
+    ensures long { least None (geometry (Some 1) (listed templates) long_instance) ≡ Some (found_at 80 BadInstance) }
+    ensures negative { least None (geometry (Some 1) (listed templates) negative_instance) ≡ Some (found_at 54 VertexIndex) }
+    ensures past { least None (geometry (Some 1) (listed templates) past_instance) ≡ Some (found_at 38 TemplateIndex) }
+    ensures none { least None (geometry (Some 1) empty complete_instance) ≡ Some (found_at 38 TemplateIndex) }
+    ensures template { least None (geometry (Some 1) itself complete_instance) ≡ Some (found_at 8 BadInstance) }
 {}
 
 /// Two rules find something, and the least finding is that of the second.
@@ -70,10 +86,20 @@ pub fn an_index_past_the_surfaces()
 pub fn trees_of_their_lines()
     ensures points { forest points_line (preorder points) ≡ points ∷ [] }
     ensures three { forest (codes "3") (preorder three) ≡ three ∷ [] }
-    ensures nothing { forest (codes "{}") (preorder nothing) ≡ nothing ∷ [] }
+    ensures nothing { forest (codes "{}") (preorder empty_object) ≡ empty_object ∷ [] }
     ensures cone { forest cone_line (preorder cone) ≡ cone ∷ [] }
     ensures instance { forest instance_line (preorder bare_instance) ≡ bare_instance ∷ [] }
     ensures doubled { forest doubled_line (preorder doubled) ≡ doubled ∷ [] }
+{}
+
+/// And so those of the instances and their list.
+pub fn instances_of_their_lines()
+    ensures templates { forest templates_line (preorder templates) ≡ templates ∷ [] }
+    ensures complete { forest (placed_line (codes "0") (codes "0") sixteen) (preorder complete_instance) ≡ complete_instance ∷ [] }
+    ensures short { forest (placed_line (codes "0") (codes "0") fifteen) (preorder short_instance) ≡ short_instance ∷ [] }
+    ensures long { forest (placed_line (codes "0") (codes "0") seventeen) (preorder long_instance) ≡ long_instance ∷ [] }
+    ensures negative { forest (placed_line (codes "0") (codes "-1") sixteen) (preorder negative_instance) ≡ negative_instance ∷ [] }
+    ensures past { forest (placed_line (codes "1") (codes "0") sixteen) (preorder past_instance) ≡ past_instance ∷ [] }
 {}
 
 /// And so those of the solid.
@@ -91,6 +117,13 @@ pub fn levels_of_detail()
     ensures own { lod empty points ≡ Some (scalar Text (atom_at points_line 27 30)) }
     ensures none { lod empty cone ≡ None }
     ensures instance { lod empty bare_instance ≡ None }
+{}
+
+/// That of an instance is its template's, if the list has it.
+pub fn levels_of_detail_of_instances()
+    ensures listed { lod (listed templates) complete_instance ≡ Some (scalar Text (atom_at templates_line 8 11)) }
+    ensures past { lod (listed templates) past_instance ≡ None }
+    ensures none { lod empty complete_instance ≡ None }
 {}
 
 /// The table as a whole: no row hides another, and other values have no form.

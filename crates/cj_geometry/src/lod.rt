@@ -9,14 +9,14 @@ ghost use Rattle.cj_geometry.specs.Rule.{whole_of};
 
 use crate::form::INSTANCE;
 use crate::rule::read_whole;
-use crate::rules::Templates;
+use crate::templates::Templates;
 use cj_spans::Node;
 
-/// The item of this number, from 0.
-fn item_at<'a>(node: Node<'a>, number: u64) -> Option<Node<'a>>
-    ensures { option_map tree result ≡ slice_get (items_of (tree node.entry)) number }
+/// The item at this index, from 0.
+fn item_at<'a>(node: Node<'a>, index: u64) -> Option<Node<'a>>
+    ensures { option_map tree result ≡ slice_get (items_of (tree node.entry)) index }
 {
-    let mut left = number;
+    let mut left = index;
     for item in node.items() {
         if left == 0 {
             return Some(item);
@@ -26,12 +26,12 @@ fn item_at<'a>(node: Node<'a>, number: u64) -> Option<Node<'a>>
     None
 }
 
-/// The template that this number chooses, if there is one.
-fn choose<'a>(number: Node, templates: Templates<'a>) -> Option<Node<'a>>
-    ensures { option_map tree result ≡ chosen (given templates.entry) (tree number.entry) }
+/// The template that this index chooses, if there is one.
+fn choose<'a>(index: Node, templates: Templates<'a>) -> Option<Node<'a>>
+    ensures { option_map tree result ≡ chosen (given templates.entry) (tree index.entry) }
 {
     match templates.nodes() {
-        Some(list) => match read_whole(number) {
+        Some(list) => match read_whole(index) {
             Some(whole) if whole >= 0 => item_at(list, whole as u64),
             _ => None,
         },
@@ -54,7 +54,7 @@ fn lod_of_template<'a>(node: Node, templates: Templates<'a>) -> Option<Node<'a>>
     ensures { option_map tree result ≡ template_lod (given templates.entry) (tree node.entry) }
 {
     match node.get("template") {
-        Some(number) => match choose(number, templates) {
+        Some(index) => match choose(index, templates) {
             Some(template) => template.get("lod"),
             None => None,
         },

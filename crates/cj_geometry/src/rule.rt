@@ -8,7 +8,7 @@
 //!
 //! ```text
 //! if check_object(node, found) {                           // else WrongKind at the value
-//!     check_names(node, found);                            // DuplicateName at each name that came before
+//!     check_names(node, found);                            // DuplicateName at each name that comes again
 //!     check_text_member(node, "type", found);              // MissingMember at the object, or WrongKind
 //!     if let Some(point) = needed(node, "point", found) {  // MissingMember at the object
 //!         check_length(point, 3, Reason::NotThree, found); // else WrongKind, or NotThree at the array
@@ -56,7 +56,7 @@ pub fn check_text(node: Node, found: &mut Least)
     }
 }
 
-/// The value is an array, else it is of the wrong kind: whether it is.
+/// Whether the value is an array; where it is none, it is of the wrong kind.
 #[inline(always)]
 pub fn check_array(node: Node, found: &mut Least) -> bool
     ensures is { result ≡ is_array (kind_of (tree node.entry)) }
@@ -71,7 +71,7 @@ pub fn check_array(node: Node, found: &mut Least) -> bool
     }
 }
 
-/// The value is an object, else it is of the wrong kind: whether it is.
+/// Whether the value is an object; where it is none, it is of the wrong kind.
 #[inline(always)]
 pub fn check_object(node: Node, found: &mut Least) -> bool
     ensures is { result ≡ is_object (kind_of (tree node.entry)) }

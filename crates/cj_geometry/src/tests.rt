@@ -14,6 +14,7 @@ mod pairs;
 mod surfaces;
 mod types;
 mod values;
+mod wholes;
 mod worked;
 
 use crate::{Templates, check_geometry};

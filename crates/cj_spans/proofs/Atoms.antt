@@ -1,5 +1,6 @@
 -- Scalars and names in a line: what has been read of one, and the machine over it.
 use Rattle.std.proofs.Common.{◌≡◌, ℕ, zero, suc, ◌+◌, ◌-◌, ◌<◌, ◌≤◌, List, [], ◌∷◌, ◌++◌, length, true, Option, Some, None, refl, sym, ap, subst, arith, ◌∙◌, ◌⊎◌, inl, inr}
+use Rattle.std.proofs.lemmas.Bool.{cases_lt}
 use Rattle.std.specs.Prelude.{option_and_then}
 use Rattle.cj_spans.specs.declared.token.Kind.{Kind}
 use Rattle.cj_spans.specs.declared.token.Token.{Token}
@@ -10,7 +11,7 @@ use Rattle.cj_spans.specs.declared.step.Mode.TheVariants.{After}
 use Rattle.cj_spans.specs.declared.step.Move.{Move}
 use Rattle.cj_spans.specs.Json.{byte}
 use Rattle.cj_spans.specs.Preorder.{token_at}
-use Rattle.cj_spans.specs.Machine.{State, state, between, in_atom, read, end_atom, go_on, step, settle, lex_step, lex_kind, Continues, still, further, Halts, Reaches, here, on, Settles, SticksFlat, phase_after}
+use Rattle.cj_spans.specs.Machine.{State, state, between, in_atom, read, end_atom, go_on, step, settle, lex_step, lex_kind, Continues, still, further, Halts, Reaches, here, on, ComesTo, SticksFlat, phase_after}
 use Rattle.cj_spans.specs.Spelling.{is_plain}
 use Rattle.cj_spans.proofs.Spellings.{none_some, plain_goes}
 
@@ -72,7 +73,7 @@ halted b ks ts m a k p x r none kind =
 
 -- a scalar that may end where it halts has ended there
 pub ends_ok : (b : List ℕ) (i k n p : ℕ) (x y : Lex) (kd : Kind) (m : Mode) (ks : List ℕ) (ts us : List Token) → Continues b (suc i) x k y → Halts b k y → lex_kind y ≡ Some kd → n ≡ length ts → us ≡ ts ++ token_at i k (n + 1) kd ∷ []
-    → Settles b (state (in_atom m i x) ks ts (suc i) p) (state (between m) ks us k p)
+    → ComesTo b (state (in_atom m i x) ks ts (suc i) p) (state (between m) ks us k p)
 ends_ok b i k n p x y kd m ks ts us c h kind count is =
     let last = state (in_atom m i y) ks ts k p in
     let next : suc (length ts) ≡ n + 1 = omega arith in
@@ -98,23 +99,20 @@ ends_err b i k p x y m ks ts c h l kind =
         reached = continues_reaches c (state (in_atom m i x) ks ts (suc i) p) m i ks ts p here;
         at = refl;
         within = l;
-        stuck = stuck_at (split k (length b));
+        stuck = stuck_at (cases_lt k (length b));
       };
       flat = refl;
     }
   where
-    split : (a b : ℕ) → (a < b) ⊎ (b ≤ a)
-    split a b = grind arith
-
     stuck_at : (k < length b) ⊎ (length b ≤ k) → ((k < length b) × (step (byte b k) (state (in_atom m i y) ks ts k p) ≡ None)) ⊎ ((k ≡ length b) × ((us : List Token) (q : ℕ) → settle (state (in_atom m i y) ks ts k p) ≡ Some (state (between After) [] us (length b) q) → ⊥))
     stuck_at (inl g) = elim h [ inl n ↦ absurd (omega arith) | inr none ↦ inl (g, halted b ks ts m i k p y None none kind) ]
     stuck_at (inr g) = inr (omega arith, λ us q e. none_some _ (sym (ap (λ r. end_atom m i r (state (in_atom m i y) ks ts k p)) kind) ∙ e))
 
 -- a move that begins no scalar settles at once
-pub settles_at : (b : List ℕ) (m n : Mode) (i j p : ℕ) (v w : Move) (ks : List ℕ) (ts : List Token) → v ≡ w → phase_after m i w ≡ between n → j ≡ i + 1 → Settles b (state (phase_after m i v) ks ts (suc i) p) (state (between n) ks ts j p)
+pub settles_at : (b : List ℕ) (m n : Mode) (i j p : ℕ) (v w : Move) (ks : List ℕ) (ts : List Token) → v ≡ w → phase_after m i w ≡ between n → j ≡ i + 1 → ComesTo b (state (phase_after m i v) ks ts (suc i) p) (state (between n) ks ts j p)
 settles_at b m n i j p v w ks ts e f g =
     let h : suc i ≡ j = omega arith in
     let q : phase_after m i v ≡ between n = ap (phase_after m i) e ∙ f in
     let s = state (between n) ks ts (suc i) p in
-    let base : Settles b s s = record { last = s; reached = here; settles = refl; same = λ l. refl } in
-    subst (λ z. Settles b (state z ks ts (suc i) p) (state (between n) ks ts j p)) (sym q) (subst (λ z. Settles b s (state (between n) ks ts z p)) h base)
+    let base : ComesTo b s s = record { last = s; reached = here; settles = refl; same = λ l. refl } in
+    subst (λ z. ComesTo b (state z ks ts (suc i) p) (state (between n) ks ts j p)) (sym q) (subst (λ z. ComesTo b s (state (between n) ks ts z p)) h base)

@@ -1,7 +1,9 @@
 -- A front is what a text begins with: some bytes more make it one.
-use Rattle.std.proofs.Common.{◌≡◌, ℕ, zero, suc, ◌+◌, ◌<◌, ◌≤◌, List, [], ◌∷◌, ◌++◌, length, take, get_or, Option, Some, None, Result, Err, refl, sym, ap, subst, arith, ◌∙◌, slice_get, slice_set, length-append}
+use Rattle.std.proofs.Common.{◌≡◌, inl, inr, ℕ, zero, suc, ◌+◌, ◌<◌, ◌≤◌, List, [], ◌∷◌, ◌++◌, length, take, drop, get_or, Option, Some, None, Result, Err, refl, sym, ap, subst, arith, ◌∙◌, slice_get, slice_set, length-append}
+use Rattle.std.proofs.Math.Nat.{eq-or-lt_of_le}
 use Rattle.std.specs.Prelude.{option_map}
 use Rattle.std.proofs.lemmas.Grind.{common_steps}
+use Rattle.std.proofs.lemmas.List.{take-append-drop}
 use Rattle.cj_budget.specs.Bounded.{BoundedList}
 use Rattle.cj_spans.specs.declared.fault.ScanFault.{ScanFault}
 use Rattle.cj_spans.specs.declared.fault.ScanFault.TheVariants.{Syntax, TooDeep}
@@ -17,15 +19,15 @@ use Rattle.cj_spans.specs.Json.{byte, Json}
 use Rattle.cj_spans.specs.Front.{Front, IsFront, SyntaxAt, stuck, short}
 use Rattle.cj_spans.specs.Begins.{BeginsText, IsFirstFault, IsFirstTooDeep}
 use Rattle.cj_spans.specs.Preorder.{token_at, flatten, flatten_items, flatten_members}
-use Rattle.cj_spans.specs.Machine.{State, state, in_atom, step, end_atom, after_token, after_in, still, Reaches, here, on, start, SinksAt, RunAnswers}
+use Rattle.cj_spans.specs.Machine.{State, state, in_atom, step, end_atom, after_token, after_in, still, Reaches, here, on, start, SinksAt, RunAnswers, BeginsValue}
 use Rattle.cj_spans.proofs.Spellings.{some_same, can_end, text_end}
 use Rattle.cj_spans.proofs.Lists.{slice_get-append, slice_get-seam, rise-nest}
-use Rattle.cj_spans.proofs.Runs.{IsEnd, colon, bracket, brace, Arrives, arrive_on, arrived, settled, idle, Begins, NameBegins}
+use Rattle.cj_spans.proofs.Runs.{IsEnd, colon, bracket, brace, Arrives, arrive_on, arrived, settled, idle, BeginsName}
 use Rattle.cj_spans.proofs.Follows.{run_json}
 use Rattle.cj_spans.proofs.Places.{InAtom, in_text, continues_run, name_34}
 use Rattle.cj_spans.proofs.Atoms.{continues_reaches}
 use Rattle.cj_spans.proofs.Sound.{with_name, Context, root, in_array, in_member, Inv, ready, first_item, after_tree, first_name, next_name, after_name, in_scalar, in_name, inv_reaches}
-use Rattle.cj_spans.proofs.Facts.{next_place, same_state, lawful_reaches, before}
+use Rattle.cj_spans.proofs.Facts.{next_place, same_state, lawful_reaches, state_before}
 use Rattle.cj_spans.proofs.Fronts.{front_runs, inv_front}
 use Rattle.cj_spans.proofs.Verdicts.{spells, nest_of, sinks_deep, fronts_below, syntax_within, Cleared, run_syntax}
 
@@ -52,7 +54,7 @@ text_front b i l x =
     let v = run_json c x.tree x.json in
     let p = (settled v.at _ v.settles).place in
     let q = length_with b x.rest i l in
-    let w = before c v.at i v.reached (omega arith) in
+    let w = state_before c v.at i v.reached (omega arith) in
     let e = w.place in
     let r = transfer b i (λ k h. sym (same_byte b x.rest i k l h)) w.at w.reached (omega arith) in
     record { open_count = length w.at.stack; front = subst (λ n. Front b 0 n (length w.at.stack)) w.place (inv_front w.at (inv_reaches b w.at r)) }
@@ -173,12 +175,12 @@ close_all (k ∷ ks) c cs ts j p a all e h =
 -- ---- a value after the front
 
 -- a number after a place where a value may begin
-zero_step : (m : Mode) (ks : List ℕ) (ts : List Token) (j p : ℕ) → Begins m → step 48 (idle m ks ts j p) ≡ Some (state (in_atom After j Zero) ks ts (suc j) p)
+zero_step : (m : Mode) (ks : List ℕ) (ts : List Token) (j p : ℕ) → BeginsValue m → step 48 (idle m ks ts j p) ≡ Some (state (in_atom After j Zero) ks ts (suc j) p)
 zero_step Ready ks ts j p h = refl
 zero_step FirstItem ks ts j p h = refl
 zero_step _ ks ts j p h = absurd h
 
-read_zero : (c : List ℕ) (m : Mode) (ks : List ℕ) (ts : List Token) (j p : ℕ) → Begins m → byte c j ≡ 48 → Reaches c start (idle m ks ts j p) → Arrives c start (idle After ks (ts ++ token_at j (suc j) (suc (length ts)) Number ∷ []) (suc j) p)
+read_zero : (c : List ℕ) (m : Mode) (ks : List ℕ) (ts : List Token) (j p : ℕ) → BeginsValue m → byte c j ≡ 48 → Reaches c start (idle m ks ts j p) → Arrives c start (idle After ks (ts ++ token_at j (suc j) (suc (length ts)) Number ∷ []) (suc j) p)
 read_zero c m ks ts j p h e r = record {
   at = state (in_atom After j Zero) ks ts (suc j) p;
   reached = on (idle m ks ts j p) (state (in_atom After j Zero) ks ts (suc j) p) r (ap (λ z. step z (idle m ks ts j p)) e ∙ zero_step m ks ts j p h);
@@ -192,7 +194,7 @@ read_value : (c : List ℕ) (ks : List ℕ) (ts : List Token) (j p : ℕ) → by
 read_value c ks ts j p e f a = read_zero c Ready ks ts (suc j) p tt f (read_colon c ks ts j p e a)
 
 -- an empty name
-read_name : (c : List ℕ) (m : Mode) (ks : List ℕ) (ts : List Token) (j p : ℕ) → NameBegins m → byte c j ≡ 34 → byte c (suc j) ≡ 34 → Reaches c start (idle m ks ts j p)
+read_name : (c : List ℕ) (m : Mode) (ks : List ℕ) (ts : List Token) (j p : ℕ) → BeginsName m → byte c j ≡ 34 → byte c (suc j) ≡ 34 → Reaches c start (idle m ks ts j p)
     → Arrives c start (idle AfterName ks (ts ++ token_at j (suc (suc j)) (suc (length ts)) Text ∷ []) (suc (suc j)) p)
 read_name c m ks ts j p h e f r =
     let s = state (in_atom AfterName j InText) ks ts (suc j) p in
@@ -203,7 +205,7 @@ read_name c m ks ts j p h e f r =
       settles = refl;
     }
 
-read_member : (c : List ℕ) (m : Mode) (ks : List ℕ) (ts : List Token) (j p : ℕ) → NameBegins m → byte c j ≡ 34 → byte c (suc j) ≡ 34 → byte c (suc (suc j)) ≡ 58 → byte c (suc (suc (suc j))) ≡ 48 → Reaches c start (idle m ks ts j p)
+read_member : (c : List ℕ) (m : Mode) (ks : List ℕ) (ts : List Token) (j p : ℕ) → BeginsName m → byte c j ≡ 34 → byte c (suc j) ≡ 34 → byte c (suc (suc j)) ≡ 58 → byte c (suc (suc (suc j))) ≡ 48 → Reaches c start (idle m ks ts j p)
     → Arrives c start (idle After ks (let us = with_name ts j (suc (suc j)) in us ++ token_at (suc (suc (suc j))) (suc (suc (suc (suc j)))) (suc (length us)) Number ∷ []) (suc (suc (suc (suc j)))) p)
 read_member c m ks ts j p h e f g i r = read_value c ks (with_name ts j (suc (suc j))) (suc (suc j)) p g i (read_name c m ks ts j p h e f r)
 
@@ -221,7 +223,7 @@ place_at c j k x e h = ap (byte c) e ∙ h
 arrives_at : (c ks : List ℕ) (ts : List Token) (j k p : ℕ) → j ≡ k → Arrives c start (idle After ks ts j p) → Arrives c start (idle After ks ts k p)
 arrives_at c ks ts j k p e a = subst (λ z. Arrives c start (idle After ks ts z p)) e a
 
-finish_value : (m : Mode) (k p : ℕ) (ks : List ℕ) (ts : List Token) → Begins m → AllContainers ks ts → Finish (idle m ks ts k p)
+finish_value : (m : Mode) (k p : ℕ) (ks : List ℕ) (ts : List Token) → BeginsValue m → AllContainers ks ts → Finish (idle m ks ts k p)
 finish_value m k p ks ts h all = record {
   rest = 48 ∷ [];
   stack = ks;
@@ -230,7 +232,7 @@ finish_value m k p ks ts h all = record {
   goes = λ c r b. arrives_at c ks _ (suc k) (k + 1) p (omega arith) (read_zero c m ks ts k p h (place_at c k (k + 0) 48 (omega arith) (b 0 (omega arith))) r);
 }
 
-finish_name : (m : Mode) (k p : ℕ) (ks : List ℕ) (ts : List Token) → NameBegins m → AllContainers ks ts → Finish (idle m ks ts k p)
+finish_name : (m : Mode) (k p : ℕ) (ks : List ℕ) (ts : List Token) → BeginsName m → AllContainers ks ts → Finish (idle m ks ts k p)
 finish_name m k p ks ts h all = record {
   rest = 34 ∷ 34 ∷ 58 ∷ 48 ∷ [];
   stack = ks;
@@ -365,6 +367,7 @@ pub first_fault : (b : List ℕ) (i : ℕ) → SyntaxAt b i → IsFirstFault b i
 first_fault b i s =
     let w = syntax_within s in
     record {
+      within = w;
       earlier = λ k h. front_text b (suc k) (omega arith) (fronts_below s k h);
       here = λ l x. here_not s l x;
       whole = λ e t j. whole_not s e t j;
@@ -378,6 +381,13 @@ first_fault b i s =
     whole_not (stuck l f n) e t j = absurd (omega arith)
     whole_not (short e f n) h t j = n t j
 
+-- a text has none
+pub text_no_fault : (b : List ℕ) (t : Tree) → Json b t → (i : ℕ) → IsFirstFault b i → ⊥
+text_no_fault b t j i f = elim (eq-or-lt_of_le f.within) [
+  | inr l ↦ f.here l (record { rest = drop (suc i) b; tree = t; json = subst (λ c. Json c t) (sym (take-append-drop (suc i) b)) j })
+  | inl e ↦ f.whole e t j
+]
+
 -- a text that begins so opens as many containers as the line does
 text_nest : (b : List ℕ) (i n : ℕ) → i ≤ length b → Front b 0 i n → (x : BeginsText b i) → n ≤ nest x.tree
 text_nest b i n l f x =
@@ -388,7 +398,7 @@ text_nest b i n l f x =
     let e = settled v.at _ v.settles in
     let p = e.place in let d = e.deepest in
     let q = length_with b x.rest i l in
-    let w = before c v.at i v.reached (omega arith) in
+    let w = state_before c v.at i v.reached (omega arith) in
     let same : u.at ≡ w.at = same_state c u.at w.at r w.reached (u.place ∙ sym w.place) in
     let o = u.open_count in let a = (lawful_reaches u.at u.reached).deep in let b2 = w.below in
     let s : u.at.deepest ≡ w.at.deepest = ap (λ z. z.deepest) same in
@@ -409,7 +419,7 @@ first_too_deep b d i a =
     shallow_text : (j : ℕ) → j < i → (x : BeginsText b (suc j)) × (nest x.tree ≤ d)
     shallow_text j h =
         let at = a.at in let w = a.within in
-        let s = before b a.last (suc j) a.reached (omega arith) in
+        let s = state_before b a.last (suc j) a.reached (omega arith) in
         let t = state_text b (suc j) (omega arith) s.at s.reached s.place in
         let n = t.nest_is in let c = s.below in let g = a.shallow in
         (t.text, omega arith)

@@ -1,5 +1,6 @@
 -- What each step keeps: the place goes one on, the count of tokens stays within the bytes read and the open containers.
-use Rattle.std.proofs.Common.{◌≡◌, ℕ, suc, ◌+◌, ◌*◌, ◌<◌, ◌≤◌, List, [], ◌∷◌, ◌++◌, length, max, Bool, true, false, cond, nat_eq, Option, Some, None, refl, sym, ap, subst, arith, ◌∙◌, ◌⊎◌, inl, inr, slice_get, slice_set, length-append}
+use Rattle.std.proofs.Common.{◌≡◌, ℕ, suc, ◌+◌, ◌*◌, ◌<◌, ◌≤◌, List, [], ◌∷◌, ◌++◌, length, max, Bool, true, false, cond, nat_eq, Option, Some, None, refl, sym, ap, subst, arith, ◌∙◌, inl, inr, slice_get, slice_set, length-append}
+use Rattle.std.proofs.Math.Nat.{eq-or-lt_of_le}
 use Rattle.std.specs.Prelude.{option_and_then, option_map}
 use Rattle.std.proofs.Math.ListN.{length-set}
 use Rattle.cj_spans.specs.declared.token.Kind.{Kind}
@@ -8,7 +9,7 @@ use Rattle.cj_spans.specs.declared.token.Token.{Token}
 use Rattle.cj_spans.specs.declared.lex.Lex.{Lex}
 use Rattle.cj_spans.specs.declared.step.Mode.{Mode}
 use Rattle.cj_spans.specs.declared.step.Mode.TheVariants.{Ready, FirstItem, After, FirstName, NextName, AfterName}
-use Rattle.cj_spans.specs.Spelling.{is_blank}
+use Rattle.cj_spans.specs.Spelling.{is_white_space}
 use Rattle.cj_spans.specs.Json.{byte}
 use Rattle.cj_spans.specs.Preorder.{token_at}
 use Rattle.cj_spans.specs.Machine.{Phase, State, state, between, in_atom, step, read, read_in, begin_value, begin_name, after_value, after_token, after_in, close_empty, close_token, end_atom, go_on, settle, lex_start, lex_step, lex_kind, Reaches, here, on, start}
@@ -131,7 +132,7 @@ module _ (i p : ℕ) (ts : List Token) where
   goes_read_in AfterName c ks o d n = goes_cond i p (nat_eq c 58) _ None (goes_to Ready ks o d n) tt
 
   goes_read : (m : Mode) (c : ℕ) (ks : List ℕ) → length ks ≤ i → length ks ≤ p → 2 * length ts ≤ reach_in m i + length ks → GoesIf i p (read m c (idle m ks ts i p))
-  goes_read m c ks o d n = let r = reach_more m i in goes_cond i p (is_blank c) _ _ (goes_to m ks o d (omega arith)) (goes_read_in m c ks o d n)
+  goes_read m c ks o d n = let r = reach_more m i in goes_cond i p (is_white_space c) _ _ (goes_to m ks o d (omega arith)) (goes_read_in m c ks o d n)
 
 -- one token more, where a scalar or a name ends
 ends_count : (m : Mode) (a i d : ℕ) (k : Kind) (ks : List ℕ) (ts : List Token) → EndsAtom m → a < i → 2 * length ts ≤ a + length ks → 2 * length (ts ++ token_at a i d k ∷ []) ≤ reach_in m i + length ks
@@ -198,18 +199,15 @@ pub record Before (b : List ℕ) (s : State) (k : ℕ) : Type 0 where
   pub place : at.place ≡ k
   pub below : at.deepest ≤ s.deepest
 
-pub before : (b : List ℕ) (s : State) (k : ℕ) → Reaches b start s → k ≤ s.place → Before b s k
-before b s k here h = record { at = start; reached = here; place = omega arith; below = omega arith }
-before b s k (on t v r e) h =
+pub state_before : (b : List ℕ) (s : State) (k : ℕ) → Reaches b start s → k ≤ s.place → Before b s k
+state_before b s k here h = record { at = start; reached = here; place = omega arith; below = omega arith }
+state_before b s k (on t v r e) h =
     let g = goes t v (byte b t.place) (lawful_reaches t r) e in
     let p = g.place in let d = g.deepest in
-    elim (last_or k v.place h) [
-      | inl l ↦ let z = before b t k r (omega arith) in let y = z.below in record { at = z.at; reached = z.reached; place = z.place; below = omega arith }
-      | inr q ↦ record { at = v; reached = on t v r e; place = sym q; below = omega arith }
+    elim (eq-or-lt_of_le h) [
+      | inr l ↦ let z = state_before b t k r (omega arith) in let y = z.below in record { at = z.at; reached = z.reached; place = z.place; below = omega arith }
+      | inl q ↦ record { at = v; reached = on t v r e; place = sym q; below = omega arith }
     ]
-  where
-    last_or : (k n : ℕ) → k ≤ n → (k < n) ⊎ (k ≡ n)
-    last_or k n h = grind arith
 
 -- a run after a run
 pub reaches_both : {b : List ℕ} {s t u : State} → Reaches b s t → Reaches b t u → Reaches b s u

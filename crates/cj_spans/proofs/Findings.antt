@@ -1,5 +1,6 @@
 -- The least of findings.
 use Rattle.std.proofs.Common.{◌≡◌, ℕ, zero, suc, ◌<◌, ◌≤◌, ◌⊎◌, inl, inr, ◌||◌, ◌&&◌, nat_lt, nat_eq, Bool, true, false, cond, List, [], ◌∷◌, ◌++◌, length, get_or, Option, Some, None, refl, sym, ap, subst, arith, ◌∙◌, append_assoc}
+use Rattle.std.proofs.lemmas.Bool.{cases_order}
 use Rattle.std.specs.Prelude.{All, Contains, flat_map}
 use Rattle.std.proofs.lemmas.List.{append-nil}
 use Rattle.std.proofs.lemmas.List.Elements.{All-contains, Contains-get_or, Contains-append_left, Contains-append_right, Contains-append_cases}
@@ -8,7 +9,7 @@ use Rattle.cj_spans.specs.declared.reason.Reason.{Reason}
 use Rattle.cj_spans.specs.declared.reason.Reason.TheVariants.{NoHeader, LineTooLong, NotUtf8, Syntax, TooDeep, MissingMember, DuplicateName, WrongKind, NumberRange, WrongType, WrongVersion, NotEmpty, NotThree, NotWhole, UnknownObjectType, IdNotFound, ChildNotFound, LinkNotMutual, NoParent, UnknownGeometryType, VertexIndex, SemanticsCount, SemanticsIndex, TemplateIndex, BadInstance, TransformNotFixed}
 use Rattle.cj_spans.specs.declared.finding.Finding.{Finding}
 use Rattle.cj_spans.specs.Reason.{code_of}
-use Rattle.cj_spans.specs.Finding.{IsNoLater, IsLeast, HaveSame, is_before, lesser, least, kept}
+use Rattle.cj_spans.specs.Finding.{IsNoLater, IsLeast, HaveSame, is_before, lesser, least, list_found}
 
 -- ---- a code tells its reason
 
@@ -76,23 +77,20 @@ no_later_more f g h (inl a) (inr b) = let e = b.0 in inl (omega arith)
 no_later_more f g h (inr a) (inl b) = let e = a.0 in inl (omega arith)
 no_later_more f g h (inr a) (inr b) = let x = a.1 in let y = b.1 in inr (a.0 ∙ b.0, omega arith)
 
-order_cases : (m n : ℕ) → (m < n) ⊎ ((m ≡ n) ⊎ (n < m))
-order_cases m n = grind (arith)
-
 -- the test, on numbers
 lower_first : (a b c d : ℕ) → nat_lt a b || (nat_eq a b && nat_lt c d) ≡ true → (a < b) ⊎ ((a ≡ b) × (c ≤ d))
 lower_first a b c d h =
-    elim (order_cases a b) [
-      | inl l ↦ inl l
-      | inr (inl e) ↦ let l : c < d = grind (arith, nat_tests) in inr (e, omega arith)
+    elim (cases_order a b) [
+      | inr (inl l) ↦ inl l
+      | inl e ↦ let l : c < d = grind (arith, nat_tests) in inr (e, omega arith)
       | inr (inr g) ↦ let n : ⊥ = grind (arith, nat_tests) in absurd n
     ]
 
 not_lower : (a b c d : ℕ) → nat_lt a b || (nat_eq a b && nat_lt c d) ≡ false → (b < a) ⊎ ((b ≡ a) × (d ≤ c))
 not_lower a b c d h =
-    elim (order_cases a b) [
-      | inl l ↦ let n : ⊥ = grind (arith, nat_tests) in absurd n
-      | inr (inl e) ↦ let l : d ≤ c = grind (arith, nat_tests) in inr (sym e, l)
+    elim (cases_order a b) [
+      | inr (inl l) ↦ let n : ⊥ = grind (arith, nat_tests) in absurd n
+      | inl e ↦ let l : d ≤ c = grind (arith, nat_tests) in inr (sym e, l)
       | inr (inr g) ↦ inl g
     ]
 
@@ -163,12 +161,12 @@ least_after gs o (f ∷ fs) a =
     let b = same_least (f ∷ gs) (gs ++ f ∷ []) (lesser o f) (head_last f gs) (added_least gs o f a) in
     subst (λ xs. IsLeast xs (least (lesser o f) fs)) (append_assoc gs (f ∷ []) fs) (least_after (gs ++ f ∷ []) (lesser o f) fs b)
 
-kept_least : (o : Option Finding) → IsLeast (kept o) o
-kept_least None = refl
-kept_least (Some f) = (contains_here f [], all_and f f [] (no_later_self f) (λ k d l. absurd (omega arith)))
+least_of_found : (o : Option Finding) → IsLeast (list_found o) o
+least_of_found None = refl
+least_of_found (Some f) = (contains_here f [], all_and f f [] (no_later_self f) (λ k d l. absurd (omega arith)))
 
-pub fold_least : (o : Option Finding) (fs : List Finding) → IsLeast (kept o ++ fs) (least o fs)
-fold_least o fs = least_after (kept o) o fs (kept_least o)
+pub fold_least : (o : Option Finding) (fs : List Finding) → IsLeast (list_found o ++ fs) (least o fs)
+fold_least o fs = least_after (list_found o) o fs (least_of_found o)
 
 -- one list after another
 pub least-append : (o : Option Finding) (fs gs : List Finding) → least o (fs ++ gs) ≡ least (least o fs) gs
@@ -195,4 +193,4 @@ contains_swap ks fs gs f c =
 
 -- two lists in either order
 pub least-swap : (o : Option Finding) (fs gs : List Finding) → least o (fs ++ gs) ≡ least o (gs ++ fs)
-least-swap o fs gs = least_only (kept o ++ (gs ++ fs)) (kept o ++ (fs ++ gs)) (least o (gs ++ fs)) (least o (fs ++ gs)) (λ f. (contains_swap (kept o) gs fs f, contains_swap (kept o) fs gs f)) (fold_least o (gs ++ fs)) (fold_least o (fs ++ gs))
+least-swap o fs gs = least_only (list_found o ++ (gs ++ fs)) (list_found o ++ (fs ++ gs)) (least o (gs ++ fs)) (least o (fs ++ gs)) (λ f. (contains_swap (list_found o) gs fs f, contains_swap (list_found o) fs gs f)) (fold_least o (gs ++ fs)) (fold_least o (fs ++ gs))

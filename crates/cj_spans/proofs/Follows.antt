@@ -8,30 +8,30 @@ use Rattle.cj_spans.specs.declared.step.Mode.TheVariants.{Ready, FirstItem, Afte
 use Rattle.cj_spans.specs.Tree.{Atom, Tree, array, object, Items, Members, add_item, add_member}
 use Rattle.cj_spans.specs.Json.{byte, Value, atom, empty_array, full_array, empty_object, full_object, Padded, padded, LedItems, no_led, led, LedMembers, no_led_members, led_member, Named, named, Json}
 use Rattle.cj_spans.specs.Preorder.{flatten, flatten_items, flatten_members, token_at}
-use Rattle.cj_spans.specs.Machine.{State, step, Reaches, here, on, after_token, close_token, start}
+use Rattle.cj_spans.specs.Machine.{State, step, Reaches, here, on, after_token, close_token, start, BeginsValue}
 use Rattle.cj_spans.proofs.Places.{run_atom, run_name}
 use Rattle.cj_spans.proofs.Lists.{length-snoc, items_more, members_more, array_done, object_done, array_empty, object_empty, slice_get-append, slice_get-seam, rise, rise_items, rise_members, rise_items-add, rise_members-add}
-use Rattle.cj_spans.proofs.Runs.{IsEnd, comma, colon, bracket, brace, Arrives, arrive_on, arrived, skip, skip_after, Begins, NameBegins, idle}
+use Rattle.cj_spans.proofs.Runs.{IsEnd, comma, colon, bracket, brace, Arrives, arrive_on, arrived, skip, skip_after, BeginsName, idle}
 
 is_end : {c : ℕ} (d : ℕ) → IsEnd d → c ≡ d → IsEnd c
 is_end d e h = subst IsEnd (sym h) e
 
 -- ---- single steps
 
-open_91 : (m : Mode) (ks : List ℕ) (ts : List Token) (i p : ℕ) → Begins m → step 91 (idle m ks ts i p) ≡ Some (idle FirstItem (length ts ∷ ks) (ts ++ token_at i 0 0 Array ∷ []) (suc i) (max p (suc (length ks))))
+open_91 : (m : Mode) (ks : List ℕ) (ts : List Token) (i p : ℕ) → BeginsValue m → step 91 (idle m ks ts i p) ≡ Some (idle FirstItem (length ts ∷ ks) (ts ++ token_at i 0 0 Array ∷ []) (suc i) (max p (suc (length ks))))
 open_91 Ready ks ts i p h = refl
 open_91 FirstItem ks ts i p h = refl
 open_91 _ ks ts i p h = absurd h
 
-pub open_array : (m : Mode) (ks : List ℕ) (ts : List Token) (i p c : ℕ) → Begins m → c ≡ 91 → step c (idle m ks ts i p) ≡ Some (idle FirstItem (length ts ∷ ks) (ts ++ token_at i 0 0 Array ∷ []) (suc i) (max p (suc (length ks))))
+pub open_array : (m : Mode) (ks : List ℕ) (ts : List Token) (i p c : ℕ) → BeginsValue m → c ≡ 91 → step c (idle m ks ts i p) ≡ Some (idle FirstItem (length ts ∷ ks) (ts ++ token_at i 0 0 Array ∷ []) (suc i) (max p (suc (length ks))))
 open_array m ks ts i p c h e = ap (λ x. step x (idle m ks ts i p)) e ∙ open_91 m ks ts i p h
 
-open_123 : (m : Mode) (ks : List ℕ) (ts : List Token) (i p : ℕ) → Begins m → step 123 (idle m ks ts i p) ≡ Some (idle FirstName (length ts ∷ ks) (ts ++ token_at i 0 0 Object ∷ []) (suc i) (max p (suc (length ks))))
+open_123 : (m : Mode) (ks : List ℕ) (ts : List Token) (i p : ℕ) → BeginsValue m → step 123 (idle m ks ts i p) ≡ Some (idle FirstName (length ts ∷ ks) (ts ++ token_at i 0 0 Object ∷ []) (suc i) (max p (suc (length ks))))
 open_123 Ready ks ts i p h = refl
 open_123 FirstItem ks ts i p h = refl
 open_123 _ ks ts i p h = absurd h
 
-pub open_object : (m : Mode) (ks : List ℕ) (ts : List Token) (i p c : ℕ) → Begins m → c ≡ 123 → step c (idle m ks ts i p) ≡ Some (idle FirstName (length ts ∷ ks) (ts ++ token_at i 0 0 Object ∷ []) (suc i) (max p (suc (length ks))))
+pub open_object : (m : Mode) (ks : List ℕ) (ts : List Token) (i p c : ℕ) → BeginsValue m → c ≡ 123 → step c (idle m ks ts i p) ≡ Some (idle FirstName (length ts ∷ ks) (ts ++ token_at i 0 0 Object ∷ []) (suc i) (max p (suc (length ks))))
 open_object m ks ts i p c h e = ap (λ x. step x (idle m ks ts i p)) e ∙ open_123 m ks ts i p h
 
 module _ (k : ℕ) (ks : List ℕ) (ts : List Token) (j p a c : ℕ) where
@@ -55,7 +55,7 @@ module _ (k : ℕ) (ks : List ℕ) (ts : List Token) (j p a c : ℕ) where
 
 -- ---- names and values
 
-pub run_named : {b : List ℕ} {i l : ℕ} {a : Atom} → Named b i l a → (s : State) (m : Mode) (ks : List ℕ) (ts : List Token) (p : ℕ) → NameBegins m → Reaches b s (idle m ks ts i p)
+pub run_named : {b : List ℕ} {i l : ℕ} {a : Atom} → Named b i l a → (s : State) (m : Mode) (ks : List ℕ) (ts : List Token) (p : ℕ) → BeginsName m → Reaches b s (idle m ks ts i p)
     → Reaches b s (idle Ready ks (ts ++ token_at a.start a.stop (suc (length ts)) Text ∷ []) l p)
 run_named {b} (named i j k l before n after c) s m ks ts p h r =
     let us = ts ++ token_at j k (suc (length ts)) Text ∷ [] in
@@ -65,17 +65,17 @@ run_named {b} (named i j k l before n after c) s m ks ts p h r =
 -- past the led items of an open array
 pub record ReadItems (b : List ℕ) (s : State) (ks : List ℕ) (ts : List Token) (j p : ℕ) : Type 0 where
   pub mode : Mode
-  pub begins : Begins mode
+  pub begins : BeginsValue mode
   pub reached : Reaches b s (idle mode ks ts j p)
 
 -- past the led members of an open object
 pub record ReadMembers (b : List ℕ) (s : State) (ks : List ℕ) (ts : List Token) (j p : ℕ) : Type 0 where
   pub mode : Mode
-  pub begins : NameBegins mode
+  pub begins : BeginsName mode
   pub reached : Reaches b s (idle mode ks ts j p)
 
 mutual
-  pub run_value : {b : List ℕ} {i j : ℕ} {t : Tree} → Value b i j t → (s : State) (m : Mode) (ks : List ℕ) (ts : List Token) (p : ℕ) → Begins m → Reaches b s (idle m ks ts i p)
+  pub run_value : {b : List ℕ} {i j : ℕ} {t : Tree} → Value b i j t → (s : State) (m : Mode) (ks : List ℕ) (ts : List Token) (p : ℕ) → BeginsValue m → Reaches b s (idle m ks ts i p)
       → Arrives b s (idle After ks (ts ++ flatten (length ts) t) j (rise (length ks) p t))
   run_value {b} (atom k i j w) s m ks ts p h r = run_atom w s m ks ts p h r
   run_value {b} (empty_array i j o w c) s m ks ts p h r =
@@ -123,12 +123,12 @@ mutual
       subst (λ x. Arrives b s (idle After ks (ts ++ flatten (length ts) tree) (suc l) x)) (sym (rise_members-add (suc d) q us n u))
       (subst (λ zs. Arrives b s (idle After ks zs (suc l) z)) e (arrived b s After ks (slice_set (xs ++ ys) (length ts) f) (suc l) z r4))
 
-  pub run_padded : {b : List ℕ} {i j : ℕ} {t : Tree} → Padded b i j t → (s : State) (m : Mode) (ks : List ℕ) (ts : List Token) (p : ℕ) → Begins m → Reaches b s (idle m ks ts i p)
+  pub run_padded : {b : List ℕ} {i j : ℕ} {t : Tree} → Padded b i j t → (s : State) (m : Mode) (ks : List ℕ) (ts : List Token) (p : ℕ) → BeginsValue m → Reaches b s (idle m ks ts i p)
       → Arrives b s (idle After ks (ts ++ flatten (length ts) t) j (rise (length ks) p t))
   run_padded {b} (padded i j k l t before v after) s m ks ts p h r =
       skip_after after s After ks (ts ++ flatten (length ts) t) (rise (length ks) p t) (run_value v s m ks ts p h (skip before s m ks ts p r))
 
-  pub run_led : {b : List ℕ} {i j : ℕ} {us : Items} → LedItems b i j us → (s : State) (m : Mode) (k : ℕ) (ks : List ℕ) (ts : List Token) (p a x : ℕ) → length ts ≡ x → slice_get ts k ≡ Some (token_at a 0 0 Array) → Begins m
+  pub run_led : {b : List ℕ} {i j : ℕ} {us : Items} → LedItems b i j us → (s : State) (m : Mode) (k : ℕ) (ks : List ℕ) (ts : List Token) (p a x : ℕ) → length ts ≡ x → slice_get ts k ≡ Some (token_at a 0 0 Array) → BeginsValue m
       → Reaches b s (idle m (k ∷ ks) ts i p) → ReadItems b s (k ∷ ks) (ts ++ flatten_items x us) j (rise_items (suc (length ks)) p us)
   run_led {b} (no_led i) s m k ks ts p a x lx g h r = record { mode = m; begins = h; reached = subst (λ zs. Reaches b s (idle m (k ∷ ks) zs i p)) (sym (append-nil ts)) r }
   run_led {b} (led i j l us u before w c) s m k ks ts p a x lx g h r =
@@ -143,7 +143,7 @@ mutual
         reached = subst (λ y. Reaches b s (idle Ready (k ∷ ks) (ts ++ flatten_items x (add_item us u)) (suc l) y)) (sym (rise_items-add e p us u)) (subst (λ zs. Reaches b s (idle Ready (k ∷ ks) zs (suc l) z)) (items_more ts x us u lx) r2);
       }
 
-  pub run_led_members : {b : List ℕ} {i j : ℕ} {us : Members} → LedMembers b i j us → (s : State) (m : Mode) (k : ℕ) (ks : List ℕ) (ts : List Token) (p a x : ℕ) → length ts ≡ x → slice_get ts k ≡ Some (token_at a 0 0 Object) → NameBegins m
+  pub run_led_members : {b : List ℕ} {i j : ℕ} {us : Members} → LedMembers b i j us → (s : State) (m : Mode) (k : ℕ) (ks : List ℕ) (ts : List Token) (p a x : ℕ) → length ts ≡ x → slice_get ts k ≡ Some (token_at a 0 0 Object) → BeginsName m
       → Reaches b s (idle m (k ∷ ks) ts i p) → ReadMembers b s (k ∷ ks) (ts ++ flatten_members x us) j (rise_members (suc (length ks)) p us)
   run_led_members {b} (no_led_members i) s m k ks ts p a x lx g h r = record { mode = m; begins = h; reached = subst (λ zs. Reaches b s (idle m (k ∷ ks) zs i p)) (sym (append-nil ts)) r }
   run_led_members {b} (led_member i j l o us n u before nm w c) s m k ks ts p a x lx g h r =

@@ -60,10 +60,10 @@ all_append : (j : ℕ) (xs ys : List Tree) → AllIn j xs → AllIn j ys → All
 all_append j [] ys a b = b
 all_append j (x ∷ xs) ys a b = (a.0, all_append j xs ys a.1 b)
 
-held_on : (t : Tree) (ts : List Tree) (j : ℕ) → start_of t < j → held j (t ∷ ts) ≡ t ∷ held j ts
+pub held_on : (t : Tree) (ts : List Tree) (j : ℕ) → start_of t < j → held j (t ∷ ts) ≡ t ∷ held j ts
 held_on t ts j h = grind (arith)
 
-past_on : (t : Tree) (ts : List Tree) (j : ℕ) → start_of t < j → past j (t ∷ ts) ≡ past j ts
+pub past_on : (t : Tree) (ts : List Tree) (j : ℕ) → start_of t < j → past j (t ∷ ts) ≡ past j ts
 past_on t ts j h = grind (arith)
 
 held_beyond : (j : ℕ) (ts : List Tree) → Beyond j ts → held j ts ≡ []
@@ -135,7 +135,21 @@ mutual
   pub named_order : {b : List ℕ} {i j : ℕ} {n : Atom} → Named b i j n → (i ≤ n.start) × (n.start < n.stop) × (n.stop < j)
   named_order (named i j k l w x y c) = let a = w.order in let d = y.order in let e = x.order in (omega arith, omega arith, omega arith)
 
+pub padded_ends : {b : List ℕ} {i j : ℕ} {t : Tree} → Padded b i j t → i ≤ j
+padded_ends p = let q = padded_order p in let f = q.0 in let g = q.1 in omega arith
+
+pub named_ends : {b : List ℕ} {i j : ℕ} {n : Atom} → Named b i j n → i ≤ j
+named_ends p = let q = named_order p in let f = q.0 in let g = q.1 in let h = q.2 in omega arith
+
 -- ---- spans that show trees
+
+pub start-node : (b : List ℕ) (k : Kind) (i j : ℕ) (ts : List Tree) → start_of (node b k i j ts) ≡ i
+start-node b Null i j ts = refl
+start-node b Truth i j ts = refl
+start-node b Number i j ts = refl
+start-node b Text i j ts = refl
+start-node b Array i j ts = refl
+start-node b Object i j ts = refl
 
 -- a span that holds these trees and no more
 shown : (b : List ℕ) (i j : ℕ) (k : Kind) (ss : List Span) (xs ys : List Tree) → kind_by (byte b i) ≡ k → forest b ss ≡ xs ++ ys → AllIn j xs → Beyond j ys → forest b (span_at i j ∷ ss) ≡ node b k i j xs ∷ ys

@@ -1,5 +1,6 @@
 -- The machine is at a state after the first i bytes exactly where they are a front.
-use Rattle.std.proofs.Common.{◌≡◌, ℕ, suc, ◌+◌, ◌<◌, ◌≤◌, List, [], ◌∷◌, ◌++◌, length, max, refl, ap, subst, arith, ◌⊎◌, inl, inr}
+use Rattle.std.proofs.Common.{◌≡◌, ℕ, suc, ◌+◌, List, [], ◌∷◌, ◌++◌, length, max, refl, ap, subst, arith, inl, inr}
+use Rattle.std.proofs.lemmas.Bool.{cases_lt}
 use Rattle.cj_spans.specs.declared.token.Kind.TheVariants.{Array, Object}
 use Rattle.cj_spans.specs.declared.token.Token.{Token}
 use Rattle.cj_spans.specs.declared.step.Mode.{Mode}
@@ -9,9 +10,9 @@ use Rattle.cj_spans.specs.Json.{byte, White, padded, no_led, LedMembers, no_led_
 use Rattle.cj_spans.specs.Front.{Front, blank, begun, whole, in_object}
 use Rattle.cj_spans.specs.Front.{in_array as front_array, in_member as front_member, in_name as front_name, after_name as front_after_name}
 use Rattle.cj_spans.specs.Preorder.{flatten, token_at}
-use Rattle.cj_spans.specs.Machine.{State, state, in_atom, Reaches, on}
+use Rattle.cj_spans.specs.Machine.{State, state, in_atom, Reaches, on, BeginsValue}
 use Rattle.cj_spans.proofs.Lists.{length-snoc, slice_get-seam, rise}
-use Rattle.cj_spans.proofs.Runs.{Arrives, settled, skip, Begins, NameBegins, idle}
+use Rattle.cj_spans.proofs.Runs.{Arrives, settled, skip, BeginsName, idle}
 use Rattle.cj_spans.proofs.Follows.{run_padded, run_led, run_led_members, run_named, open_array, open_object}
 use Rattle.cj_spans.proofs.Places.{atom_begun, name_begun, run_begun, run_begun_name, run_name, begun_reading, quote_first}
 use Rattle.cj_spans.proofs.Runs.{skip_after}
@@ -40,10 +41,10 @@ record InObject (b : List ℕ) (s : State) (ks : List ℕ) (k : ℕ) : Type 0 wh
   mode : Mode
   tokens : List Token
   deepest : ℕ
-  begins : NameBegins mode
+  begins : BeginsName mode
   reached : Reaches b s (idle mode ks tokens k deepest)
 
-object_at : {b : List ℕ} (i j k : ℕ) (us : Members) → White b i j → byte b j ≡ 123 → LedMembers b (suc j) k us → (s : State) (m : Mode) (ks : List ℕ) (ts : List Token) (p : ℕ) → Begins m → Reaches b s (idle m ks ts i p)
+object_at : {b : List ℕ} (i j k : ℕ) (us : Members) → White b i j → byte b j ≡ 123 → LedMembers b (suc j) k us → (s : State) (m : Mode) (ks : List ℕ) (ts : List Token) (p : ℕ) → BeginsValue m → Reaches b s (idle m ks ts i p)
     → InObject b s (length ts ∷ ks) k
 object_at {b} i j k us w o ld s m ks ts p h r =
     let t = token_at j 0 0 Object in let q = max p (suc (length ks)) in
@@ -51,7 +52,7 @@ object_at {b} i j k us w o ld s m ks ts p h r =
     let r2 = run_led_members ld s FirstName (length ts) ks (ts ++ t ∷ []) q j (suc (length ts)) (length-snoc ts t) (slice_get-seam ts [] t) tt r1 in
     record { mode = r2.mode; tokens = _; deepest = _; begins = r2.begins; reached = r2.reached }
 
-pub front_runs : {b : List ℕ} {i j n : ℕ} → Front b i j n → (s : State) (m : Mode) (ks : List ℕ) (ts : List Token) (p : ℕ) → Begins m → Reaches b s (idle m ks ts i p) → Live b s j (n + length ks)
+pub front_runs : {b : List ℕ} {i j n : ℕ} → Front b i j n → (s : State) (m : Mode) (ks : List ℕ) (ts : List Token) (p : ℕ) → BeginsValue m → Reaches b s (idle m ks ts i p) → Live b s j (n + length ks)
 front_runs {b} (blank i j w) s m ks ts p h r = live_n _ _ (omega arith) (lives s (idle m ks ts j p) (skip w s m ks ts p r))
 front_runs {b} (begun i j l k w g) s m ks ts p h r =
     let q = begun_reading g in
@@ -83,10 +84,7 @@ front_runs {b} (front_member i j k l m2 n us nm w o ld named_at f) s m ks ts p h
 white_join : {b : List ℕ} {i j k : ℕ} → White b i j → White b j k → White b i k
 white_join {b} {i} {j} {k} v w =
     let o = v.order in let p = w.order in
-    record { order = omega arith; each = λ n l u. elim (where_is n j) [ inl s ↦ v.each n l s | inr g ↦ w.each n g u ] }
-  where
-    where_is : (n j : ℕ) → (n < j) ⊎ (j ≤ n)
-    where_is n j = grind arith
+    record { order = omega arith; each = λ n l u. elim (cases_lt n j) [ inl s ↦ v.each n l s | inr g ↦ w.each n g u ] }
 
 front_white : {b : List ℕ} {i j k n : ℕ} → White b i j → Front b j k n → Front b i k n
 front_white {i = i} v (blank j k w) = blank i k (white_join v w)

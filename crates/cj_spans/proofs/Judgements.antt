@@ -9,11 +9,11 @@ use Rattle.cj_spans.specs.declared.token.Token.{Token}
 use Rattle.cj_spans.specs.declared.lex.Lex.{Lex}
 use Rattle.cj_spans.specs.declared.step.Mode.{Mode}
 use Rattle.cj_spans.specs.declared.step.Mode.TheVariants.{Ready, FirstItem, After, FirstName, NextName, AfterName}
-use Rattle.cj_spans.specs.Spelling.{is_blank}
+use Rattle.cj_spans.specs.Spelling.{is_white_space}
 use Rattle.cj_spans.specs.Json.{byte, Json}
 use Rattle.cj_spans.specs.Tree.{Tree, nest}
 use Rattle.cj_spans.specs.Front.{SyntaxAt, DeepAt, NowhereDeep}
-use Rattle.cj_spans.specs.Judgement.{Judgement, spelled, broken, sunk, IsAnswerOf}
+use Rattle.cj_spans.specs.Judgement.{Judgement, spelled, broken, sunk, SaySame, IsAnswerOf}
 use Rattle.cj_spans.specs.declared.fault.ScanFault.{ScanFault}
 use Rattle.cj_spans.specs.declared.fault.ScanFault.TheVariants.{Syntax, TooDeep, Memory}
 use Rattle.cj_spans.specs.Machine.{Phase, State, state, between, in_atom, start, moved, step, step_by, read, read_in, begin_value, begin_name, after_top, after_token, after_in, close_by, close_top, close_token, end_atom, go_on, settle, lex_start, lex_step, lex_kind, Reaches, here, on, Sticks}
@@ -21,7 +21,7 @@ use Rattle.cj_spans.proofs.Spellings.{none_some, some_same}
 use Rattle.cj_spans.proofs.Facts.{next_place, lawful_reaches, goes}
 use Rattle.cj_spans.proofs.Runs.{settled}
 use Rattle.cj_spans.proofs.Sound.{inv_reaches}
-use Rattle.cj_spans.proofs.Verdicts.{spells, nest_of, sticks_syntax, sticks_nowhere, sinks_deep}
+use Rattle.cj_spans.proofs.Verdicts.{spells, nest_of, sticks_syntax, sticks_nowhere, sinks_deep, json_only, one_deep, one_syntax, json_no_syntax, json_nowhere}
 
 -- ---- a step opens one container at most
 
@@ -84,7 +84,7 @@ module _ (s : State) where
   climbs_read_in AfterName c = climbs_cond _ (nat_eq c 58) _ None (omega arith) tt
 
   climbs_read : (m : Mode) (c : ℕ) → Climbs (length s.stack) (read m c s)
-  climbs_read m c = climbs_cond _ (is_blank c) _ _ (omega arith) (climbs_read_in m c)
+  climbs_read m c = climbs_cond _ (is_white_space c) _ _ (omega arith) (climbs_read_in m c)
 
 climbs_ended : (m : Mode) (i c : ℕ) (r : Option Kind) (s : State) → Climbs (length s.stack) (option_and_then (read m c) (end_atom m i r s))
 climbs_ended m i c None s = tt
@@ -182,6 +182,18 @@ module _ (b : List ℕ) (d : ℕ) where
 -- what a line is under a depth limit
 unfoldable pub judgement : (b : List ℕ) (d : ℕ) → Judgement b d
 judgement b d = over b d (length b) start here (omega arith) (omega arith)
+
+-- and it is no other
+pub say_same : {b : List ℕ} {d : ℕ} (j k : Judgement b d) → SaySame j k
+say_same {b} (spelled t j n) (spelled u k m) = json_only b u t k j
+say_same (spelled t j n) (broken i s h) = json_no_syntax t j s
+say_same {b} {d} (spelled t j n) (sunk i s) = json_nowhere b d t j n i s
+say_same (broken i s h) (spelled t j n) = json_no_syntax t j s
+say_same {b} (broken i s h) (broken k r g) = one_syntax b i k s r
+say_same (broken i s h) (sunk k r) = h k r
+say_same {b} {d} (sunk i s) (spelled t j n) = json_nowhere b d t j n i s
+say_same (sunk i s) (broken k r g) = g i s
+say_same {b} {d} (sunk i s) (sunk k r) = one_deep b d i k s r
 
 -- what is answered, from what is found
 pub answer_of : {b : List ℕ} {d : ℕ} (j : Judgement b d) (r : Result (Unit {0}) ScanFault)

@@ -1,5 +1,6 @@
 -- The links of the tokens of a tree, and the trees that come after them.
-use Rattle.std.proofs.Common.{◌≡◌, ℕ, zero, suc, ◌+◌, ◌%◌, ◌^◌, ◌<◌, ◌≤◌, List, [], ◌∷◌, ◌++◌, length, drop, slice_get, ◌⊎◌, inl, inr, Some, refl, sym, ap, subst, arith, ◌∙◌, append_assoc, length-append}
+use Rattle.std.proofs.Common.{◌≡◌, ℕ, zero, suc, ◌+◌, ◌%◌, ◌^◌, ◌<◌, ◌≤◌, List, [], ◌∷◌, ◌++◌, length, drop, slice_get, inl, inr, Some, refl, sym, ap, subst, arith, ◌∙◌, append_assoc, length-append}
+use Rattle.std.proofs.lemmas.Bool.{cases_lt}
 use Rattle.std.proofs.lemmas.List.{append-nil, length-drop}
 use Rattle.std.proofs.lemmas.Option.{slice_get_within}
 use Rattle.cj_spans.specs.declared.token.Token.{Token}
@@ -10,7 +11,7 @@ use Rattle.cj_spans.specs.Json.{Value, atom, empty_array, full_array, empty_obje
 use Rattle.cj_spans.specs.Preorder.{flatten, flatten_items, flatten_members, token_at}
 use Rattle.cj_spans.specs.Sound.{before, AreLinked}
 use Rattle.cj_spans.proofs.Lists.{flatten_items-add, flatten_members-add, named_tokens, length-flatten, length-flatten_items, length-flatten_members}
-use Rattle.cj_spans.proofs.Forests.{padded_order, led_order, led_members_order, named_order}
+use Rattle.cj_spans.proofs.Forests.{led_order, led_members_order, padded_ends, named_ends}
 
 -- ---- tokens that start before a place, and others
 
@@ -33,14 +34,11 @@ before_none : (j : ℕ) (ts : List Token) → NotBefore j ts → before j ts ≡
 before_none j [] h = refl
 before_none j (t ∷ ts) h = before_zero j t ts h
 
-split : (m n : ℕ) → (m < n) ⊎ (n ≤ m)
-split m n = grind arith
-
 pub before_length : (j : ℕ) (ts : List Token) → before j ts ≤ length ts
 before_length j [] = omega arith
 before_length j (t ∷ ts) =
     let l = before_length j ts in
-    elim (split t.start j) [ inl h ↦ let e = before_one j t ts h in omega arith | inr h ↦ let e = before_zero j t ts h in omega arith ]
+    elim (cases_lt t.start j) [ inl h ↦ let e = before_one j t ts h in omega arith | inr h ↦ let e = before_zero j t ts h in omega arith ]
 
 before_all : (j : ℕ) (ts us : List Token) → AllBefore j ts → NotBefore j us → before j (ts ++ us) ≡ length ts
 before_all j [] us h n = before_none j us n
@@ -64,12 +62,12 @@ not_before_append i j (t ∷ ts) us l h g = h
 
 -- ---- links
 
--- each of the tokens, which are numbered from k on, links past those that start before it stops
+-- each of the tokens, which are at the indices from k on, links past those that start before it stops
 abbrev AllLinked : ℕ → List Token → Type 0
 AllLinked k [] = Unit {0}
 AllLinked k (t ∷ ts) = (t.link ≡ suc k + before t.stop ts) × AllLinked (suc k) ts
 
--- tokens between two places, numbered from k on, linked before any that are linked and start later
+-- tokens between two places, at the indices from k on, linked before any that are linked and start later
 record Linked (i j k : ℕ) (ts : List Token) : Type 0 where
   all : AllBefore j ts
   first : NotBefore i ts
@@ -122,12 +120,6 @@ linked_add_member i j k l n us a u f g h p q r =
     let e = length-flatten_members n us in
     let pair : Linked j l m (named_tokens m a u) = linked_both j k l m (suc m) (token_at a.start a.stop (suc m) Text ∷ []) (flatten (suc m) u) g h (omega arith) q r in
     subst (Linked i l n) (sym (flatten_members-add n us a u)) (linked_both i j l n m (flatten_members n us) (named_tokens m a u) f (omega arith) (omega arith) p pair)
-
-padded_ends : {b : List ℕ} {i j : ℕ} {t : Tree} → Padded b i j t → i ≤ j
-padded_ends p = let q = padded_order p in let f = q.0 in let g = q.1 in omega arith
-
-named_ends : {b : List ℕ} {i j : ℕ} {n : Atom} → Named b i j n → i ≤ j
-named_ends p = let q = named_order p in let f = q.0 in let g = q.1 in let h = q.2 in omega arith
 
 mutual
   linked_value : {b : List ℕ} {i j : ℕ} {t : Tree} → Value b i j t → (n : ℕ) → Linked i j n (flatten n t)

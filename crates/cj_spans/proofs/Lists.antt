@@ -17,7 +17,7 @@ flatten_items-add k (item u ts) t =
     ap (λ xs. flatten k u ++ xs) (flatten_items-add j ts t ∙ ap (λ i. flatten_items j ts ++ flatten i t) e)
     ∙ sym (append_assoc (flatten k u) (flatten_items j ts) (flatten (k + (size u + items_size ts)) t))
 
--- a name and its value, numbered from k on
+-- a name and its value, at the indices from k on
 abbrev pub named_tokens : ℕ → Atom → Tree → List Token
 named_tokens k n t = token_at n.start n.stop (suc k) Text ∷ flatten (suc k) t
 
@@ -92,7 +92,7 @@ pub slice_get-seam : {A : Type 0} (xs ys : List A) (x : A) → slice_get (xs ++ 
 slice_get-seam [] ys x = refl
 slice_get-seam (z ∷ xs) ys x = slice_get-seam xs ys x
 
--- ---- the tokens of an open container, whose first part has the number k
+-- ---- the tokens of an open container, whose first part is at the index k
 
 pub length-snoc : (ts : List Token) (o : Token) → length (ts ++ o ∷ []) ≡ suc (length ts)
 length-snoc ts o = let e = length-append ts (o ∷ []) in omega arith

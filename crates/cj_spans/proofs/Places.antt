@@ -1,10 +1,10 @@
 -- Scalars and names by their places.
-use Rattle.std.proofs.Common.{◌≡◌, ℕ, suc, ◌+◌, ◌-◌, ◌<◌, ◌≤◌, List, [], ◌∷◌, ◌++◌, length, take, drop, get_or, slice_range, Bool, true, false, cond, nat_eq, Option, Some, None, refl, sym, ap, subst, arith, ◌∙◌, ◌⊎◌, inl, inr}
+use Rattle.std.proofs.Common.{◌≡◌, ℕ, suc, ◌+◌, ◌-◌, ◌<◌, ◌≤◌, List, [], ◌∷◌, ◌++◌, length, take, drop, get_or, slice_range, Bool, true, false, cond, nat_eq, Option, Some, None, refl, sym, ap, subst, arith, ◌∙◌, inl, inr}
 use Rattle.std.specs.Prelude.{option_and_then, option_map}
 use Rattle.std.proofs.lemmas.Grind.{common_steps}
 use Rattle.std.proofs.Math.Seq.{take-suc}
 use Rattle.std.proofs.lemmas.List.{get_or-drop, length-drop, length-take, get_or-take, append-nil}
-use Rattle.std.proofs.lemmas.Bool.{eqb-true}
+use Rattle.std.proofs.lemmas.Bool.{eqb-true, cases_lt}
 use Rattle.cj_spans.specs.declared.token.Kind.{Kind}
 use Rattle.cj_spans.specs.declared.token.Kind.TheVariants.{Text}
 use Rattle.cj_spans.specs.declared.token.Token.{Token}
@@ -12,14 +12,14 @@ use Rattle.cj_spans.specs.declared.lex.Lex.{Lex}
 use Rattle.cj_spans.specs.declared.lex.Lex.TheVariants.{AfterN, AfterNu, AfterNul, NullDone, AfterT, AfterTr, AfterTru, AfterF, AfterFa, AfterFal, AfterFals, TruthDone, Minus, Zero, Whole, Point, Fraction, Mark, MarkSign, Exponent, InText, Escape, Hex4, Hex3, Hex2, Hex1, TextDone}
 use Rattle.cj_spans.specs.declared.step.Mode.{Mode}
 use Rattle.cj_spans.specs.declared.step.Mode.TheVariants.{Ready, FirstItem, After, FirstName, NextName, AfterName}
-use Rattle.cj_spans.specs.Spelling.{is_blank, IsScalar}
+use Rattle.cj_spans.specs.Spelling.{is_white_space, IsScalar}
 use Rattle.cj_spans.specs.Json.{byte, IsAtom}
 use Rattle.cj_spans.specs.Front.{Begun}
 use Rattle.cj_spans.specs.Preorder.{token_at}
-use Rattle.cj_spans.specs.Machine.{State, state, in_atom, step, begin_value, lex_start, lex_step, lex_kind, Continues, still, further, Reaches, on, end_atom}
+use Rattle.cj_spans.specs.Machine.{State, state, in_atom, step, begin_value, lex_start, lex_step, lex_kind, Continues, still, further, Reaches, on, end_atom, BeginsValue}
 use Rattle.cj_spans.proofs.Spellings.{none_some, some_same, lex_run, reading, reading_sound, reading_whole, reading-more, reading-append, reading-prefix, can_end, IsOfText, TextOption, of_text_step, text_kind, text_end}
 use Rattle.cj_spans.proofs.Atoms.{continues_reaches}
-use Rattle.cj_spans.proofs.Runs.{IsEnd, space, tab, feed, «return», comma, colon, bracket, brace, blank_end, Arrives, Begins, NameBegins, idle}
+use Rattle.cj_spans.proofs.Runs.{IsEnd, space, tab, feed, «return», comma, colon, bracket, brace, white_end, Arrives, BeginsName, idle}
 
 -- the bytes from i to k begin a scalar, and x is how far it is
 pub record InAtom (b : List ℕ) (i k : ℕ) (x : Lex) : Type 0 where
@@ -76,14 +76,11 @@ no_zero Hex2 = refl
 no_zero Hex1 = refl
 no_zero TextDone = refl
 
-pub split : (a b : ℕ) → (a < b) ⊎ (b ≤ a)
-split a b = grind arith
-
 within_step : (b : List ℕ) (k : ℕ) (x y : Lex) → lex_step x (get_or b k 0) ≡ Some y → k < length b
-within_step b k x y h = elim (split k (length b)) [ inl l ↦ l | inr g ↦ none_some y (sym (no_zero x) ∙ ap (lex_step x) (sym (past_end b k g)) ∙ h) ]
+within_step b k x y h = elim (cases_lt k (length b)) [ inl l ↦ l | inr g ↦ none_some y (sym (no_zero x) ∙ ap (lex_step x) (sym (past_end b k g)) ∙ h) ]
 
 within_start : (b : List ℕ) (k : ℕ) (y : Lex) → lex_start (get_or b k 0) ≡ Some y → k < length b
-within_start b k y h = elim (split k (length b)) [ inl l ↦ l | inr g ↦ none_some y (ap lex_start (sym (past_end b k g)) ∙ h) ]
+within_start b k y h = elim (cases_lt k (length b)) [ inl l ↦ l | inr g ↦ none_some y (ap lex_start (sym (past_end b k g)) ∙ h) ]
 
 start_one : (o : Option Lex) → option_and_then (lex_run []) o ≡ o
 start_one None = refl
@@ -168,29 +165,32 @@ start_end brace = refl
 starts_not : (c d : ℕ) (x : Lex) → lex_start c ≡ Some x → lex_start d ≡ None → nat_eq c d ≡ true → ⊥
 starts_not c d x h n e = none_some x (sym n ∙ sym (ap lex_start (eqb-true c d e)) ∙ h)
 
-starts_not_blank : (c : ℕ) (x : Lex) → lex_start c ≡ Some x → is_blank c ≡ true → ⊥
-starts_not_blank c x h e = none_some x (sym (start_end (blank_end c e)) ∙ h)
+starts_not_white : (c : ℕ) (x : Lex) → lex_start c ≡ Some x → is_white_space c ≡ true → ⊥
+starts_not_white c x h e = none_some x (sym (start_end (white_end c e)) ∙ h)
 
 begin_atom : (c : ℕ) (x : Lex) (m : Mode) (ks : List ℕ) (ts : List Token) (i p : ℕ) → lex_start c ≡ Some x → begin_value c (idle m ks ts i p) ≡ Some (state (in_atom After i x) ks ts (suc i) p)
 begin_atom c x m ks ts i p h =
     cond_not (nat_eq c 91) _ _ (starts_not c 91 x h refl) ∙ cond_not (nat_eq c 123) _ _ (starts_not c 123 x h refl) ∙ ap (option_map (λ y. state (in_atom After i y) ks ts (suc i) p)) h
 
-step_atom : (c : ℕ) (x : Lex) (m : Mode) (ks : List ℕ) (ts : List Token) (i p : ℕ) → Begins m → lex_start c ≡ Some x → step c (idle m ks ts i p) ≡ Some (state (in_atom After i x) ks ts (suc i) p)
-step_atom c x Ready ks ts i p b h = cond_not (is_blank c) _ _ (starts_not_blank c x h) ∙ begin_atom c x Ready ks ts i p h
-step_atom c x FirstItem ks ts i p b h = cond_not (is_blank c) _ _ (starts_not_blank c x h) ∙ cond_not (nat_eq c 93) _ _ (starts_not c 93 x h refl) ∙ begin_atom c x FirstItem ks ts i p h
+step_atom : (c : ℕ) (x : Lex) (m : Mode) (ks : List ℕ) (ts : List Token) (i p : ℕ) → BeginsValue m → lex_start c ≡ Some x → step c (idle m ks ts i p) ≡ Some (state (in_atom After i x) ks ts (suc i) p)
+step_atom c x Ready ks ts i p b h = cond_not (is_white_space c) _ _ (starts_not_white c x h) ∙ begin_atom c x Ready ks ts i p h
+step_atom c x FirstItem ks ts i p b h = cond_not (is_white_space c) _ _ (starts_not_white c x h) ∙ cond_not (nat_eq c 93) _ _ (starts_not c 93 x h refl) ∙ begin_atom c x FirstItem ks ts i p h
 step_atom c x _ ks ts i p b h = absurd b
 
-pub name_34 : (m : Mode) (ks : List ℕ) (ts : List Token) (i p : ℕ) → NameBegins m → step 34 (idle m ks ts i p) ≡ Some (state (in_atom AfterName i InText) ks ts (suc i) p)
+pub name_34 : (m : Mode) (ks : List ℕ) (ts : List Token) (i p : ℕ) → BeginsName m → step 34 (idle m ks ts i p) ≡ Some (state (in_atom AfterName i InText) ks ts (suc i) p)
 name_34 FirstName ks ts i p g = refl
 name_34 NextName ks ts i p g = refl
 name_34 _ ks ts i p g = absurd g
 
-step_name : (c : ℕ) (m : Mode) (ks : List ℕ) (ts : List Token) (i p : ℕ) → NameBegins m → c ≡ 34 → step c (idle m ks ts i p) ≡ Some (state (in_atom AfterName i InText) ks ts (suc i) p)
+step_name : (c : ℕ) (m : Mode) (ks : List ℕ) (ts : List Token) (i p : ℕ) → BeginsName m → c ≡ 34 → step c (idle m ks ts i p) ≡ Some (state (in_atom AfterName i InText) ks ts (suc i) p)
 step_name c m ks ts i p g q = ap (λ d. step d (idle m ks ts i p)) q ∙ name_34 m ks ts i p g
 
 stepped : (f : Lex → Option Lex) (o : Option Lex) (y : Lex) → option_and_then f o ≡ Some y → (z : Lex) × (o ≡ Some z) × (f z ≡ Some y)
 stepped f None y h = none_some y h
 stepped f (Some z) y h = (z, refl, h)
+
+shift : (k n : ℕ) → suc k + n ≡ k + suc n
+shift k n = omega arith
 
 -- bytes that a reading passes over, by their places
 pub continues_run : (r : List ℕ) (b : List ℕ) (i k : ℕ) (x y z : Lex) → Continues b i x k y → lex_run r y ≡ Some z → ((n : ℕ) → n < length r → byte b (k + n) ≡ get_or r n 0) → Continues b i x (k + length r) z
@@ -203,9 +203,6 @@ continues_run (d ∷ r) b i k x y z c h e =
     let f : byte b k ≡ d = ap (byte b) (plus_zero k) ∙ e 0 (omega arith) in
     let a : suc k + length r ≡ k + suc (length r) = omega arith in
     subst (λ n. Continues b i x n z) a (continues_run r b i (suc k) x w.0 z (further k y w.0 c (ap (lex_step y) f ∙ w.1)) w.2 (λ n l. ap (byte b) (shift k n) ∙ e (suc n) (omega arith)))
-  where
-    shift : (k n : ℕ) → suc k + n ≡ k + suc n
-    shift k n = omega arith
 
 -- the first reading of a scalar, and how it goes on
 record Started (b : List ℕ) (i k : ℕ) (y : Lex) : Type 0 where
@@ -216,9 +213,6 @@ record Started (b : List ℕ) (i k : ℕ) (y : Lex) : Type 0 where
 started : (b : List ℕ) (i k : ℕ) (y : Lex) → InAtom b i k y → Started b i k y
 started b i k y r = by_list (slice_range b i k) (slice-length b i k (omega (arith, r.order)) r.within) (slice_has b i k) r.run
   where
-    shift : (k n : ℕ) → suc k + n ≡ k + suc n
-    shift k n = omega arith
-
     by_list : (s : List ℕ) → i + length s ≡ k → ((n : ℕ) → n < length s → byte b (i + n) ≡ get_or s n 0) → reading s ≡ Some y → Started b i k y
     by_list [] l e h = none_some y h
     by_list (c ∷ s) l e h =
@@ -231,12 +225,12 @@ started b i k y r = by_list (slice_range b i k) (slice-length b i k (omega (arit
           goes = subst (λ n. Continues b (suc i) z.0 n y) a (continues_run s b (suc i) (suc i) z.0 z.0 y still z.2 (λ n q. ap (byte b) (shift i n) ∙ e (suc n) (omega arith)));
         }
 
-pub run_begun : {b : List ℕ} {i k : ℕ} {y : Lex} → InAtom b i k y → (s : State) (m : Mode) (ks : List ℕ) (ts : List Token) (p : ℕ) → Begins m → Reaches b s (idle m ks ts i p) → Reaches b s (state (in_atom After i y) ks ts k p)
+pub run_begun : {b : List ℕ} {i k : ℕ} {y : Lex} → InAtom b i k y → (s : State) (m : Mode) (ks : List ℕ) (ts : List Token) (p : ℕ) → BeginsValue m → Reaches b s (idle m ks ts i p) → Reaches b s (state (in_atom After i y) ks ts k p)
 run_begun {b} {i} {k} {y} r s m ks ts p g h =
     let z = started b i k y r in
     continues_reaches z.goes s After i ks ts p (on (idle m ks ts i p) (state (in_atom After i z.first) ks ts (suc i) p) h (step_atom (byte b i) z.first m ks ts i p g z.starts))
 
-pub run_begun_name : {b : List ℕ} {i k : ℕ} {y : Lex} → InAtom b i k y → byte b i ≡ 34 → (s : State) (m : Mode) (ks : List ℕ) (ts : List Token) (p : ℕ) → NameBegins m → Reaches b s (idle m ks ts i p) → Reaches b s (state (in_atom AfterName i y) ks ts k p)
+pub run_begun_name : {b : List ℕ} {i k : ℕ} {y : Lex} → InAtom b i k y → byte b i ≡ 34 → (s : State) (m : Mode) (ks : List ℕ) (ts : List Token) (p : ℕ) → BeginsName m → Reaches b s (idle m ks ts i p) → Reaches b s (state (in_atom AfterName i y) ks ts k p)
 run_begun_name {b} {i} {k} {y} r q s m ks ts p g h =
     let z = started b i k y r in
     let e : InText ≡ z.first = some_same InText z.first (sym (ap lex_start q) ∙ z.starts) in
@@ -282,7 +276,7 @@ quote_first b i j r h l w =
 pub name_quote : {b : List ℕ} {i j : ℕ} → IsAtom b Text i j → byte b i ≡ 34
 name_quote {b} {i} {j} w = quote_first b i j [] w.order w.within (subst (IsScalar Text) (sym (append-nil (slice_range b i j))) w.spelled)
 
-pub run_atom : {b : List ℕ} {kd : Kind} {i j : ℕ} → IsAtom b kd i j → (s : State) (m : Mode) (ks : List ℕ) (ts : List Token) (p : ℕ) → Begins m → Reaches b s (idle m ks ts i p)
+pub run_atom : {b : List ℕ} {kd : Kind} {i j : ℕ} → IsAtom b kd i j → (s : State) (m : Mode) (ks : List ℕ) (ts : List Token) (p : ℕ) → BeginsValue m → Reaches b s (idle m ks ts i p)
     → Arrives b s (idle After ks (ts ++ token_at i j (suc (length ts)) kd ∷ []) j p)
 run_atom {b} {kd} {i} {j} w s m ks ts p g r =
     let a = atom_reading w in
@@ -292,7 +286,7 @@ run_atom {b} {kd} {i} {j} w s m ks ts p g r =
       settles = ap (λ q. end_atom After i q (state (in_atom After i a.last) ks ts j p)) a.kind;
     }
 
-pub run_name : {b : List ℕ} {i j : ℕ} → IsAtom b Text i j → (s : State) (m : Mode) (ks : List ℕ) (ts : List Token) (p : ℕ) → NameBegins m → Reaches b s (idle m ks ts i p)
+pub run_name : {b : List ℕ} {i j : ℕ} → IsAtom b Text i j → (s : State) (m : Mode) (ks : List ℕ) (ts : List Token) (p : ℕ) → BeginsName m → Reaches b s (idle m ks ts i p)
     → Arrives b s (idle AfterName ks (ts ++ token_at i j (suc (length ts)) Text ∷ []) j p)
 run_name {b} {i} {j} w s m ks ts p g r =
     let a = atom_reading w in

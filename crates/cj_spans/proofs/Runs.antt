@@ -1,29 +1,22 @@
 -- Runs of the machine: bytes that end a scalar, and white space.
-use Rattle.std.proofs.Common.{◌≡◌, ℕ, zero, suc, ◌+◌, ◌-◌, ◌<◌, ◌≤◌, List, Bool, true, false, cond, ◌||◌, nat_eq, Option, Some, None, refl, sym, ap, subst, arith, ◌∙◌, ◌⊎◌, inl, inr}
+use Rattle.std.proofs.Common.{◌≡◌, ℕ, zero, suc, ◌+◌, ◌-◌, ◌<◌, ◌≤◌, List, true, false, ◌||◌, nat_eq, Option, Some, None, refl, sym, ap, subst, arith, ◌∙◌, inl, inr}
+use Rattle.std.proofs.Math.Nat.{eq-or-lt_of_le}
 use Rattle.std.specs.Prelude.{option_and_then}
-use Rattle.std.proofs.lemmas.Bool.{eqb-true}
+use Rattle.std.proofs.lemmas.Bool.{eqb-true, cond-true, cond-false}
 use Rattle.cj_spans.specs.declared.token.Kind.{Kind}
 use Rattle.cj_spans.specs.declared.token.Token.{Token}
 use Rattle.cj_spans.specs.declared.lex.Lex.{Lex}
 use Rattle.cj_spans.specs.declared.lex.Lex.TheVariants.{AfterN, AfterNu, AfterNul, NullDone, AfterT, AfterTr, AfterTru, AfterF, AfterFa, AfterFal, AfterFals, TruthDone, Minus, Zero, Whole, Point, Fraction, Mark, MarkSign, Exponent, InText, Escape, Hex4, Hex3, Hex2, Hex1, TextDone}
 use Rattle.cj_spans.specs.declared.step.Mode.{Mode}
-use Rattle.cj_spans.specs.declared.step.Mode.TheVariants.{Ready, FirstItem, FirstName, NextName}
-use Rattle.cj_spans.specs.Spelling.{is_blank}
+use Rattle.cj_spans.specs.declared.step.Mode.TheVariants.{FirstName, NextName}
+use Rattle.cj_spans.specs.Spelling.{is_white_space}
 use Rattle.cj_spans.specs.Json.{byte, White}
 use Rattle.cj_spans.specs.Machine.{is_digit, Phase, State, state, between, in_atom, read, end_atom, go_on, step, settle, lex_step, lex_kind, point_or_mark, Reaches, on}
-use Rattle.cj_spans.proofs.Spellings.{none_some, some_same}
+use Rattle.cj_spans.proofs.Spellings.{none_some, some_same, either}
 
 -- between scalars and names
 abbrev pub idle : Mode → List ℕ → List Token → ℕ → ℕ → State
 idle m ks ts i p = state (between m) ks ts i p
-
-pub cond_true : {A : Type 0} (v : Bool) (x y : A) → v ≡ true → cond v x y ≡ x
-cond_true true x y h = refl
-cond_true false x y h = cc
-
-pub cond_false : {A : Type 0} (v : Bool) (x y : A) → v ≡ false → cond v x y ≡ y
-cond_false true x y h = cc
-cond_false false x y h = refl
 
 -- ---- the bytes that end a scalar or a name
 
@@ -72,9 +65,9 @@ pub atom_ends : (x : Lex) (c : ℕ) (k : Kind) → lex_kind x ≡ Some k → IsE
 atom_ends NullDone c k h e = refl
 atom_ends TruthDone c k h e = refl
 atom_ends Zero c k h e = point_end e
-atom_ends Whole c k h e = cond_false (is_digit c) _ _ (digit_end e) ∙ point_end e
+atom_ends Whole c k h e = cond-false (is_digit c) _ _ (digit_end e) ∙ point_end e
 atom_ends Fraction c k h e = fraction_end e
-atom_ends Exponent c k h e = cond_false (is_digit c) _ _ (digit_end e)
+atom_ends Exponent c k h e = cond-false (is_digit c) _ _ (digit_end e)
 atom_ends TextDone c k h e = refl
 atom_ends AfterN c k h e = cc
 atom_ends AfterNu c k h e = cc
@@ -97,20 +90,16 @@ atom_ends Hex3 c k h e = cc
 atom_ends Hex2 c k h e = cc
 atom_ends Hex1 c k h e = cc
 
-pub or_cases : (v w : Bool) → v || w ≡ true → (v ≡ true) ⊎ (w ≡ true)
-or_cases true w h = inl refl
-or_cases false w h = inr h
-
 end_at : (c d : ℕ) → IsEnd d → nat_eq c d ≡ true → IsEnd c
 end_at c d e h = subst IsEnd (sym (eqb-true c d h)) e
 
-pub blank_end : (c : ℕ) → is_blank c ≡ true → IsEnd c
-blank_end c h =
-    elim (or_cases (nat_eq c 32 || nat_eq c 9 || nat_eq c 10) (nat_eq c 13) h) [
+pub white_end : (c : ℕ) → is_white_space c ≡ true → IsEnd c
+white_end c h =
+    elim (either (nat_eq c 32 || nat_eq c 9 || nat_eq c 10) (nat_eq c 13) h) [
       | inr q ↦ end_at c 13 «return» q
-      | inl p ↦ elim (or_cases (nat_eq c 32 || nat_eq c 9) (nat_eq c 10) p) [
+      | inl p ↦ elim (either (nat_eq c 32 || nat_eq c 9) (nat_eq c 10) p) [
         | inr q ↦ end_at c 10 feed q
-        | inl o ↦ elim (or_cases (nat_eq c 32) (nat_eq c 9) o) [ inl q ↦ end_at c 32 space q | inr q ↦ end_at c 9 tab q ]
+        | inl o ↦ elim (either (nat_eq c 32) (nat_eq c 9) o) [ inl q ↦ end_at c 32 space q | inr q ↦ end_at c 9 tab q ]
       ]
     ]
 
@@ -167,13 +156,13 @@ arrive_on b s t u e a h =
 pub arrived : (b : List ℕ) (s : State) (m : Mode) (ks : List ℕ) (ts : List Token) (i p : ℕ) → Reaches b s (idle m ks ts i p) → Arrives b s (idle m ks ts i p)
 arrived b s m ks ts i p r = record { at = idle m ks ts i p; reached = r; settles = refl }
 
-skip_some : (n : ℕ) (b : List ℕ) (s : State) (m : Mode) (ks : List ℕ) (ts : List Token) (i p : ℕ) → ((k : ℕ) → i ≤ k → k < i + n → is_blank (byte b k) ≡ true)
+skip_some : (n : ℕ) (b : List ℕ) (s : State) (m : Mode) (ks : List ℕ) (ts : List Token) (i p : ℕ) → ((k : ℕ) → i ≤ k → k < i + n → is_white_space (byte b k) ≡ true)
     → Reaches b s (idle m ks ts i p) → Reaches b s (idle m ks ts (i + n) p)
 skip_some zero b s m ks ts i p each r = let e : i ≡ i + 0 = omega arith in subst (λ k. Reaches b s (idle m ks ts k p)) e r
 skip_some (suc n) b s m ks ts i p each r =
     let white = each i (omega arith) (omega arith) in
     let e : suc i + n ≡ i + suc n = omega arith in
-    let q = on (idle m ks ts i p) (idle m ks ts (suc i) p) r (cond_true (is_blank (byte b i)) _ _ white) in
+    let q = on (idle m ks ts i p) (idle m ks ts (suc i) p) r (cond-true (is_white_space (byte b i)) _ _ white) in
     subst (λ k. Reaches b s (idle m ks ts k p)) e (skip_some n b s m ks ts (suc i) p (λ k l u. each k (omega arith) (omega arith)) q)
 
 pub skip : {b : List ℕ} {i j : ℕ} → White b i j → (s : State) (m : Mode) (ks : List ℕ) (ts : List Token) (p : ℕ) → Reaches b s (idle m ks ts i p) → Reaches b s (idle m ks ts j p)
@@ -188,24 +177,19 @@ white_rest b i j w h = record { order = omega arith; each = λ k l u. w.each k (
 -- the same where a scalar may just have ended
 pub skip_after : {b : List ℕ} {i j : ℕ} → White b i j → (s : State) (m : Mode) (ks : List ℕ) (ts : List Token) (p : ℕ) → Arrives b s (idle m ks ts i p) → Arrives b s (idle m ks ts j p)
 skip_after {b} {i} {j} w s m ks ts p a =
-    elim (same_or i j w.order) [
+    elim (eq-or-lt_of_le w.order) [
       | inl e ↦ subst (λ k. Arrives b s (idle m ks ts k p)) e a
       | inr l ↦
           let white = w.each i (omega arith) l in
-          let r = arrive_on b s (idle m ks ts i p) (idle m ks ts (suc i) p) (blank_end (byte b i) white) a (cond_true (is_blank (byte b i)) _ _ white) in
+          let r = arrive_on b s (idle m ks ts i p) (idle m ks ts (suc i) p) (white_end (byte b i) white) a (cond-true (is_white_space (byte b i)) _ _ white) in
           arrived b s m ks ts j p (skip (white_rest b i j w l) s m ks ts p r)
     ]
-  where
-    same_or : (i j : ℕ) → i ≤ j → (i ≡ j) ⊎ (i < j)
-    same_or i j h = grind arith
 
--- the modes in which a value may begin, and those in which a name may
-abbrev pub Begins : Mode → Type 0
-Begins Ready = Unit {0}
-Begins FirstItem = Unit {0}
-Begins _ = ⊥
+pub same_mode : (m n : Mode) → between m ≡ between n → m ≡ n
+same_mode m n h = cc
 
-abbrev pub NameBegins : Mode → Type 0
-NameBegins FirstName = Unit {0}
-NameBegins NextName = Unit {0}
-NameBegins _ = ⊥
+-- the modes in which a name may begin
+abbrev pub BeginsName : Mode → Type 0
+BeginsName FirstName = Unit {0}
+BeginsName NextName = Unit {0}
+BeginsName _ = ⊥

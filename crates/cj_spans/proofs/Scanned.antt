@@ -1,5 +1,6 @@
 -- Tokens that show the tree of a line: what is known of each.
-use Rattle.std.proofs.Common.{◌≡◌, ℕ, zero, suc, ◌+◌, ◌<◌, ◌≤◌, List, [], ◌∷◌, ◌++◌, length, drop, slice_get, slice_range, true, ◌⊎◌, inl, inr, Some, refl, sym, ap, subst, arith, ◌∙◌, append_assoc}
+use Rattle.std.proofs.Common.{◌≡◌, ℕ, zero, suc, ◌+◌, ◌<◌, ◌≤◌, List, [], ◌∷◌, ◌++◌, length, drop, slice_get, slice_range, true, inl, inr, Some, refl, sym, ap, subst, arith, ◌∙◌, append_assoc}
+use Rattle.std.proofs.lemmas.Bool.{cases_lt}
 use Rattle.std.proofs.lemmas.List.{append-nil}
 use Rattle.std.proofs.lemmas.Bool.Decides.{nat_tests}
 use Rattle.cj_spans.specs.declared.token.Token.{Token}
@@ -14,7 +15,7 @@ use Rattle.cj_spans.specs.Sound.{AreOf, AreWithin, AreNested, AreNamed, AreLinke
 use Rattle.cj_spans.specs.View.{tree_at}
 use Rattle.cj_spans.proofs.Lists.{items_preorder-add, members_preorder-add}
 use Rattle.cj_spans.proofs.Verdicts.{json_only}
-use Rattle.cj_spans.proofs.Forests.{atom_kind, Beyond, held_all, names_and_values, padded_order, led_order, led_members_order, named_order, Shows, shows_more, shows_add_member, shows_led_members, shows_padded}
+use Rattle.cj_spans.proofs.Forests.{atom_kind, Beyond, held_all, names_and_values, led_order, led_members_order, Shows, shows_more, shows_add_member, shows_led_members, shows_padded, padded_ends, named_ends, start-node}
 
 -- ---- as many spans as the trees have values and names: none is left out
 
@@ -95,18 +96,15 @@ preorders-append : (ts us : List Tree) → preorders (ts ++ us) ≡ preorders ts
 preorders-append [] us = refl
 preorders-append (t ∷ ts) us = ap (λ ss. preorder t ++ ss) (preorders-append ts us) ∙ sym (append_assoc (preorder t) (preorders ts) (preorders us))
 
-split : (m n : ℕ) → (m < n) ⊎ (n ≤ m)
-split m n = grind arith
+held-past_on : (t : Tree) (ts : List Tree) (j : ℕ) → start_of t < j → held j (t ∷ ts) ++ past j (t ∷ ts) ≡ t ∷ (held j ts ++ past j ts)
+held-past_on t ts j h = grind (arith, nat_tests)
 
-held_first : (t : Tree) (ts : List Tree) (j : ℕ) → start_of t < j → held j (t ∷ ts) ++ past j (t ∷ ts) ≡ t ∷ (held j ts ++ past j ts)
-held_first t ts j h = grind (arith, nat_tests)
-
-held_none : (t : Tree) (ts : List Tree) (j : ℕ) → j ≤ start_of t → held j (t ∷ ts) ++ past j (t ∷ ts) ≡ t ∷ ts
-held_none t ts j h = grind (arith, nat_tests)
+held-past_here : (t : Tree) (ts : List Tree) (j : ℕ) → j ≤ start_of t → held j (t ∷ ts) ++ past j (t ∷ ts) ≡ t ∷ ts
+held-past_here t ts j h = grind (arith, nat_tests)
 
 held-past : (j : ℕ) (ts : List Tree) → held j ts ++ past j ts ≡ ts
 held-past j [] = refl
-held-past j (t ∷ ts) = elim (split (start_of t) j) [ inl l ↦ held_first t ts j l ∙ ap (λ us. t ∷ us) (held-past j ts) | inr g ↦ held_none t ts j g ]
+held-past j (t ∷ ts) = elim (cases_lt (start_of t) j) [ inl l ↦ held-past_on t ts j l ∙ ap (λ us. t ∷ us) (held-past j ts) | inr g ↦ held-past_here t ts j g ]
 
 held_sizes : (j : ℕ) (ts : List Tree) → sizes (held j ts) + sizes (past j ts) ≡ sizes ts
 held_sizes j ts = sym (sizes-append (held j ts) (past j ts)) ∙ ap sizes (held-past j ts)
@@ -138,9 +136,9 @@ all_shown b ss t h e = let f : sizes (forest b ss) ≡ length ss = ap sizes h �
 -- ---- what is known of each span
 
 -- what starts before the place stops before it
-abbrev Stops : ℕ → List Span → Type 0
-Stops j [] = Unit {0}
-Stops j (s ∷ ss) = (s.start < j → s.stop ≤ j) × Stops j ss
+abbrev StopsBy : ℕ → List Span → Type 0
+StopsBy j [] = Unit {0}
+StopsBy j (s ∷ ss) = (s.start < j → s.stop ≤ j) × StopsBy j ss
 
 -- all start at the place or after it
 abbrev From : ℕ → List Span → Type 0
@@ -156,7 +154,7 @@ Between i j (s ∷ ss) = (i ≤ s.start) × (s.stop ≤ j) × Between i j ss
 record IsGood (b : List ℕ) (s : Span) (ss : List Span) : Type 0 where
   order : s.start < s.stop
   within : s.stop ≤ length b
-  stops : Stops s.stop ss
+  stops : StopsBy s.stop ss
   named : byte b s.start ≡ 123 → are_members (held s.stop (forest b ss)) ≡ true
 
 abbrev AllGood : List ℕ → List Span → Type 0
@@ -168,11 +166,11 @@ record Good (b : List ℕ) (i j : ℕ) (ss : List Span) : Type 0 where
   between : Between i j ss
   good : (rest : List Span) → From j rest → AllGood b rest → AllGood b (ss ++ rest)
 
-stops_from : (j : ℕ) (ss : List Span) → From j ss → Stops j ss
+stops_from : (j : ℕ) (ss : List Span) → From j ss → StopsBy j ss
 stops_from j [] h = tt
 stops_from j (s ∷ ss) h = let l = h.0 in ((λ m. absurd (omega arith)), stops_from j ss h.1)
 
-stops_between : (i j : ℕ) (ss us : List Span) → Between i j ss → Stops j us → Stops j (ss ++ us)
+stops_between : (i j : ℕ) (ss us : List Span) → Between i j ss → StopsBy j us → StopsBy j (ss ++ us)
 stops_between i j [] us h g = g
 stops_between i j (s ∷ ss) us h g = ((λ m. h.1), stops_between i j ss us h.2 g)
 
@@ -252,14 +250,6 @@ alternate : (ms : Members) → are_members (names_and_values ms) ≡ true
 alternate no_members = refl
 alternate (member n t ms) = alternate ms
 
-start-node : (b : List ℕ) (k : Kind) (i j : ℕ) (ts : List Tree) → start_of (node b k i j ts) ≡ i
-start-node b Null i j ts = refl
-start-node b Truth i j ts = refl
-start-node b Number i j ts = refl
-start-node b Text i j ts = refl
-start-node b Array i j ts = refl
-start-node b Object i j ts = refl
-
 from_beyond : (b : List ℕ) (j : ℕ) (ss : List Span) → From j ss → Beyond j (forest b ss)
 unfolding forest
 from_beyond b j [] h = tt
@@ -270,12 +260,6 @@ alternate_held : (b : List ℕ) (j : ℕ) (ms : Members) (rest : List Span) → 
 alternate_held b j ms rest s f =
     let o = from_beyond b j rest f in
     ap (λ ts. are_members (held j ts)) (s.shows rest o) ∙ ap are_members (held_all j (names_and_values ms) (forest b rest) s.all o) ∙ alternate ms
-
-padded_ends : {b : List ℕ} {i j : ℕ} {t : Tree} → Padded b i j t → i ≤ j
-padded_ends p = let q = padded_order p in let f = q.0 in let g = q.1 in omega arith
-
-named_ends : {b : List ℕ} {i j : ℕ} {n : Atom} → Named b i j n → i ≤ j
-named_ends p = let q = named_order p in let f = q.0 in let g = q.1 in let h = q.2 in omega arith
 
 mutual
   good_value : {b : List ℕ} {i j : ℕ} {t : Tree} → Value b i j t → Good b i j (preorder t)
@@ -323,7 +307,7 @@ good_at b [] k t g h = cc
 good_at b (u ∷ ts) zero t g h = let e : u ≡ t = cc in subst (λ v. IsGood b (span_at v.start v.stop) (spans_of ts)) e g.0
 good_at b (u ∷ ts) (suc k) t g h = good_at b ts k t g.1 h
 
-stops_at : (ts : List Token) (j n i : ℕ) (u : Token) → Stops j (drop n (spans_of ts)) → n ≤ i → slice_get ts i ≡ Some u → u.start < j → u.stop ≤ j
+stops_at : (ts : List Token) (j n i : ℕ) (u : Token) → StopsBy j (drop n (spans_of ts)) → n ≤ i → slice_get ts i ≡ Some u → u.start < j → u.stop ≤ j
 stops_at [] j n i u s l h m = cc
 stops_at (v ∷ ts) j zero zero u s l h m = let e : v ≡ u = cc in let f = ap (λ (w : Token). w.start) e in let g = ap (λ (w : Token). w.stop) e in let n = s.0 in omega arith
 stops_at (v ∷ ts) j zero (suc i) u s l h m = stops_at ts j zero i u s.1 (omega arith) h m

@@ -1,5 +1,6 @@
 -- What the machine has read, by its state.
-use Rattle.std.proofs.Common.{◌≡◌, ℕ, suc, ◌<◌, List, [], ◌∷◌, ◌++◌, length, max, Bool, true, false, cond, nat_eq, Option, Some, None, refl, sym, ap, subst, arith, ◌∙◌, ◌⊎◌, inl, inr, slice_set}
+use Rattle.std.proofs.Common.{◌≡◌, ℕ, suc, List, [], ◌∷◌, ◌++◌, length, max, Bool, true, false, cond, nat_eq, Option, Some, None, refl, sym, ap, subst, arith, ◌∙◌, ◌≤◌, ◌⊎◌, inl, inr, slice_set}
+use Rattle.std.proofs.Math.Nat.{eq-or-lt_of_le}
 use Rattle.std.specs.Prelude.{option_and_then, option_map}
 use Rattle.std.proofs.lemmas.List.{append-nil}
 use Rattle.std.proofs.lemmas.Bool.{eqb-true}
@@ -11,7 +12,7 @@ use Rattle.cj_spans.specs.declared.lex.Lex.TheVariants.{InText}
 use Rattle.cj_spans.specs.declared.step.Mode.{Mode}
 use Rattle.cj_spans.specs.declared.step.Mode.TheVariants.{Ready, FirstItem, After, FirstName, NextName, AfterName}
 use Rattle.cj_spans.specs.Tree.{Atom, Tree, scalar, array, object, Items, no_items, Members, no_members, add_item, add_member}
-use Rattle.cj_spans.specs.Spelling.{is_blank}
+use Rattle.cj_spans.specs.Spelling.{is_white_space}
 use Rattle.cj_spans.specs.Json.{byte, atom_at, White, IsAtom, Value, atom, empty_array, full_array, empty_object, full_object, Padded, padded, LedItems, no_led, led, LedMembers, no_led_members, led_member, Named, named}
 use Rattle.cj_spans.specs.Preorder.{flatten, flatten_items, flatten_members, token_at}
 use Rattle.cj_spans.specs.Machine.{State, state, in_atom, step, read, begin_value, after_value, after_in, after_token, close_token, end_atom, go_on, lex_start, lex_step, lex_kind, Reaches, here, on, start}
@@ -35,14 +36,11 @@ split_option f (Some x) z h = (x, refl, some_same (f x) z h)
 pub no_white : (b : List ℕ) (i : ℕ) → White b i i
 no_white b i = record { order = omega arith; each = λ k h l. absurd (omega arith) }
 
-last_white : (b : List ℕ) (j k : ℕ) → is_blank (byte b j) ≡ true → k ≡ j → is_blank (byte b k) ≡ true
-last_white b j k h e = subst (λ i. is_blank (byte b i) ≡ true) (sym e) h
+last_white : (b : List ℕ) (j k : ℕ) → is_white_space (byte b j) ≡ true → k ≡ j → is_white_space (byte b k) ≡ true
+last_white b j k h e = subst (λ i. is_white_space (byte b i) ≡ true) (sym e) h
 
-either : (k j : ℕ) → k < suc j → (k < j) ⊎ (k ≡ j)
-either k j h = grind arith
-
-pub white_more : (b : List ℕ) (i j : ℕ) → White b i j → is_blank (byte b j) ≡ true → White b i (suc j)
-white_more b i j w h = let o = w.order in record { order = omega arith; each = λ k l u. elim (either k j u) [ inl s ↦ w.each k l s | inr e ↦ last_white b j k h e ] }
+pub white_more : (b : List ℕ) (i j : ℕ) → White b i j → is_white_space (byte b j) ≡ true → White b i (suc j)
+white_more b i j w h = let o = w.order in record { order = omega arith; each = λ k l u. let m : k ≤ j = omega arith in elim (eq-or-lt_of_le m) [ inl e ↦ last_white b j k h e | inr s ↦ w.each k l s ] }
 
 -- ---- the invariant
 
@@ -79,10 +77,10 @@ pub data Inv (b : List ℕ) : State → Type 0 where
   in_name : (e j l k p : ℕ) (ks : List ℕ) (ts : List Token) (us : Members) (x : Lex) → Context b e ks ts → byte b e ≡ 123 → LedMembers b (suc e) j us → White b j l → byte b l ≡ 34 → InAtom b l k x
       → Inv b (state (in_atom AfterName l x) (length ts ∷ ks) (opened_object ts e us) k p)
 
-context_blank : {b : List ℕ} {k : ℕ} {ks : List ℕ} {ts : List Token} → Context b k ks ts → is_blank (byte b k) ≡ true → Context b (suc k) ks ts
-context_blank {b} (root k w) h = root (suc k) (white_more b 0 k w h)
-context_blank {b} (in_array e j k ks ts us c o l w) h = in_array e j (suc k) ks ts us c o l (white_more b j k w h)
-context_blank {b} (in_member e j k l ks ts us n c o m d w) h = in_member e j k (suc l) ks ts us n c o m d (white_more b k l w h)
+context_white : {b : List ℕ} {k : ℕ} {ks : List ℕ} {ts : List Token} → Context b k ks ts → is_white_space (byte b k) ≡ true → Context b (suc k) ks ts
+context_white {b} (root k w) h = root (suc k) (white_more b 0 k w h)
+context_white {b} (in_array e j k ks ts us c o l w) h = in_array e j (suc k) ks ts us c o l (white_more b j k w h)
+context_white {b} (in_member e j k l ks ts us n c o m d w) h = in_member e j k (suc l) ks ts us n c o m d (white_more b k l w h)
 
 module _ (b : List ℕ) where
   moved_to : (s : State) → Inv b s → (u : State) → Some s ≡ Some u → Inv b u
@@ -145,7 +143,7 @@ module _ (b : List ℕ) where
 
   after_sound : (e j k p : ℕ) (ks : List ℕ) (ts : List Token) (t : Tree) → Context b e ks ts → Value b e j t → White b j k → (u : State) → read After (byte b k) (idle After ks (ts ++ flatten (length ts) t) k p) ≡ Some u → Inv b u
   after_sound e j k p ks ts t c v w u h =
-      elim (split (is_blank (byte b k)) _ _ (Some u) h) [
+      elim (split (is_white_space (byte b k)) _ _ (Some u) h) [
         | inl z ↦ moved_to _ (after_tree e j (suc k) p ks ts t c v (white_more b j k w z.0)) u z.1
         | inr r ↦ after_byte e j k p ks ts t c v w u r
       ]
@@ -153,7 +151,7 @@ module _ (b : List ℕ) where
   colon_sound : (e j l m k p : ℕ) (ks : List ℕ) (ts : List Token) (us : Members) → Context b e ks ts → byte b e ≡ 123 → LedMembers b (suc e) j us → White b j l → IsAtom b Text l m → White b m k
       → (u : State) → read AfterName (byte b k) (idle AfterName (length ts ∷ ks) (with_name (opened_object ts e us) l m) k p) ≡ Some u → Inv b u
   colon_sound e j l m k p ks ts us c o ld w0 wd w u h =
-      elim (split (is_blank (byte b k)) _ _ (Some u) h) [
+      elim (split (is_white_space (byte b k)) _ _ (Some u) h) [
         | inl z ↦ moved_to _ (after_name e j l m (suc k) p ks ts us c o ld w0 wd (white_more b m k w z.0)) u z.1
         | inr r ↦ elim (split (nat_eq (byte b k) 58) _ _ (Some u) r) [
           | inl z ↦ moved_to _ (ready (suc k) p _ _ (in_member e j (suc k) (suc k) ks ts us (atom_at b l m) c o ld (named j l m k w0 wd w (eqb-true _ _ z.0)) (no_white b (suc k)))) u z.1
@@ -191,10 +189,10 @@ module _ (b : List ℕ) where
   -- one step keeps the invariant
   pub inv_step : (s : State) → Inv b s → (u : State) → step (byte b s.place) s ≡ Some u → Inv b u
   inv_step s (ready k p ks ts c) u h =
-      elim (split (is_blank (byte b k)) _ _ (Some u) h) [ inl z ↦ moved_to _ (ready (suc k) p ks ts (context_blank c z.0)) u z.1 | inr r ↦ begin_sound k p ks ts Ready u c r ]
+      elim (split (is_white_space (byte b k)) _ _ (Some u) h) [ inl z ↦ moved_to _ (ready (suc k) p ks ts (context_white c z.0)) u z.1 | inr r ↦ begin_sound k p ks ts Ready u c r ]
   inv_step s (first_item e k p ks ts c o w) u h =
       let o0 = token_at e 0 0 Array in let f = token_at e (suc k) (length (ts ++ o0 ∷ [])) Array in let S = idle FirstItem (length ts ∷ ks) (ts ++ o0 ∷ []) k p in
-      elim (split (is_blank (byte b k)) _ _ (Some u) h) [
+      elim (split (is_white_space (byte b k)) _ _ (Some u) h) [
         | inl z ↦ moved_to _ (first_item e (suc k) p ks ts c o (white_more b (suc e) k w z.0)) u z.1
         | inr r ↦ elim (split (nat_eq (byte b k) 93) _ _ (Some u) r) [
           | inl z ↦
@@ -207,7 +205,7 @@ module _ (b : List ℕ) where
   inv_step s (after_tree e j k p ks ts t c v w) u h = after_sound e j k p ks ts t c v w u h
   inv_step s (first_name e k p ks ts c o w) u h =
       let o0 = token_at e 0 0 Object in let f = token_at e (suc k) (length (ts ++ o0 ∷ [])) Object in let S = idle FirstName (length ts ∷ ks) (ts ++ o0 ∷ []) k p in
-      elim (split (is_blank (byte b k)) _ _ (Some u) h) [
+      elim (split (is_white_space (byte b k)) _ _ (Some u) h) [
         | inl z ↦ moved_to _ (first_name e (suc k) p ks ts c o (white_more b (suc e) k w z.0)) u z.1
         | inr r ↦ elim (split (nat_eq (byte b k) 125) _ _ (Some u) r) [
           | inl z ↦
@@ -224,7 +222,7 @@ module _ (b : List ℕ) where
         ]
       ]
   inv_step s (next_name e j k p ks ts us c o l w) u h =
-      elim (split (is_blank (byte b k)) _ _ (Some u) h) [
+      elim (split (is_white_space (byte b k)) _ _ (Some u) h) [
         | inl z ↦ moved_to _ (next_name e j (suc k) p ks ts us c o l (white_more b j k w z.0)) u z.1
         | inr q ↦ elim (split (nat_eq (byte b k) 34) _ _ (Some u) q) [
           | inl z ↦ let e34 = eqb-true _ _ z.0 in moved_to _ (in_name e j k (suc k) p ks ts us InText c o l w e34 (atom_first b k InText (ap lex_start e34))) u z.1

@@ -1,5 +1,7 @@
 -- The readings of a scalar against the spellings of RFC 8259, over lists of bytes.
 use Rattle.std.proofs.Common.{◌≡◌, ℕ, ◌<◌, ◌≤◌, List, [], ◌∷◌, ◌++◌, length, Bool, true, false, cond, ◌&&◌, ◌||◌, not, nat_eq, nat_le, Option, Some, None, refl, sym, ap, subst, arith, ◌∙◌, ◌⊎◌, inl, inr}
+use Rattle.std.specs.Cmp.Derive.{both_true}
+use Rattle.std.specs.Cmp.{first_so, second_so}
 use Rattle.std.specs.Prelude.{option_and_then}
 use Rattle.std.proofs.lemmas.List.{append-nil}
 use Rattle.std.proofs.lemmas.Bool.{eqb-true}
@@ -118,12 +120,12 @@ s_mark_sign : (r : List ℕ) (y : Lex) (k : Kind) → lex_run r MarkSign ≡ Som
 s_mark_sign [] y k h d = not_done MarkSign y k refl h d
 s_mark_sign (c ∷ r) y k h d = let p = test_one (lex_run r) (is_digit c) Exponent y h in let q = s_exponent r y k p.1 d in ((digit_is c p.0, q.0), q.1)
 
+pub either : (v w : Bool) → v || w ≡ true → (v ≡ true) ⊎ (w ≡ true)
+either true w h = inl refl
+either false w h = inr h
+
 or_two : (c d e : ℕ) → nat_eq c d || nat_eq c e ≡ true → (c ≡ d) ⊎ (c ≡ e)
 or_two c d e h = elim (either (nat_eq c d) (nat_eq c e) h) [ inl p ↦ inl (eqb-true c d p) | inr q ↦ inr (eqb-true c e q) ]
-  where
-    either : (v w : Bool) → v || w ≡ true → (v ≡ true) ⊎ (w ≡ true)
-    either true w h = inl refl
-    either false w h = inr h
 
 s_mark : (r : List ℕ) (y : Lex) (k : Kind) → lex_run r Mark ≡ Some y → Done y k → IsExpRest r × (k ≡ Number)
 s_mark [] y k h d = not_done Mark y k refl h d
@@ -254,10 +256,6 @@ is_plain_from c p q r = three (nat_le 32 c) (nat_eq c 34) (nat_eq c 92) p q r
     three true true w p q r = cc
     three false v w p q r = cc
 
-and_both : (v w : Bool) → v ≡ true → w ≡ true → v && w ≡ true
-and_both true w p q = q
-and_both false w p q = cc
-
 mutual
   s_plain : (r : List ℕ) (y : Lex) (k : Kind) → lex_run r InText ≡ Some y → Done y k → BodyTail r k
   s_plain [] y k h d = not_done InText y k refl h d
@@ -291,7 +289,7 @@ mutual
       let p = test_one (lex_run (n ∷ o ∷ g ∷ r)) (is_hex m) Hex3 y h in let q = test_one (lex_run (o ∷ g ∷ r)) (is_hex n) Hex2 y p.1 in
       let v = test_one (lex_run (g ∷ r)) (is_hex o) Hex1 y q.1 in let w = test_one (lex_run r) (is_hex g) InText y v.1 in
       let t = s_plain r y k w.1 d in
-      let a = and_both (is_hex m && is_hex n && is_hex o) (is_hex g) (and_both (is_hex m && is_hex n) (is_hex o) (and_both (is_hex m) (is_hex n) p.0 q.0) v.0) w.0 in
+      let a = both_true (both_true (both_true p.0 q.0) v.0) w.0 in
       ((92 ∷ 117 ∷ m ∷ n ∷ o ∷ g ∷ t.0.0, unicode m n o g t.0.0 a t.0.1, ap (λ z. z ∷ u ∷ m ∷ n ∷ o ∷ g ∷ r) e ∙ ap (λ z. 92 ∷ z ∷ m ∷ n ∷ o ∷ g ∷ r) f ∙ ap (λ z. 92 ∷ 117 ∷ m ∷ n ∷ o ∷ g ∷ z) t.0.2), t.1)
 
 -- ---- all scalars
@@ -335,14 +333,6 @@ plain_goes c h = grind (arith)
 escape_goes : (c : ℕ) → is_escape c ≡ true → lex_step Escape c ≡ Some InText
 escape_goes c h = ap (λ v. cond v (Some InText) (cond (nat_eq c 117) (Some Hex4) None)) h
 
-and_left : (v w : Bool) → v && w ≡ true → v ≡ true
-and_left true w h = refl
-and_left false w h = cc
-
-and_right : (v w : Bool) → v && w ≡ true → w ≡ true
-and_right true w h = h
-and_right false w h = cc
-
 hex_goes : (c : ℕ) (x : Lex) → is_hex c ≡ true → hex c x ≡ Some x
 hex_goes c x h = ap (λ v. cond v (Some x) None) h
 
@@ -352,12 +342,12 @@ body_runs (plain c s p r) = ap (option_and_then (lex_run (s ++ 34 ∷ []))) (pla
 body_runs (escape c s p r) = ap (option_and_then (lex_run (s ++ 34 ∷ []))) (escape_goes c p) ∙ body_runs r
 body_runs (unicode h i j k s p r) =
     let t = s ++ 34 ∷ [] in
-    let a = and_left (is_hex h && is_hex i && is_hex j) (is_hex k) p in
-    let a2 = and_left (is_hex h && is_hex i) (is_hex j) a in
-    ap (option_and_then (lex_run (i ∷ j ∷ k ∷ t))) (hex_goes h Hex3 (and_left (is_hex h) (is_hex i) a2))
-    ∙ ap (option_and_then (lex_run (j ∷ k ∷ t))) (hex_goes i Hex2 (and_right (is_hex h) (is_hex i) a2))
-    ∙ ap (option_and_then (lex_run (k ∷ t))) (hex_goes j Hex1 (and_right (is_hex h && is_hex i) (is_hex j) a))
-    ∙ ap (option_and_then (lex_run t)) (hex_goes k InText (and_right (is_hex h && is_hex i && is_hex j) (is_hex k) p))
+    let a = first_so (is_hex h && is_hex i && is_hex j) (is_hex k) p in
+    let a2 = first_so (is_hex h && is_hex i) (is_hex j) a in
+    ap (option_and_then (lex_run (i ∷ j ∷ k ∷ t))) (hex_goes h Hex3 (first_so (is_hex h) (is_hex i) a2))
+    ∙ ap (option_and_then (lex_run (j ∷ k ∷ t))) (hex_goes i Hex2 (second_so (is_hex h) (is_hex i) a2))
+    ∙ ap (option_and_then (lex_run (k ∷ t))) (hex_goes j Hex1 (second_so (is_hex h && is_hex i) (is_hex j) a))
+    ∙ ap (option_and_then (lex_run t)) (hex_goes k InText (second_so (is_hex h && is_hex i && is_hex j) (is_hex k) p))
     ∙ body_runs r
 
 -- digits that a reading passes over
@@ -462,80 +452,6 @@ reading_whole Text s h = record { last = TextDone; run = ap reading h.joined ∙
 reading_whole Array s h = absurd h
 reading_whole Object s h = absurd h
 
--- ---- every reading can still come to an end
-
--- bytes after which a scalar that was read up to x may end
-pub record Ending (x : Lex) : Type 0 where
-  pub rest : List ℕ
-  pub last : Lex
-  pub kind : Kind
-  pub run : lex_run rest x ≡ Some last
-  pub done : lex_kind last ≡ Some kind
-
-ending : {x : Lex} (r : List ℕ) (y : Lex) (k : Kind) → lex_run r x ≡ Some y → lex_kind y ≡ Some k → Ending x
-ending r y k h d = record { rest = r; last = y; kind = k; run = h; done = d }
-
-pub can_end : (x : Lex) → Ending x
-can_end AfterN = ending (117 ∷ 108 ∷ 108 ∷ []) NullDone Null refl refl
-can_end AfterNu = ending (108 ∷ 108 ∷ []) NullDone Null refl refl
-can_end AfterNul = ending (108 ∷ []) NullDone Null refl refl
-can_end AfterT = ending (114 ∷ 117 ∷ 101 ∷ []) TruthDone Truth refl refl
-can_end AfterTr = ending (117 ∷ 101 ∷ []) TruthDone Truth refl refl
-can_end AfterTru = ending (101 ∷ []) TruthDone Truth refl refl
-can_end AfterF = ending (97 ∷ 108 ∷ 115 ∷ 101 ∷ []) TruthDone Truth refl refl
-can_end AfterFa = ending (108 ∷ 115 ∷ 101 ∷ []) TruthDone Truth refl refl
-can_end AfterFal = ending (115 ∷ 101 ∷ []) TruthDone Truth refl refl
-can_end AfterFals = ending (101 ∷ []) TruthDone Truth refl refl
-can_end NullDone = ending ([]) NullDone Null refl refl
-can_end TruthDone = ending ([]) TruthDone Truth refl refl
-can_end Minus = ending (48 ∷ []) Zero Number refl refl
-can_end Zero = ending ([]) Zero Number refl refl
-can_end Whole = ending ([]) Whole Number refl refl
-can_end Point = ending (48 ∷ []) Fraction Number refl refl
-can_end Fraction = ending ([]) Fraction Number refl refl
-can_end Mark = ending (48 ∷ []) Exponent Number refl refl
-can_end MarkSign = ending (48 ∷ []) Exponent Number refl refl
-can_end Exponent = ending ([]) Exponent Number refl refl
-can_end InText = ending (34 ∷ []) TextDone Text refl refl
-can_end Escape = ending (110 ∷ 34 ∷ []) TextDone Text refl refl
-can_end Hex1 = ending (48 ∷ 34 ∷ []) TextDone Text refl refl
-can_end Hex2 = ending (48 ∷ 48 ∷ 34 ∷ []) TextDone Text refl refl
-can_end Hex3 = ending (48 ∷ 48 ∷ 48 ∷ 34 ∷ []) TextDone Text refl refl
-can_end Hex4 = ending (48 ∷ 48 ∷ 48 ∷ 48 ∷ 34 ∷ []) TextDone Text refl refl
-can_end TextDone = ending ([]) TextDone Text refl refl
-
--- ---- a spelling and what follows it
-
-and_some : (o : Option Lex) → option_and_then (λ z. Some z) o ≡ o
-and_some None = refl
-and_some (Some z) = refl
-
-run-append : (s r : List ℕ) (o : Option Lex) (x : Lex) → option_and_then (lex_run s) o ≡ Some x → option_and_then (lex_run (s ++ r)) o ≡ lex_run r x
-run-append s r None x h = none_some x h
-run-append [] r (Some y) x h = let e : y ≡ x = cc in ap (lex_run r) e
-run-append (d ∷ s) r (Some y) x h = run-append s r (lex_step y d) x h
-
-pub reading-append : (s r : List ℕ) (x : Lex) → reading s ≡ Some x → reading (s ++ r) ≡ lex_run r x
-reading-append [] r x h = none_some x h
-reading-append (d ∷ s) r x h = run-append s r (lex_start d) x h
-
--- one byte more
-pub reading-more : (s : List ℕ) (c : ℕ) (x : Lex) → reading s ≡ Some x → reading (s ++ c ∷ []) ≡ lex_step x c
-reading-more s c x h = reading-append s (c ∷ []) x h ∙ and_some (lex_step x c)
-
-pub record Prefix (s : List ℕ) : Type 0 where
-  pub last : Lex
-  pub run : reading s ≡ Some last
-
-pub reading-prefix : (s r : List ℕ) (y : Lex) → 0 < length s → reading (s ++ r) ≡ Some y → Prefix s
-reading-prefix [] r y l h = absurd (omega arith)
-reading-prefix (d ∷ s) r y l h = let q = prefix_run s r (lex_start d) y h in record { last = q.0; run = q.1 }
-  where
-    prefix_run : (s r : List ℕ) (o : Option Lex) (y : Lex) → option_and_then (lex_run (s ++ r)) o ≡ Some y → (x : Lex) × (option_and_then (lex_run s) o ≡ Some x)
-    prefix_run s r None y h = none_some y h
-    prefix_run [] r (Some z) y h = (z, refl)
-    prefix_run (d ∷ s) r (Some z) y h = prefix_run s r (lex_step z d) y h
-
 -- ---- the states of a string
 
 abbrev pub IsOfText : Lex → Type 0
@@ -590,3 +506,80 @@ text_end Hex3 h = record { rest = 48 ∷ 48 ∷ 48 ∷ 34 ∷ []; run = refl }
 text_end Hex4 h = record { rest = 48 ∷ 48 ∷ 48 ∷ 48 ∷ 34 ∷ []; run = refl }
 text_end TextDone h = record { rest = []; run = refl }
 text_end _ h = absurd h
+
+-- ---- every reading can still come to an end
+
+-- bytes after which a scalar that was read up to x may end
+pub record Ending (x : Lex) : Type 0 where
+  pub rest : List ℕ
+  pub last : Lex
+  pub kind : Kind
+  pub run : lex_run rest x ≡ Some last
+  pub done : lex_kind last ≡ Some kind
+
+ending : {x : Lex} (r : List ℕ) (y : Lex) (k : Kind) → lex_run r x ≡ Some y → lex_kind y ≡ Some k → Ending x
+ending r y k h d = record { rest = r; last = y; kind = k; run = h; done = d }
+
+as_text : {x : Lex} → TextEnding x → Ending x
+as_text e = ending e.rest TextDone Text e.run refl
+
+pub can_end : (x : Lex) → Ending x
+can_end AfterN = ending (117 ∷ 108 ∷ 108 ∷ []) NullDone Null refl refl
+can_end AfterNu = ending (108 ∷ 108 ∷ []) NullDone Null refl refl
+can_end AfterNul = ending (108 ∷ []) NullDone Null refl refl
+can_end AfterT = ending (114 ∷ 117 ∷ 101 ∷ []) TruthDone Truth refl refl
+can_end AfterTr = ending (117 ∷ 101 ∷ []) TruthDone Truth refl refl
+can_end AfterTru = ending (101 ∷ []) TruthDone Truth refl refl
+can_end AfterF = ending (97 ∷ 108 ∷ 115 ∷ 101 ∷ []) TruthDone Truth refl refl
+can_end AfterFa = ending (108 ∷ 115 ∷ 101 ∷ []) TruthDone Truth refl refl
+can_end AfterFal = ending (115 ∷ 101 ∷ []) TruthDone Truth refl refl
+can_end AfterFals = ending (101 ∷ []) TruthDone Truth refl refl
+can_end NullDone = ending ([]) NullDone Null refl refl
+can_end TruthDone = ending ([]) TruthDone Truth refl refl
+can_end Minus = ending (48 ∷ []) Zero Number refl refl
+can_end Zero = ending ([]) Zero Number refl refl
+can_end Whole = ending ([]) Whole Number refl refl
+can_end Point = ending (48 ∷ []) Fraction Number refl refl
+can_end Fraction = ending ([]) Fraction Number refl refl
+can_end Mark = ending (48 ∷ []) Exponent Number refl refl
+can_end MarkSign = ending (48 ∷ []) Exponent Number refl refl
+can_end Exponent = ending ([]) Exponent Number refl refl
+can_end InText = as_text (text_end InText tt)
+can_end Escape = as_text (text_end Escape tt)
+can_end Hex1 = as_text (text_end Hex1 tt)
+can_end Hex2 = as_text (text_end Hex2 tt)
+can_end Hex3 = as_text (text_end Hex3 tt)
+can_end Hex4 = as_text (text_end Hex4 tt)
+can_end TextDone = as_text (text_end TextDone tt)
+
+-- ---- a spelling and what follows it
+
+and_some : (o : Option Lex) → option_and_then (λ z. Some z) o ≡ o
+and_some None = refl
+and_some (Some z) = refl
+
+run-append : (s r : List ℕ) (o : Option Lex) (x : Lex) → option_and_then (lex_run s) o ≡ Some x → option_and_then (lex_run (s ++ r)) o ≡ lex_run r x
+run-append s r None x h = none_some x h
+run-append [] r (Some y) x h = let e : y ≡ x = cc in ap (lex_run r) e
+run-append (d ∷ s) r (Some y) x h = run-append s r (lex_step y d) x h
+
+pub reading-append : (s r : List ℕ) (x : Lex) → reading s ≡ Some x → reading (s ++ r) ≡ lex_run r x
+reading-append [] r x h = none_some x h
+reading-append (d ∷ s) r x h = run-append s r (lex_start d) x h
+
+-- one byte more
+pub reading-more : (s : List ℕ) (c : ℕ) (x : Lex) → reading s ≡ Some x → reading (s ++ c ∷ []) ≡ lex_step x c
+reading-more s c x h = reading-append s (c ∷ []) x h ∙ and_some (lex_step x c)
+
+pub record Prefix (s : List ℕ) : Type 0 where
+  pub last : Lex
+  pub run : reading s ≡ Some last
+
+pub reading-prefix : (s r : List ℕ) (y : Lex) → 0 < length s → reading (s ++ r) ≡ Some y → Prefix s
+reading-prefix [] r y l h = absurd (omega arith)
+reading-prefix (d ∷ s) r y l h = let q = prefix_run s r (lex_start d) y h in record { last = q.0; run = q.1 }
+  where
+    prefix_run : (s r : List ℕ) (o : Option Lex) (y : Lex) → option_and_then (lex_run (s ++ r)) o ≡ Some y → (x : Lex) × (option_and_then (lex_run s) o ≡ Some x)
+    prefix_run s r None y h = none_some y h
+    prefix_run [] r (Some z) y h = (z, refl)
+    prefix_run (d ∷ s) r (Some z) y h = prefix_run s r (lex_step z d) y h

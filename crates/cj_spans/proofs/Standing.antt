@@ -12,15 +12,15 @@ use Rattle.cj_spans.specs.declared.step.Move.TheVariants.{Stay, To, Open, Atom}
 use Rattle.cj_spans.specs.declared.step.Next.{Next}
 use Rattle.cj_spans.specs.Json.{byte}
 use Rattle.cj_spans.specs.Scan.{KeepsLaw}
-use Rattle.cj_spans.specs.Machine.{State, state, between, step, read, Reaches, here, on, start, Settles, Sticks, phase_after, deepest_after, Answers, Ends, Kept, Grown, BeginsValue, BeginsAtom, SticksAt, RunAnswers}
+use Rattle.cj_spans.specs.Machine.{State, state, step, read, Reaches, here, on, start, ComesTo, Sticks, phase_after, deepest_after, Answers, EndAnswers, Kept, Grown, BeginsValue, BeginsAtom, SticksAt, RunAnswers}
 use Rattle.cj_spans.proofs.Spellings.{some_same}
-use Rattle.cj_spans.proofs.Runs.{idle, settled}
+use Rattle.cj_spans.proofs.Runs.{idle, settled, same_mode}
 use Rattle.cj_spans.proofs.Facts.{IsLawful, goes, lawful_reaches, lawful_settles, reaches_both}
 
 -- the machine has come to the mode m at the place i, and the lists are those that it has
 pub record Standing (b : List ℕ) (tokens0 : BoundedList Token) (stack0 : BoundedList ℕ) (tokens : BoundedList Token) (stack : BoundedList ℕ) (m : Mode) (i : ℕ) : Type 0 where
   pub deepest : ℕ
-  pub settles : Settles b start (idle m stack.elements tokens.elements i deepest)
+  pub settles : ComesTo b start (idle m stack.elements tokens.elements i deepest)
   pub place : i ≤ length b
   pub kept : Kept tokens0 tokens
   pub stack_limit : stack.limit ≡ stack0.limit
@@ -35,10 +35,10 @@ pub record HasRoom (b : List ℕ) (tokens0 : BoundedList Token) (stack0 : Bounde
 
 -- ---- the beginning
 
-empty_settles : (b : List ℕ) (ks : List ℕ) (ts : List Token) → ts ≡ [] → ks ≡ [] → Settles b start (idle Ready ks ts 0 0)
+empty_settles : (b : List ℕ) (ks : List ℕ) (ts : List Token) → ts ≡ [] → ks ≡ [] → ComesTo b start (idle Ready ks ts 0 0)
 empty_settles b ks ts e f =
-    let base : Settles b start start = record { last = start; reached = here; settles = refl; same = λ l. refl } in
-    subst (λ z. Settles b start (idle Ready z ts 0 0)) (sym f) (subst (λ z. Settles b start (idle Ready [] z 0 0)) (sym e) base)
+    let base : ComesTo b start start = record { last = start; reached = here; settles = refl; same = λ l. refl } in
+    subst (λ z. ComesTo b start (idle Ready z ts 0 0)) (sym f) (subst (λ z. ComesTo b start (idle Ready [] z 0 0)) (sym e) base)
 
 pub standing_first : (b : List ℕ) (tokens : BoundedList Token) (stack : BoundedList ℕ) → IsWithin tokens → IsWithin stack → tokens.elements ≡ [] → stack.elements ≡ [] → Standing b tokens stack tokens stack Ready 0
 standing_first b tokens stack w v e f = record {
@@ -157,14 +157,14 @@ stepped_small b tokens0 stack0 tokens stack m i v s h l =
     (omega arith, omega arith)
 
 -- a run goes on
-pub settles_both : {b : List ℕ} {s t u : State} → Reaches b s t → Settles b t u → Settles b s u
+pub settles_both : {b : List ℕ} {s t u : State} → Reaches b s t → ComesTo b t u → ComesTo b s u
 settles_both r h = record { last = h.last; reached = reaches_both r h.reached; settles = h.settles; same = h.same }
 
 abbrev sticks_both : {b : List ℕ} {s t : State} {i : ℕ} → Reaches b s t → Sticks b t i → Sticks b s i
 sticks_both r h = record { last = h.last; reached = reaches_both r h.reached; at = h.at; within = h.within; stuck = h.stuck }
 
 pub stepped_on : (b : List ℕ) (tokens0 : BoundedList Token) (stack0 : BoundedList ℕ) (tokens tokens1 : BoundedList Token) (stack : BoundedList ℕ) (m : Mode) (i : ℕ) (v : Move) (n : Next) → Stepped b tokens0 stack0 tokens stack m i v → Grown tokens tokens1
-    → ((p : ℕ) → Settles b (state (phase_after m i v) stack.elements tokens.elements (suc i) p) (idle n.mode stack.elements tokens1.elements n.place p) × (suc i ≤ n.place) × (n.place ≤ length b))
+    → ((p : ℕ) → ComesTo b (state (phase_after m i v) stack.elements tokens.elements (suc i) p) (idle n.mode stack.elements tokens1.elements n.place p) × (suc i ≤ n.place) × (n.place ≤ length b))
     → Standing b tokens0 stack0 tokens1 stack n.mode n.place
 stepped_on b tokens0 stack0 tokens tokens1 stack m i v n s g h = record {
   deepest = s.deepest;
@@ -208,19 +208,10 @@ grown_same x w = let g = w.below_peak in record { kept = record { limit = refl; 
 pub ended_law : (b : List ℕ) (tokens0 : BoundedList Token) (stack0 : BoundedList ℕ) (tokens : BoundedList Token) (stack : BoundedList ℕ) (m : Mode) (i : ℕ) → Standing b tokens0 stack0 tokens stack m i → KeepsLaw b tokens0 tokens stack0 stack
 ended_law b tokens0 stack0 tokens stack m i s = standing_law b tokens0 stack0 tokens tokens stack stack m i s (grown_same tokens s.kept.within) (kept_same stack s.stack_within) refl (omega arith)
 
-step_reach : (n : Mode) (i : ℕ) (ks : List ℕ) (ts : List Token) (p : ℕ) → IsLawful (idle n ks ts (suc i) p) → 2 * length ts ≤ suc (suc i) + length ks
-step_reach n i ks ts p l = count_of n ks ts (suc i) p l
-
-stepped_count : (m : Mode) (i p : ℕ) (v : Move) (ks : List ℕ) (ts : List Token) → IsLawful (state (phase_after m i v) ks ts (suc i) p) → 2 * length ts ≤ suc (suc i) + length ks
-stepped_count m i p Stay ks ts l = step_reach m i ks ts p l
-stepped_count m i p (To n) ks ts l = step_reach n i ks ts p l
-stepped_count m i p (Open n) ks ts l = step_reach n i ks ts p l
-stepped_count m i p (Atom n x) ks ts l = let c = l.token_count in omega arith
-
 pub stepped_law : (b : List ℕ) (tokens0 : BoundedList Token) (stack0 : BoundedList ℕ) (tokens tokens1 : BoundedList Token) (stack : BoundedList ℕ) (m : Mode) (i : ℕ) (v : Move) → Stepped b tokens0 stack0 tokens stack m i v
     → i < length b → Grown tokens tokens1 → tokens1 ≡ tokens → KeepsLaw b tokens0 tokens1 stack0 stack
 stepped_law b tokens0 stack0 tokens tokens1 stack m i v s l g e =
-    let c = stepped_count m i s.deepest v stack.elements tokens.elements (lawful_reaches _ s.reached) in
+    let c = count_after m i s.deepest v stack.elements tokens.elements (lawful_reaches _ s.reached) in
     let z = kept_both tokens0 tokens tokens1 s.kept g in
     let f : length tokens1.elements ≡ length tokens.elements = ap (λ t. length t.elements) e in
     let a = s.stack_peak in
@@ -278,7 +269,7 @@ standing_fault X b tokens0 stack0 tokens tokens1 stack stack1 m i (TooDeep j) s 
     }
 
 pub stepped_fault : (X : Type 0) (b : List ℕ) (tokens0 : BoundedList Token) (stack0 : BoundedList ℕ) (tokens tokens1 : BoundedList Token) (stack : BoundedList ℕ) (m : Mode) (i : ℕ) (v : Move) (f : ScanFault) → Stepped b tokens0 stack0 tokens stack m i v
-    → ((p : ℕ) → Ends b (state (phase_after m i v) stack.elements tokens.elements (suc i) p) (IsTrue tokens.reserved) (Err f) tokens1.elements)
+    → ((p : ℕ) → EndAnswers b (state (phase_after m i v) stack.elements tokens.elements (suc i) p) (IsTrue tokens.reserved) (Err f) tokens1.elements)
     → RunAnswers {X = X} b stack0 (IsTrue tokens0.reserved × IsTrue stack0.reserved) (Err f) tokens1 stack
 stepped_fault X b tokens0 stack0 tokens tokens1 stack m i v (NotUtf8 j) s h = h 0
 stepped_fault X b tokens0 stack0 tokens tokens1 stack m i v Memory s h = λ g. h 0 (s.kept.room g.0)
@@ -308,14 +299,11 @@ ended_fault b tokens0 stack0 tokens stack m i s l n =
           omega arith,
           λ ts p h.
               let q = some_same t (idle After [] ts (length b) p) (sym s.settles.settles ∙ h) in
-              n (mode_of m After (ap (λ u. u.phase) q), ap (λ u. u.stack) q),
+              n (same_mode m After (ap (λ u. u.phase) q), ap (λ u. u.stack) q),
         );
       };
       shallow = omega arith;
     }
-  where
-    mode_of : (x y : Mode) → between x ≡ between y → x ≡ y
-    mode_of x y h = cc
 
 -- a test that failed
 pub not_so : (r : Bool) (P : Type 0) → (IsTrue r → P) × (P → IsTrue r) → r ≡ false → P → ⊥

@@ -1,5 +1,8 @@
 -- The characters between the quotes of a string stand for code points.
-use Rattle.std.proofs.Common.{◌≡◌, ℕ, zero, suc, ◌-◌, ◌<◌, ◌≤◌, List, [], ◌∷◌, ◌++◌, length, take, get_or, Bool, true, false, ◌&&◌, ◌⊎◌, inl, inr, nat_eq, refl, sym, ap, subst, arith, ◌∙◌, length-append}
+use Rattle.std.proofs.Common.{◌≡◌, ℕ, zero, suc, ◌-◌, ◌<◌, ◌≤◌, List, [], ◌∷◌, ◌++◌, length, take, get_or, Bool, true, false, ◌&&◌, inl, inr, nat_eq, refl, sym, ap, subst, arith, ◌∙◌, length-append}
+use Rattle.std.proofs.Math.Seq.{take-length}
+use Rattle.std.specs.Cmp.{first_so, second_so}
+use Rattle.std.proofs.lemmas.Bool.{cases_lt, eqb-true}
 use Rattle.std.proofs.lemmas.List.{append-nil, take-append-le}
 use Rattle.std.proofs.lemmas.Bool.Decides.{nat_tests}
 use Rattle.std.proofs.lemmas.Str.{encode_ascii, inside_one, cons_from_encodes, chars-encodes, IsUtf8-past_char, IsUtf8-take, IsCharBoundary-before_ascii}
@@ -10,34 +13,31 @@ use Rattle.cj_spans.specs.Spelling.{is_plain, is_escape, is_hex, IsBody, nothing
 use Rattle.cj_spans.specs.Text.{char_of, four_digits, unit, is_unicode, is_pair, body_of, StandFor, done, plain, letter, single, pair}
 
 -- how the bytes b and r of a body begin
-data Begins (b : ℕ) (r : List ℕ) : Type 0 where
-  by_plain : is_plain b ≡ true → IsBody r → Begins b r
-  by_escape : b ≡ 92 → (e : ℕ) (s : List ℕ) → r ≡ e ∷ s → is_escape e ≡ true → IsBody s → Begins b r
-  by_unicode : b ≡ 92 → (h i j k : ℕ) (s : List ℕ) → r ≡ 117 ∷ h ∷ i ∷ j ∷ k ∷ s → is_hex h && is_hex i && is_hex j && is_hex k ≡ true → IsBody s → Begins b r
+data BodyBegins (b : ℕ) (r : List ℕ) : Type 0 where
+  by_plain : is_plain b ≡ true → IsBody r → BodyBegins b r
+  by_escape : b ≡ 92 → (e : ℕ) (s : List ℕ) → r ≡ e ∷ s → is_escape e ≡ true → IsBody s → BodyBegins b r
+  by_unicode : b ≡ 92 → (h i j k : ℕ) (s : List ℕ) → r ≡ 117 ∷ h ∷ i ∷ j ∷ k ∷ s → is_hex h && is_hex i && is_hex j && is_hex k ≡ true → IsBody s → BodyBegins b r
 
-begins : {s : List ℕ} → IsBody s → (b : ℕ) (r : List ℕ) → s ≡ b ∷ r → Begins b r
-begins nothing b r e = cc
-begins (plain_byte c s p y) b r e = let x : c ≡ b = cc in let z : s ≡ r = cc in by_plain (subst (λ d. is_plain d ≡ true) x p) (subst IsBody z y)
-begins (escape c s p y) b r e = let x : 92 ≡ b = cc in let z : c ∷ s ≡ r = cc in by_escape (sym x) c s (sym z) p y
-begins (unicode h i j k s p y) b r e = let x : 92 ≡ b = cc in let z : 117 ∷ h ∷ i ∷ j ∷ k ∷ s ≡ r = cc in by_unicode (sym x) h i j k s (sym z) p y
+body_begins : {s : List ℕ} → IsBody s → (b : ℕ) (r : List ℕ) → s ≡ b ∷ r → BodyBegins b r
+body_begins nothing b r e = cc
+body_begins (plain_byte c s p y) b r e = let x : c ≡ b = cc in let z : s ≡ r = cc in by_plain (subst (λ d. is_plain d ≡ true) x p) (subst IsBody z y)
+body_begins (escape c s p y) b r e = let x : 92 ≡ b = cc in let z : c ∷ s ≡ r = cc in by_escape (sym x) c s (sym z) p y
+body_begins (unicode h i j k s p y) b r e = let x : 92 ≡ b = cc in let z : 117 ∷ h ∷ i ∷ j ∷ k ∷ s ≡ r = cc in by_unicode (sym x) h i j k s (sym z) p y
 
 -- bytes of longer characters are no escapes
 strip : (xs r : List ℕ) → ((k : ℕ) → k < length xs → 128 ≤ get_or xs k 0) → IsBody (xs ++ r) → IsBody r
 strip [] r h y = y
 strip (x ∷ xs) r h y =
     let l : 128 ≤ x = h 0 (omega arith) in
-    elim (begins y x (xs ++ r) refl) [
+    elim (body_begins y x (xs ++ r) refl) [
       | by_plain p z ↦ strip xs r (λ k m. h (suc k) (omega arith)) z
       | by_escape e c s f p z ↦ absurd (omega arith)
       | by_unicode e a b c d s f p z ↦ absurd (omega arith)
     ]
 
-split : (m n : ℕ) → (m < n) ⊎ (n ≤ m)
-split m n = grind arith
-
 long_bytes : (c : ℕ) → 128 ≤ c → (k : ℕ) → k < length (encode_utf8 c) → 128 ≤ get_or (encode_utf8 c) k 0
 long_bytes c h k l =
-    elim (split (get_or (encode_utf8 c) k 0) 128) [ inl m ↦ let e = inside_one c [] (encode_utf8 c) k (sym (append-nil (encode_utf8 c))) l m in absurd (omega arith) | inr g ↦ g ]
+    elim (cases_lt (get_or (encode_utf8 c) k 0) 128) [ inl m ↦ let e = inside_one c [] (encode_utf8 c) k (sym (append-nil (encode_utf8 c))) l m in absurd (omega arith) | inr g ↦ g ]
 
 -- an ASCII byte is a character
 record Next (cs : List ℕ) (c : ℕ) (rest : List ℕ) : Type 0 where
@@ -47,12 +47,6 @@ record Next (cs : List ℕ) (c : ℕ) (rest : List ℕ) : Type 0 where
 
 next : (cs : List ℕ) (c : ℕ) (rest : List ℕ) → c < 128 → encode_utf8_all cs ≡ c ∷ rest → Next cs c rest
 next cs c rest l e = let r = cons_from_encodes cs rest c (e ∙ ap (λ xs. xs ++ rest) (sym (encode_ascii c l))) in record { after = r.0; is = r.1; left = r.2 }
-
-first_so : (s t : Bool) → s && t ≡ true → s ≡ true
-first_so s t h = grind (arith)
-
-second_so : (s t : Bool) → s && t ≡ true → t ≡ true
-second_so s t h = grind (arith)
 
 all_so : (a b c d : Bool) → a && b && c && d ≡ true → (b ≡ true) × (c ≡ true) × (d ≡ true)
 all_so a b c d h = let e : b ≡ true = grind (arith) in let f : c ≡ true = grind (arith) in let g : d ≡ true = grind (arith) in (e, f, g)
@@ -98,7 +92,7 @@ abbrev Stands : List ℕ → Type 0
 Stands cs = (ps : List ℕ) × StandFor cs ps
 
 -- another unit is at the front
-record Front (es : List ℕ) : Type 0 where
+record NextUnit (es : List ℕ) : Type 0 where
   l : ℕ
   m : ℕ
   n : ℕ
@@ -107,7 +101,7 @@ record Front (es : List ℕ) : Type 0 where
   is : es ≡ 92 ∷ 117 ∷ l ∷ m ∷ n ∷ o ∷ after
   body : IsBody (encode_utf8_all after)
 
-unit_second : (ds : List ℕ) → char_of (92 ∷ ds) 1 ≡ 117 → Begins 92 (encode_utf8_all ds) → Front (92 ∷ ds)
+unit_second : (ds : List ℕ) → char_of (92 ∷ ds) 1 ≡ 117 → BodyBegins 92 (encode_utf8_all ds) → NextUnit (92 ∷ ds)
 unit_second ds u (by_plain p y) = let n : ⊥ = grind (arith, nat_tests) in absurd n
 unit_second ds u (by_escape q e s f p y) =
     let a = next ds e s (escape_small e p) f in
@@ -119,19 +113,16 @@ unit_second ds u (by_unicode q h i j k s f p y) =
     let a = unit4 ds h i j k s f p in
     record { l = h; m = i; n = j; o = k; after = a.after; is = ap (λ xs. 92 ∷ xs) a.is; body = subst IsBody (sym a.left) y }
 
-eq_true : (a b : ℕ) → nat_eq a b ≡ true → a ≡ b
-eq_true a b h = grind (arith, nat_tests)
-
-unit_front : (es : List ℕ) → is_unicode es ≡ true → IsBody (encode_utf8_all es) → Front es
+unit_front : (es : List ℕ) → is_unicode es ≡ true → IsBody (encode_utf8_all es) → NextUnit es
 unit_front [] u y = let n : ⊥ = cc in absurd n
 unit_front (c ∷ ds) u y =
-    let e : c ≡ 92 = eq_true c 92 (first_so _ _ u) in
-    let f : char_of (c ∷ ds) 1 ≡ 117 = eq_true (char_of (c ∷ ds) 1) 117 (second_so _ _ u) in
+    let e : c ≡ 92 = eqb-true c 92 (first_so _ _ u) in
+    let f : char_of (c ∷ ds) 1 ≡ 117 = eqb-true (char_of (c ∷ ds) 1) 117 (second_so _ _ u) in
     let y0 = subst (λ x. IsBody (encode_utf8_all (x ∷ ds))) e y in
     let y1 = subst (λ xs. IsBody (xs ++ encode_utf8_all ds)) (encode_ascii 92 (omega arith)) y0 in
-    subst (λ x. Front (x ∷ ds)) (sym e) (unit_second ds (subst (λ x. char_of (x ∷ ds) 1 ≡ 117) e f) (begins y1 92 (encode_utf8_all ds) refl))
+    subst (λ x. NextUnit (x ∷ ds)) (sym e) (unit_second ds (subst (λ x. char_of (x ∷ ds) 1 ≡ 117) e f) (body_begins y1 92 (encode_utf8_all ds) refl))
 
-unit_pair : (h i j k : ℕ) (es : List ℕ) → ((ds : List ℕ) → length ds ≤ length es → IsBody (encode_utf8_all ds) → Stands ds) → is_high_surrogate (four_digits (h ∷ i ∷ j ∷ k ∷ [])) ≡ true → is_low_surrogate (unit es) ≡ true → Front es
+unit_pair : (h i j k : ℕ) (es : List ℕ) → ((ds : List ℕ) → length ds ≤ length es → IsBody (encode_utf8_all ds) → Stands ds) → is_high_surrogate (four_digits (h ∷ i ∷ j ∷ k ∷ [])) ≡ true → is_low_surrogate (unit es) ≡ true → NextUnit es
     → Stands (92 ∷ 117 ∷ h ∷ i ∷ j ∷ k ∷ es)
 unit_pair h i j k es ih a b f =
     let g : length f.after ≤ length es = let e = ap (λ (xs : List ℕ). length xs) f.is in omega arith in
@@ -145,7 +136,7 @@ unit_case h i j k es ih y true e =
     unit_pair h i j k es ih f.0 f.2 (unit_front es f.1 y)
 unit_case h i j k es ih y false e = let r = ih es (omega arith) y in (four_digits (h ∷ i ∷ j ∷ k ∷ []) ∷ r.0, single h i j k es r.0 e r.1)
 
-ascii_case : (c : ℕ) (cs : List ℕ) → ((ds : List ℕ) → length ds ≤ length cs → IsBody (encode_utf8_all ds) → Stands ds) → Begins c (encode_utf8_all cs) → Stands (c ∷ cs)
+ascii_case : (c : ℕ) (cs : List ℕ) → ((ds : List ℕ) → length ds ≤ length cs → IsBody (encode_utf8_all ds) → Stands ds) → BodyBegins c (encode_utf8_all cs) → Stands (c ∷ cs)
 ascii_case c cs ih (by_plain p y) = let r = ih cs (omega arith) y in (c ∷ r.0, plain c cs r.0 (plain_other c p) r.1)
 ascii_case c cs ih (by_escape q e s f p y) =
     let a = next cs e s (escape_small e p) f in
@@ -162,14 +153,10 @@ stands : (n : ℕ) (cs : List ℕ) → length cs ≤ n → IsBody (encode_utf8_a
 stands n [] l y = ([], done)
 stands zero (c ∷ cs) l y = absurd (omega arith)
 stands (suc n) (c ∷ cs) l y =
-    elim (split c 128) [
-      | inl m ↦ ascii_case c cs (λ ds g b. stands n ds (omega arith) b) (begins (subst (λ xs. IsBody (xs ++ encode_utf8_all cs)) (encode_ascii c m) y) c (encode_utf8_all cs) refl)
+    elim (cases_lt c 128) [
+      | inl m ↦ ascii_case c cs (λ ds g b. stands n ds (omega arith) b) (body_begins (subst (λ xs. IsBody (xs ++ encode_utf8_all cs)) (encode_ascii c m) y) c (encode_utf8_all cs) refl)
       | inr g ↦ let r = stands n cs (omega arith) (strip (encode_utf8 c) (encode_utf8_all cs) (long_bytes c g) y) in let p : nat_eq c 92 ≡ false = grind (arith, nat_tests) in (c ∷ r.0, plain c cs r.0 p r.1)
     ]
-
-take-all : (xs : List ℕ) → take (length xs) xs ≡ xs
-take-all [] = refl
-take-all (x ∷ xs) = ap (λ ys. x ∷ ys) (take-all xs)
 
 quote_at : (body : List ℕ) → get_or (body ++ 34 ∷ []) (length body) 0 < 128
 quote_at [] = omega arith
@@ -179,7 +166,7 @@ body-joined : (body : List ℕ) → body_of (34 ∷ (body ++ 34 ∷ [])) ≡ bod
 body-joined body =
     let e = length-append body (34 ∷ []) in
     let f : length (34 ∷ (body ++ 34 ∷ [])) - 1 - 1 ≡ length body = omega arith in
-    ap (λ n. take n (body ++ 34 ∷ [])) f ∙ take-append-le (length body) body (34 ∷ []) (omega arith) ∙ take-all body
+    ap (λ n. take n (body ++ 34 ∷ [])) f ∙ take-append-le (length body) body (34 ∷ []) (omega arith) ∙ take-length body
 
 utf8_body : (body : List ℕ) → IsUtf8 (34 ∷ (body ++ 34 ∷ [])) → IsUtf8 body
 utf8_body body u =
@@ -187,7 +174,7 @@ utf8_body body u =
     let v = IsUtf8-past_char (34 ∷ xs) xs 34 u (ap (λ ys. ys ++ xs) (sym (encode_ascii 34 (omega arith)))) in
     let e = length-append body (34 ∷ []) in
     let b = IsCharBoundary-before_ascii xs (length body) (omega arith) (quote_at body) in
-    subst IsUtf8 (take-append-le (length body) body (34 ∷ []) (omega arith) ∙ take-all body) (IsUtf8-take xs (length body) v b)
+    subst IsUtf8 (take-append-le (length body) body (34 ∷ []) (omega arith) ∙ take-length body) (IsUtf8-take xs (length body) v b)
 
 -- the text of a string is told by the cases of the grammar
 pub text_told : (s : List ℕ) → IsString s → IsUtf8 s → (ps : List ℕ) × StandFor (chars (body_of s)) ps

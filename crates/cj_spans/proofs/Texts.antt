@@ -1,10 +1,11 @@
 -- Characters and code points, read one at a time.
 use Rattle.std.proofs.Common.{◌≡◌, ℕ, zero, suc, ◌+◌, ◌-◌, ◌*◌, ◌<◌, ◌≤◌, List, [], ◌∷◌, length, take, drop, get_or, Bool, true, false, cond, ◌&&◌, nat_eq, Option, Some, refl, sym, ap, arith, ◌∙◌, add-one, drop-cons}
+use Rattle.std.specs.Cmp.Derive.{both_true}
 use Rattle.std.proofs.lemmas.List.{drop-drop, drop-take}
 use Rattle.std.proofs.lemmas.Bool.Decides.{nat_tests}
 use Rattle.std.proofs.lemmas.Grind.{common_steps}
 use Rattle.cj_spans.specs.declared.text.Point.{Point}
-use Rattle.cj_spans.specs.Decoding.{left, after_read, Takes}
+use Rattle.cj_spans.specs.Decoding.{left, after_read, ReadsPoint}
 use Rattle.cj_spans.specs.Text.{char_of, four_digits, unit, is_unicode, is_escaped, is_pair, escaped, first_point, first_width, points_after, text, StandFor, done, plain, letter, single, pair}
 use Rattle.std.specs.Char.{digit_value}
 use Rattle.std.specs.Char.Utf16.{is_high_surrogate, is_low_surrogate, surrogate_pair_char}
@@ -45,18 +46,18 @@ lead_four bs i c o h l e f = ap chars (at_drop bs i h) ∙ lead_after (get_or bs
 
 -- ---- steps over characters
 
-char_cons : (bs cs : List ℕ) (p : Point) → p.code ∷ left bs p.stop ≡ cs → Takes bs cs (char_of cs 0) 1 p
+char_cons : (bs cs : List ℕ) (p : Point) → p.code ∷ left bs p.stop ≡ cs → ReadsPoint bs cs (char_of cs 0) 1 p
 char_cons bs [] p h = cc
 char_cons bs (c ∷ cs) p h = let x : p.code ≡ c = cc in let y : left bs p.stop ≡ cs = cc in record { code = x; rest = y }
 
-pub char_some : (bs cs : List ℕ) (i : ℕ) (p : Point) → left bs i ≡ after_read bs 0 (Some p) → left bs i ≡ cs → Takes bs cs (char_of cs 0) 1 p
+pub char_some : (bs cs : List ℕ) (i : ℕ) (p : Point) → left bs i ≡ after_read bs 0 (Some p) → left bs i ≡ cs → ReadsPoint bs cs (char_of cs 0) 1 p
 char_some bs cs i p h e = char_cons bs cs p (sym (chars_end p.code (drop p.stop bs)) ∙ sym h ∙ e)
 
-char_nil : (bs cs : List ℕ) (p : Point) → [] ≡ cs → p.code ≡ 0 → left bs p.stop ≡ [] → Takes bs cs (char_of cs 0) 1 p
+char_nil : (bs cs : List ℕ) (p : Point) → [] ≡ cs → p.code ≡ 0 → left bs p.stop ≡ [] → ReadsPoint bs cs (char_of cs 0) 1 p
 char_nil bs [] p h z e = record { code = z; rest = e }
 char_nil bs (c ∷ cs) p h z e = cc
 
-pub char_none : (bs cs : List ℕ) (i : ℕ) (p : Point) → left bs i ≡ [] → left bs i ≡ cs → p.code ≡ 0 → p.stop ≡ length bs → Takes bs cs (char_of cs 0) 1 p
+pub char_none : (bs cs : List ℕ) (i : ℕ) (p : Point) → left bs i ≡ [] → left bs i ≡ cs → p.code ≡ 0 → p.stop ≡ length bs → ReadsPoint bs cs (char_of cs 0) 1 p
 char_none bs cs i p h e z s = char_nil bs cs p (sym h ∙ e) z (ap (left bs) s ∙ chars_past bs (length bs) (omega arith))
 
 at_next : (cs : List ℕ) (k : ℕ) → char_of (drop 1 cs) k ≡ char_of cs (suc k)
@@ -73,10 +74,10 @@ at_fourth : (cs : List ℕ) → char_of (drop 3 cs) 0 ≡ char_of cs 3
 at_fourth cs = ap (λ xs. char_of xs 0) (sym (drop-drop 1 2 cs)) ∙ at_next (drop 2 cs) 0 ∙ ap (λ xs. char_of xs 1) (sym (drop-drop 1 1 cs)) ∙ at_next (drop 1 cs) 1 ∙ at_next cs 2
 
 -- what comes after two steps
-pub takes_on : (bs cs : List ℕ) (x n m : ℕ) (p : Point) → Takes bs cs x n p → (y : ℕ) (q : Point) → Takes bs (drop n cs) y m q → Takes bs cs y (n + m) q
+pub takes_on : (bs cs : List ℕ) (x n m : ℕ) (p : Point) → ReadsPoint bs cs x n p → (y : ℕ) (q : Point) → ReadsPoint bs (drop n cs) y m q → ReadsPoint bs cs y (n + m) q
 takes_on bs cs x n m p t y q u = record { code = u.code; rest = u.rest ∙ drop-drop m n cs }
 
-pub takes_as : (bs cs : List ℕ) (x y n : ℕ) (p : Point) → Takes bs cs x n p → x ≡ y → Takes bs cs y n p
+pub takes_as : (bs cs : List ℕ) (x y n : ℕ) (p : Point) → ReadsPoint bs cs x n p → x ≡ y → ReadsPoint bs cs y n p
 takes_as bs cs x y n p t e = record { code = t.code ∙ e; rest = t.rest }
 
 digits_same : (a b c d : ℕ) → (a * 16 + b) * 256 + (c * 16 + d) ≡ ((a * 16 + b) * 16 + c) * 16 + d
@@ -86,27 +87,24 @@ digits_by : (a b c d e f g h : ℕ) → a ≡ e → b ≡ f → c ≡ g → d �
 digits_by a b c d e f g h i j k l = digits_same a b c d ∙ (λ n. ((i n * 16 + j n) * 16 + k n) * 16 + l n)
 
 -- four digits after one another
-pub digits_read : (bs cs : List ℕ) (p q r s : Point) (a b c d : ℕ) → Takes bs cs (char_of cs 0) 1 p → Takes bs (drop 1 cs) (char_of (drop 1 cs) 0) 1 q → Takes bs (drop 2 cs) (char_of (drop 2 cs) 0) 1 r → Takes bs (drop 3 cs) (char_of (drop 3 cs) 0) 1 s
+pub digits_read : (bs cs : List ℕ) (p q r s : Point) (a b c d : ℕ) → ReadsPoint bs cs (char_of cs 0) 1 p → ReadsPoint bs (drop 1 cs) (char_of (drop 1 cs) 0) 1 q → ReadsPoint bs (drop 2 cs) (char_of (drop 2 cs) 0) 1 r → ReadsPoint bs (drop 3 cs) (char_of (drop 3 cs) 0) 1 s
     → a ≡ digit_value p.code → b ≡ digit_value q.code → c ≡ digit_value r.code → d ≡ digit_value s.code
-    → Takes bs cs (four_digits cs) 4 (record { code = (a * 16 + b) * 256 + (c * 16 + d); stop = s.stop })
+    → ReadsPoint bs cs (four_digits cs) 4 (record { code = (a * 16 + b) * 256 + (c * 16 + d); stop = s.stop })
 digits_read bs cs p q r s a b c d t u v w i j k l = record {
   code = digits_by a b c d _ _ _ _ (i ∙ ap digit_value t.code) (j ∙ ap digit_value (u.code ∙ at_second cs)) (k ∙ ap digit_value (v.code ∙ at_third cs)) (l ∙ ap digit_value (w.code ∙ at_fourth cs));
   rest = w.rest ∙ drop-drop 1 3 cs;
 }
 
-pub rest_two : (bs cs : List ℕ) (x y : ℕ) (p q : Point) → Takes bs cs x 1 p → Takes bs (drop 1 cs) y 1 q → left bs q.stop ≡ drop 2 cs
+pub rest_two : (bs cs : List ℕ) (x y : ℕ) (p q : Point) → ReadsPoint bs cs x 1 p → ReadsPoint bs (drop 1 cs) y 1 q → left bs q.stop ≡ drop 2 cs
 rest_two bs cs x y p q t u = u.rest ∙ drop-drop 1 1 cs
 
-pub rest_three : (bs cs : List ℕ) (y : ℕ) (r : Point) → Takes bs (drop 2 cs) y 1 r → left bs r.stop ≡ drop 3 cs
+pub rest_three : (bs cs : List ℕ) (y : ℕ) (r : Point) → ReadsPoint bs (drop 2 cs) y 1 r → left bs r.stop ≡ drop 3 cs
 rest_three bs cs y r u = u.rest ∙ drop-drop 1 2 cs
 
 -- ---- code points
 
-both : (a b : Bool) → a ≡ true → b ≡ true → a && b ≡ true
-both a b h e = grind (arith)
-
 pub pair_shown : (cs : List ℕ) → is_unicode cs ≡ true → is_high_surrogate (unit cs) ≡ true → is_unicode (drop 6 cs) ≡ true → is_low_surrogate (unit (drop 6 cs)) ≡ true → is_pair cs ≡ true
-pair_shown cs a b c d = both _ _ (both _ _ (both _ _ a b) c) d
+pair_shown cs a b c d = both_true (both_true (both_true a b) c) d
 
 first_not : (a b c d : Bool) → b ≡ false → a && b && c && d ≡ false
 first_not a b c d h = grind (arith)
@@ -163,19 +161,19 @@ first_letter cs g a = let e = no_unit cs g in (e.0 ∙ ap (λ v. cond v (escaped
 first_plain : (cs : List ℕ) → is_escaped cs ≡ false → (first_point cs ≡ char_of cs 0) × (first_width cs ≡ 1)
 first_plain cs a = let e = no_unit cs (not_escaped cs a) in (e.0 ∙ ap (λ v. cond v (escaped (char_of cs 1)) (char_of cs 0)) a, e.1 ∙ ap (λ v. cond v 2 1) a)
 
-taken : (bs cs : List ℕ) (p : Point) (x n : ℕ) → (first_point cs ≡ x) × (first_width cs ≡ n) → Takes bs cs x n p → Takes bs cs (first_point cs) (first_width cs) p
+taken : (bs cs : List ℕ) (p : Point) (x n : ℕ) → (first_point cs ≡ x) × (first_width cs ≡ n) → ReadsPoint bs cs x n p → ReadsPoint bs cs (first_point cs) (first_width cs) p
 taken bs cs p x n e t = record { code = t.code ∙ sym e.0; rest = t.rest ∙ ap (λ m. drop m cs) (sym e.1) }
 
-pub pair_taken : (bs cs : List ℕ) (p : Point) → is_pair cs ≡ true → Takes bs cs (surrogate_pair_char (unit cs) (unit (drop 6 cs))) 12 p → Takes bs cs (first_point cs) (first_width cs) p
+pub pair_taken : (bs cs : List ℕ) (p : Point) → is_pair cs ≡ true → ReadsPoint bs cs (surrogate_pair_char (unit cs) (unit (drop 6 cs))) 12 p → ReadsPoint bs cs (first_point cs) (first_width cs) p
 pair_taken bs cs p h t = taken bs cs p _ _ (first_pair cs h) t
 
-pub unit_taken : (bs cs : List ℕ) (p : Point) → is_pair cs ≡ false → is_unicode cs ≡ true → Takes bs cs (unit cs) 6 p → Takes bs cs (first_point cs) (first_width cs) p
+pub unit_taken : (bs cs : List ℕ) (p : Point) → is_pair cs ≡ false → is_unicode cs ≡ true → ReadsPoint bs cs (unit cs) 6 p → ReadsPoint bs cs (first_point cs) (first_width cs) p
 unit_taken bs cs p h g t = taken bs cs p _ _ (first_unit cs h g) t
 
-pub letter_taken : (bs cs : List ℕ) (p : Point) → is_unicode cs ≡ false → is_escaped cs ≡ true → Takes bs cs (escaped (char_of cs 1)) 2 p → Takes bs cs (first_point cs) (first_width cs) p
+pub letter_taken : (bs cs : List ℕ) (p : Point) → is_unicode cs ≡ false → is_escaped cs ≡ true → ReadsPoint bs cs (escaped (char_of cs 1)) 2 p → ReadsPoint bs cs (first_point cs) (first_width cs) p
 letter_taken bs cs p g a t = taken bs cs p _ _ (first_letter cs g a) t
 
-pub plain_taken : (bs cs : List ℕ) (p : Point) → is_escaped cs ≡ false → Takes bs cs (char_of cs 0) 1 p → Takes bs cs (first_point cs) (first_width cs) p
+pub plain_taken : (bs cs : List ℕ) (p : Point) → is_escaped cs ≡ false → ReadsPoint bs cs (char_of cs 0) 1 p → ReadsPoint bs cs (first_point cs) (first_width cs) p
 plain_taken bs cs p a t = taken bs cs p _ _ (first_plain cs a) t
 
 -- the text goes on after its first point
@@ -212,41 +210,41 @@ points_nil = refl
 
 -- ---- a unit and what follows it
 
-pub join_lone : (bs cs : List ℕ) (h : Point) → is_high_surrogate h.code ≡ false → is_unicode cs ≡ true → Takes bs cs (unit cs) 6 h → Takes bs cs (first_point cs) (first_width cs) h
+pub join_lone : (bs cs : List ℕ) (h : Point) → is_high_surrogate h.code ≡ false → is_unicode cs ≡ true → ReadsPoint bs cs (unit cs) 6 h → ReadsPoint bs cs (first_point cs) (first_width cs) h
 join_lone bs cs h n u t = unit_taken bs cs h (not_high cs (ap is_high_surrogate (sym t.code) ∙ n)) u t
 
-pub join_other : (bs cs : List ℕ) (h : Point) → is_unicode (drop 6 cs) ≡ false → is_unicode cs ≡ true → Takes bs cs (unit cs) 6 h → Takes bs cs (first_point cs) (first_width cs) h
+pub join_other : (bs cs : List ℕ) (h : Point) → is_unicode (drop 6 cs) ≡ false → is_unicode cs ≡ true → ReadsPoint bs cs (unit cs) 6 h → ReadsPoint bs cs (first_point cs) (first_width cs) h
 join_other bs cs h n u t = unit_taken bs cs h (not_followed cs n) u t
 
-pub join_not_low : (bs cs : List ℕ) (h l : Point) → Takes bs (drop 6 cs) (unit (drop 6 cs)) 6 l → is_low_surrogate l.code ≡ false → is_unicode cs ≡ true → Takes bs cs (unit cs) 6 h → Takes bs cs (first_point cs) (first_width cs) h
+pub join_not_low : (bs cs : List ℕ) (h l : Point) → ReadsPoint bs (drop 6 cs) (unit (drop 6 cs)) 6 l → is_low_surrogate l.code ≡ false → is_unicode cs ≡ true → ReadsPoint bs cs (unit cs) 6 h → ReadsPoint bs cs (first_point cs) (first_width cs) h
 join_not_low bs cs h l s n u t = unit_taken bs cs h (not_low cs (ap is_low_surrogate (sym s.code) ∙ n)) u t
 
-pub join_pair : (bs cs : List ℕ) (h l : Point) → is_high_surrogate h.code ≡ true → is_unicode (drop 6 cs) ≡ true → Takes bs (drop 6 cs) (unit (drop 6 cs)) 6 l → is_low_surrogate l.code ≡ true → is_unicode cs ≡ true → Takes bs cs (unit cs) 6 h
-    → Takes bs cs (first_point cs) (first_width cs) (record { code = surrogate_pair_char h.code l.code; stop = l.stop })
+pub join_pair : (bs cs : List ℕ) (h l : Point) → is_high_surrogate h.code ≡ true → is_unicode (drop 6 cs) ≡ true → ReadsPoint bs (drop 6 cs) (unit (drop 6 cs)) 6 l → is_low_surrogate l.code ≡ true → is_unicode cs ≡ true → ReadsPoint bs cs (unit cs) 6 h
+    → ReadsPoint bs cs (first_point cs) (first_width cs) (record { code = surrogate_pair_char h.code l.code; stop = l.stop })
 join_pair bs cs h l m f s n u t =
     pair_taken bs cs _ (pair_shown cs u (ap is_high_surrogate (sym t.code) ∙ m) f (ap is_low_surrogate (sym s.code) ∙ n))
     (record { code = ap (λ x. surrogate_pair_char x l.code) t.code ∙ ap (surrogate_pair_char (unit cs)) s.code; rest = s.rest ∙ drop-drop 6 6 cs })
 
-pub letter_read : (bs cs : List ℕ) (p q : Point) (x : ℕ) → is_unicode cs ≡ false → is_escaped cs ≡ true → Takes bs cs (char_of cs 0) 1 p → Takes bs (drop 1 cs) (char_of (drop 1 cs) 0) 1 q → x ≡ escaped q.code → Takes bs cs (first_point cs) (first_width cs) (record { code = x; stop = q.stop })
+pub letter_read : (bs cs : List ℕ) (p q : Point) (x : ℕ) → is_unicode cs ≡ false → is_escaped cs ≡ true → ReadsPoint bs cs (char_of cs 0) 1 p → ReadsPoint bs (drop 1 cs) (char_of (drop 1 cs) 0) 1 q → x ≡ escaped q.code → ReadsPoint bs cs (first_point cs) (first_width cs) (record { code = x; stop = q.stop })
 letter_read bs cs p q x n a t u e =
     letter_taken bs cs _ n a (record { code = e ∙ ap escaped (u.code ∙ at_second cs); rest = rest_two bs cs _ _ p q t u })
 
 -- ---- walks over characters and code points
 
-char_first : (bs : List ℕ) (i : ℕ) (f : Point) → left bs i ≡ after_read bs 0 (Some f) → Takes bs (left bs i) (char_of (left bs i) 0) 1 f
+char_first : (bs : List ℕ) (i : ℕ) (f : Point) → left bs i ≡ after_read bs 0 (Some f) → ReadsPoint bs (left bs i) (char_of (left bs i) 0) 1 f
 char_first bs i f h = char_some bs (left bs i) i f h refl
 
-pub plain_point : (bs : List ℕ) (i : ℕ) (f : Point) → left bs i ≡ after_read bs 0 (Some f) → nat_eq f.code 92 ≡ false → Takes bs (left bs i) (first_point (left bs i)) (first_width (left bs i)) f
+pub plain_point : (bs : List ℕ) (i : ℕ) (f : Point) → left bs i ≡ after_read bs 0 (Some f) → nat_eq f.code 92 ≡ false → ReadsPoint bs (left bs i) (first_point (left bs i)) (first_width (left bs i)) f
 plain_point bs i f h n = let t = char_first bs i f h in plain_taken bs (left bs i) f (ap (λ x. nat_eq x 92) (sym t.code) ∙ n) t
 
 pub escaped_point : (bs : List ℕ) (i : ℕ) (f : Point) → left bs i ≡ after_read bs 0 (Some f) → nat_eq f.code 92 ≡ true → is_escaped (left bs i) ≡ true
 escaped_point bs i f h n = let t = char_first bs i f h in ap (λ x. nat_eq x 92) (sym t.code) ∙ n
 
-points_at : (bs cs ds : List ℕ) (f p : Point) → cs ≡ f.code ∷ ds → Takes bs cs (first_point cs) (first_width cs) p → points_after 0 cs ≡ p.code ∷ points_after 0 (left bs p.stop)
+points_at : (bs cs ds : List ℕ) (f p : Point) → cs ≡ f.code ∷ ds → ReadsPoint bs cs (first_point cs) (first_width cs) p → points_after 0 cs ≡ p.code ∷ points_after 0 (left bs p.stop)
 points_at bs [] ds f p h t = cc
 points_at bs (c ∷ cs) ds f p h t = points_cons c cs ∙ ap (λ x. x ∷ points_after 0 (drop (first_width (c ∷ cs)) (c ∷ cs))) (sym t.code) ∙ ap (λ xs. p.code ∷ points_after 0 xs) (sym t.rest)
 
-pub points_step : (bs : List ℕ) (i : ℕ) (f p : Point) → left bs i ≡ after_read bs 0 (Some f) → Takes bs (left bs i) (first_point (left bs i)) (first_width (left bs i)) p → points_after 0 (left bs i) ≡ p.code ∷ points_after 0 (left bs p.stop)
+pub points_step : (bs : List ℕ) (i : ℕ) (f p : Point) → left bs i ≡ after_read bs 0 (Some f) → ReadsPoint bs (left bs i) (first_point (left bs i)) (first_width (left bs i)) p → points_after 0 (left bs i) ≡ p.code ∷ points_after 0 (left bs p.stop)
 points_step bs i f p h t = points_at bs (left bs i) (left bs f.stop) f p (h ∙ chars_end f.code (drop f.stop bs)) t
 
 pub points_done : (bs : List ℕ) (i : ℕ) → left bs i ≡ [] → points_after 0 (left bs i) ≡ []
@@ -270,15 +268,15 @@ points_between s = ap (λ bs. points_after 0 (chars bs)) (body_place s (length s
 
 -- ---- the relation has one answer, the function's
 
-goes_on : (c : ℕ) (cs ds ps : List ℕ) (x n : ℕ) → (first_point (c ∷ cs) ≡ x) × (first_width (c ∷ cs) ≡ n) → drop n (c ∷ cs) ≡ ds → points_after 0 ds ≡ ps → points_after 0 (c ∷ cs) ≡ x ∷ ps
-goes_on c cs ds ps x n e d h =
+points_go_on : (c : ℕ) (cs ds ps : List ℕ) (x n : ℕ) → (first_point (c ∷ cs) ≡ x) × (first_width (c ∷ cs) ≡ n) → drop n (c ∷ cs) ≡ ds → points_after 0 ds ≡ ps → points_after 0 (c ∷ cs) ≡ x ∷ ps
+points_go_on c cs ds ps x n e d h =
     points_cons c cs ∙ ap (λ y. y ∷ points_after 0 (drop (first_width (c ∷ cs)) (c ∷ cs))) e.0 ∙ ap (λ m. x ∷ points_after 0 (drop m (c ∷ cs))) e.1 ∙ ap (λ us. x ∷ points_after 0 us) d ∙ ap (λ us. x ∷ us) h
 
 pub stands_once : {cs ps : List ℕ} → StandFor cs ps → points_after 0 cs ≡ ps
 stands_once done = points_nil
-stands_once (plain c cs ps e s) = goes_on c cs cs ps c 1 (first_plain (c ∷ cs) e) refl (stands_once s)
-stands_once (letter c cs ps e s) = goes_on 92 (c ∷ cs) cs ps (escaped c) 2 (first_letter (92 ∷ c ∷ cs) e refl) refl (stands_once s)
-stands_once (single h i j k cs ps e s) = goes_on 92 (117 ∷ h ∷ i ∷ j ∷ k ∷ cs) cs ps _ 6 (first_unit (92 ∷ 117 ∷ h ∷ i ∷ j ∷ k ∷ cs) e refl) refl (stands_once s)
+stands_once (plain c cs ps e s) = points_go_on c cs cs ps c 1 (first_plain (c ∷ cs) e) refl (stands_once s)
+stands_once (letter c cs ps e s) = points_go_on 92 (c ∷ cs) cs ps (escaped c) 2 (first_letter (92 ∷ c ∷ cs) e refl) refl (stands_once s)
+stands_once (single h i j k cs ps e s) = points_go_on 92 (117 ∷ h ∷ i ∷ j ∷ k ∷ cs) cs ps _ 6 (first_unit (92 ∷ 117 ∷ h ∷ i ∷ j ∷ k ∷ cs) e refl) refl (stands_once s)
 stands_once (pair h i j k l m n o cs ps e f s) =
     let cs0 = 92 ∷ 117 ∷ h ∷ i ∷ j ∷ k ∷ 92 ∷ 117 ∷ l ∷ m ∷ n ∷ o ∷ cs in
-    goes_on 92 (117 ∷ h ∷ i ∷ j ∷ k ∷ 92 ∷ 117 ∷ l ∷ m ∷ n ∷ o ∷ cs) cs ps _ 12 (first_pair cs0 (pair_shown cs0 refl e refl f)) refl (stands_once s)
+    points_go_on 92 (117 ∷ h ∷ i ∷ j ∷ k ∷ 92 ∷ 117 ∷ l ∷ m ∷ n ∷ o ∷ cs) cs ps _ 12 (first_pair cs0 (pair_shown cs0 refl e refl f)) refl (stands_once s)

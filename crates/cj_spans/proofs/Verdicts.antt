@@ -1,6 +1,8 @@
 -- What the pass over a line says of the line.
-use Rattle.std.proofs.Common.{◌≡◌, ℕ, suc, ◌+◌, ◌^◌, ◌<◌, ◌≤◌, List, [], ◌++◌, length, take, IsTrue, Option, Some, None, Result, Ok, Err, refl, sym, ap, subst, arith, rules, ◌∙◌, ◌⊎◌, inl, inr}
-use Rattle.std.proofs.lemmas.Grind.{common_steps}
+use Rattle.std.proofs.Common.{◌≡◌, ℕ, suc, ◌+◌, ◌^◌, ◌<◌, ◌≤◌, List, [], ◌++◌, length, IsTrue, Option, Some, None, Result, Ok, Err, refl, sym, ap, subst, arith, rules, ◌∙◌, ◌⊎◌, inl, inr}
+use Rattle.std.proofs.Math.Seq.{take-length}
+use Rattle.std.proofs.Math.Nat.{eq-or-lt_of_le}
+use Rattle.std.proofs.lemmas.Bool.{cases_lt, cases_order}
 use Rattle.std.specs.Prelude.{IsSomeAnd, OnOk, IsErrOf, IsOk, IsUtf8}
 use Rattle.std.specs.Str.{IsValidUpTo}
 use Rattle.std.specs.Str.Lossy.{utf8_valid_len}
@@ -18,14 +20,14 @@ use Rattle.cj_spans.specs.Front.{Front, IsFront, SyntaxAt, stuck, short, DeepAt,
 use Rattle.cj_spans.specs.Preorder.{flatten, spans_of}
 use Rattle.cj_spans.specs.Forest.{forest}
 use Rattle.cj_spans.specs.Scan.{IsScanOf, KeepsLaw}
-use Rattle.cj_spans.specs.Machine.{State, state, between, in_atom, step, settle, end_atom, lex_kind, Reaches, here, on, start, Sticks, SticksAt, SinksAt, Accepts, RunAnswers}
+use Rattle.cj_spans.specs.Machine.{State, state, in_atom, step, settle, end_atom, lex_kind, Reaches, here, on, start, Sticks, SticksAt, SinksAt, Accepts, RunAnswers}
 use Rattle.cj_spans.proofs.Spellings.{none_some, some_same}
 use Rattle.cj_spans.proofs.Lists.{rise, rise-nest, length-flatten, spans_of-flatten}
-use Rattle.cj_spans.proofs.Runs.{idle, settled}
+use Rattle.cj_spans.proofs.Runs.{idle, settled, same_mode}
 use Rattle.cj_spans.proofs.Follows.{run_json}
 use Rattle.cj_spans.proofs.Places.{atom_sound}
 use Rattle.cj_spans.proofs.Sound.{Context, root, in_array, in_member, Inv, ready, first_item, after_tree, first_name, next_name, after_name, in_scalar, in_name, inv_reaches, no_white}
-use Rattle.cj_spans.proofs.Facts.{lawful_reaches, next_place, same_state, before}
+use Rattle.cj_spans.proofs.Facts.{lawful_reaches, next_place, same_state, state_before}
 use Rattle.cj_spans.proofs.Fronts.{Live, front_runs, inv_front}
 use Rattle.cj_spans.proofs.Forests.{json_shown, tree_by_preorder}
 use Rattle.cj_spans.specs.Sound.{AreLinked}
@@ -53,10 +55,7 @@ spells_at {b} e j k p q ks ts us t c v w h =
     record { tree = t; json = subst (λ n. Padded b 0 n t) n (padded 0 e j k t r.0 v w); tokens = z ∙ ap (λ y. y ++ flatten (length y) t) r.1 }
 
 other_mode : {A : Type 0} (m : Mode) (ks ls : List ℕ) (ts us : List Token) (i j p q : ℕ) → (m ≡ After → ⊥) → Some (idle m ks ts i p) ≡ Some (idle After ls us j q) → A
-other_mode m ks ls ts us i j p q n h = absurd (n (mode_of m After (ap (λ u. u.phase) (some_same _ _ h))))
-  where
-    mode_of : (x y : Mode) → between x ≡ between y → x ≡ y
-    mode_of x y h = cc
+other_mode m ks ls ts us i j p q n h = absurd (n (same_mode m After (ap (λ u. u.phase) (some_same _ _ h))))
 
 pub spells : {b : List ℕ} (s : State) → Inv b s → (us : List Token) (q : ℕ) → settle s ≡ Some (idle After [] us (length b) q) → Spells b us
 spells s (ready k p ks ts c) us q h = other_mode Ready _ _ _ _ _ _ _ _ (λ (e : Ready ≡ After). cc) h
@@ -109,7 +108,7 @@ next_stuck b s u r n (on t v q h) e =
 
 front_before : (b : List ℕ) (s : State) (k : ℕ) → Reaches b start s → k ≤ s.place → IsFront b k
 front_before b s k r l =
-    let v = before b s k r l in
+    let v = state_before b s k r l in
     record { open_count = length v.at.stack; front = subst (λ n. Front b 0 n (length v.at.stack)) v.place (inv_front v.at (inv_reaches b v.at v.reached)) }
 
 live_at : (b : List ℕ) (i n : ℕ) → Front b 0 i n → Live b start i (n + 0)
@@ -129,10 +128,10 @@ sticks_syntax b i a =
     ]
 
 -- no state that the machine comes to on its way has more containers open
-not_before : (b : List ℕ) (s : State) (d i n : ℕ) → Reaches b start s → s.deepest ≤ d → i ≤ s.place → Front b 0 i n → d < n → ⊥
-not_before b s d i n r h l f g =
+not_deeper : (b : List ℕ) (s : State) (d i n : ℕ) → Reaches b start s → s.deepest ≤ d → i ≤ s.place → Front b 0 i n → d < n → ⊥
+not_deeper b s d i n r h l f g =
     let v = live_at b i n f in
-    let w = before b s i r l in
+    let w = state_before b s i r l in
     let e : v.at ≡ w.at = same_state b v.at w.at v.reached w.reached (v.place ∙ sym w.place) in
     let a = (lawful_reaches v.at v.reached).deep in
     let c = w.below in let o = v.open_count in
@@ -141,25 +140,19 @@ not_before b s d i n r h l f g =
 
 nowhere_deep : (b : List ℕ) (s : State) (d : ℕ) → Reaches b start s → s.deepest ≤ d → (length b ≤ s.place) ⊎ (step (byte b s.place) s ≡ None) → NowhereDeep b d
 nowhere_deep b s d r h stop i a =
-    elim (split (suc i) s.place) [
-      | inl l ↦ not_before b s d (suc i) (suc d) r h (omega arith) a.deep (omega arith)
-      | inr g ↦ elim (same_or s.place (suc i) g) [
-        | inl e ↦ not_before b s d (suc i) (suc d) r h (omega arith) a.deep (omega arith)
+    elim (cases_lt (suc i) s.place) [
+      | inl l ↦ not_deeper b s d (suc i) (suc d) r h (omega arith) a.deep (omega arith)
+      | inr g ↦ elim (eq-or-lt_of_le g) [
+        | inl e ↦ not_deeper b s d (suc i) (suc d) r h (omega arith) a.deep (omega arith)
         | inr l ↦ elim stop [
           | inl e ↦ let w = a.within in absurd (omega arith)
           | inr n ↦
               let v = live_at b (suc i) (suc d) a.deep in let p = v.place in
-              let w = before b v.at (suc s.place) v.reached (omega arith) in
+              let w = state_before b v.at (suc s.place) v.reached (omega arith) in
               next_stuck b s w.at r n w.reached w.place
         ]
       ]
     ]
-  where
-    split : (x y : ℕ) → (x < y) ⊎ (y ≤ x)
-    split x y = grind arith
-
-    same_or : (x y : ℕ) → x ≤ y → (x ≡ y) ⊎ (x < y)
-    same_or x y h = grind arith
 
 pub sticks_nowhere : (b : List ℕ) (d i : ℕ) → SticksAt b d i → NowhereDeep b d
 sticks_nowhere b d i a =
@@ -187,16 +180,13 @@ sinks_deep b d i a = by_step (step (byte b i) a.last) refl a.deep
         record {
           within = a.within;
           deep = subst (λ n. Front b 0 (suc i) n) h f;
-          least = λ k l g. not_before b a.last d (suc k) (suc d) a.reached a.shallow (omega arith) g (omega arith);
+          least = λ k l g. not_deeper b a.last d (suc k) (suc d) a.reached a.shallow (omega arith) g (omega arith);
         }
 
 -- ---- each line has one verdict
 
-one_deep : (b : List ℕ) (d i j : ℕ) → DeepAt b d i → DeepAt b d j → i ≡ j
-one_deep b d i j x y = elim (three i j) [ inl e ↦ e | inr o ↦ elim o [ inl l ↦ absurd (y.least i l x.deep) | inr g ↦ absurd (x.least j g y.deep) ] ]
-  where
-    three : (x y : ℕ) → (x ≡ y) ⊎ ((x < y) ⊎ (y < x))
-    three x y = grind arith
+pub one_deep : (b : List ℕ) (d i j : ℕ) → DeepAt b d i → DeepAt b d j → i ≡ j
+one_deep b d i j x y = elim (cases_order i j) [ inl e ↦ e | inr o ↦ elim o [ inl l ↦ absurd (y.least i l x.deep) | inr g ↦ absurd (x.least j g y.deep) ] ]
 
 pub fronts_below : {b : List ℕ} {j : ℕ} → SyntaxAt b j → (k : ℕ) → k < j → IsFront b (suc k)
 fronts_below (stuck l f n) k h = f k h
@@ -211,19 +201,16 @@ not_earlier : {b : List ℕ} {i j : ℕ} → SyntaxAt b i → SyntaxAt b j → i
 not_earlier (stuck l f n) y h = n (fronts_below y _ h)
 not_earlier (short e f n) y h = let w = syntax_within y in absurd (omega arith)
 
-one_syntax : (b : List ℕ) (i j : ℕ) → SyntaxAt b i → SyntaxAt b j → i ≡ j
-one_syntax b i j x y = elim (three i j) [ inl e ↦ e | inr o ↦ elim o [ inl l ↦ absurd (not_earlier x y l) | inr g ↦ absurd (not_earlier y x g) ] ]
-  where
-    three : (x y : ℕ) → (x ≡ y) ⊎ ((x < y) ⊎ (y < x))
-    three x y = grind arith
+pub one_syntax : (b : List ℕ) (i j : ℕ) → SyntaxAt b i → SyntaxAt b j → i ≡ j
+one_syntax b i j x y = elim (cases_order i j) [ inl e ↦ e | inr o ↦ elim o [ inl l ↦ absurd (not_earlier x y l) | inr g ↦ absurd (not_earlier y x g) ] ]
 
-json_no_syntax : {b : List ℕ} {i : ℕ} → (t : Tree) → Json b t → SyntaxAt b i → ⊥
+pub json_no_syntax : {b : List ℕ} {i : ℕ} → (t : Tree) → Json b t → SyntaxAt b i → ⊥
 json_no_syntax {b} {i} t j (stuck l f n) =
     let v = run_json b t j in let p = (settled v.at _ v.settles).place in
     n (front_before b v.at (suc i) v.reached (omega arith))
 json_no_syntax t j (short e f n) = n t j
 
-json_nowhere : (b : List ℕ) (d : ℕ) (t : Tree) → Json b t → nest t ≤ d → NowhereDeep b d
+pub json_nowhere : (b : List ℕ) (d : ℕ) (t : Tree) → Json b t → nest t ≤ d → NowhereDeep b d
 json_nowhere b d t j h =
     let v = run_json b t j in
     let e = settled v.at _ v.settles in
@@ -340,10 +327,7 @@ module _ (X : Type 0) (b : List ℕ) (old empty new : BoundedList Token) (old_st
 -- ---- UTF-8
 
 pub utf8_whole : (b : List ℕ) (i : ℕ) → IsValidUpTo b i → IsUtf8 b → ⊥
-utf8_whole b i v u = let s = v.short in v.longest (length b) s (subst IsUtf8 (sym (take_all b)) u)
-  where
-    take_all : (b : List ℕ) → take (length b) b ≡ b
-    take_all b = grind (arith, common_steps)
+utf8_whole b i v u = let s = v.short in v.longest (length b) s (subst IsUtf8 (sym (take-length b)) u)
 
 fault_same : (i j : ℕ) → ◌≡◌ {A = Result (Unit {0}) ScanFault} (Err (NotUtf8 i)) (Err (NotUtf8 j)) → i ≡ j
 fault_same i j h = cc

@@ -1,5 +1,9 @@
 -- Walks over tokens, and the trees that they show.
-use Rattle.std.proofs.Common.{◌≡◌, ℕ, zero, suc, ◌+◌, ◌<◌, ◌≤◌, List, [], ◌∷◌, length, drop, slice_get, slice_range, Bool, ◌⊎◌, inl, inr, true, ◌&&◌, Some, refl, sym, ap, subst, arith, ◌∙◌}
+use Rattle.std.proofs.Common.{◌≡◌, ℕ, zero, suc, ◌+◌, ◌<◌, ◌≤◌, List, [], ◌∷◌, length, drop, slice_get, slice_range, inl, inr, true, Some, refl, sym, ap, subst, arith, ◌∙◌}
+use Rattle.cj_spans.proofs.Spellings.{some_same}
+use Rattle.cj_spans.proofs.Forests.{held_on, past_on, start-node}
+use Rattle.std.specs.Cmp.{first_so, second_so}
+use Rattle.std.proofs.lemmas.Bool.{cases_lt}
 use Rattle.std.proofs.lemmas.Option.{slice_get_within}
 use Rattle.std.proofs.lemmas.Bool.Decides.{nat_tests}
 use Rattle.cj_spans.specs.declared.token.Token.{Token}
@@ -17,14 +21,6 @@ use Rattle.cj_spans.proofs.Links.{before_one, before_zero}
 
 -- ---- one tree at the front
 
-start-node : (b : List ℕ) (k : Kind) (i j : ℕ) (ts : List Tree) → start_of (node b k i j ts) ≡ i
-start-node b Null i j ts = refl
-start-node b Truth i j ts = refl
-start-node b Number i j ts = refl
-start-node b Text i j ts = refl
-start-node b Array i j ts = refl
-start-node b Object i j ts = refl
-
 below : (b : List ℕ) (ts : List Token) (k : ℕ) → k < length ts → (t : Token) × (slice_get ts k ≡ Some t)
     × (tree_at b (spans_of ts) k ≡ node b (kind_by (byte b t.start)) t.start t.stop (held t.stop (forest b (drop (suc k) (spans_of ts)))))
     × (forest b (drop k (spans_of ts)) ≡ tree_at b (spans_of ts) k ∷ past t.stop (forest b (drop (suc k) (spans_of ts))))
@@ -40,15 +36,12 @@ pub record Below (b : List ℕ) (ts : List Token) (k : ℕ) (t : Token) : Type 0
   pub front : forest b (drop k (spans_of ts)) ≡ tree_at b (spans_of ts) k ∷ past t.stop (forest b (drop (k + 1) (spans_of ts)))
   pub start : start_of (tree_at b (spans_of ts) k) ≡ t.start
 
-pub same_some : (s t : Token) → Some s ≡ Some t → s ≡ t
-same_some s t h = cc
-
 pub below_at : (b : List ℕ) (ts : List Token) (k : ℕ) (t : Token) → slice_get ts k ≡ Some t → Below b ts k t
 below_at b ts k t h =
     let r = below b ts k (slice_get_within ts k t h) in
     let e : suc k ≡ k + 1 = omega arith in
     let P : Token → Type 0 = λ t. Below b ts k t in
-    subst P (same_some r.0 t (sym r.1 ∙ h))
+    subst P (some_same r.0 t (sym r.1 ∙ h))
     (record {
       found = r.1;
       tree = subst (λ j. tree_at b (spans_of ts) k ≡ node b (kind_by (byte b r.0.start)) r.0.start r.0.stop (held r.0.stop (forest b (drop j (spans_of ts))))) e r.2;
@@ -58,14 +51,8 @@ below_at b ts k t h =
 
 -- ---- trees up to a place, and past it
 
-past_on : (t : Tree) (ts : List Tree) (j : ℕ) → start_of t < j → past j (t ∷ ts) ≡ past j ts
-past_on t ts j h = grind (arith)
-
 past_here : (t : Tree) (ts : List Tree) (j : ℕ) → j ≤ start_of t → past j (t ∷ ts) ≡ t ∷ ts
 past_here t ts j h = grind (arith)
-
-held_on : (t : Tree) (ts : List Tree) (j : ℕ) → start_of t < j → held j (t ∷ ts) ≡ t ∷ held j ts
-held_on t ts j h = grind (arith)
 
 held_none : (t : Tree) (ts : List Tree) (j : ℕ) → j ≤ start_of t → held j (t ∷ ts) ≡ []
 held_none t ts j h = grind (arith)
@@ -74,13 +61,10 @@ held-zero : (ts : List Tree) → held 0 ts ≡ []
 held-zero [] = refl
 held-zero (t ∷ ts) = held_none t ts 0 (omega arith)
 
-split : (m n : ℕ) → (m < n) ⊎ (n ≤ m)
-split m n = grind arith
-
 past-past : (ts : List Tree) (i j : ℕ) → i ≤ j → past j (past i ts) ≡ past j ts
 past-past [] i j h = refl
 past-past (t ∷ ts) i j h =
-    elim (split (start_of t) i) [
+    elim (cases_lt (start_of t) i) [
       | inl l ↦ ap (past j) (past_on t ts i l) ∙ past-past ts i j h ∙ sym (past_on t ts j (omega arith))
       | inr g ↦ ap (past j) (past_here t ts i g)
     ]
@@ -118,7 +102,7 @@ link_past b [] k j r s e = forest_out b [] r (omega arith) ∙ sym (ap (past j) 
 link_past b (t ∷ ts) (suc k) j zero s e = absurd (omega arith)
 link_past b (t ∷ ts) (suc k) j (suc r) s e = link_past b ts k j r (λ i u h g l. s (suc i) u (omega arith) g l) (omega arith)
 link_past b (t ∷ ts) zero j r s e =
-    elim (split t.start j) [
+    elim (cases_lt t.start j) [
       | inl l ↦ link_first b t ts j r l (s 0 t (omega arith) refl l) (omega arith) (λ n f. link_past b ts 0 j n (λ i u h g l. s (suc i) u (omega arith) g l) (omega arith))
       | inr g ↦
           let f = before_zero j t ts g in
@@ -182,12 +166,6 @@ name_is (scalar k a) h = ap (λ k. scalar k a) (kind_text k h)
 name_is (array i j ts) h = cc
 name_is (object i j ms) h = cc
 
-first_so : (s t : Bool) → s && t ≡ true → s ≡ true
-first_so s t h = grind (arith)
-
-second_so : (s t : Bool) → s && t ≡ true → t ≡ true
-second_so s t h = grind (arith)
-
 list-members_from : (ts : List Tree) → are_members ts ≡ true → pairs_of ts ≡ list_members (members_from ts)
 list-members_from [] h = refl
 list-members_from (n ∷ []) h = refl
@@ -248,13 +226,13 @@ length-held : (j : ℕ) (ts : List Tree) → length (held j ts) ≤ length ts
 length-held j [] = omega arith
 length-held j (t ∷ ts) =
     let l = length-held j ts in
-    elim (split (start_of t) j) [ inl h ↦ let e = ap (λ (us : List Tree). length us) (held_on t ts j h) in omega arith | inr h ↦ let e = ap (λ (us : List Tree). length us) (held_none t ts j h) in omega arith ]
+    elim (cases_lt (start_of t) j) [ inl h ↦ let e = ap (λ (us : List Tree). length us) (held_on t ts j h) in omega arith | inr h ↦ let e = ap (λ (us : List Tree). length us) (held_none t ts j h) in omega arith ]
 
 length-past : (j : ℕ) (ts : List Tree) → length (past j ts) ≤ length ts
 length-past j [] = omega arith
 length-past j (t ∷ ts) =
     let l = length-past j ts in
-    elim (split (start_of t) j) [ inl h ↦ let e = ap (λ (us : List Tree). length us) (past_on t ts j h) in omega arith | inr h ↦ let e = ap (λ (us : List Tree). length us) (past_here t ts j h) in omega arith ]
+    elim (cases_lt (start_of t) j) [ inl h ↦ let e = ap (λ (us : List Tree). length us) (past_on t ts j h) in omega arith | inr h ↦ let e = ap (λ (us : List Tree). length us) (past_here t ts j h) in omega arith ]
 
 length-forest : (b : List ℕ) (ss : List Span) → length (forest b ss) ≤ length ss
 unfolding forest

@@ -1,5 +1,6 @@
 -- Whole numbers in an array: the machine over them.
 use Rattle.std.proofs.Common.{◌≡◌, ℕ, suc, ◌+◌, ◌*◌, ◌/◌, ◌<◌, ◌≤◌, List, [], ◌∷◌, ◌++◌, length, Bool, true, false, nat_eq, Option, Some, None, refl, sym, ap, subst, arith, ◌∙◌, ◌⊎◌, inl, inr, slice_get, max, length-append}
+use Rattle.std.proofs.lemmas.Bool.{cond-false}
 use Rattle.std.specs.Prelude.{option_map}
 use Rattle.std.proofs.lemmas.Bool.Decides.{nat_tests}
 use Rattle.cj_budget.specs.Bounded.{BoundedList, Becomes}
@@ -12,13 +13,13 @@ use Rattle.cj_spans.specs.declared.step.Mode.{Mode}
 use Rattle.cj_spans.specs.declared.step.Move.{Move}
 use Rattle.cj_spans.specs.declared.step.Move.TheVariants.{To, Open}
 use Rattle.cj_spans.specs.declared.step.Mode.TheVariants.{Ready, FirstItem, After, FirstName, NextName, AfterName}
-use Rattle.cj_spans.specs.Spelling.{is_blank}
+use Rattle.cj_spans.specs.Spelling.{is_white_space}
 use Rattle.cj_spans.specs.Json.{byte}
 use Rattle.cj_spans.specs.Preorder.{token_at}
-use Rattle.cj_spans.specs.Machine.{State, state, between, in_atom, phase_after, read, after_top, after_token, after_in, moved, step, lex_start, Continues, still, Reaches, here, on, Settles, BeginsValue, InArray, Grown, StaysInArray, StaysInArrayNext, BeginsValueNext, IsNumber, is_digit}
+use Rattle.cj_spans.specs.Machine.{State, state, between, in_atom, phase_after, read, after_top, after_token, after_in, moved, step, lex_start, Continues, still, Reaches, here, on, ComesTo, BeginsValue, InArray, Grown, StaysInArray, StaysInArrayNext, BeginsValueNext, IsNumberItem, is_digit}
 use Rattle.cj_spans.proofs.Spellings.{some_same, none_some}
 use Rattle.cj_spans.proofs.Lists.{slice_get-append, slice_get-seam}
-use Rattle.cj_spans.proofs.Runs.{idle, settled, atom_ends, IsEnd, comma, bracket, cond_false}
+use Rattle.cj_spans.proofs.Runs.{idle, settled, atom_ends, IsEnd, comma, bracket}
 use Rattle.cj_spans.proofs.Atoms.{ends_ok}
 use Rattle.cj_spans.proofs.Facts.{lawful_reaches, IsLawful}
 use Rattle.cj_spans.proofs.Standing.{settles_both, count_before, Stepped}
@@ -26,7 +27,7 @@ use Rattle.cj_spans.proofs.Standing.{settles_both, count_before, Stepped}
 -- ---- one step of the machine
 
 -- a step from where a run has settled
-pub step_on : (b : List ℕ) (s t u : State) → Settles b s t → t.place < length b → step (byte b t.place) t ≡ Some u → Reaches b s u
+pub step_on : (b : List ℕ) (s t u : State) → ComesTo b s t → t.place < length b → step (byte b t.place) t ≡ Some u → Reaches b s u
 step_on b s t u h l e =
     let p : h.last.place ≡ t.place = (settled h.last t h.settles).place in
     on h.last u h.reached (ap (λ n. step (byte b n) h.last) p ∙ h.same l ∙ e)
@@ -34,25 +35,25 @@ step_on b s t u h l e =
 not_at : (c n : ℕ) → (c ≡ n → ⊥) → nat_eq c n ≡ false
 not_at c n h = grind (arith, nat_tests)
 
-not_blank : (c : ℕ) → 48 ≤ c → is_blank c ≡ false
-not_blank c h = rw (not_at c 32 (λ e. omega arith), not_at c 9 (λ e. omega arith), not_at c 10 (λ e. omega arith), not_at c 13 (λ e. omega arith)) refl
+not_white : (c : ℕ) → 48 ≤ c → is_white_space c ≡ false
+not_white c h = rw (not_at c 32 (λ e. omega arith), not_at c 9 (λ e. omega arith), not_at c 10 (λ e. omega arith), not_at c 13 (λ e. omega arith)) refl
 
 -- a digit begins a number where a value may begin
 number_begins : (m : Mode) (c : ℕ) (x : Lex) (ks : List ℕ) (ts : List Token) (i p : ℕ) → BeginsValue m → (48 ≤ c) × (c ≤ 57) → lex_start c ≡ Some x → step c (idle m ks ts i p) ≡ Some (state (in_atom After i x) ks ts (suc i) p)
 number_begins Ready c x ks ts i p v d h =
     let low = d.0 in let high = d.1 in
     let s = idle Ready ks ts i p in
-    cond_false (is_blank c) _ _ (not_blank c low)
-    ∙ cond_false (nat_eq c 91) _ _ (not_at c 91 (λ e. omega arith))
-    ∙ cond_false (nat_eq c 123) _ _ (not_at c 123 (λ e. omega arith))
+    cond-false (is_white_space c) _ _ (not_white c low)
+    ∙ cond-false (nat_eq c 91) _ _ (not_at c 91 (λ e. omega arith))
+    ∙ cond-false (nat_eq c 123) _ _ (not_at c 123 (λ e. omega arith))
     ∙ ap (option_map (λ y. moved (in_atom After i y) s)) h
 number_begins FirstItem c x ks ts i p v d h =
     let low = d.0 in let high = d.1 in
     let s = idle FirstItem ks ts i p in
-    cond_false (is_blank c) _ _ (not_blank c low)
-    ∙ cond_false (nat_eq c 93) _ _ (not_at c 93 (λ e. omega arith))
-    ∙ cond_false (nat_eq c 91) _ _ (not_at c 91 (λ e. omega arith))
-    ∙ cond_false (nat_eq c 123) _ _ (not_at c 123 (λ e. omega arith))
+    cond-false (is_white_space c) _ _ (not_white c low)
+    ∙ cond-false (nat_eq c 93) _ _ (not_at c 93 (λ e. omega arith))
+    ∙ cond-false (nat_eq c 91) _ _ (not_at c 91 (λ e. omega arith))
+    ∙ cond-false (nat_eq c 123) _ _ (not_at c 123 (λ e. omega arith))
     ∙ ap (option_map (λ y. moved (in_atom After i y) s)) h
 number_begins _ c x ks ts i p v d h = absurd v
 
@@ -81,19 +82,19 @@ ended c (inl e) = subst IsEnd (sym e) comma
 ended c (inr e) = subst IsEnd (sym e) bracket
 
 -- the machine has read a number
-pub number_read : (b : List ℕ) (s : State) (m : Mode) (ks : List ℕ) (ts us : List Token) (i k c p : ℕ) → IsNumber b i k → BeginsValue m → c ≡ length ts → us ≡ ts ++ token_at i k (c + 1) Number ∷ []
-    → Settles b s (idle m ks ts i p) → Settles b s (idle After ks us k p)
+pub number_read : (b : List ℕ) (s : State) (m : Mode) (ks : List ℕ) (ts us : List Token) (i k c p : ℕ) → IsNumberItem b i k → BeginsValue m → c ≡ length ts → us ≡ ts ++ token_at i k (c + 1) Number ∷ []
+    → ComesTo b s (idle m ks ts i p) → ComesTo b s (idle After ks us k p)
 number_read b s m ks ts us i k c p n v count q h =
     let below = n.order in let inside = n.within in
     let r = step_on b s (idle m ks ts i p) (state (in_atom After i n.first) ks ts (suc i) p) h (omega arith) (number_begins m (byte b i) n.first ks ts i p v n.digit n.begins) in
     settles_both r (ends_ok b i k c p n.first n.last Number After ks ts us n.goes (inr (atom_ends n.last (byte b k) Number n.done (ended (byte b k) n.ended))) n.done count q)
 
 -- and the comma after it
-pub comma_read : (b : List ℕ) (s : State) (ks : List ℕ) (us : List Token) (k p : ℕ) → InArray ks us → k < length b → byte b k ≡ 44 → Settles b s (idle After ks us k p) → Settles b s (idle Ready ks us (k + 1) p)
+pub comma_read : (b : List ℕ) (s : State) (ks : List ℕ) (us : List Token) (k p : ℕ) → InArray ks us → k < length b → byte b k ≡ 44 → ComesTo b s (idle After ks us k p) → ComesTo b s (idle Ready ks us (k + 1) p)
 comma_read b s ks us k p a l e h =
     let r = step_on b s (idle After ks us k p) (idle Ready ks us (suc k) p) h l (comma_goes (byte b k) ks us k p a e) in
     let f : suc k ≡ k + 1 = omega arith in
-    subst (λ n. Settles b s (idle Ready ks us n p)) f (record { last = idle Ready ks us (suc k) p; reached = r; settles = refl; same = λ _. refl })
+    subst (λ n. ComesTo b s (idle Ready ks us n p)) f (record { last = idle Ready ks us (suc k) p; reached = r; settles = refl; same = λ _. refl })
 
 -- ---- what the code's tests say
 
@@ -104,13 +105,13 @@ first_whole : (c : ℕ) → 49 ≤ c → c ≤ 57 → lex_start c ≡ Some Whole
 first_whole c l h = grind (arith, nat_tests)
 
 -- digits alone, of which the first is `0` only if it stands alone
-pub number_is : (b : List ℕ) (i k : ℕ) → (48 ≤ byte b i) × (byte b i ≤ 57) → (byte b i ≡ 48 → k ≡ i + 1) → ((j : ℕ) (x : Lex) → Continues b j x (i + 1) Whole → Continues b j x k Whole) → i + 1 ≤ k → k < length b → (byte b k ≡ 44) ⊎ (byte b k ≡ 93) → IsNumber b i k
+pub number_is : (b : List ℕ) (i k : ℕ) → (48 ≤ byte b i) × (byte b i ≤ 57) → (byte b i ≡ 48 → k ≡ i + 1) → ((j : ℕ) (x : Lex) → Continues b j x (i + 1) Whole → Continues b j x k Whole) → i + 1 ≤ k → k < length b → (byte b k ≡ 44) ⊎ (byte b k ≡ 93) → IsNumberItem b i k
 number_is b i k d z same l h e = choose (split (byte b i))
   where
     split : (c : ℕ) → (c ≡ 48) ⊎ (c ≡ 48 → ⊥)
     split c = grind arith
 
-    choose : (byte b i ≡ 48) ⊎ (byte b i ≡ 48 → ⊥) → IsNumber b i k
+    choose : (byte b i ≡ 48) ⊎ (byte b i ≡ 48 → ⊥) → IsNumberItem b i k
     choose (inl q) =
         let f : suc i ≡ k = let g = z q in omega arith in
         record { first = Zero; last = Zero; digit = d; begins = first_zero (byte b i) q; goes = subst (λ n. Continues b (suc i) Zero n Zero) f still; done = refl; order = omega arith; within = h; ended = e }
@@ -147,7 +148,7 @@ in_digits c r e h = let f = sym e ∙ h in (low c f, high c f)
     high : (c : ℕ) → is_digit c ≡ true → c ≤ 57
     high c f = grind (arith, nat_tests)
 
-pub settled_here : (b : List ℕ) (m : Mode) (ks : List ℕ) (ts : List Token) (i p : ℕ) → Settles b (idle m ks ts i p) (idle m ks ts i p)
+pub settled_here : (b : List ℕ) (m : Mode) (ks : List ℕ) (ts : List Token) (i p : ℕ) → ComesTo b (idle m ks ts i p) (idle m ks ts i p)
 settled_here b m ks ts i p = record { last = idle m ks ts i p; reached = here; settles = refl; same = λ _. refl }
 
 -- ---- an array is innermost after `[`, and after a comma behind which a value comes
@@ -225,11 +226,11 @@ module _ (ks ls : List ℕ) (ts us : List Token) (i p j q : ℕ) where
   array_next m c _ e h = absurd e
 
 -- the state after the move of a sign or a bracket
-pub moved_on : (b : List ℕ) (m n : Mode) (i p : ℕ) (v w : Move) (ks : List ℕ) (ts : List Token) (u : State) → v ≡ w → phase_after m i w ≡ between n → Settles b (idle n ks ts (i + 1) p) u → Settles b (state (phase_after m i v) ks ts (suc i) p) u
+pub moved_on : (b : List ℕ) (m n : Mode) (i p : ℕ) (v w : Move) (ks : List ℕ) (ts : List Token) (u : State) → v ≡ w → phase_after m i w ≡ between n → ComesTo b (idle n ks ts (i + 1) p) u → ComesTo b (state (phase_after m i v) ks ts (suc i) p) u
 moved_on b m n i p v w ks ts u e f h =
     let g : i + 1 ≡ suc i = omega arith in
     let q : between n ≡ phase_after m i v = sym (ap (phase_after m i) e ∙ f) in
-    subst (λ z. Settles b (state z ks ts (suc i) p) u) q (subst (λ z. Settles b (idle n ks ts z p) u) g h)
+    subst (λ z. ComesTo b (state z ks ts (suc i) p) u) q (subst (λ z. ComesTo b (idle n ks ts z p) u) g h)
 
 -- ---- room for the numbers
 

@@ -11,6 +11,7 @@ pub record BeginsText (b : List ℕ) (i : ℕ) : Type 0 where
 
 -- i is the least place for which no text begins with the first i + 1 bytes, or the length of a b that is no text
 pub record IsFirstFault (b : List ℕ) (i : ℕ) : Type 0 where
+  pub within : i ≤ length b
   pub earlier : (k : ℕ) → k < i → BeginsText b (suc k)
   pub here : i < length b → BeginsText b (suc i) → ⊥
   pub whole : i ≡ length b → (t : Tree) → Json b t → ⊥

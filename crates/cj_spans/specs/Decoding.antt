@@ -16,7 +16,7 @@ after_read bytes n None = []
 after_read bytes n (Some p) = chars_after n p.code (drop p.stop bytes)
 
 -- the number x stands for the front of the characters cs, of which it takes n
-pub record Takes (bytes cs : List ℕ) (x n : ℕ) (p : Point) : Type 0 where
+pub record ReadsPoint (bytes cs : List ℕ) (x n : ℕ) (p : Point) : Type 0 where
   pub code : p.code ≡ x
   pub rest : left bytes p.stop ≡ drop n cs
 

@@ -36,6 +36,6 @@ least o [] = o
 least o (f ∷ fs) = least (lesser o f) fs
 
 -- what was kept, as a list
-abbrev pub kept : Option Finding → List Finding
-kept None = []
-kept (Some f) = f ∷ []
+abbrev pub list_found : Option Finding → List Finding
+list_found None = []
+list_found (Some f) = f ∷ []

@@ -3,7 +3,7 @@ use Rattle.std.specs.Prelude.{◌≡◌, ℕ, suc, ◌<◌, ◌≤◌, List, len
 use Rattle.cj_spans.specs.declared.token.Kind.{Kind}
 use Rattle.cj_spans.specs.declared.token.Kind.TheVariants.{Text}
 use Rattle.cj_spans.specs.Tree.{Atom, Tree, scalar, array, object, Items, no_items, Members, no_members, add_item, add_member}
-use Rattle.cj_spans.specs.Spelling.{is_blank, IsScalar}
+use Rattle.cj_spans.specs.Spelling.{is_white_space, IsScalar}
 
 -- the byte at the place i, or 0 past the end
 abbrev pub byte : List ℕ → ℕ → ℕ
@@ -16,7 +16,7 @@ atom_at b i j = record { start = i; stop = j; spelling = slice_range b i j }
 -- white space, perhaps none
 pub record White (b : List ℕ) (i j : ℕ) : Type 0 where
   pub order : i ≤ j
-  pub each : (k : ℕ) → i ≤ k → k < j → is_blank (byte b k) ≡ true
+  pub each : (k : ℕ) → i ≤ k → k < j → is_white_space (byte b k) ≡ true
 
 -- a scalar of the kind
 pub record IsAtom (b : List ℕ) (k : Kind) (i j : ℕ) : Type 0 where

@@ -1,5 +1,5 @@
--- What a line is under a depth limit: exactly one of three.
-use Rattle.std.specs.Prelude.{ℕ, ◌≤◌, ◌⊎◌, List, Result, IsOk, IsErrOf}
+-- What a line is under a depth limit: exactly one of three, as the law `one_judgement` says.
+use Rattle.std.specs.Prelude.{◌≡◌, ℕ, ◌≤◌, ◌⊎◌, List, Result, IsOk, IsErrOf}
 use Rattle.cj_spans.specs.declared.fault.ScanFault.{ScanFault}
 use Rattle.cj_spans.specs.declared.fault.ScanFault.TheVariants.{Syntax, TooDeep, Memory}
 use Rattle.cj_spans.specs.Tree.{Tree, size, nest}
@@ -11,6 +11,18 @@ pub data Judgement (b : List ℕ) (d : ℕ) : Type 0 where
   spelled : (t : Tree) → Json b t → nest t ≤ d → Judgement b d
   broken : (i : ℕ) → SyntaxAt b i → NowhereDeep b d → Judgement b d
   sunk : (i : ℕ) → DeepAt b d i → Judgement b d
+
+-- both say the same: the same tree, or the same place of the same fault
+abbrev pub SaySame : {b : List ℕ} {d : ℕ} → Judgement b d → Judgement b d → Type 0
+SaySame (spelled t j n) (spelled u k m) = t ≡ u
+SaySame (spelled t j n) (broken i s h) = ⊥
+SaySame (spelled t j n) (sunk i s) = ⊥
+SaySame (broken i s h) (spelled t j n) = ⊥
+SaySame (broken i s h) (broken k r g) = i ≡ k
+SaySame (broken i s h) (sunk k r) = ⊥
+SaySame (sunk i s) (spelled t j n) = ⊥
+SaySame (sunk i s) (broken k r g) = ⊥
+SaySame (sunk i s) (sunk k r) = i ≡ k
 
 -- the size of the tree, or 0 where there is none
 abbrev pub judged_size : {b : List ℕ} {d : ℕ} → Judgement b d → ℕ

@@ -1,5 +1,5 @@
 -- The machine that reads a line byte by byte. Only private clauses cite it.
-use Rattle.std.specs.Prelude.{◌≡◌, ℕ, suc, ◌<◌, ◌≤◌, List, [], ◌∷◌, ◌++◌, length, drop, max, slice_get, slice_set, Bool, cond, ◌⊎◌, ◌||◌, ◌&&◌, nat_eq, nat_le, Option, Some, None, IsSomeAnd, option_map, option_and_then, Result, Ok, Err, OnErr, IsTrue}
+use Rattle.std.specs.Prelude.{◌≡◌, ℕ, suc, ◌^◌, ◌<◌, ◌≤◌, List, [], ◌∷◌, ◌++◌, length, drop, max, slice_get, slice_set, Bool, cond, ◌⊎◌, ◌||◌, ◌&&◌, nat_eq, nat_le, Option, Some, None, IsSomeAnd, option_map, option_and_then, Result, Ok, Err, OnErr, IsTrue}
 use Rattle.cj_budget.specs.Bounded.{BoundedList, IsWithin}
 use Rattle.cj_spans.specs.declared.fault.ScanFault.{ScanFault}
 use Rattle.cj_spans.specs.declared.fault.ScanFault.TheVariants.{NotUtf8, Syntax, TooDeep, Memory}
@@ -13,7 +13,7 @@ use Rattle.cj_spans.specs.declared.step.Mode.TheVariants.{Ready, FirstItem, Afte
 use Rattle.cj_spans.specs.declared.step.Move.{Move}
 use Rattle.cj_spans.specs.declared.step.Move.TheVariants.{Stay, To, Open, Atom}
 use Rattle.cj_spans.specs.declared.step.Next.{Next}
-use Rattle.cj_spans.specs.Spelling.{is_blank, is_hex, is_escape}
+use Rattle.cj_spans.specs.Spelling.{is_white_space, is_hex, is_escape}
 use Rattle.cj_spans.specs.Json.{byte}
 use Rattle.cj_spans.specs.Preorder.{token_at}
 
@@ -162,19 +162,19 @@ abbrev pub moved : Phase → State → State
 moved f s = state f s.stack s.tokens (suc s.place) s.deepest
 
 -- the byte opens a container of the kind k, in which the mode m comes
-abbrev pub opened : Kind → Mode → State → State
-opened k m s = state (between m) (length s.tokens ∷ s.stack) (s.tokens ++ token_at s.place 0 0 k ∷ []) (suc s.place) (max s.deepest (suc (length s.stack)))
+abbrev pub with_opened : Kind → Mode → State → State
+with_opened k m s = state (between m) (length s.tokens ∷ s.stack) (s.tokens ++ token_at s.place 0 0 k ∷ []) (suc s.place) (max s.deepest (suc (length s.stack)))
 
 -- the innermost container k, whose token is t, ends with the byte that is read
-abbrev pub closed : ℕ → Token → State → State
-closed k t s = state (between After) (drop 1 s.stack) (slice_set s.tokens k (token_at t.start (suc s.place) (length s.tokens) t.kind)) (suc s.place) s.deepest
+abbrev pub with_closed : ℕ → Token → State → State
+with_closed k t s = state (between After) (drop 1 s.stack) (slice_set s.tokens k (token_at t.start (suc s.place) (length s.tokens) t.kind)) (suc s.place) s.deepest
 
 -- ---- one byte
 
 -- a byte where a value may begin
 abbrev pub begin_value : ℕ → State → Option State
 begin_value c s =
-    cond (nat_eq c 91) (Some (opened Array FirstItem s)) (cond (nat_eq c 123) (Some (opened Object FirstName s))
+    cond (nat_eq c 91) (Some (with_opened Array FirstItem s)) (cond (nat_eq c 123) (Some (with_opened Object FirstName s))
     (option_map (λ x. moved (in_atom After s.place x) s) (lex_start c)))
 
 -- a byte where a name may begin
@@ -183,7 +183,7 @@ begin_name c s = cond (nat_eq c 34) (Some (moved (in_atom AfterName s.place InTe
 
 -- the container k with the token t is closed by the bracket d
 abbrev pub close_by : ℕ → ℕ → ℕ → Token → State → Option State
-close_by c d k t s = cond (nat_eq c d) (Some (closed k t s)) None
+close_by c d k t s = cond (nat_eq c d) (Some (with_closed k t s)) None
 
 -- a byte after a value in a container of this kind
 abbrev pub after_in : Kind → ℕ → ℕ → Token → State → Option State
@@ -208,7 +208,7 @@ after_value c s = after_top c (slice_get s.stack 0) s
 -- the container whose token this is holds nothing
 abbrev pub close_token : ℕ → Option Token → State → Option State
 close_token k None s = None
-close_token k (Some t) s = Some (closed k t s)
+close_token k (Some t) s = Some (with_closed k t s)
 
 -- the same of the innermost container
 abbrev pub close_top : Option ℕ → State → Option State
@@ -234,7 +234,7 @@ read_in AfterName c s = colon_step c s
 
 -- a byte, between scalars and names
 abbrev pub read : Mode → ℕ → State → Option State
-read m c s = cond (is_blank c) (Some (moved (between m) s)) (read_in m c s)
+read m c s = cond (is_white_space c) (Some (moved (between m) s)) (read_in m c s)
 
 -- where a scalar or a name may end, it has ended
 abbrev pub end_atom : Mode → ℕ → Option Kind → State → Option State
@@ -272,7 +272,7 @@ pub data Reaches (b : List ℕ) (s : State) : State → Type 0 where
   on : (t u : State) → Reaches b s t → step (byte b t.place) t ≡ Some u → Reaches b s u
 
 -- the machine comes from s to t, or to where t is once its scalar has ended, which the next byte does not continue
-pub record Settles (b : List ℕ) (s t : State) : Type 0 where
+pub record ComesTo (b : List ℕ) (s t : State) : Type 0 where
   pub last : State
   pub reached : Reaches b s last
   pub settles : settle last ≡ Some t
@@ -315,12 +315,16 @@ Answers o m i p d granted (Err Memory) ks ts = granted → ⊥
 Answers o m i p d granted (Err (NotUtf8 j)) ks ts = ⊥
 
 -- what a call answers that ends the scalar or the name of the state s, if it is in one
-abbrev pub Ends : List ℕ → State → Type 0 → Result Next ScanFault → List Token → Type 0
-Ends b s granted (Ok n) ts = Settles b s (state (between n.mode) s.stack ts n.place s.deepest) × (s.place ≤ n.place) × (n.place ≤ length b)
-Ends b s granted (Err (Syntax j)) ts = SticksFlat b s j
-Ends b s granted (Err (TooDeep j)) ts = ⊥
-Ends b s granted (Err Memory) ts = granted → ⊥
-Ends b s granted (Err (NotUtf8 j)) ts = ⊥
+abbrev pub EndAnswers : List ℕ → State → Type 0 → Result Next ScanFault → List Token → Type 0
+EndAnswers b s granted (Ok n) ts = ComesTo b s (state (between n.mode) s.stack ts n.place s.deepest) × (s.place ≤ n.place) × (n.place ≤ length b)
+EndAnswers b s granted (Err (Syntax j)) ts = SticksFlat b s j
+EndAnswers b s granted (Err (TooDeep j)) ts = ⊥
+EndAnswers b s granted (Err Memory) ts = granted → ⊥
+EndAnswers b s granted (Err (NotUtf8 j)) ts = ⊥
+
+-- a place and the count of the tokens are within what a token's fields hold, with a bit to spare
+abbrev pub FitsToken : ℕ → BoundedList Token → Type 0
+FitsToken i tokens = (i < 2 ^ 31) × (length tokens.elements < 2 ^ 31)
 
 -- what calls leave of a list: the limit, the peak, and room that is there
 pub record Kept {T : Type 0} (old new : BoundedList T) : Type 0 where
@@ -335,7 +339,7 @@ pub record Grown (old new : BoundedList Token) : Type 0 where
   pub longer : length old.elements ≤ length new.elements
 
 -- what a call does with the lists that reads the byte at the place i, where the machine does f, from whatever mode
-pub record Reads (f : State → Option State) (i : ℕ) (result : Result Move ScanFault) (old_tokens new_tokens : BoundedList Token) (old_stack new_stack : BoundedList ℕ) : Type 0 where
+pub record ReadsByte (f : State → Option State) (i : ℕ) (result : Result Move ScanFault) (old_tokens new_tokens : BoundedList Token) (old_stack new_stack : BoundedList ℕ) : Type 0 where
   pub answer : (m : Mode) (p : ℕ) → Answers (f (state (between m) old_stack.elements old_tokens.elements i p)) m i p old_stack.limit (IsTrue old_tokens.reserved × IsTrue old_stack.reserved) result new_stack.elements new_tokens.elements
   pub tokens : Grown old_tokens new_tokens
   pub stack : Kept old_stack new_stack
@@ -374,7 +378,7 @@ StaysInArrayNext c (Open m) = StaysInArray c m
 StaysInArrayNext c _ = ⊥
 
 -- the bytes from i to k are a whole number, and a comma or `]` comes after it
-pub record IsNumber (b : List ℕ) (i k : ℕ) : Type 0 where
+pub record IsNumberItem (b : List ℕ) (i k : ℕ) : Type 0 where
   pub first : Lex
   pub last : Lex
   pub digit : (48 ≤ byte b i) × (byte b i ≤ 57)
@@ -407,7 +411,7 @@ pub record SinksAt (b : List ℕ) (d i : ℕ) : Type 0 where
 -- the machine reads all of the line, and has these tokens
 pub record Accepts (b : List ℕ) (tokens : BoundedList Token) (old new : BoundedList ℕ) : Type 0 where
   pub deepest : ℕ
-  pub settles : Settles b start (state (between After) [] tokens.elements (length b) deepest)
+  pub settles : ComesTo b start (state (between After) [] tokens.elements (length b) deepest)
   pub closed : new.elements ≡ []
   pub peak : new.peak ≡ max old.peak deepest
   pub shallow : deepest ≤ old.limit

@@ -48,7 +48,7 @@ text_if Number s = None
 text_if Array s = None
 text_if Object s = None
 
--- the text of a string or a name; of any other tree none
+-- the text of a string or a name (the law `one_text` ties it to the grammar); of any other tree none
 abbrev pub text_of : Tree → Option (List ℕ)
 text_of (scalar k a) = text_if k a.spelling
 text_of (array i j ts) = None

@@ -33,8 +33,8 @@ abbrev mutual
 abbrev pub token_at : ℕ → ℕ → ℕ → Kind → Token
 token_at i j l k = record { start = i; stop = j; link = l; kind = k }
 
--- one token for each value and each name of a tree, each before its parts, numbered from n on; each links to the first
--- number after its parts
+-- one token for each value and each name of a tree, each before its parts, at the indices from n on; each links to the
+-- first index after its parts
 abbrev mutual
   pub flatten : ℕ → Tree → List Token
   flatten n (scalar k a) = token_at a.start a.stop (suc n) k ∷ []

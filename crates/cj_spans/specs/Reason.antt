@@ -1,4 +1,4 @@
--- The table of reasons (own): code and text of each.
+-- The table of reasons (own): code and words of each.
 use Rattle.std.specs.Prelude.{ℕ, List, codes}
 use Rattle.cj_spans.specs.declared.reason.Reason.{Reason}
 use Rattle.cj_spans.specs.declared.reason.Reason.TheVariants.{NoHeader, LineTooLong, NotUtf8, Syntax, TooDeep, MissingMember, DuplicateName, WrongKind, NumberRange, WrongType, WrongVersion, NotEmpty, NotThree, NotWhole, UnknownObjectType, IdNotFound, ChildNotFound, LinkNotMutual, NoParent, UnknownGeometryType, VertexIndex, SemanticsCount, SemanticsIndex, TemplateIndex, BadInstance, TransformNotFixed}
@@ -32,31 +32,31 @@ code_of TemplateIndex = 28
 code_of BadInstance = 29
 code_of TransformNotFixed = 30
 
--- the bytes of its text
-abbrev pub text_of : Reason → List ℕ
-text_of NoHeader = codes "no header line"
-text_of LineTooLong = codes "line too long"
-text_of NotUtf8 = codes "not UTF-8"
-text_of Syntax = codes "syntax"
-text_of TooDeep = codes "nested too deep"
-text_of MissingMember = codes "member missing"
-text_of DuplicateName = codes "duplicate name"
-text_of WrongKind = codes "wrong kind"
-text_of NumberRange = codes "number out of range"
-text_of WrongType = codes "wrong type"
-text_of WrongVersion = codes "wrong version"
-text_of NotEmpty = codes "not empty"
-text_of NotThree = codes "not three items"
-text_of NotWhole = codes "not a whole number"
-text_of UnknownObjectType = codes "unknown object type"
-text_of IdNotFound = codes "id not among the city objects"
-text_of ChildNotFound = codes "child not found"
-text_of LinkNotMutual = codes "link not mutual"
-text_of NoParent = codes "no parent in the feature"
-text_of UnknownGeometryType = codes "unknown geometry type"
-text_of VertexIndex = codes "vertex index out of range"
-text_of SemanticsCount = codes "semantics count"
-text_of SemanticsIndex = codes "semantics index out of range"
-text_of TemplateIndex = codes "template index out of range"
-text_of BadInstance = codes "bad instance"
-text_of TransformNotFixed = codes "transform not fixed"
+-- the reason in a few words, as bytes
+abbrev pub words_of : Reason → List ℕ
+words_of NoHeader = codes "no header line"
+words_of LineTooLong = codes "line too long"
+words_of NotUtf8 = codes "not UTF-8"
+words_of Syntax = codes "syntax"
+words_of TooDeep = codes "nested too deep"
+words_of MissingMember = codes "member missing"
+words_of DuplicateName = codes "duplicate name"
+words_of WrongKind = codes "wrong kind"
+words_of NumberRange = codes "number out of range"
+words_of WrongType = codes "wrong type"
+words_of WrongVersion = codes "wrong version"
+words_of NotEmpty = codes "not empty"
+words_of NotThree = codes "not three items"
+words_of NotWhole = codes "not a whole number"
+words_of UnknownObjectType = codes "unknown object type"
+words_of IdNotFound = codes "id not among the city objects"
+words_of ChildNotFound = codes "child not found"
+words_of LinkNotMutual = codes "link not mutual"
+words_of NoParent = codes "no parent in the feature"
+words_of UnknownGeometryType = codes "unknown geometry type"
+words_of VertexIndex = codes "vertex index out of range"
+words_of SemanticsCount = codes "semantics count"
+words_of SemanticsIndex = codes "semantics index out of range"
+words_of TemplateIndex = codes "template index out of range"
+words_of BadInstance = codes "bad instance"
+words_of TransformNotFixed = codes "transform not fixed"

@@ -4,8 +4,8 @@ use Rattle.cj_spans.specs.declared.token.Kind.{Kind}
 use Rattle.cj_spans.specs.declared.token.Kind.TheVariants.{Null, Truth, Number, Text, Array, Object}
 
 -- space, tab, LF or CR
-abbrev pub is_blank : ℕ → Bool
-is_blank b = nat_eq b 32 || nat_eq b 9 || nat_eq b 10 || nat_eq b 13
+abbrev pub is_white_space : ℕ → Bool
+is_white_space b = nat_eq b 32 || nat_eq b 9 || nat_eq b 10 || nat_eq b 13
 
 -- one of the bytes `0` to `9`
 abbrev pub IsDigit : ℕ → Type 0

@@ -62,7 +62,7 @@ pub data StandFor : List ℕ → List ℕ → Type 0 where
 abbrev pub body_of : List ℕ → List ℕ
 body_of s = slice_range s 1 (length s - 1)
 
--- the text of the spelling of a string
+-- the text of the spelling of a string: of a string of UTF-8 what its characters stand for, by the law `one_text`
 unfoldable pub text : List ℕ → List ℕ
 text s = points_after 0 (chars (body_of s))
 

@@ -25,7 +25,7 @@ pairs_of (n ∷ t ∷ ts) = (n, t) ∷ pairs_of ts
 
 -- the tree of a node
 unfoldable pub tree : Node → Tree
-tree n = tree_at n.source.line.now (spans_of n.source.tokens.now) n.number
+tree n = tree_at n.source.line.now (spans_of n.source.tokens.now) n.index
 
 -- the trees of a name and its value
 abbrev pub trees : Node × Node → Tree × Tree

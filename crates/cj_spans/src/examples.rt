@@ -1,10 +1,11 @@
 //! The definitions at worked lines: each contract is a theorem on one line.
-ghost use Rattle.std.specs.Prelude.{◌≡◌, ◌∷◌, [], codes};
+ghost use Rattle.std.specs.Prelude.{◌≡◌, ◌∷◌, [], codes, ℕ};
 ghost use Rattle.cj_spans.specs.declared.token.Kind.TheVariants.{Number};
 ghost use Rattle.cj_spans.specs.Tree.{scalar, array, no_items, item, size, nest};
 ghost use Rattle.cj_spans.specs.Examples.{seven};
 ghost use Rattle.cj_spans.specs.Json.{Json, atom_at};
 ghost use Rattle.cj_spans.specs.Front.{SyntaxAt, DeepAt};
+ghost use Rattle.cj_spans.specs.Begins.{IsFirstFault};
 
 /// A zero before another digit.
 pub fn leading_zero()
@@ -44,6 +45,11 @@ pub fn unclosed_array()
 /// The empty line.
 pub fn empty_line()
     ensures { SyntaxAt [] 0 }
+{}
+
+/// A text has no first fault, neither in it nor past its end.
+pub fn whole_text()
+    ensures { (i : ℕ) → IsFirstFault (codes "{}") i → ⊥ }
 {}
 
 /// One container too many, before a fault.

@@ -1,7 +1,7 @@
 //! The least of the findings of a line.
 ghost use Rattle.std.specs.Prelude.{◌≡◌, ◌∷◌, ◌++◌, List, Option as OptionOf, None};
 ghost use Rattle.cj_spans.specs.declared.finding.Finding.{Finding as FindingOf};
-ghost use Rattle.cj_spans.specs.Finding.{lesser, least, kept, is_before as is_before_of, IsLeast, HaveSame};
+ghost use Rattle.cj_spans.specs.Finding.{lesser, least, list_found, is_before as is_before_of, IsLeast, HaveSame};
 
 #[cfg(test)]
 mod examples;
@@ -68,7 +68,7 @@ impl Least {
         // Any findings have one least, in whatever order they are told, and it is what is kept of them.
         ensures only { (fs gs : List FindingOf) (o : OptionOf FindingOf) → HaveSame fs gs
             → IsLeast fs result → IsLeast gs o → o ≡ result }
-        ensures fold { (fs : List FindingOf) → IsLeast (kept result ++ fs) (least result fs) }
+        ensures fold { (fs : List FindingOf) → IsLeast (list_found result ++ fs) (least result fs) }
     {
         let Least { found } = self;
         found

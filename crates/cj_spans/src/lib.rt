@@ -10,6 +10,9 @@
 //! the line and its tokens. A rule of the layers above looks at nodes and adds each [`Finding`] to a
 //! [`Least`], which keeps the one that is told.
 //!
+//! The contracts cite definitions, and [`laws`] holds what is proved of these: a line has one judgement
+//! and a string one text.
+//!
 //! ```text
 //! let mut tokens = Bounded::new(alloc, (line.len() + 64 + 1) / 2);
 //! let mut stack = Stack::new(alloc, 64); // at most 64 open arrays and objects
@@ -31,6 +34,7 @@ mod examples;
 mod fault;
 mod finding;
 mod lanes;
+pub mod laws;
 mod least;
 mod lex;
 mod node;

@@ -52,8 +52,8 @@ pub struct Doc<'a> {
 #[derive(Clone, Copy)]
 pub struct Node<'a> {
     source: Source<'a>,
-    number: usize,
-    ghost known: { number < length source.tokens.now },
+    index: usize,
+    ghost known: { index < length source.tokens.now },
 }
 
 /// The items of an array that are left, in order.
@@ -75,12 +75,12 @@ pub struct Members<'a> {
 /// Links are below this: the top bit may be a mark.
 const LINKS: u32 = 1 << 31;
 
-/// The token of a number.
-fn token_at(tokens: &[Token], number: usize) -> Token
-    requires { number < length tokens.now }
-    ensures { slice_get tokens.now number ≡ Some result }
+/// The token at an index.
+fn token_at(tokens: &[Token], index: usize) -> Token
+    requires { index < length tokens.now }
+    ensures { slice_get tokens.now index ≡ Some result }
 {
-    tokens[number]
+    tokens[index]
 }
 
 /// The kind of the value or name that starts here (RFC 8259, section 3).
@@ -120,15 +120,15 @@ fn members_end(kind: Kind, stop: usize) -> usize
 }
 
 impl<'a> Source<'a> {
-    /// The first later token that does not start before the end of the token of this number.
-    fn after(self, number: usize) -> usize
-        requires { number < length self.tokens.now }
-        ensures order { (number < result) × (result ≤ length self.entry.tokens.now) }
-        ensures rest { (t : TokenOf) → slice_get self.entry.tokens.now number ≡ Some t
+    /// The first later token that does not start before the end of the token at this index.
+    fn after(self, index: usize) -> usize
+        requires { index < length self.tokens.now }
+        ensures order { (index < result) × (result ≤ length self.entry.tokens.now) }
+        ensures rest { (t : TokenOf) → slice_get self.entry.tokens.now index ≡ Some t
             → forest self.entry.line.now (drop result (spans_of self.entry.tokens.now))
-            ≡ past t.stop (forest self.entry.line.now (drop (number + 1) (spans_of self.entry.tokens.now))) }
+            ≡ past t.stop (forest self.entry.line.now (drop (index + 1) (spans_of self.entry.tokens.now))) }
     {
-        (token_at(self.tokens, number).link % LINKS) as usize
+        (token_at(self.tokens, index).link % LINKS) as usize
     }
 }
 
@@ -155,7 +155,7 @@ impl<'a> Doc<'a> {
     {
         Node {
             source: self.source,
-            number: 0,
+            index: 0,
         }
     }
 
@@ -177,7 +177,7 @@ impl<'a> Node<'a> {
     pub fn kind(self) -> Kind
         ensures { result ≡ kind_of (tree self.entry) }
     {
-        let token = token_at(self.source.tokens, self.number);
+        let token = token_at(self.source.tokens, self.index);
         kind_at(self.source.line, token.start as usize)
     }
 
@@ -186,7 +186,7 @@ impl<'a> Node<'a> {
     pub fn start(self) -> u64
         ensures { result ≡ start_of (tree self.entry) }
     {
-        token_at(self.source.tokens, self.number).start as u64
+        token_at(self.source.tokens, self.index).start as u64
     }
 
     /// Its bytes in the line, as they are spelled there.
@@ -194,7 +194,7 @@ impl<'a> Node<'a> {
         ensures spelling { result.now ≡ spelling_of (line_of self.entry) (tree self.entry) }
         ensures filled { 0 < length result.now }
     {
-        let token = token_at(self.source.tokens, self.number);
+        let token = token_at(self.source.tokens, self.index);
         &self.source.line[token.start as usize..token.stop as usize]
     }
 
@@ -204,11 +204,11 @@ impl<'a> Node<'a> {
         ensures line { items_line result ≡ line_of self.entry }
         ensures few { length (items_left result) < 2 ^ 63 }
     {
-        let token = token_at(self.source.tokens, self.number);
+        let token = token_at(self.source.tokens, self.index);
         let stop = items_end(self.kind(), token.stop as usize);
         Items {
             source: self.source,
-            next: self.number + 1,
+            next: self.index + 1,
             stop,
         }
     }
@@ -220,11 +220,11 @@ impl<'a> Node<'a> {
         ensures line { members_line result ≡ line_of self.entry }
         ensures few { length (members_left result) < 2 ^ 63 }
     {
-        let token = token_at(self.source.tokens, self.number);
+        let token = token_at(self.source.tokens, self.index);
         let stop = members_end(self.kind(), token.stop as usize);
         Members {
             source: self.source,
-            next: self.number + 1,
+            next: self.index + 1,
             stop,
         }
     }
@@ -262,7 +262,8 @@ impl<'a> Node<'a> {
     }
 
     /// Whether it is a string or a name with this text. Texts are compared by code points, with the
-    /// escapes undone (RFC 8259, sections 7 and 8.3).
+    /// escapes undone (RFC 8259, sections 7 and 8.3); what text a string has is the law
+    /// [`crate::laws::one_text`].
     pub fn text_is(self, text: &str) -> bool
         ensures test { result ≡ has_text (chars text.now) (tree self.entry) }
         ensures means { IsTrue result ↔ (text_of (tree self.entry) ≡ Some (chars text.now)) }
@@ -315,15 +316,15 @@ impl<'a> Iterator for Items<'a> {
 
     fn next(&mut self) -> Option<Node<'a>> {
         let source = self.source;
-        let number = self.next;
-        if number >= source.tokens.len() {
+        let index = self.next;
+        if index >= source.tokens.len() {
             return None;
         }
-        if token_at(source.tokens, number).start as usize >= self.stop {
+        if token_at(source.tokens, index).start as usize >= self.stop {
             return None;
         }
-        self.next = source.after(number);
-        Some(Node { source, number })
+        self.next = source.after(index);
+        Some(Node { source, index })
     }
 }
 
@@ -357,11 +358,11 @@ impl<'a> Iterator for Members<'a> {
         Some((
             Node {
                 source,
-                number: name,
+                index: name,
             },
             Node {
                 source,
-                number: value,
+                index: value,
             },
         ))
     }

@@ -5,7 +5,7 @@
 ghost use Rattle.std.specs.Prelude.{◌≡◌, ◌+◌, ◌*◌, ◌/◌, ◌^◌, ◌≤◌, ◌<◌, ◌↔◌, ◌⊎◌, length, List, ℕ, IfSome, IsTrue};
 ghost use Rattle.cj_budget.specs.Bounded.{IsWithin};
 ghost use Rattle.cj_spans.specs.Json.{byte as byte_of};
-ghost use Rattle.cj_spans.specs.Machine.{State, state, between, Settles, Grown, BeginsValue, IsNumber, InArray, StaysInArray};
+ghost use Rattle.cj_spans.specs.Machine.{State, state, between, ComesTo, Grown, BeginsValue, IsNumberItem, InArray, StaysInArray};
 
 use crate::bytes::is_digit;
 use crate::lex::{Lex, skip_digits};
@@ -25,7 +25,7 @@ fn ends_item(byte: u8) -> bool
 #[inline(always)]
 fn number_stop(line: &[u8], place: usize) -> Option<usize>
     requires { place < length line.now }
-    ensures { IfSome result (λ k. IsNumber line.now place k) }
+    ensures { IfSome result (λ k. IsNumberItem line.now place k) }
 {
     let first = line[place];
     if !is_digit(first) {
@@ -53,8 +53,8 @@ fn read_numbers(line: &[u8], from: Next, depth: usize, tokens: &mut Bounded<Toke
         × ((length line.now + depth + 1) / 2 ≤ tokens.old.limit) }
     ensures answer { (s : State) (ks : List ℕ) (p : ℕ) → length ks ≡ depth
         → InArray ks tokens.old.elements
-        → Settles line.now s (state (between from.mode) ks tokens.old.elements from.place p)
-        → Settles line.now s (state (between result.mode) ks tokens.new.elements result.place p) }
+        → ComesTo line.now s (state (between from.mode) ks tokens.old.elements from.place p)
+        → ComesTo line.now s (state (between result.mode) ks tokens.new.elements result.place p) }
     ensures order { from.place ≤ result.place }
     ensures end { result.place ≤ length line.now }
     ensures tokens { Grown tokens.old tokens.new }
@@ -117,7 +117,7 @@ pub fn pass_numbers(
         × ((length line.now + depth + 1) / 2 ≤ tokens.old.limit) }
     ensures answer { (ks : List ℕ) (p : ℕ) → length ks ≡ depth
         → (StaysInArray (byte_of line.now place) mode → InArray ks tokens.old.elements)
-        → Settles line.now (state (between mode) ks tokens.old.elements (place + 1) p)
+        → ComesTo line.now (state (between mode) ks tokens.old.elements (place + 1) p)
         (state (between result.mode) ks tokens.new.elements result.place p) }
     ensures order { place < result.place }
     ensures end { result.place ≤ length line.now }

@@ -1,9 +1,9 @@
 //! What a line can be refused for (own).
 ghost use Rattle.std.specs.Prelude.{◌≡◌};
-ghost use Rattle.cj_spans.specs.Reason.{code_of, text_of};
+ghost use Rattle.cj_spans.specs.Reason.{code_of, words_of};
 
-/// Why a line is refused, in the order of the codes.
-#[derive(Clone, Copy, Debug, PartialEq, Eq, PartialOrd, Ord)]
+/// Why a line is refused. A reason has a code, which orders the findings at one place, and a text.
+#[derive(Clone, Copy, Debug, PartialEq, Eq)]
 pub enum Reason {
     /// There is no line.
     NoHeader,
@@ -77,7 +77,7 @@ impl Reason {
     // The table of reasons.
     fn entry(self) -> Entry
         ensures code { result.code ≡ code_of self }
-        ensures text { result.text.now ≡ text_of self }
+        ensures text { result.text.now ≡ words_of self }
     {
         match self {
             Reason::NoHeader => make_entry(1, "no header line"),
@@ -118,7 +118,7 @@ impl Reason {
 
     /// The reason in a few words.
     pub fn text(self) -> &'static str
-        ensures { result.now ≡ text_of self }
+        ensures { result.now ≡ words_of self }
     {
         self.entry().text
     }

@@ -10,7 +10,7 @@ ghost use Rattle.cj_spans.specs.Begins.{IsFirstFault, IsFirstTooDeep};
 ghost use Rattle.cj_spans.specs.Scan.{IsScanOf, KeepsLaw};
 ghost use Rattle.cj_spans.specs.Judgement.{Judgement, IsAnswerOf};
 ghost use Rattle.cj_spans.specs.Json.{byte as byte_of};
-ghost use Rattle.cj_spans.specs.Machine.{state, in_atom, phase_after, Ends, Grown, BeginsAtom, BeginsValueNext, InArray, StaysInArrayNext, RunAnswers};
+ghost use Rattle.cj_spans.specs.Machine.{state, in_atom, phase_after, EndAnswers, Grown, BeginsAtom, BeginsValueNext, InArray, StaysInArrayNext, RunAnswers};
 
 use crate::fault::ScanFault;
 use crate::lex::{Lex, lex_kind, read_atom};
@@ -33,7 +33,7 @@ fn end_atom(
     requires within { place < length line.now }
     requires lists { IsWithin tokens.old }
     requires room { length tokens.old.elements < tokens.old.limit }
-    ensures answer { (ks : List ℕ) (p : ℕ) → Ends line.now
+    ensures answer { (ks : List ℕ) (p : ℕ) → EndAnswers line.now
         (state (in_atom next place first) ks tokens.old.elements (suc place) p)
         (IsTrue tokens.old.reserved) result tokens.new.elements }
     ensures tokens { Grown tokens.old tokens.new }
@@ -76,7 +76,7 @@ fn follow(
     requires numbers { BeginsValueNext taken → (2 * length tokens.old.elements ≤ place + 1 + depth)
         × ((length line.now + depth + 1) / 2 ≤ tokens.old.limit) }
     ensures answer { (ks : List ℕ) (p : ℕ) → length ks ≡ depth
-        → (StaysInArrayNext (byte_of line.now place) taken → InArray ks tokens.old.elements) → Ends line.now
+        → (StaysInArrayNext (byte_of line.now place) taken → InArray ks tokens.old.elements) → EndAnswers line.now
         (state (phase_after mode place taken) ks tokens.old.elements (suc place) p)
         (IsTrue tokens.old.reserved) result tokens.new.elements }
     ensures tokens { Grown tokens.old tokens.new }
@@ -176,7 +176,8 @@ pub fn scan(line: &[u8], tokens: &mut Bounded<Token>, stack: &mut Stack) -> Resu
         → (i : ℕ) → SyntaxAt line.now i
         → IsErrOf result (ScanFault.Syntax i) ⊎ IsErrOf result ScanFault.Memory }
 
-    // In one: each line has a judgement, and the answer is that judgement's.
+    // In one: each line has a judgement, by the law `one_judgement` no second one, and the answer is
+    // that judgement's.
     ensures judgement { Judgement line.now stack.old.limit }
     ensures judged { (j : Judgement line.now stack.old.limit) → IsUtf8 line.now → IsAnswerOf j result }
 

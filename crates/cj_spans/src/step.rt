@@ -1,11 +1,11 @@
 //! One byte of a line: what may come, and what the byte makes of the open containers and the tokens.
-ghost use Rattle.std.specs.Prelude.{◌≡◌, ◌^◌, ◌≤◌, ◌<◌, ◌++◌, ◌∷◌, [], length, List, ℕ, slice_get, Some, None, OnErr, IsTrue};
+ghost use Rattle.std.specs.Prelude.{◌≡◌, ◌≤◌, ◌<◌, ◌++◌, ◌∷◌, [], length, List, ℕ, slice_get, Some, None, OnErr, IsTrue};
 ghost use Rattle.cj_budget.specs.Bounded.{IsWithin};
 ghost use Rattle.cj_spans.specs.declared.token.Token.{Token as TokenOf};
 ghost use Rattle.cj_spans.specs.declared.step.Mode.{Mode as ModeOf};
-ghost use Rattle.cj_spans.specs.Machine.{state, between, read as read_of, begin_value as begin_value_of, begin_name as begin_name_of, after_value as after_value_of, after_in as after_in_of, close_token as close_token_of, close_empty as close_empty_of, colon_step as colon_step_of, opened, Answers, Grown, Kept, Reads, BeginsValue};
+ghost use Rattle.cj_spans.specs.Machine.{state, between, read as read_of, begin_value as begin_value_of, begin_name as begin_name_of, after_value as after_value_of, after_in as after_in_of, close_token as close_token_of, close_empty as close_empty_of, colon_step as colon_step_of, with_opened, Answers, Grown, Kept, ReadsByte, BeginsValue, FitsToken};
 
-use crate::bytes::is_blank;
+use crate::bytes::is_white_space;
 use crate::fault::ScanFault;
 use crate::lex::{Lex, lex_start};
 use crate::token::{Kind, Token};
@@ -41,12 +41,12 @@ pub enum Move {
     Atom(Mode, Lex),
 }
 
-/// The token with a number.
+/// The token at an index.
 #[inline(always)]
-fn token_of(tokens: &[Token], number: u32) -> Option<Token>
-    ensures { result ≡ slice_get tokens.now number }
+fn token_of(tokens: &[Token], index: u32) -> Option<Token>
+    ensures { result ≡ slice_get tokens.now index }
 {
-    tokens.get(number as usize).copied()
+    tokens.get(index as usize).copied()
 }
 
 /// Opens a container.
@@ -58,10 +58,10 @@ fn open(
     tokens: &mut Bounded<Token>,
     stack: &mut Stack,
 ) -> Result<Move, ScanFault>
-    requires small { (place < 2 ^ 31) × (length tokens.old.elements < 2 ^ 31) }
+    requires small { FitsToken place tokens.old }
     requires lists { IsWithin tokens.old × IsWithin stack.old }
     requires room { length tokens.old.elements < tokens.old.limit }
-    ensures { Reads (λ s. Some (opened kind next s)) place result tokens.old tokens.new stack.old stack.new }
+    ensures { ReadsByte (λ s. Some (with_opened kind next s)) place result tokens.old tokens.new stack.old stack.new }
 {
     match stack.push(tokens.len() as u32) {
         Ok(()) => {}
@@ -88,10 +88,10 @@ fn begin_value(
     tokens: &mut Bounded<Token>,
     stack: &mut Stack,
 ) -> Result<Move, ScanFault>
-    requires small { (place < 2 ^ 31) × (length tokens.old.elements < 2 ^ 31) }
+    requires small { FitsToken place tokens.old }
     requires lists { IsWithin tokens.old × IsWithin stack.old }
     requires room { length tokens.old.elements < tokens.old.limit }
-    ensures { Reads (begin_value_of byte) place result tokens.old tokens.new stack.old stack.new }
+    ensures { ReadsByte (begin_value_of byte) place result tokens.old tokens.new stack.old stack.new }
 {
     if byte == b'[' {
         return open(Kind::Array, Mode::FirstItem, place, tokens, stack);
@@ -105,19 +105,19 @@ fn begin_value(
     }
 }
 
-/// Closes the innermost container, whose token has this number.
+/// Closes the innermost container, whose token is at this index.
 #[inline(always)]
 fn close(
-    number: u32,
+    index: u32,
     place: usize,
     tokens: &mut Bounded<Token>,
     stack: &mut Stack,
 ) -> Result<Move, ScanFault>
-    requires small { (place < 2 ^ 31) × (length tokens.old.elements < 2 ^ 31) }
+    requires small { FitsToken place tokens.old }
     requires lists { IsWithin tokens.old × IsWithin stack.old }
-    ensures { Reads (λ s. close_token_of number (slice_get s.tokens number) s) place result tokens.old tokens.new stack.old stack.new }
+    ensures { ReadsByte (λ s. close_token_of index (slice_get s.tokens index) s) place result tokens.old tokens.new stack.old stack.new }
 {
-    match token_of(tokens.as_slice(), number) {
+    match token_of(tokens.as_slice(), index) {
         None => Err(ScanFault::Syntax(place as u64)),
         Some(token) => {
             let whole = Token {
@@ -125,7 +125,7 @@ fn close(
                 link: tokens.len() as u32,
                 ..token
             };
-            tokens.set(number as usize, whole);
+            tokens.set(index as usize, whole);
             stack.pop();
             Ok(Move::To(Mode::After))
         }
@@ -138,13 +138,13 @@ fn close_empty(
     tokens: &mut Bounded<Token>,
     stack: &mut Stack,
 ) -> Result<Move, ScanFault>
-    requires small { (place < 2 ^ 31) × (length tokens.old.elements < 2 ^ 31) }
+    requires small { FitsToken place tokens.old }
     requires lists { IsWithin tokens.old × IsWithin stack.old }
-    ensures { Reads close_empty_of place result tokens.old tokens.new stack.old stack.new }
+    ensures { ReadsByte close_empty_of place result tokens.old tokens.new stack.old stack.new }
 {
     match stack.top() {
         None => Err(ScanFault::Syntax(place as u64)),
-        Some(number) => close(number, place, tokens, stack),
+        Some(index) => close(index, place, tokens, stack),
     }
 }
 
@@ -152,23 +152,23 @@ fn close_empty(
 #[inline(always)]
 fn after_in(
     kind: Kind,
-    number: u32,
+    index: u32,
     byte: u8,
     place: usize,
     tokens: &mut Bounded<Token>,
     stack: &mut Stack,
 ) -> Result<Move, ScanFault>
-    requires small { (place < 2 ^ 31) × (length tokens.old.elements < 2 ^ 31) }
+    requires small { FitsToken place tokens.old }
     requires lists { IsWithin tokens.old × IsWithin stack.old }
-    ensures { (t : TokenOf) → slice_get tokens.old.elements number ≡ Some t
-        → Reads (after_in_of kind byte number t) place result tokens.old tokens.new stack.old stack.new }
+    ensures { (t : TokenOf) → slice_get tokens.old.elements index ≡ Some t
+        → ReadsByte (after_in_of kind byte index t) place result tokens.old tokens.new stack.old stack.new }
 {
     match kind {
         Kind::Array => {
             if byte == b',' {
                 Ok(Move::To(Mode::Ready))
             } else if byte == b']' {
-                close(number, place, tokens, stack)
+                close(index, place, tokens, stack)
             } else {
                 Err(ScanFault::Syntax(place as u64))
             }
@@ -177,7 +177,7 @@ fn after_in(
             if byte == b',' {
                 Ok(Move::To(Mode::NextName))
             } else if byte == b'}' {
-                close(number, place, tokens, stack)
+                close(index, place, tokens, stack)
             } else {
                 Err(ScanFault::Syntax(place as u64))
             }
@@ -194,15 +194,15 @@ fn after_value(
     tokens: &mut Bounded<Token>,
     stack: &mut Stack,
 ) -> Result<Move, ScanFault>
-    requires small { (place < 2 ^ 31) × (length tokens.old.elements < 2 ^ 31) }
+    requires small { FitsToken place tokens.old }
     requires lists { IsWithin tokens.old × IsWithin stack.old }
-    ensures { Reads (after_value_of byte) place result tokens.old tokens.new stack.old stack.new }
+    ensures { ReadsByte (after_value_of byte) place result tokens.old tokens.new stack.old stack.new }
 {
     match stack.top() {
         None => Err(ScanFault::Syntax(place as u64)),
-        Some(number) => match token_of(tokens.as_slice(), number) {
+        Some(index) => match token_of(tokens.as_slice(), index) {
             None => Err(ScanFault::Syntax(place as u64)),
-            Some(token) => after_in(token.kind, number, byte, place, tokens, stack),
+            Some(token) => after_in(token.kind, index, byte, place, tokens, stack),
         },
     }
 }
@@ -242,7 +242,7 @@ pub fn read_byte(
     tokens: &mut Bounded<Token>,
     stack: &mut Stack,
 ) -> Result<Move, ScanFault>
-    requires small { (place < 2 ^ 31) × (length tokens.old.elements < 2 ^ 31) }
+    requires small { FitsToken place tokens.old }
     requires lists { IsWithin tokens.old × IsWithin stack.old }
     requires room { BeginsValue mode → length tokens.old.elements < tokens.old.limit }
     ensures answer { (p : ℕ) → Answers
@@ -254,7 +254,7 @@ pub fn read_byte(
     ensures err { OnErr result ((tokens.new ≡ tokens.old)
         × (length stack.old.elements ≤ length stack.new.elements)) }
 {
-    if is_blank(byte) {
+    if is_white_space(byte) {
         return Ok(Move::Stay);
     }
     match mode {

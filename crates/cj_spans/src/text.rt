@@ -3,7 +3,7 @@ ghost use Rattle.std.specs.Prelude.{◌≡◌, ◌+◌, ◌-◌, ◌*◌, ◌<�
 ghost use Rattle.std.specs.Str.{chars, chars_after};
 ghost use Rattle.std.specs.Char.{digit_value as digit_value_of};
 ghost use Rattle.std.specs.Char.Utf16.{is_high_surrogate as is_high_of, is_low_surrogate as is_low_of};
-ghost use Rattle.cj_spans.specs.Decoding.{left, after_read, Takes, points_left, characters_left};
+ghost use Rattle.cj_spans.specs.Decoding.{left, after_read, ReadsPoint, points_left, characters_left};
 ghost use Rattle.cj_spans.specs.Text.{char_of, four_digits, escaped as escaped_of, is_escaped, is_unicode, unit, first_point, first_width, text, are_same};
 
 #[cfg(test)]
@@ -90,7 +90,7 @@ fn first_char(bytes: &[u8], place: usize) -> Option<Point>
 /// The character at a place, or 0 at the end where there is none.
 #[inline(always)]
 fn char_at(bytes: &[u8], place: usize) -> Point
-    ensures { (cs : List ℕ) → left bytes.now place ≡ cs → Takes bytes.now cs (char_of cs 0) 1 result }
+    ensures { (cs : List ℕ) → left bytes.now place ≡ cs → ReadsPoint bytes.now cs (char_of cs 0) 1 result }
 {
     match first_char(bytes, place) {
         Some(first) => first,
@@ -116,7 +116,7 @@ fn digit_value(digit: u32) -> u32
 
 /// The number of four hexadecimal digits.
 fn read_digits(bytes: &[u8], place: usize) -> Point
-    ensures reads { (cs : List ℕ) → left bytes.now place ≡ cs → Takes bytes.now cs (four_digits cs) 4 result }
+    ensures reads { (cs : List ℕ) → left bytes.now place ≡ cs → ReadsPoint bytes.now cs (four_digits cs) 4 result }
     ensures size { result.code < 2 ^ 18 }
 {
     let first = char_at(bytes, place);
@@ -134,7 +134,7 @@ fn read_digits(bytes: &[u8], place: usize) -> Point
 /// The unit of an escape with `u`; None where another character or escape is at the place.
 fn read_unit(bytes: &[u8], place: usize) -> Option<Point>
     ensures is { (cs : List ℕ) → left bytes.now place ≡ cs → is_some result ≡ is_unicode cs }
-    ensures reads { IfSome result (λ p. (cs : List ℕ) → left bytes.now place ≡ cs → Takes bytes.now cs (unit cs) 6 p) }
+    ensures reads { IfSome result (λ p. (cs : List ℕ) → left bytes.now place ≡ cs → ReadsPoint bytes.now cs (unit cs) 6 p) }
     ensures size { IfSome result (λ p. p.code < 2 ^ 18) }
 {
     let slash = char_at(bytes, place);
@@ -177,8 +177,8 @@ fn is_low(unit: u32) -> bool
 /// The code point of a unit, and of the one that is escaped behind it where the two are a pair.
 fn join(bytes: &[u8], high: Point) -> Point
     requires { high.code < 2 ^ 18 }
-    ensures { (cs : List ℕ) → is_unicode cs ≡ true → Takes bytes.now cs (unit cs) 6 high
-        → Takes bytes.now cs (first_point cs) (first_width cs) result }
+    ensures { (cs : List ℕ) → is_unicode cs ≡ true → ReadsPoint bytes.now cs (unit cs) 6 high
+        → ReadsPoint bytes.now cs (first_point cs) (first_width cs) result }
 {
     if !is_high(high.code) {
         return high;
@@ -201,7 +201,7 @@ fn join(bytes: &[u8], high: Point) -> Point
 /// The code point of an escape.
 fn read_escape(bytes: &[u8], place: usize) -> Point
     ensures { (cs : List ℕ) → left bytes.now place ≡ cs → is_escaped cs ≡ true
-        → Takes bytes.now cs (first_point cs) (first_width cs) result }
+        → ReadsPoint bytes.now cs (first_point cs) (first_width cs) result }
 {
     match read_unit(bytes, place) {
         Some(unit) => join(bytes, unit),
@@ -220,7 +220,7 @@ fn read_escape(bytes: &[u8], place: usize) -> Point
 #[inline(always)]
 fn point_of(bytes: &[u8], place: usize, first: Point) -> Point
     requires { left bytes.now place ≡ after_read bytes.now 0 (Some first) }
-    ensures { let cs = left bytes.now place in Takes bytes.now cs (first_point cs) (first_width cs) result }
+    ensures { let cs = left bytes.now place in ReadsPoint bytes.now cs (first_point cs) (first_width cs) result }
 {
     if first.code == b'\\' as u32 {
         read_escape(bytes, place)

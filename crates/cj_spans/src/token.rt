@@ -17,7 +17,7 @@ pub enum Kind {
     Object,
 }
 
-/// One value or member name of a line: the places where it starts and stops, the number of the first
+/// One value or member name of a line: the places where it starts and stops, the index of the first
 /// token after it and its parts, and its kind.
 #[derive(Clone, Copy, Debug, PartialEq, Eq)]
 pub struct Token {

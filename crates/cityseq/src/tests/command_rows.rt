@@ -1,14 +1,30 @@
 //! Rows of the command line.
+use super::calls::{check_bytes, check_number, joined, refused};
 use super::devices::{SlowReader, SlowWriter};
-use super::rows::{FEATURE, HEADER, joined};
+use super::rows::{FEATURE, HEADER};
 use crate::command::{command, filter};
-use crate::reason::End;
 use crate::report::{status, write_fault_line};
 use cj_budget::Limits;
 use cj_spans::Reason;
+use cj_stream::End;
 use std::alloc::Global;
+use std::io::Read;
 use std::process::Abort;
 use std::test::Fail;
+
+// What a run wrote to standard output and to standard error, and its status.
+#[derive(Drop)]
+struct Written {
+    status: u8,
+    out: Vec<u8>,
+    err: Vec<u8>,
+}
+
+fn check_written(rt: &impl Abort, written: &Written, status: u8, out: &[u8], err: &[u8]) {
+    check_number(rt, written.status.into(), status.into(), "status", 0);
+    check_bytes(rt, &written.out, out, "standard output", 0);
+    check_bytes(rt, &written.err, err, "standard error", 0);
+}
 
 fn words(alloc: Global, parts: &[&str]) -> Result<Vec<String>, Fail> {
     let mut words = Vec::new(alloc);
@@ -18,68 +34,62 @@ fn words(alloc: Global, parts: &[&str]) -> Result<Vec<String>, Fail> {
     Ok(words)
 }
 
+// Runs the command that the words ask for.
+fn commanded<R: Read>(alloc: Global, asked: &[&str], reader: &mut R) -> Result<Written, Fail> {
+    let asked = words(alloc, asked)?;
+    let mut out = Vec::new(alloc);
+    let mut err = Vec::new(alloc);
+    let status = command(alloc, &asked, reader, &mut out, &mut err);
+    Ok(Written { status, out, err })
+}
+
 #[test]
 fn filter_copies_and_answers_zero(rt: HostRuntime) -> Result<(), Fail> {
     let text = joined(rt.alloc(), &[HEADER, b"\n", FEATURE, b"\n"])?;
-    let mut out = Vec::new(rt.alloc());
-    let mut err = Vec::new(rt.alloc());
-    let asked = words(rt.alloc(), &["cityseq", "filter"])?;
-    let answer = command(rt.alloc(), &asked, &mut text.as_slice(), &mut out, &mut err);
-    assert_eq!(rt; answer, 0);
-    assert_eq!(rt; out.as_slice(), text.as_slice());
-    assert_eq!(rt; err.len(), 0);
+    let written = commanded(rt.alloc(), &["cityseq", "filter"], &mut text.as_slice())?;
+    check_written(&rt, &written, 0, &text, b"");
     Ok(())
 }
 
 #[test]
 fn an_empty_input_has_no_header(rt: HostRuntime) -> Result<(), Fail> {
-    let mut out = Vec::new(rt.alloc());
-    let mut err = Vec::new(rt.alloc());
-    let asked = words(rt.alloc(), &["cityseq", "filter"])?;
-    let answer = command(rt.alloc(), &asked, &mut b"".as_slice(), &mut out, &mut err);
-    assert_eq!(rt; answer, 1);
-    assert_eq!(rt; out.len(), 0);
-    assert_eq!(rt;
-        err.as_slice(),
-        b"line 1, byte 0: 1 no header line\n".as_slice()
-    );
+    let written = commanded(rt.alloc(), &["cityseq", "filter"], &mut b"".as_slice())?;
+    let told = b"line 1, byte 0: 1 no header line\n";
+    check_written(&rt, &written, 1, b"", told);
+    Ok(())
+}
+
+// Nothing is read, written or said.
+fn check_other_words(rt: &impl Abort, alloc: Global, asked: &[&str]) -> Result<(), Fail> {
+    let mut reader = SlowReader::new(HEADER, 10);
+    let written = commanded(alloc, asked, &mut reader)?;
+    check_written(rt, &written, 2, b"", b"");
+    check_number(rt, reader.reads, 0, "reads", 0);
     Ok(())
 }
 
 #[test]
 fn other_words_are_refused_in_silence(rt: HostRuntime) -> Result<(), Fail> {
-    let rows: [&[&str]; 6] = [
-        &[],
-        &["cityseq"],
-        &["cityseq", "check"],
-        &["cityseq", "--help"],
-        &["cityseq", "Filter"],
-        &["cityseq", "filter", "filter"],
-    ];
-    for row in rows {
-        let mut out = Vec::new(rt.alloc());
-        let mut err = Vec::new(rt.alloc());
-        let asked = words(rt.alloc(), row)?;
-        let mut reader = SlowReader::new(HEADER, 10);
-        assert_eq!(rt;
-            command(rt.alloc(), &asked, &mut reader, &mut out, &mut err),
-            2
-        );
-        assert_eq!(rt; reader.reads, 0);
-        assert_eq!(rt; out.len(), 0);
-        assert_eq!(rt; err.len(), 0);
-    }
-    Ok(())
+    check_other_words(&rt, rt.alloc(), &[])?;
+    check_other_words(&rt, rt.alloc(), &["cityseq"])?;
+    check_other_words(&rt, rt.alloc(), &["cityseq", "check"])?;
+    check_other_words(&rt, rt.alloc(), &["cityseq", "--help"])?;
+    check_other_words(&rt, rt.alloc(), &["cityseq", "Filter"])?;
+    check_other_words(&rt, rt.alloc(), &["cityseq", "filter", "filter"])
+}
+
+// Filters what a reader gives.
+fn filtered(alloc: Global, limits: Limits, reader: &mut SlowReader) -> Written {
+    let mut out = Vec::new(alloc);
+    let mut err = Vec::new(alloc);
+    let status = status(filter(alloc, limits, reader, &mut out, &mut err).end);
+    Written { status, out, err }
 }
 
 // Filters a text of which the header alone is written, since a later line is refused.
 fn check_refused_line(rt: &impl Abort, alloc: Global, limits: Limits, text: &[u8], told: &[u8]) {
-    let mut out = Vec::new(alloc);
-    let mut err = Vec::new(alloc);
-    let mut reader = SlowReader::new(text, 100);
-    assert_eq!(rt; filter(alloc, limits, &mut reader, &mut out, &mut err), 1);
-    assert_eq!(rt; out.as_slice(), b"{}\n".as_slice());
-    assert_eq!(rt; err.as_slice(), told);
+    let written = filtered(alloc, limits, &mut SlowReader::new(text, 100));
+    check_written(rt, &written, 1, b"{}\n", told);
 }
 
 #[test]
@@ -93,92 +103,97 @@ fn a_long_line_and_bytes_that_are_no_text(rt: HostRuntime) -> Result<(), Fail> {
 }
 
 #[test]
-fn a_read_fault_and_a_write_fault(rt: HostRuntime) -> Result<(), Fail> {
+fn a_read_fault(rt: HostRuntime) -> Result<(), Fail> {
     let limits = Limits::new(8_388_608, 64)?;
     let mut reader = SlowReader::new(b"{}\n{}\n", 4);
     reader.fails_at = 2;
-    let mut out = SlowWriter::new(Vec::new(rt.alloc()), 100);
-    let mut err = Vec::new(rt.alloc());
-    assert_eq!(rt;
-        filter(rt.alloc(), limits, &mut reader, &mut out, &mut err),
-        3
+    let written = filtered(rt.alloc(), limits, &mut reader);
+    check_written(&rt, &written, 3, b"{}\n", b"read fault\n");
+    Ok(())
+}
+
+// Filters a text to a writer that fails, of which so much is written.
+fn check_write_fault(
+    rt: &impl Abort,
+    alloc: Global,
+    text: &[u8],
+    mut out: SlowWriter,
+    wanted: &[u8],
+) -> Result<(), Fail> {
+    let limits = Limits::new(8_388_608, 64)?;
+    let mut err = Vec::new(alloc);
+    let mut reader = SlowReader::new(text, 100);
+    let status = status(filter(alloc, limits, &mut reader, &mut out, &mut err).end);
+    let out = out.bytes;
+    check_written(
+        rt,
+        &Written { status, out, err },
+        4,
+        wanted,
+        b"write fault\n",
     );
-    assert_eq!(rt; out.bytes.as_slice(), b"{}\n".as_slice());
-    assert_eq!(rt; err.as_slice(), b"read fault\n".as_slice());
-    let mut out = SlowWriter::new(Vec::new(rt.alloc()), 0);
-    let mut err = Vec::new(rt.alloc());
-    assert_eq!(rt;
-        filter(
-            rt.alloc(),
-            limits,
-            &mut b"{}\n".as_slice(),
-            &mut out,
-            &mut err
-        ),
-        4
-    );
-    assert_eq!(rt; err.as_slice(), b"write fault\n".as_slice());
     Ok(())
 }
 
 #[test]
+fn a_write_fault(rt: HostRuntime) -> Result<(), Fail> {
+    let out = SlowWriter::new(Vec::new(rt.alloc()), 0);
+    check_write_fault(&rt, rt.alloc(), b"{}\n", out, b"")
+}
+
+fn check_failed_flush(rt: &impl Abort, alloc: Global, text: &[u8]) -> Result<(), Fail> {
+    let mut out = SlowWriter::new(Vec::new(alloc), 100);
+    out.flush_fails = true;
+    check_write_fault(rt, alloc, text, out, text)
+}
+
+#[test]
 fn a_failed_flush_is_a_write_fault(rt: HostRuntime) -> Result<(), Fail> {
+    check_failed_flush(&rt, rt.alloc(), b"{}\n")?;
+    check_failed_flush(&rt, rt.alloc(), b"")
+}
+
+// Filters nothing, with a standard error that fails at this write.
+fn check_failing_error(rt: &impl Abort, alloc: Global, fails_at: u64) -> Result<(), Fail> {
     let limits = Limits::new(8_388_608, 64)?;
-    for text in [b"{}\n".as_slice(), b"".as_slice()] {
-        let mut out = SlowWriter::new(Vec::new(rt.alloc()), 100);
-        out.flush_fails = true;
-        let mut err = Vec::new(rt.alloc());
-        let mut reader = SlowReader::new(text, 100);
-        assert_eq!(rt;
-            filter(rt.alloc(), limits, &mut reader, &mut out, &mut err),
-            4
-        );
-        assert_eq!(rt; out.bytes.as_slice(), text);
-        assert_eq!(rt; err.as_slice(), b"write fault\n".as_slice());
-    }
+    let mut out = Vec::new(alloc);
+    let mut err = SlowWriter::new(Vec::new(alloc), 100);
+    err.fails_at = fails_at;
+    let mut reader = SlowReader::new(b"", 100);
+    let status = status(filter(alloc, limits, &mut reader, &mut out, &mut err).end);
+    check_number(rt, status.into(), 1, "status", fails_at);
+    check_bytes(rt, &out, b"", "standard output", fails_at);
     Ok(())
 }
 
 #[test]
 fn a_standard_error_that_fails_is_ignored(rt: HostRuntime) -> Result<(), Fail> {
-    let limits = Limits::new(8_388_608, 64)?;
     for fails_at in 1..=9 {
-        let mut out = Vec::new(rt.alloc());
-        let mut err = SlowWriter::new(Vec::new(rt.alloc()), 100);
-        err.fails_at = fails_at;
-        assert_eq!(rt;
-            filter(rt.alloc(), limits, &mut b"".as_slice(), &mut out, &mut err),
-            1
-        );
-        assert_eq!(rt; out.len(), 0);
+        check_failing_error(&rt, rt.alloc(), fails_at)?;
     }
     Ok(())
 }
 
+fn check_end(rt: &impl Abort, alloc: Global, end: End, code: u8, line: &[u8]) {
+    let mut err = Vec::new(alloc);
+    assert_eq!(rt; write_fault_line(&mut err, end), Ok(()));
+    check_number(rt, status(end).into(), code.into(), "status", 0);
+    check_bytes(rt, &err, line, "line", code.into());
+}
+
 #[test]
 fn each_end_has_its_line_and_status(rt: HostRuntime) -> Result<(), Fail> {
-    let refused = End::Refused {
-        line: 18_446_744_073_709_551_615,
-        place: 18_446_744_073_709_551_614,
-        reason: Reason::NotUtf8,
-    };
-    let rows: [(End, u8, &[u8]); 6] = [
-        (End::Complete, 0, b""),
-        (
-            refused,
-            1,
-            b"line 18446744073709551615, byte 18446744073709551614: 3 not UTF-8\n",
-        ),
-        (End::ReadFault, 3, b"read fault\n"),
-        (End::ReadLimit, 3, b"read limit\n"),
-        (End::WriteFault, 4, b"write fault\n"),
-        (End::Memory, 5, b"out of memory\n"),
-    ];
-    for (end, code, line) in rows {
-        let mut err = Vec::new(rt.alloc());
-        assert_eq!(rt; write_fault_line(&mut err, end), Ok(()));
-        assert_eq!(rt; status(end), code);
-        assert_eq!(rt; err.as_slice(), line);
-    }
+    check_end(&rt, rt.alloc(), End::Complete, 0, b"");
+    let end = refused(
+        18_446_744_073_709_551_615,
+        18_446_744_073_709_551_614,
+        Reason::NotUtf8,
+    );
+    let line = b"line 18446744073709551615, byte 18446744073709551614: 3 not UTF-8\n";
+    check_end(&rt, rt.alloc(), end, 1, line);
+    check_end(&rt, rt.alloc(), End::ReadFault, 3, b"read fault\n");
+    check_end(&rt, rt.alloc(), End::ReadLimit, 3, b"read limit\n");
+    check_end(&rt, rt.alloc(), End::WriteFault, 4, b"write fault\n");
+    check_end(&rt, rt.alloc(), End::Memory, 5, b"out of memory\n");
     Ok(())
 }

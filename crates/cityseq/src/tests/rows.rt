@@ -1,12 +1,11 @@
 //! Worked rows: inputs, what is written of them, and how they end.
+use super::calls::{
+    check_bytes, check_ended, check_outcome, copied, held, joined, outcome, refused,
+};
 use super::devices::SlowReader;
-use crate::copying::{copy, copy_pieces};
-use crate::engine::Engine;
-use crate::laws;
-use crate::reason::End;
-use crate::sink::WriteSink;
 use cj_budget::{Limits, Peaks};
 use cj_spans::Reason;
+use cj_stream::{End, Outcome, WriteSink, copy_pieces, laws};
 use std::alloc::Global;
 use std::process::Abort;
 use std::test::Fail;
@@ -27,37 +26,16 @@ const SPACED: &[u8] =
 const SMALL: &[u8] =
     b"{\"type\":\"CityJSONFeature\",\"id\":\"b\",\"CityObjects\":{\"b\":{\"type\":\"Building\"}},\"vertices\":[]}";
 
-/// What was held at most.
-const fn held(bytes: u64, tokens: u64, depth: u64) -> Peaks {
-    Peaks {
-        bytes,
-        tokens,
-        depth,
-    }
-}
-
-/// The text, in one.
-pub fn joined(alloc: Global, parts: &[&[u8]]) -> Result<Vec<u8>, Fail> {
-    let mut text = Vec::new(alloc);
-    for part in parts {
-        text.extend_from_slice(part)?;
-    }
-    Ok(text)
-}
-
 /// What a run has to make of a text.
 #[derive(Clone, Copy)]
-struct Wanted<'a> {
-    name: &'a str,
-    written: &'a [u8],
-    ended: End,
-    lines: u64,
-    kept: u64,
-    peaks: Peaks,
+pub struct Wanted<'a> {
+    pub name: &'a str,
+    pub written: &'a [u8],
+    pub outcome: Outcome,
 }
 
-// Runs over a reader that gives `step` bytes a read.
-fn check_run(
+/// Runs over a reader that gives `step` bytes a read.
+pub fn check_run(
     rt: &impl Abort,
     alloc: Global,
     text: &[u8],
@@ -65,35 +43,40 @@ fn check_run(
     limits: Limits,
     wanted: &Wanted,
 ) {
-    let name = wanted.name;
     let mut reader = SlowReader::new(text, step);
+    let (outcome, written) = copied(alloc, &mut reader, limits);
+    check_outcome(rt, outcome, wanted.outcome, wanted.name, step as u64);
+    check_bytes(rt, &written, wanted.written, wanted.name, step as u64);
+}
+
+// Copies the text cut in two at this place.
+fn check_cut(
+    rt: &impl Abort,
+    alloc: Global,
+    text: &[u8],
+    at: usize,
+    limits: Limits,
+    wanted: &Wanted,
+) {
+    assert!(rt; at <= text.len());
+    assert!(rt; text.len() <= 1_000);
     let mut sink = WriteSink::new(Vec::new(alloc));
-    let outcome = copy(alloc, &mut reader, &mut sink, limits);
-    assert_eq!(rt; outcome.ended, wanted.ended, "{name}, {step} a read");
-    assert_eq!(rt; outcome.lines, wanted.lines, "{name}, {step} a read");
-    assert_eq!(rt; outcome.kept, wanted.kept, "{name}, {step} a read");
-    assert_eq!(rt; outcome.peaks, wanted.peaks, "{name}, {step} a read");
-    assert_eq!(rt;
-        sink.into_inner().as_slice(),
-        wanted.written,
-        "{name}, {step} a read"
+    let copied = copy_pieces(alloc, &[&text[..at], &text[at..]], &mut sink, limits);
+    check_ended(
+        rt,
+        copied.ended,
+        wanted.outcome.ended,
+        wanted.name,
+        at as u64,
     );
+    let written = sink.into_inner();
+    check_bytes(rt, &written, wanted.written, wanted.name, at as u64);
 }
 
 // Copies the text cut in two at each place.
 fn check_cuts(rt: &impl Abort, alloc: Global, text: &[u8], limits: Limits, wanted: &Wanted) {
-    assert!(rt; text.len() <= 1_000);
     for at in 0..text.len() {
-        let mut sink = WriteSink::new(Vec::new(alloc));
-        let pieces = [&text[..at], &text[at..]];
-        let ended = copy_pieces(alloc, &pieces, &mut sink, limits);
-        let name = wanted.name;
-        assert_eq!(rt; ended, wanted.ended, "{name}, cut at {at}");
-        assert_eq!(rt;
-            sink.into_inner().as_slice(),
-            wanted.written,
-            "{name}, cut at {at}"
-        );
+        check_cut(rt, alloc, text, at, limits, wanted);
     }
 }
 
@@ -109,14 +92,7 @@ fn no_line_at_all(rt: HostRuntime) -> Result<(), Fail> {
     let wanted = Wanted {
         name: "empty",
         written: b"",
-        ended: End::Refused {
-            line: 1,
-            place: 0,
-            reason: Reason::NoHeader,
-        },
-        lines: 0,
-        kept: 0,
-        peaks: held(0, 0, 0),
+        outcome: outcome(0, 0, held(0, 0, 0), refused(1, 0, Reason::NoHeader)),
     };
     check_every_cut(&rt, rt.alloc(), b"", limits, &wanted);
     laws::lines_are_the_lines(b"");
@@ -132,10 +108,7 @@ fn a_header_and_a_feature(rt: HostRuntime) -> Result<(), Fail> {
     let wanted = Wanted {
         name: "header and feature",
         written: &text,
-        ended: End::Complete,
-        lines: 2,
-        kept: 1,
-        peaks: held(350, 65, 8),
+        outcome: outcome(2, 1, held(350, 65, 8), End::Complete),
     };
     check_every_cut(&rt, rt.alloc(), &text, limits, &wanted);
     Ok(())
@@ -149,10 +122,7 @@ fn a_blank_line_and_no_last_lf(rt: HostRuntime) -> Result<(), Fail> {
     let wanted = Wanted {
         name: "blank line",
         written: &written,
-        ended: End::Complete,
-        lines: 3,
-        kept: 1,
-        peaks: held(351, 65, 8),
+        outcome: outcome(3, 1, held(351, 65, 8), End::Complete),
     };
     check_every_cut(&rt, rt.alloc(), &text, limits, &wanted);
     Ok(())
@@ -165,14 +135,7 @@ fn a_line_one_byte_too_long(rt: HostRuntime) -> Result<(), Fail> {
     let wanted = Wanted {
         name: "too long",
         written: &written,
-        ended: End::Refused {
-            line: 3,
-            place: 210,
-            reason: Reason::LineTooLong,
-        },
-        lines: 2,
-        kept: 1,
-        peaks: held(350, 65, 8),
+        outcome: outcome(2, 1, held(350, 65, 8), refused(3, 210, Reason::LineTooLong)),
     };
     let with_lf = joined(rt.alloc(), &[&written, FEATURE, b" \n"])?;
     check_run(&rt, rt.alloc(), &with_lf, 1, limits, &wanted);
@@ -184,61 +147,6 @@ fn a_line_one_byte_too_long(rt: HostRuntime) -> Result<(), Fail> {
 }
 
 #[test]
-fn an_end_stays_the_end(rt: HostRuntime) -> Result<(), Fail> {
-    let limits = Limits::new(210, 64)?;
-    let text = joined(
-        rt.alloc(),
-        &[HEADER, b"\n", FEATURE, b"\n", FEATURE, b" \n"],
-    )?;
-    let end = End::Refused {
-        line: 3,
-        place: 210,
-        reason: Reason::LineTooLong,
-    };
-    assert_eq!(rt; text.len(), 564);
-    let mut engine = Engine::open(rt.alloc(), limits)?;
-    let mut sink = WriteSink::new(Vec::new(rt.alloc()));
-    assert_eq!(rt; engine.taken(), 0);
-    assert_eq!(rt; engine.feed(&text, &mut sink), Err(end));
-    let held = engine.held();
-    let peaks = engine.peaks();
-    assert_eq!(rt; engine.feed(FEATURE, &mut sink), Err(end));
-    assert_eq!(rt; engine.finish(&mut sink), end);
-    assert_eq!(rt; engine.held(), held);
-    assert_eq!(rt; engine.peaks(), peaks);
-    assert_eq!(rt; peaks.bytes, 350);
-    assert_eq!(rt; engine.taken(), 0);
-    assert_eq!(rt; engine.lines(), 2);
-    assert_eq!(rt; engine.kept(), 1);
-    let written = joined(rt.alloc(), &[HEADER, b"\n", FEATURE, b"\n"])?;
-    assert_eq!(rt; sink.into_inner().as_slice(), written.as_slice());
-    Ok(())
-}
-
-#[test]
-fn what_is_held_is_told(rt: HostRuntime) -> Result<(), Fail> {
-    let mut engine = Engine::open(rt.alloc(), Limits::new(8_388_608, 64)?)?;
-    let mut sink = WriteSink::new(Vec::new(rt.alloc()));
-    assert_eq!(rt; engine.feed(HEADER, &mut sink), Ok(()));
-    assert_eq!(rt; engine.held(), held(140, 0, 0));
-    assert_eq!(rt; engine.peaks(), held(140, 0, 0));
-    assert_eq!(rt; engine.feed(b"\n", &mut sink), Ok(()));
-    assert_eq!(rt; engine.held(), held(140, 21, 0));
-    assert_eq!(rt; engine.peaks(), held(140, 21, 3));
-    assert_eq!(rt; engine.feed(&FEATURE[..100], &mut sink), Ok(()));
-    assert_eq!(rt; engine.held(), held(240, 21, 0));
-    assert_eq!(rt; engine.taken(), 241);
-    assert_eq!(rt; engine.lines(), 1);
-    assert_eq!(rt; engine.feed(&FEATURE[100..], &mut sink), Ok(()));
-    assert_eq!(rt; engine.finish(&mut sink), End::Complete);
-    assert_eq!(rt; engine.held(), held(140, 21, 0));
-    assert_eq!(rt; engine.peaks(), held(350, 65, 8));
-    assert_eq!(rt; engine.lines(), 2);
-    assert_eq!(rt; engine.kept(), 1);
-    Ok(())
-}
-
-#[test]
 fn the_greatest_of_later_lines_counts(rt: HostRuntime) -> Result<(), Fail> {
     let limits = Limits::new(8_388_608, 64)?;
     let text = joined(rt.alloc(), &[HEADER, b"\n", SMALL, b"\n", FEATURE, b"\n"])?;
@@ -246,19 +154,13 @@ fn the_greatest_of_later_lines_counts(rt: HostRuntime) -> Result<(), Fail> {
     let wanted = Wanted {
         name: "two features",
         written: &text,
-        ended: End::Complete,
-        lines: 3,
-        kept: 2,
-        peaks: held(350, 65, 8),
+        outcome: outcome(3, 2, held(350, 65, 8), End::Complete),
     };
     check_every_cut(&rt, rt.alloc(), &text, limits, &wanted);
     let header = Wanted {
         name: "a header alone",
         written: HEADER,
-        ended: End::Complete,
-        lines: 1,
-        kept: 0,
-        peaks: held(140, 21, 3),
+        outcome: outcome(1, 0, held(140, 21, 3), End::Complete),
     };
     check_every_cut(&rt, rt.alloc(), HEADER, limits, &header);
     Ok(())
@@ -285,14 +187,12 @@ fn check_refused(
     let wanted = Wanted {
         name: "refused",
         written: &header,
-        ended: End::Refused {
-            line: 2,
-            place: refusal.place,
-            reason: refusal.reason,
-        },
-        lines: 1,
-        kept: 0,
-        peaks: refusal.peaks,
+        outcome: outcome(
+            1,
+            0,
+            refusal.peaks,
+            refused(2, refusal.place, refusal.reason),
+        ),
     };
     check_run(rt, alloc, &text, 8_192, limits, &wanted);
     check_run(rt, alloc, &text, 1, limits, &wanted);
@@ -334,18 +234,13 @@ fn bytes_before_syntax(rt: HostRuntime) -> Result<(), Fail> {
     check_refused(&rt, rt.alloc(), b"}\xff", limits, refusal)
 }
 
-// Runs over a header and a line that is no JSON text from a place on, by single bytes.
-fn check_place(rt: &impl Abort, alloc: Global, line: &[u8], place: u64) -> Result<(), Fail> {
+/// Runs over a header and a line that is no JSON text from a place on, by single bytes.
+pub fn check_place(rt: &impl Abort, alloc: Global, line: &[u8], place: u64) -> Result<(), Fail> {
     let text = joined(alloc, &[HEADER, b"\n", line])?;
     let mut reader = SlowReader::new(&text, 1);
-    let mut sink = WriteSink::new(Vec::new(alloc));
-    let outcome = copy(alloc, &mut reader, &mut sink, Limits::new(8_388_608, 64)?);
-    let ended = End::Refused {
-        line: 2,
-        place,
-        reason: Reason::Syntax,
-    };
-    assert_eq!(rt; outcome.ended, ended, "{place}");
+    let (outcome, _) = copied(alloc, &mut reader, Limits::new(8_388_608, 64)?);
+    let wanted = refused(2, place, Reason::Syntax);
+    check_ended(rt, outcome.ended, wanted, "syntax", place);
     Ok(())
 }
 
@@ -365,14 +260,7 @@ fn check_first(rt: &impl Abort, alloc: Global, text: &[u8], bytes: u64) -> Resul
     let wanted = Wanted {
         name: "no JSON text at first",
         written: b"",
-        ended: End::Refused {
-            line: 1,
-            place: 0,
-            reason: Reason::Syntax,
-        },
-        lines: 0,
-        kept: 0,
-        peaks: held(bytes, 0, 0),
+        outcome: outcome(0, 0, held(bytes, 0, 0), refused(1, 0, Reason::Syntax)),
     };
     let limits = Limits::new(8_388_608, 64)?;
     check_run(rt, alloc, text, 8_192, limits, &wanted);
@@ -451,10 +339,7 @@ fn a_character_of_three_bytes(rt: HostRuntime) -> Result<(), Fail> {
     let whole = Wanted {
         name: "three bytes",
         written: &text,
-        ended: End::Complete,
-        lines: 2,
-        kept: 1,
-        peaks: held(375, 69, 8),
+        outcome: outcome(2, 1, held(375, 69, 8), End::Complete),
     };
     check_every_cut(&rt, rt.alloc(), &text, limits, &whole);
     Ok(())
@@ -465,19 +350,12 @@ fn two_bytes_of_a_character(rt: HostRuntime) -> Result<(), Fail> {
     let limits = Limits::new(8_388_608, 64)?;
     let broken = attributed(rt.alloc(), b"\xe2\x82")?;
     let header = joined(rt.alloc(), &[HEADER, b"\n"])?;
-    let refused = Wanted {
+    let cut = Wanted {
         name: "two of three bytes",
         written: &header,
-        ended: End::Refused {
-            line: 2,
-            place: 170,
-            reason: Reason::NotUtf8,
-        },
-        lines: 1,
-        kept: 0,
-        peaks: held(374, 21, 3),
+        outcome: outcome(1, 0, held(374, 21, 3), refused(2, 170, Reason::NotUtf8)),
     };
-    check_every_cut(&rt, rt.alloc(), &broken, limits, &refused);
+    check_every_cut(&rt, rt.alloc(), &broken, limits, &cut);
     let ended = joined(
         rt.alloc(),
         &[
@@ -488,8 +366,8 @@ fn two_bytes_of_a_character(rt: HostRuntime) -> Result<(), Fail> {
         ],
     )?;
     let short = Wanted {
-        peaks: held(312, 21, 3),
-        ..refused
+        outcome: outcome(1, 0, held(312, 21, 3), refused(2, 170, Reason::NotUtf8)),
+        ..cut
     };
     check_every_cut(&rt, rt.alloc(), &ended, limits, &short);
     Ok(())

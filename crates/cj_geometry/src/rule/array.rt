@@ -9,7 +9,7 @@ ghost use Rattle.cj_geometry.specs.Rule.{of_kind, has_length};
 use crate::rule::{add, check_array};
 use cj_spans::{Least, Node, Reason};
 
-/// How many items an array has; 0 of any other value.
+/// How many items an array has; 0 of any other value. It goes over them.
 pub fn count_items(node: Node) -> u64
     ensures { result ≡ length (items_of (tree node.entry)) }
 {

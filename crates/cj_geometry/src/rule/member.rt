@@ -10,7 +10,7 @@ ghost use Rattle.cj_geometry.specs.Rule.{of_kind, nothing, missing, needs, repea
 use crate::rule::{add, check_text};
 use cj_spans::{Least, Members, Node, Reason};
 
-/// The object has a member of this name: its value, or None where it is missing.
+/// The object has a member of this name: the value of the first, or None where it is missing.
 #[inline(always)]
 pub fn needed<'a>(object: Node<'a>, name: &str, found: &mut Least) -> Option<Node<'a>>
     ensures value { option_map tree result ≡ member_of (chars name.now) (tree object.entry) }
@@ -44,7 +44,8 @@ fn check_later(name: Node, rest: Members, found: &mut Least)
     }
 }
 
-/// The names of an object are distinct: each that has the text of an earlier one has a finding.
+/// The names of an object are distinct: each that has the text of an earlier one has a finding. It compares
+/// each two names, and so takes time by the square of their number.
 pub fn check_names(object: Node, found: &mut Least)
     ensures { found.new ≡ least found.old (distinct (tree object.entry)) }
 {

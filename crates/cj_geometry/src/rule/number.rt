@@ -41,7 +41,7 @@ fn is_outside(count: Option<u64>, whole: i64) -> bool
     }
 }
 
-/// The value of a number that is in range and whole.
+/// The value of a number that is in range and whole; None of any other number and of any other value.
 pub fn read_whole(node: Node) -> Option<i64>
     ensures { result ≡ whole_of (tree node.entry) }
 {
@@ -54,8 +54,8 @@ pub fn read_whole(node: Node) -> Option<i64>
     }
 }
 
-/// The value is a number in range and whole, and names one of `count` things if that is known; else it
-/// has `outside`.
+/// The value is a number in range and whole, and names one of `count` things, counted from 0, if that is
+/// known: where it names none it has `outside`.
 #[inline(always)]
 pub fn check_index(node: Node, outside: Reason, count: Option<u64>, found: &mut Least)
     ensures { found.new ≡ least found.old (index outside count (tree node.entry)) }

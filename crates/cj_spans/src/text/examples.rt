@@ -1,8 +1,6 @@
 //! The texts of worked spellings: each contract is a theorem on one spelling.
-ghost use Rattle.std.specs.Prelude.{◌≡◌, ◌∷◌, [], codes, List, ℕ};
-ghost use Rattle.std.specs.Str.{chars, IsUtf8};
-ghost use Rattle.cj_spans.specs.Spelling.{IsString};
-ghost use Rattle.cj_spans.specs.Text.{text, body_of, StandFor};
+ghost use Rattle.std.specs.Prelude.{◌≡◌, ◌∷◌, [], codes};
+ghost use Rattle.cj_spans.specs.Text.{text};
 
 /// Two quotes alone.
 pub fn empty_text()
@@ -52,12 +50,4 @@ pub fn escaped_backslash()
 /// Characters of two, three and four bytes in UTF-8 (RFC 3629).
 pub fn longer_characters()
     ensures { text (34 ∷ 195 ∷ 169 ∷ 226 ∷ 130 ∷ 172 ∷ 240 ∷ 159 ∷ 152 ∷ 128 ∷ 34 ∷ []) ≡ 233 ∷ 8364 ∷ 128512 ∷ [] }
-{}
-
-/// The characters between the quotes of a string of UTF-8 stand for code points by the cases of the
-/// grammar, and its text is these code points and no others.
-pub fn one_text()
-    ensures told { (s : List ℕ) → IsString s → IsUtf8 s
-        → (ps : List ℕ) × StandFor (chars (body_of s)) ps × (text s ≡ ps) }
-    ensures only { (s ps : List ℕ) → StandFor (chars (body_of s)) ps → text s ≡ ps }
 {}

@@ -10,7 +10,12 @@ asks bytes (a ∷ []) word low high is e = absurd (omega arith)
 asks bytes (a ∷ b ∷ []) word low high is e = ap bytes (sym is) ∙ e
 asks bytes (a ∷ b ∷ d ∷ words) word low high is e = absurd (omega arith)
 
-pub returns-in-Ok-clause-other : goal.returns-in-Ok-clause-other
-returns-in-Ok-clause-other g c =
+pub returns-in-len2-clause-other : goal.returns-in-len2-clause-other
+returns-in-len2-clause-other g c =
     let text : string_bytes c.word-item.result ≡ codes "filter" = search rules in
     λ unasked. absurd (unasked (asks string_bytes c.args.words.now c.word-item.result (omega arith) (omega arith) c.word-item.is text))
+
+pub returns-in-len2-clause-filter : goal.returns-in-len2-clause-filter
+returns-in-len2-clause-filter g c = λ asked.
+    let e = rw c.usual.ensures at c.filter.ensures in
+    (e.0, e.1, e.2, e.3, e.4, e.5, e.6, e.7, c.filter.result, e.8, c.status.ensures)

@@ -1,7 +1,7 @@
 use Rattle.std.proofs.Common.{[], ◌+◌, ◌++◌, take, drop, map, get_or, arith}
-use Rattle.cityseq.specs.Cut.{joined}
-use Rattle.cityseq.proofs.JoinedLemmas.{joined-more, joined-at}
-use Rattle.cityseq.proofs.KnownLemmas.{Appends-then, AppendsPart-after, AppendsPart-front, on_err_any}
+use Rattle.cj_stream.specs.Cut.{joined}
+use Rattle.cj_stream.proofs.JoinedLemmas.{joined-more, joined-at}
+use Rattle.cj_stream.proofs.KnownLemmas.{Appends-then, AppendsPart-after, AppendsPart-front, on_err_any}
 use Rattle.cityseq.proofs.report.write_parts.Goals as goal
 
 pub returns-in_err-write_whole-clause-fault : goal.returns-in_err-write_whole-clause-fault

@@ -1,6 +1,6 @@
 use Rattle.std.proofs.Common.{take, map}
 use Rattle.std.specs.Io.KnownBytes.{Appends}
-use Rattle.cityseq.specs.Cut.{joined}
+use Rattle.cj_stream.specs.Cut.{joined}
 use Rattle.cityseq.proofs.report.write_parts.Given as goal
 
 abbrev pub invariant-loop-part : goal.invariant-loop-part

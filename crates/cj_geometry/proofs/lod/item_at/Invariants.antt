@@ -4,4 +4,4 @@ use Rattle.cj_spans.specs.View.{tree, items_left}
 use Rattle.cj_geometry.proofs.lod.item_at.Given as goal
 
 abbrev pub invariant-loop-item : goal.invariant-loop-item
-invariant-loop-item l = slice_get (items_left l.item-iterator) l.left ≡ slice_get (items_of (tree l.node)) l.number
+invariant-loop-item l = slice_get (items_left l.item-iterator) l.left ≡ slice_get (items_of (tree l.node)) l.index

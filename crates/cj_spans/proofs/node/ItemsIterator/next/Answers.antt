@@ -3,9 +3,9 @@ use Rattle.cj_spans.specs.View.{tree, line_of, items_left, items_line}
 use Rattle.cj_spans.proofs.Views.{below_at, walk_one, walk_end, walk_out}
 use Rattle.cj_spans.proofs.node.ItemsIterator.next.Goals as goal
 
-pub returns-then-number-source-clause-steps : goal.returns-then-number-source-clause-steps
+pub returns-then-index-source-clause-steps : goal.returns-then-index-source-clause-steps
 unfolding items_left
-returns-then-number-source-clause-steps c =
+returns-then-index-source-clause-steps c =
     let s = c.args.self.now in let e = walk_out s.source.line.now s.source.tokens.now s.next s.stop (omega arith) in ((e, e), refl, tt)
 
 pub returns-then-token_at-self-clause-steps : goal.returns-then-token_at-self-clause-steps

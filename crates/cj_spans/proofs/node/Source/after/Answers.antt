@@ -5,23 +5,24 @@ use Rattle.cj_spans.specs.Forest.{forest, past}
 use Rattle.cj_spans.specs.Preorder.{spans_of}
 use Rattle.cj_spans.specs.Sound.{link_of}
 use Rattle.cj_spans.proofs.Links.{before_length}
-use Rattle.cj_spans.proofs.Views.{link_past, same_some}
+use Rattle.cj_spans.proofs.Spellings.{some_same}
+use Rattle.cj_spans.proofs.Views.{link_past}
 use Rattle.cj_spans.proofs.node.Source.after.Goals as goal
 
 pub returns-clause-order : goal.returns-clause-order
 returns-clause-order c =
     let s = c.args.self in
     let t = c.token_at.result in
-    let l = s.linked c.args.number t c.token_at.ensures in
-    let d = drop (c.args.number + 1) s.tokens.now in
+    let l = s.linked c.args.index t c.token_at.ensures in
+    let d = drop (c.args.index + 1) s.tokens.now in
     let e = before_length t.stop d in
-    let f = length-drop (c.args.number + 1) s.tokens.now in
+    let f = length-drop (c.args.index + 1) s.tokens.now in
     (omega arith, omega arith)
 
 pub returns-clause-rest : goal.returns-clause-rest
 returns-clause-rest c = λ t h.
     let s = c.args.self in
     let u = c.token_at.result in
-    let e : u ≡ t = same_some u t (sym c.token_at.ensures ∙ h) in
-    let p = link_past s.line.now s.tokens.now (c.args.number + 1) u.stop (link_of u) (s.nested c.args.number u c.token_at.ensures) (s.linked c.args.number u c.token_at.ensures) in
-    p ∙ ap (λ (v : Token). past v.stop (forest s.line.now (drop (c.args.number + 1) (spans_of s.tokens.now)))) e
+    let e : u ≡ t = some_same u t (sym c.token_at.ensures ∙ h) in
+    let p = link_past s.line.now s.tokens.now (c.args.index + 1) u.stop (link_of u) (s.nested c.args.index u c.token_at.ensures) (s.linked c.args.index u c.token_at.ensures) in
+    p ∙ ap (λ (v : Token). past v.stop (forest s.line.now (drop (c.args.index + 1) (spans_of s.tokens.now)))) e

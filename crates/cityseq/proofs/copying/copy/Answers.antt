@@ -1,8 +1,0 @@
-use Rattle.cityseq.specs.WriteSink.{writer_of}
-use Rattle.cityseq.proofs.OutputLemmas.{Writes-runs}
-use Rattle.cityseq.proofs.copying.copy.Goals as goal
-
-pub returns : goal.returns
-returns g c =
-    let e = c.run.ensures.runs in
-    (e.0, e.1, e.2.account, Writes-runs (λ s. g.W.Write.contents (writer_of s)) c.args.limits e.0 _ c.args.sink.now c.run.new.sink _ _ _ c.run.result.ended e.2)

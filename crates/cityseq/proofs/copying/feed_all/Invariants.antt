@@ -1,8 +1,0 @@
-use Rattle.std.proofs.Common.{◌≡◌, None, take, map}
-use Rattle.cityseq.specs.Cut.{joined}
-use Rattle.cityseq.specs.Engine.{StandsFor, limits_of, lines_of, Delivers}
-use Rattle.cityseq.proofs.copying.feed_all.Given as goal
-
-abbrev pub invariant-loop-piece : goal.invariant-loop-piece
-invariant-loop-piece g l =
-    (l.engine.ended ≡ None) × (limits_of l.engine ≡ limits_of l.initial.engine) × StandsFor l.engine (joined (take l.piece-index (map (λ piece. piece.now) l.pieces))) × Delivers g.S.LineSink.takes g.S.LineSink.leaves (limits_of l.initial.engine) (joined (take l.piece-index (map (λ piece. piece.now) l.pieces))) 0 (lines_of l.engine) l.initial.sink l.sink None

@@ -1,0 +1,68 @@
+//! Rows of an engine that is called step by step.
+use super::calls::{check_bytes, check_feed, check_finish, check_number, held, joined, refused};
+use super::rows::{FEATURE, HEADER};
+use cj_budget::{Limits, Peaks};
+use cj_spans::Reason;
+use cj_stream::{End, Engine, WriteSink};
+use std::process::Abort;
+use std::test::Fail;
+
+fn check_counts(rt: &impl Abort, engine: &Engine, taken: u64, lines: u64, kept: u64) {
+    check_number(rt, engine.taken(), taken, "taken", taken);
+    check_number(rt, engine.lines(), lines, "lines", taken);
+    check_number(rt, engine.kept(), kept, "kept", taken);
+}
+
+fn check_held(rt: &impl Abort, engine: &Engine, held: Peaks, peaks: Peaks) {
+    assert_eq!(rt; engine.held(), held);
+    assert_eq!(rt; engine.peaks(), peaks);
+}
+
+// Takes a text whose third line is too long, and then what comes after an end.
+fn check_end(rt: &impl Abort, engine: &mut Engine, text: &[u8], sink: &mut WriteSink<Vec<u8>>) {
+    let end = refused(3, 210, Reason::LineTooLong);
+    check_feed(rt, engine, text, sink, Err(end));
+    let held = engine.held();
+    let peaks = engine.peaks();
+    check_number(rt, peaks.bytes, 350, "peak of bytes", 3);
+    check_feed(rt, engine, FEATURE, sink, Err(end));
+    check_finish(rt, engine, sink, end);
+    check_held(rt, engine, held, peaks);
+    check_counts(rt, engine, 0, 2, 1);
+}
+
+#[test]
+fn an_end_stays_the_end(rt: HostRuntime) -> Result<(), Fail> {
+    let written = joined(rt.alloc(), &[HEADER, b"\n", FEATURE, b"\n"])?;
+    let text = joined(rt.alloc(), &[&written, FEATURE, b" \n"])?;
+    check_number(&rt, text.len() as u64, 564, "bytes of the text", 0);
+    let mut engine = Engine::open(rt.alloc(), Limits::new(210, 64)?)?;
+    let mut sink = WriteSink::new(Vec::new(rt.alloc()));
+    check_counts(&rt, &engine, 0, 0, 0);
+    check_end(&rt, &mut engine, &text, &mut sink);
+    check_bytes(&rt, &sink.into_inner(), &written, "an end stays", 0);
+    Ok(())
+}
+
+// Takes a header, its LF, and a feature in two parts.
+fn check_parts(rt: &impl Abort, engine: &mut Engine, sink: &mut WriteSink<Vec<u8>>) {
+    check_feed(rt, engine, HEADER, sink, Ok(()));
+    check_held(rt, engine, held(140, 0, 0), held(140, 0, 0));
+    check_feed(rt, engine, b"\n", sink, Ok(()));
+    check_held(rt, engine, held(140, 21, 0), held(140, 21, 3));
+    check_feed(rt, engine, &FEATURE[..100], sink, Ok(()));
+    check_held(rt, engine, held(240, 21, 0), held(240, 21, 3));
+    check_counts(rt, engine, 241, 1, 0);
+    check_feed(rt, engine, &FEATURE[100..], sink, Ok(()));
+    check_finish(rt, engine, sink, End::Complete);
+    check_held(rt, engine, held(140, 21, 0), held(350, 65, 8));
+    check_counts(rt, engine, 351, 2, 1);
+}
+
+#[test]
+fn what_is_held_is_told(rt: HostRuntime) -> Result<(), Fail> {
+    let mut engine = Engine::open(rt.alloc(), Limits::new(8_388_608, 64)?)?;
+    let mut sink = WriteSink::new(Vec::new(rt.alloc()));
+    check_parts(&rt, &mut engine, &mut sink);
+    Ok(())
+}

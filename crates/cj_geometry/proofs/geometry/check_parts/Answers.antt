@@ -1,0 +1,14 @@
+use Rattle.std.proofs.Common.{codes}
+use Rattle.std.specs.Str.{chars}
+use Rattle.cj_spans.specs.View.{tree}
+use Rattle.cj_spans.specs.Kinds.{is_text}
+use Rattle.cj_geometry.specs.Rule.{needs, of_kind, nothing}
+use Rattle.cj_geometry.specs.Geometry.{shape, semantics_if}
+use Rattle.cj_spans.proofs.Findings.{least-three}
+use Rattle.cj_geometry.proofs.geometry.check_parts.Goals as goal
+
+pub returns : goal.returns
+returns c =
+    let n = tree c.args.object in
+    least-three c.args.found.now c.check_text_member.new.found c.check_boundaries.new.found c.check_semantics_member.new.found (needs (chars (codes "lod")) (of_kind is_text nothing) n)
+    (needs (chars (codes "boundaries")) (shape c.args.vertices c.args.depth) n) (semantics_if c.args.values n) c.check_text_member.ensures c.check_boundaries.ensures c.check_semantics_member.ensures

@@ -1,0 +1,10 @@
+use Rattle.std.proofs.Common.{◌≡◌}
+use Rattle.std.specs.List.{flat_map}
+use Rattle.cj_spans.specs.Finding.{least}
+use Rattle.cj_spans.specs.Parts.{items_of}
+use Rattle.cj_spans.specs.View.{tree, items_left}
+use Rattle.cj_geometry.specs.Rule.{number}
+use Rattle.cj_geometry.proofs.instance.check_matrix.Given as goal
+
+abbrev pub invariant-loop-item : goal.invariant-loop-item
+invariant-loop-item l = least l.found (flat_map (number) (items_left l.item-iterator)) ≡ least l.initial.found (flat_map (number) (items_of (tree l.node)))

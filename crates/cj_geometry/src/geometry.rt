@@ -1,0 +1,78 @@
+//! The rules on geometries (CityJSON 2.0, section 3).
+ghost use Rattle.std.specs.Prelude.{◌≡◌};
+ghost use Rattle.cj_spans.specs.Finding.{least};
+ghost use Rattle.cj_spans.specs.View.{tree};
+ghost use Rattle.cj_geometry.specs.Given.{given};
+ghost use Rattle.cj_geometry.specs.Table.{form_of as form_of_tree};
+ghost use Rattle.cj_geometry.specs.Geometry.{part_rules, form_rules, typed_rules, geometry};
+
+use crate::boundaries::check_boundaries;
+use crate::form::{Form, form_of};
+use crate::instance::check_instance;
+use crate::rule::{add, check_names, check_object, check_text_member, needed};
+use crate::semantics::check_semantics_member;
+use crate::templates::Templates;
+use cj_spans::{Kind, Least, Node, Reason};
+
+/// The lists of a geometry of a depth.
+fn check_parts(
+    object: Node,
+    depth: u8,
+    values: Option<u8>,
+    vertices: Option<u64>,
+    found: &mut Least,
+)
+    ensures { found.new ≡ least found.old (part_rules vertices depth values (tree object.entry)) }
+{
+    check_text_member(object, "lod", found);
+    check_boundaries(object, depth, vertices, found);
+    check_semantics_member(object, values, found);
+}
+
+/// The rules of the geometry's type, whose name is the second node.
+fn check_form(
+    object: Node,
+    name: Node,
+    vertices: Option<u64>,
+    templates: Templates,
+    found: &mut Least,
+)
+    ensures { found.new ≡ least found.old (form_rules vertices (given templates.entry) (tree object.entry) (tree name.entry) (form_of_tree (tree name.entry))) }
+{
+    match form_of(name) {
+        Some(Form::Parts { depth, values }) => {
+            check_parts(object, depth, values, vertices, found);
+        }
+        Some(Form::Instance) => {
+            if templates.is_template() {
+                add(name, Reason::BadInstance, found);
+            } else {
+                check_instance(object, templates.count(), vertices, found);
+            }
+        }
+        None => add(name, Reason::UnknownGeometryType, found),
+    }
+}
+
+/// The rules by the geometry's type.
+fn check_typed(object: Node, vertices: Option<u64>, templates: Templates, found: &mut Least)
+    ensures { found.new ≡ least found.old (typed_rules vertices (given templates.entry) (tree object.entry)) }
+{
+    if let Some(name) = needed(object, "type", found) {
+        match name.kind() {
+            Kind::Text => check_form(object, name, vertices, templates, found),
+            _ => add(name, Reason::WrongKind, found),
+        }
+    }
+}
+
+/// Adds what is wrong with a geometry, where there are so many vertices, or an unknown number of
+/// them. It takes no memory and cannot fail.
+pub fn check_geometry(node: Node, vertices: Option<u64>, templates: Templates, found: &mut Least)
+    ensures { found.new ≡ least found.old (geometry vertices (given templates.entry) (tree node.entry)) }
+{
+    if check_object(node, found) {
+        check_names(node, found);
+        check_typed(node, vertices, templates, found);
+    }
+}

@@ -1,0 +1,96 @@
+//! The templates that a geometry may name (CityJSON 2.0, section 3).
+ghost use Rattle.std.specs.Prelude.{◌≡◌, length};
+ghost use Rattle.cj_spans.specs.Parts.{items_of};
+ghost use Rattle.cj_spans.specs.View.{tree};
+
+use crate::rule::count_items;
+use cj_spans::Node;
+
+/// A list of templates. It is counted once, when it is made, and not for each instance.
+#[derive(Clone, Copy)]
+struct List<'a> {
+    node: Node<'a>,
+    count: u64,
+    ghost counted: { count ≡ length (items_of (tree node)) },
+}
+
+/// The templates there are: those of a list, or none; or the geometry is one itself.
+#[derive(Clone, Copy)]
+enum Choice<'a> {
+    Listed(List<'a>),
+    Empty,
+    Itself,
+}
+
+/// The templates that a geometry may name.
+#[derive(Clone, Copy)]
+pub struct Templates<'a> {
+    choice: Choice<'a>,
+}
+
+impl<'a> Templates<'a> {
+    ghost use Rattle.std.specs.Prelude.{option_map};
+    ghost use Rattle.cj_spans.specs.declared.token.Kind.TheVariants.{Array};
+    ghost use Rattle.cj_spans.specs.Parts.{kind_of};
+    ghost use Rattle.cj_geometry.specs.Geometry.{listed, empty, itself, list_of, template_count, is_itself};
+    ghost use Rattle.cj_geometry.specs.Given.{given};
+
+    /// Those of the header's list, which is an array.
+    pub fn list(node: Node<'a>) -> Templates<'a>
+        requires { kind_of (tree node) ≡ Array }
+        ensures { given result ≡ listed (tree node.entry) }
+    {
+        let count = count_items(node);
+        Templates {
+            choice: Choice::Listed(List { node, count }),
+        }
+    }
+
+    /// None at all.
+    pub fn empty() -> Templates<'a>
+        ensures { given result ≡ empty }
+    {
+        Templates {
+            choice: Choice::Empty,
+        }
+    }
+
+    /// The mark that the geometry is a template itself.
+    pub fn template() -> Templates<'a>
+        ensures { given result ≡ itself }
+    {
+        Templates {
+            choice: Choice::Itself,
+        }
+    }
+
+    /// The list, if there is one.
+    pub(crate) fn nodes(self) -> Option<Node<'a>>
+        ensures { option_map tree result ≡ list_of (given self.entry) }
+    {
+        match self.choice {
+            Choice::Listed(list) => Some(list.node),
+            Choice::Empty | Choice::Itself => None,
+        }
+    }
+
+    /// How many there are.
+    pub(crate) fn count(self) -> u64
+        ensures { result ≡ template_count (given self.entry) }
+    {
+        match self.choice {
+            Choice::Listed(list) => list.count,
+            Choice::Empty | Choice::Itself => 0,
+        }
+    }
+
+    /// Whether the geometry is a template itself.
+    pub(crate) fn is_template(self) -> bool
+        ensures { result ≡ is_itself (given self.entry) }
+    {
+        match self.choice {
+            Choice::Itself => true,
+            Choice::Listed(_) | Choice::Empty => false,
+        }
+    }
+}

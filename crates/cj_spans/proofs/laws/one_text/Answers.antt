@@ -1,0 +1,14 @@
+use Rattle.std.proofs.Common.{sym, subst}
+use Rattle.std.specs.Str.{chars}
+use Rattle.cj_spans.specs.Text.{text, body_of, StandFor}
+use Rattle.cj_spans.proofs.Texts.{stands_once}
+use Rattle.cj_spans.proofs.Strings.{text_told}
+use Rattle.cj_spans.proofs.laws.one_text.Goals as goal
+
+pub returns-clause-told : goal.returns-clause-told
+unfolding text
+returns-clause-told c = λ s h u. let r = text_told s h u in subst (StandFor (chars (body_of s))) (sym (stands_once r.1)) r.1
+
+pub returns-clause-only : goal.returns-clause-only
+unfolding text
+returns-clause-only c = λ s ps h. sym (stands_once h)

@@ -1,0 +1,96 @@
+-- A blank content is no JSON text.
+use Rattle.std.proofs.Common.{◌≡◌, ℕ, zero, suc, ◌-◌, ◌≤◌, inl, inr, List, [], ◌∷◌, ◌++◌, Bool, true, false, take, drop, eqb, refl, sym, ap, arith, ◌∙◌}
+use Rattle.std.specs.Prelude.{◌||◌, slice_range}
+use Rattle.std.proofs.lemmas.Bool.Decides.{nat_tests}
+use Rattle.std.specs.List.{list_all}
+use Rattle.cj_budget.specs.Limits.{LimitPair}
+use Rattle.cj_spans.specs.declared.token.Kind.{Kind}
+use Rattle.cj_spans.specs.declared.token.Kind.TheVariants.{Null, Truth, Number, Text, Array, Object}
+use Rattle.cj_spans.specs.Spelling.{IsScalar, IsMinus, IsInt}
+use Rattle.cj_spans.specs.Tree.{Tree}
+use Rattle.cj_spans.specs.Json.{byte, Value, atom, empty_array, full_array, empty_object, full_object, padded, Json}
+use Rattle.cj_spans.specs.Judgement.{Judgement, spelled, broken, sunk, judged_size, judged_nest}
+use Rattle.cj_spans.proofs.Judgements.{judgement}
+use Rattle.cj_stream.specs.Bound.{tree_size, tree_nest}
+use Rattle.cj_stream.specs.Verdict.{is_blank_byte}
+use Rattle.cj_stream.proofs.VerdictLemmas.{and-both}
+
+-- bytes that are all blank
+abbrev AllBlank : List ℕ → Type 0
+AllBlank s = list_all is_blank_byte s ≡ true
+
+blank-drop : (i : ℕ) (s : List ℕ) → AllBlank s → AllBlank (drop i s)
+blank-drop zero s h = h
+blank-drop (suc i) [] h = h
+blank-drop (suc i) (b ∷ s) h = blank-drop i s (and-both (is_blank_byte b) (list_all is_blank_byte s) h).1
+
+blank-take : (i : ℕ) (s : List ℕ) → AllBlank s → AllBlank (take i s)
+blank-take zero s h = refl
+blank-take (suc i) [] h = refl
+blank-take (suc i) (b ∷ s) h =
+    let k = and-both (is_blank_byte b) (list_all is_blank_byte s) h in
+    let rest : list_all is_blank_byte (take i s) ≡ true = blank-take i s k.1 in
+    rw (k.0, rest) refl
+
+-- no byte of them is another one
+not-at : (s : List ℕ) (i x : ℕ) → AllBlank s → byte s i ≡ suc x → is_blank_byte (suc x) ≡ false → ⊥
+not-at [] i x h e k = cc
+not-at (b ∷ s) zero x h e k =
+    let first = (and-both (is_blank_byte b) (list_all is_blank_byte s) h).0 in
+    let same : is_blank_byte b ≡ false = ap is_blank_byte e ∙ k in
+    clash (sym first ∙ same)
+  where
+    clash : ◌≡◌ {A = Bool} true false → ⊥
+    clash z = cc
+not-at (b ∷ s) (suc i) x h e k = not-at s i x (and-both (is_blank_byte b) (list_all is_blank_byte s) h).1 e k
+
+true_false : (x : Bool) → x ≡ true → x ≡ false → ⊥
+true_false true a b = cc
+true_false false a b = cc
+
+digit-not : (b : ℕ) → 48 ≤ b → is_blank_byte b ≡ true → ⊥
+digit-not b low h = go (eqb b 32) (eqb b 9) (eqb b 13) refl refl refl h
+  where
+    go : (x y z : Bool) → eqb b 32 ≡ x → eqb b 9 ≡ y → eqb b 13 ≡ z → x || (y || z) ≡ true → ⊥
+    go true y z e f k h = let is : b ≡ 32 = grind (arith, nat_tests) in absurd (omega arith)
+    go false true z e f k h = let is : b ≡ 9 = grind (arith, nat_tests) in absurd (omega arith)
+    go false false true e f k h = let is : b ≡ 13 = grind (arith, nat_tests) in absurd (omega arith)
+    go false false false e f k h = cc
+
+blank-int : (s t : List ℕ) → IsInt s → AllBlank (s ++ t) → ⊥
+blank-int [] t n h = n
+blank-int (b ∷ s) t (inl n) h = digit-not b (omega (arith, n.0)) (and-both (is_blank_byte b) (list_all is_blank_byte (s ++ t)) h).0
+blank-int (b ∷ s) t (inr n) h = digit-not b (omega (arith, n.0)) (and-both (is_blank_byte b) (list_all is_blank_byte (s ++ t)) h).0
+
+blank-minus : (m s t : List ℕ) → IsMinus m → IsInt s → AllBlank (m ++ (s ++ t)) → ⊥
+blank-minus m s t (inl e) n h = blank-int s t n (let k = rw e at h in k)
+blank-minus m s t (inr e) n h = let k = rw e at h in cc
+
+-- no scalar is spelled by them
+blank-scalar : (k : Kind) (s : List ℕ) → IsScalar k s → AllBlank s → ⊥
+blank-scalar Null s e h = let k = rw e at h in cc
+blank-scalar Truth s (inl e) h = let k = rw e at h in cc
+blank-scalar Truth s (inr e) h = let k = rw e at h in cc
+blank-scalar Number s n h = blank-minus n.minus n.int (n.frac ++ n.exp) n.minus_is n.int_is (let k = rw n.joined at h in k)
+blank-scalar Text s e h = let k = rw e.joined at h in cc
+blank-scalar Array s e h = e
+blank-scalar Object s e h = e
+
+blank-value : (b : List ℕ) (i j : ℕ) (t : Tree) → AllBlank b → Value b i j t → ⊥
+blank-value b i j t h (atom k from to a) = blank-scalar k (slice_range b from to) a.spelled (blank-take (to - from) (drop from b) (blank-drop from b h))
+blank-value b i j t h (empty_array from k e w f) = not-at b from 90 h e refl
+blank-value b i j t h (full_array from k l ts u e w p f) = not-at b from 90 h e refl
+blank-value b i j t h (empty_object from k e w f) = not-at b from 122 h e refl
+blank-value b i j t h (full_object from k l m ms n u e w p q f) = not-at b from 122 h e refl
+
+blank-json : (b : List ℕ) (t : Tree) → AllBlank b → Json b t → ⊥
+blank-json b t h (padded i j k l u w v x) = blank-value b j k u h v
+
+blank-judged : {b : List ℕ} {d : ℕ} (j : Judgement b d) → AllBlank b → (judged_size j ≡ 0) × (judged_nest j ≡ 0)
+blank-judged {b} (spelled t json shallow) h = absurd (blank-json b t h json)
+blank-judged (broken i s n) h = (refl, refl)
+blank-judged (sunk i s) h = (refl, refl)
+
+-- a blank content has no tree
+pub blank-tree : (limits : LimitPair) (c : List ℕ) → list_all is_blank_byte c ≡ true → (tree_size limits c ≡ 0) × (tree_nest limits c ≡ 0)
+blank-tree limits c h = blank-judged (judgement c limits.depth) h

@@ -1,0 +1,213 @@
+-- What an engine holds, tells and delivers, from what its framer did.
+use Rattle.std.proofs.Common.{◌≡◌, ℕ, ◌+◌, ◌<◌, ◌≤◌, ◌⊎◌, inl, inr, List, [], ◌∷◌, ◌++◌, Bool, true, false, cond, ltb, length, take, map, Option, Some, None, arith, refl, sym, ap, ◌∙◌, append_assoc, length-append}
+use Rattle.std.specs.Prelude.{nat_lt, slice_get}
+use Rattle.std.proofs.lemmas.List.{append-nil}
+use Rattle.std.proofs.lemmas.Bool.Decides.{nat_tests}
+use Rattle.cj_budget.specs.Limits.{LimitPair}
+use Rattle.cj_stream.specs.declared.judge.Verdict.TheVariants.{Refuse}
+use Rattle.cj_stream.specs.declared.ending.End.{End}
+use Rattle.cj_stream.specs.declared.ending.End.TheVariants.{Complete, Refused, ReadFault, ReadLimit, WriteFault, Memory}
+use Rattle.cj_stream.specs.Lines.{Line, closed, begun, ended_line, last_line, lines, first_content}
+use Rattle.cj_stream.specs.Verdict.{verdict, refusal_from, kept_from, judged, kept_first}
+use Rattle.cj_budget.specs.Bounded.{IsWithin}
+use Rattle.cj_budget.specs.declared.limits.Peaks.{Peaks}
+use Rattle.cj_stream.specs.Bound.{bytes_bound, IsBelow, IsBounded}
+use Rattle.cj_stream.specs.Scanning.{Scanning, HasRoom, Scanned, HoldsFew}
+use Rattle.cj_stream.specs.Reading.{Reading, IsSound, Reads, kept_closed, begun_of, Advances, IsNext, LacksMemory, HasCause, Stops}
+use Rattle.cj_stream.specs.Engine.{State, StandsFor, Counts, Going, Faults, Delivers, Tells, limits_of, held_by, peaks_of}
+use Rattle.cj_stream.proofs.LineLemmas.{closed-then, first_content-grows}
+use Rattle.cj_stream.proofs.IsLinesLemmas.{lines-whole}
+use Rattle.cj_stream.proofs.VerdictLemmas.{refusal-append}
+use Rattle.cj_stream.proofs.ScanningLemmas.{few-scanned, first-closed}
+use Rattle.cj_stream.proofs.ReadingLemmas.{length-map_lines, map_lines-append, begun_of-first, begun_of-later, zero_or}
+use Rattle.cj_stream.proofs.Apart.{some-none}
+
+-- what is held is within the peaks
+pub held-below : (e : State) → IsWithin e.reading.header → IsWithin e.reading.line → HasRoom (limits_of e) e.scanning → IsBelow (held_by e) (peaks_of e)
+held-below e header line room = record {
+  bytes = omega (arith, header.below_peak, line.below_peak);
+  tokens = omega (arith, room.header_within.below_peak, room.line_within.below_peak);
+  depth = room.opened_within.below_peak;
+}
+
+-- the peaks of lists that hold few tokens are within the bound
+pub peaks-bounded : (limits : LimitPair) (s : List ℕ) (bytes : ℕ) (f : Scanning) → bytes ≤ bytes_bound limits s → HasRoom limits f → HoldsFew limits (length (first_content s)) f
+    → IsBounded limits s (record { bytes = bytes; tokens = f.header.peak + f.line.peak; depth = f.opened.peak })
+peaks-bounded limits s bytes f h room few = record {
+  bytes = h;
+  tokens = omega (arith, few);
+  depth = omega (arith, room.opened_within.below_limit, room.opened);
+}
+
+pub same-peaks : (a b c x y z : ℕ) → a ≡ x → b ≡ y → c ≡ z → ◌≡◌ {A = Peaks} (record { bytes = a; tokens = b; depth = c }) (record { bytes = x; tokens = y; depth = z })
+same-peaks a b c x y z e f g = rw (e, f, g) refl
+
+pub peak-le : (f : Reading) (p more : List ℕ) → IsSound f → Reads f p → f.header.peak + f.line.peak ≤ bytes_bound f.limits (p ++ more)
+peak-le f p more s h =
+    omega (arith, h.peak, ap length h.header, first_content-grows p more, h.header_within.below_limit, h.line_within.below_limit, s.header, s.line)
+
+pub take-front : (xs ys : List Line) (n : ℕ) → n ≡ length xs → take n (xs ++ ys) ≡ xs
+take-front xs ys n e = rw e (go xs ys)
+  where
+    go : (xs ys : List Line) → take (length xs) (xs ++ ys) ≡ xs
+    go [] ys = refl
+    go (x ∷ xs) ys = ap (λ z. x ∷ z) (go xs ys)
+
+pub get-next : (xs ys : List Line) (l : Line) (n : ℕ) → n ≡ length xs → slice_get (xs ++ l ∷ ys) n ≡ Some l
+get-next xs ys l n e = rw e (go xs)
+  where
+    go : (xs : List Line) → slice_get (xs ++ l ∷ ys) (length xs) ≡ Some l
+    go [] = refl
+    go (x ∷ xs) = go xs
+
+-- the lines that LF ended in a front, counted
+pub lines-front : (n : ℕ) (p more : List ℕ) → n ≡ length (closed p) → take n (lines (p ++ more)) ≡ map ended_line (closed p)
+lines-front n p more e =
+    let cs = map ended_line (closed p) in
+    let ds = map ended_line (closed (begun p ++ more)) ++ last_line (begun (p ++ more)) in
+    let t : take n (cs ++ ds) ≡ cs = take-front cs ds n (e ∙ sym (length-map_lines (closed p))) in
+    rw (closed-then p more, map_lines-append (closed p) (closed (begun p ++ more)), append_assoc cs (map ended_line (closed (begun p ++ more))) (last_line (begun (p ++ more))), t) refl
+
+pub kept_first-front : (limits : LimitPair) (n : ℕ) (p more : List ℕ) → n ≡ length (closed p) → kept_first limits n (p ++ more) ≡ kept_closed limits p
+kept_first-front limits n p more e = ap (λ z. kept_from limits 1 z) (lines-front n p more e)
+
+few-front : (n : ℕ) (p more : List ℕ) → n ≡ length (closed p) → n ≤ length (lines (p ++ more))
+few-front n p more e =
+    let cs = map ended_line (closed p) in
+    rw (closed-then p more, map_lines-append (closed p) (closed (begun p ++ more)), append_assoc cs (map ended_line (closed (begun p ++ more))) (last_line (begun (p ++ more))))
+    (omega (arith, e, length-map_lines (closed p), length-append cs (map ended_line (closed (begun p ++ more)) ++ last_line (begun (p ++ more)))))
+
+-- the counts of what has been read, whatever bytes follow
+pub Counts-front : (f : Reading) (p more : List ℕ) → Reads f p → Counts f.limits (p ++ more) f.lines f.kept
+Counts-front f p more h = record {
+  few = few-front f.lines p more h.lines;
+  good = rw (lines-front f.lines p more h.lines) h.good;
+  kept = rw (lines-front f.lines p more h.lines) h.kept;
+}
+
+-- what can be judged is a front of the lines
+pub judged-front : (limits : LimitPair) (q : List ℕ) → (extra : List Line) × (lines q ≡ judged limits q ++ extra)
+judged-front limits q = go (nat_lt limits.line (length (begun q)))
+  where
+    go : (b : Bool) → (extra : List Line) × (lines q ≡ (map ended_line (closed q) ++ cond b (last_line (begun q)) []) ++ extra)
+    go true = ([], sym (append-nil _))
+    go false = (last_line (begun q), ap (λ z. z ++ last_line (begun q)) (sym (append-nil (map ended_line (closed q)))))
+
+pub next-line : (limits : LimitPair) (n : ℕ) (p q : List ℕ) (l : Line) → IsNext limits p q l → n ≡ length (closed p) → slice_get (lines q) n ≡ Some l
+next-line limits n p q l h e =
+    let x = judged-front limits q in
+    let cs = map ended_line (closed p) in
+    rw (x.1, h.1, append_assoc cs (l ∷ h.0) x.0) (get-next cs (h.0 ++ x.0) l n (e ∙ sym (length-map_lines (closed p))))
+
+pub next-refusal : (limits : LimitPair) (n place : ℕ) (reason : _) (p q : List ℕ) (l : Line) → IsNext limits p q l → n ≡ length (closed p) + 1
+    → refusal_from limits 1 (map ended_line (closed p)) ≡ None → verdict limits n l.content ≡ Refuse place reason
+    → refusal_from limits 1 (judged limits q) ≡ Some (Refused n place reason)
+next-refusal limits n place reason p q l h e good v =
+    let at : 1 + length (map ended_line (closed p)) ≡ n = omega (arith, length-map_lines (closed p), e) in
+    rw (h.1, refusal-append limits 1 (map ended_line (closed p)) (l ∷ h.0) good, at, v) refl
+
+pub Tells-cause : {S : Type 0} (leaves : S → Line → S → Type 0) (limits : LimitPair) (p q : List ℕ) (n : ℕ) (s t : S) (e : End) → n ≡ length (closed p)
+    → refusal_from limits 1 (map ended_line (closed p)) ≡ None → HasCause leaves limits p q n s t e → Tells limits q n e
+Tells-cause leaves limits p q n s t Complete len good c = c
+Tells-cause leaves limits p q n s t (Refused number place reason) len good c =
+    (next-refusal limits number place reason p q c.0 c.1 (omega (arith, c.2, len)) good c.3, c.2)
+Tells-cause leaves limits p q n s t ReadFault len good c = c
+Tells-cause leaves limits p q n s t ReadLimit len good c = c
+Tells-cause leaves limits p q n s t WriteFault len good c = tt
+Tells-cause leaves limits p q n s t Memory len good c = tt
+
+pub Faults-cause : {S : Type 0} (leaves : S → Line → S → Type 0) (limits : LimitPair) (p q : List ℕ) (n : ℕ) (s t : S) (e : End) → n ≡ length (closed p)
+    → HasCause leaves limits p q n s t e → Faults leaves limits q n s t (Some e)
+Faults-cause leaves limits p q n s t Complete len c = absurd c
+Faults-cause leaves limits p q n s t (Refused number place reason) len c = c.4
+Faults-cause leaves limits p q n s t ReadFault len c = absurd c
+Faults-cause leaves limits p q n s t ReadLimit len c = absurd c
+Faults-cause leaves limits p q n s t WriteFault len c = (c.0, next-line limits n p q c.0 c.1 len, c.2, c.3)
+Faults-cause leaves limits p q n s t Memory len c = c.0
+
+-- what has begun is within the limit
+begun-within : (f : Reading) (p : List ℕ) → IsSound f → Reads f p → length (begun p) ≤ f.limits.line
+begun-within f p s h = go (zero_or f.lines)
+  where
+    go : (f.lines ≡ 0) ⊎ (0 < f.lines) → length (begun p) ≤ f.limits.line
+    go (inl z) = rw (← h.begun, begun_of-first f z) (omega (arith, h.header_within.below_peak, h.header_within.below_limit, s.header))
+    go (inr z) = rw (← h.begun, begun_of-later f z) (omega (arith, h.line_within.below_peak, h.line_within.below_limit, s.line))
+
+pub Going-reads : (e : State) (q : List ℕ) → IsSound e.reading → Reads e.reading q → Scanned (limits_of e) (closed q) e.scanning → Going e q
+Going-reads e q s h sc = record {
+  good =
+      let short : ltb e.reading.limits.line (length (begun q)) ≡ false = let w = begun-within e.reading q s h in grind (arith, nat_tests) in
+      rw (short, append-nil (map ended_line (closed q))) h.good;
+  lines = rw (lines-whole q) (h.lines ∙ sym (length-map_lines (closed q)));
+  held = same-peaks _ _ _ _ _ _ (rw (h.header, h.line) refl) (omega (arith, sc.header, ap length sc.line)) (ap length sc.opened);
+}
+
+pub StandsFor-reads : (e : State) (p : List ℕ) → e.taken ≡ length p → IsSound e.reading → HasRoom (limits_of e) e.scanning → Reads e.reading p → Scanned (limits_of e) (closed p) e.scanning
+    → StandsFor e p
+StandsFor-reads e p taken s room h sc = record {
+  held = held-below e h.header_within h.line_within room;
+  bounded =
+      let bytes = let k = peak-le e.reading p [] s h in rw (append-nil p) at k in
+      let first = let k = first-closed p [] in rw (append-nil p) at k in
+      peaks-bounded (limits_of e) p (e.reading.header.peak + e.reading.line.peak) e.scanning bytes room (few-scanned (limits_of e) (closed p) e.scanning (length (first_content p)) sc first);
+  counts = let k = Counts-front e.reading p [] h in rw (append-nil p) at k;
+  going = λ _. (h, sc, taken);
+}
+
+module _ {S : Type 0} (takes leaves : S → Line → S → Type 0) where
+  pub Tells-stops : (f g : Reading) (s t : S) (p more : List ℕ) (e : End) → Stops takes leaves f s p more e g t → Tells f.limits (p ++ more) g.lines e
+  Tells-stops f g s t p more e h =
+      let good = rw h.limits at h.reads.good in
+      Tells-cause leaves f.limits (p ++ h.done) (p ++ more) g.lines h.middle t e h.reads.lines good h.cause
+
+  pub Delivers-advances : (f g : Reading) (s t : S) (p more : List ℕ) → Reads f p → Advances takes f s p more g t
+      → Delivers takes leaves f.limits (p ++ more) f.lines g.lines s t None
+  Delivers-advances f g s t p more r h =
+      let limits = f.limits in
+      record {
+        added = h.puts.0;
+        middle = t;
+        kept =
+            let new_front : kept_first limits g.lines (p ++ more) ≡ kept_closed limits (p ++ more) = front_all limits g.lines (p ++ more) h.reads.lines in
+            new_front ∙ (h.puts.1 ∙ ap (λ z. z ++ h.puts.0) (sym (kept_first-front limits f.lines p more r.lines)));
+        took = h.puts.2;
+        fault = refl;
+      }
+    where
+      front_all : (limits : LimitPair) (n : ℕ) (q : List ℕ) → n ≡ length (closed q) → kept_first limits n q ≡ kept_closed limits q
+      front_all limits n q e = let k = kept_first-front limits n q [] e in rw (append-nil q) at k
+
+  pub Delivers-stops : (f g : Reading) (s t : S) (p more : List ℕ) (e : End) → Reads f p → Stops takes leaves f s p more e g t
+      → Delivers takes leaves f.limits (p ++ more) f.lines g.lines s t (Some e)
+  Delivers-stops f g s t p more e r h =
+      let limits = f.limits in
+      let whole : p ++ more ≡ (p ++ h.done) ++ h.left = ap (λ z. p ++ z) h.cut ∙ sym (append_assoc p h.done h.left) in
+      record {
+        added = h.puts.0;
+        middle = h.middle;
+        kept = rw (kept_first-front limits f.lines p more r.lines, whole, kept_first-front limits g.lines (p ++ h.done) h.left h.reads.lines) h.puts.1;
+        took = h.puts.2;
+        fault = (Faults-cause leaves limits (p ++ h.done) (p ++ more) g.lines h.middle t e h.reads.lines h.cause);
+      }
+
+  pub StandsFor-stops : (old new : State) (s t : S) (p more : List ℕ) (e : End) → new.ended ≡ Some e → IsSound new.reading → HasRoom (limits_of new) new.scanning
+      → HoldsFew (limits_of new) (length (first_content (p ++ more))) new.scanning → Stops takes leaves old.reading s p more e new.reading t → StandsFor new (p ++ more)
+  StandsFor-stops old new s t p more e ended sound room few h =
+      let whole : p ++ more ≡ (p ++ h.done) ++ h.left = ap (λ z. p ++ z) h.cut ∙ sym (append_assoc p h.done h.left) in
+      record {
+        held = held-below new h.reads.header_within h.reads.line_within room;
+        bounded = peaks-bounded (limits_of new) (p ++ more) (new.reading.header.peak + new.reading.line.peak) new.scanning (rw whole (peak-le new.reading (p ++ h.done) h.left sound h.reads)) room few;
+        counts = rw whole (Counts-front new.reading (p ++ h.done) h.left h.reads);
+        going = λ none. absurd (some-none e (sym ended ∙ none));
+      }
+
+-- what an end for want of memory tells
+pub LacksMemory-stops : {S : Type 0} (takes leaves : S → Line → S → Type 0) (f g : Reading) (s t : S) (p more : List ℕ) (e : End) → Stops takes leaves f s p more e g t → e ≡ Memory
+    → LacksMemory (p ++ more) g.lines (begun_of g)
+LacksMemory-stops takes leaves f g s t p more e h m =
+    let cause = rw m at h.cause in
+    rw h.reads.begun cause.1
+
+pub none_from_not_some : (o : Option End) → ((x : End) → o ≡ Some x → ⊥) → o ≡ None
+none_from_not_some None h = refl
+none_from_not_some (Some x) h = absurd (h x refl)

@@ -1,0 +1,119 @@
+-- `lines` are the lines of a text, and no others are.
+use Rattle.std.proofs.Common.{◌≡◌, inl, inr, ℕ, List, [], ◌∷◌, ◌++◌, Bool, true, false, cond, eqb, map, refl, sym, ap, ◌∙◌, append_assoc}
+use Rattle.std.specs.List.{flat_map}
+use Rattle.std.proofs.lemmas.List.{append-nil}
+use Rattle.std.proofs.lemmas.Bool.{eqb-true}
+use Rattle.cj_stream.specs.Lines.{Line, raw, NoLf, closed, begun, begun_with, onto_first, ended_line, last_line, lines, whole}
+use Rattle.cj_stream.specs.IsLines.{AreEnded, HaveNoLf, IsLines, IsWhole}
+use Rattle.cj_stream.proofs.LineLemmas.{closed-none, begun-none, closed-ended, begun-ended, NoLf-begun}
+
+lines-ended : (c t : List ℕ) → NoLf c → lines (c ++ 10 ∷ t) ≡ ended_line c ∷ lines t
+lines-ended c t h = rw (closed-ended c t h, begun-ended c t h) refl
+
+lines-begun : (c : List ℕ) → NoLf c → lines c ≡ last_line c
+lines-begun c h = rw (closed-none c h, begun-none c h) refl
+
+last_line-some : (c : List ℕ) → (c ≡ [] → ⊥) → last_line c ≡ record { content = c; lf = false } ∷ []
+last_line-some [] h = absurd (h refl)
+last_line-some (b ∷ c) h = refl
+
+raw-ended : (l : Line) → l.lf ≡ true → raw l ≡ l.content ++ 10 ∷ []
+raw-ended l h = rw h refl
+
+same-line : (l : Line) (b : Bool) → l.lf ≡ b → l ≡ record { content = l.content; lf = b }
+same-line l b h = ap (λ x. record { content = l.content; lf = x }) h
+
+lines-of : (ls : List Line) → HaveNoLf ls → AreEnded ls → ls ≡ lines (flat_map raw ls)
+lines-of [] h e = refl
+lines-of (l ∷ []) h (inl t) =
+    rw (raw-ended l t, append-nil (l.content ++ 10 ∷ [])) (ap (λ x. x ∷ []) (same-line l true t) ∙ sym (lines-ended l.content [] h.0))
+lines-of (l ∷ []) h (inr t) =
+    rw (t.0, append-nil l.content) (sym (last_line-some l.content t.1) ∙ sym (lines-begun l.content h.0))
+lines-of (l ∷ m ∷ ls) h e =
+    let later : m ∷ ls ≡ lines (flat_map raw (m ∷ ls)) = lines-of (m ∷ ls) h.1 e.1 in
+    rw (raw-ended l e.0, append_assoc l.content (10 ∷ []) (flat_map raw (m ∷ ls)))
+    (ap (λ x. x ∷ m ∷ ls) (same-line l true e.0) ∙ (ap (λ x. ended_line l.content ∷ x) later ∙ sym (lines-ended l.content (flat_map raw (m ∷ ls)) h.0)))
+
+pub only-lines : (s : List ℕ) (ls : List Line) → IsLines s ls → ls ≡ lines s
+only-lines s ls h = lines-of ls h.contents h.ended ∙ ap lines h.joined
+
+-- what LF ended, joined again, and then what it has not ended
+joined-byte : (b : ℕ) (is : Bool) (cs : List (List ℕ)) (u s : List ℕ) → eqb b 10 ≡ is → flat_map raw (map ended_line cs) ++ u ≡ s
+    → flat_map raw (map ended_line (cond is ([] ∷ cs) (onto_first b cs))) ++ cond is u (begun_with cs b u) ≡ b ∷ s
+joined-byte b true cs u s h e = let lf : b ≡ 10 = eqb-true b 10 h in rw lf (ap (λ z. 10 ∷ z) e)
+joined-byte b false [] u s h e = ap (λ z. b ∷ z) e
+joined-byte b false (c ∷ cs) u s h e = ap (λ z. b ∷ z) e
+
+pub whole-begun : (s : List ℕ) → whole s ++ begun s ≡ s
+whole-begun [] = refl
+whole-begun (b ∷ s) = joined-byte b (eqb b 10) (closed s) (begun s) s refl (whole-begun s)
+
+HaveNoLf-append : (xs ys : List Line) → HaveNoLf xs → HaveNoLf ys → HaveNoLf (xs ++ ys)
+HaveNoLf-append [] ys p q = q
+HaveNoLf-append (x ∷ xs) ys p q = (p.0, HaveNoLf-append xs ys p.1 q)
+
+HaveNoLf-byte : (b : ℕ) (is : Bool) (cs : List (List ℕ)) → eqb b 10 ≡ is → HaveNoLf (map ended_line cs) → HaveNoLf (map ended_line (cond is ([] ∷ cs) (onto_first b cs)))
+HaveNoLf-byte b true cs h k = (tt, k)
+HaveNoLf-byte b false [] h k = tt
+HaveNoLf-byte b false (c ∷ cs) h k = ((h, k.0), k.1)
+
+pub HaveNoLf-closed : (s : List ℕ) → HaveNoLf (map ended_line (closed s))
+HaveNoLf-closed [] = tt
+HaveNoLf-closed (b ∷ s) = HaveNoLf-byte b (eqb b 10) (closed s) refl (HaveNoLf-closed s)
+
+HaveNoLf-last : (c : List ℕ) → NoLf c → HaveNoLf (last_line c)
+HaveNoLf-last [] h = tt
+HaveNoLf-last (b ∷ c) h = (h, tt)
+
+raw-last : (c : List ℕ) → flat_map raw (last_line c) ≡ c
+raw-last [] = refl
+raw-last (b ∷ c) = append-nil (b ∷ c)
+
+pub raw-append : (xs ys : List Line) → flat_map raw (xs ++ ys) ≡ flat_map raw xs ++ flat_map raw ys
+raw-append [] ys = refl
+raw-append (x ∷ xs) ys = ap (λ z. raw x ++ z) (raw-append xs ys) ∙ sym (append_assoc (raw x) (flat_map raw xs) (flat_map raw ys))
+
+AreEnded-last : (cs : List (List ℕ)) (c : List ℕ) → AreEnded (map ended_line cs ++ last_line c)
+AreEnded-last [] [] = tt
+AreEnded-last [] (b ∷ c) = inr (refl, λ e. clash b c e)
+  where
+    clash : (b : ℕ) (c : List ℕ) → b ∷ c ≡ [] → ⊥
+    clash b c e = cc
+AreEnded-last (d ∷ []) [] = inl refl
+AreEnded-last (d ∷ []) (b ∷ c) = (refl, AreEnded-last [] (b ∷ c))
+AreEnded-last (d ∷ e ∷ cs) c = (refl, AreEnded-last (e ∷ cs) c)
+
+pub lines-are_lines : (s : List ℕ) → IsLines s (lines s)
+lines-are_lines s = record {
+  contents = HaveNoLf-append (map ended_line (closed s)) (last_line (begun s)) (HaveNoLf-closed s) (HaveNoLf-last (begun s) (NoLf-begun s));
+  joined = raw-append (map ended_line (closed s)) (last_line (begun s)) ∙ (ap (λ z. whole s ++ z) (raw-last (begun s)) ∙ whole-begun s);
+  ended = AreEnded-last (closed s) (begun s);
+}
+
+AreEnded-closed : (cs : List (List ℕ)) → AreEnded (map ended_line cs)
+AreEnded-closed [] = tt
+AreEnded-closed (d ∷ []) = inl refl
+AreEnded-closed (d ∷ e ∷ cs) = (refl, AreEnded-closed (e ∷ cs))
+
+-- the lines of a text up to its last LF are those that LF ended
+pub lines-whole : (s : List ℕ) → lines (whole s) ≡ map ended_line (closed s)
+lines-whole s = sym (only-lines (whole s) (map ended_line (closed s)) (record { contents = HaveNoLf-closed s; joined = refl; ended = AreEnded-closed (closed s) }))
+
+whole-ends : (cs : List (List ℕ)) → (flat_map raw (map ended_line cs) ≡ [] → ⊥) → (front : List ℕ) × (flat_map raw (map ended_line cs) ≡ front ++ 10 ∷ [])
+whole-ends [] h = absurd (h refl)
+whole-ends (c ∷ []) h = (c, append-nil (c ++ 10 ∷ []))
+whole-ends (c ∷ d ∷ cs) h =
+    let later = whole-ends (d ∷ cs) (some_bytes d cs) in
+    ((c ++ 10 ∷ []) ++ later.0, ap (λ z. (c ++ 10 ∷ []) ++ z) later.1 ∙ sym (append_assoc (c ++ 10 ∷ []) later.0 (10 ∷ [])))
+  where
+    some_bytes : (d : List ℕ) (cs : List (List ℕ)) → flat_map raw (map ended_line (d ∷ cs)) ≡ [] → ⊥
+    some_bytes [] cs e = cc
+    some_bytes (b ∷ d) cs e = cc
+
+pub whole-is_whole : (s : List ℕ) → IsWhole s (whole s)
+whole-is_whole s = record {
+  rest = begun s;
+  cut = sym (whole-begun s);
+  no_lf = NoLf-begun s;
+  ended = whole-ends (closed s);
+}

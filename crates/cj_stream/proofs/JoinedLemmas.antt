@@ -1,0 +1,34 @@
+-- Pieces, joined.
+use Rattle.std.proofs.Common.{◌≡◌, ℕ, ◌+◌, ◌<◌, ◌≤◌, List, [], ◌∷◌, ◌++◌, zero, suc, length, take, drop, get_or, map, refl, sym, ap, ◌∙◌, arith, append_assoc, length-append}
+use Rattle.std.proofs.lemmas.List.{append-nil, take-append-drop, take_all}
+use Rattle.cj_stream.specs.Cut.{joined}
+
+joined-append : (xs ys : List (List ℕ)) → joined (xs ++ ys) ≡ joined xs ++ joined ys
+joined-append [] ys = refl
+joined-append (x ∷ xs) ys = ap (λ z. x ++ z) (joined-append xs ys) ∙ sym (append_assoc x (joined xs) (joined ys))
+
+pub joined-cut : (n : ℕ) (ps : List (List ℕ)) → joined (take n ps) ++ joined (drop n ps) ≡ joined ps
+joined-cut n ps = sym (joined-append (take n ps) (drop n ps)) ∙ ap joined (take-append-drop n ps)
+
+pub joined-all : (n : ℕ) (ps : List (List ℕ)) → length ps ≤ n → joined (take n ps) ≡ joined ps
+joined-all n ps h = ap joined (take_all n ps h)
+
+-- one piece more
+pub joined-more : {A : Type 0} (now : A → List ℕ) (xs : List A) (i : ℕ) (d : A) → i < length xs → joined (take (i + 1) (map now xs)) ≡ joined (take i (map now xs)) ++ now (get_or xs i d)
+joined-more now [] i d h = absurd (omega arith)
+joined-more now (x ∷ xs) zero d h = append-nil (now x)
+joined-more now (x ∷ xs) (suc i) d h =
+    let later = joined-more now xs i d (omega arith) in
+    let next : suc i + 1 ≡ suc (i + 1) = omega arith in
+    rw next (ap (λ z. now x ++ z) later ∙ sym (append_assoc (now x) (joined (take i (map now xs))) (now (get_or xs i d))))
+
+pub joined-short : {A : Type 0} (now : A → List ℕ) (xs : List A) (i : ℕ) (d : A) → i < length xs → length (joined (take i (map now xs))) + length (now (get_or xs i d)) ≤ length (joined (map now xs))
+joined-short now xs i d h =
+    let front = joined (take i (map now xs)) in
+    let piece = now (get_or xs i d) in
+    omega (arith, ap length (joined-more now xs i d h), length-append front piece, ap length (joined-cut (i + 1) (map now xs)), length-append (joined (take (i + 1) (map now xs))) (joined (drop (i + 1) (map now xs))))
+
+-- all pieces: those before one, that one, and those after it
+pub joined-at : {A : Type 0} (now : A → List ℕ) (xs : List A) (i : ℕ) (d : A) → i < length xs
+    → joined (map now xs) ≡ (joined (take i (map now xs)) ++ now (get_or xs i d)) ++ joined (drop (i + 1) (map now xs))
+joined-at now xs i d h = sym (joined-cut (i + 1) (map now xs)) ∙ ap (λ z. z ++ joined (drop (i + 1) (map now xs))) (joined-more now xs i d h)

@@ -1,0 +1,70 @@
+-- Known bytes that grow twice.
+use Rattle.std.proofs.Common.{◌≡◌, ℕ, Result, Ok, Err, Bool, true, false, ◌∷◌, List, [], ◌++◌, ◌-◌, ◌≤◌, length, take, drop, arith, length-drop, Option, Some, None, sym, ap, ◌∙◌, append_assoc}
+use Rattle.std.specs.Prelude.{OnErr, OnOk}
+use Rattle.cj_stream.specs.Lines.{raw}
+use Rattle.std.proofs.lemmas.List.{append-nil, take-append-drop, take_all}
+use Rattle.std.specs.Io.KnownBytes.{Appends, Keeps}
+use Rattle.cj_stream.specs.Sink.{AppendsPart}
+
+pub Appends-then : (a b c : Option (List ℕ)) (x y : List ℕ) → Appends a b x → Appends b c y → Appends a c (x ++ y)
+Appends-then None b c x y p q = tt
+Appends-then (Some a) None c x y p q = absurd p
+Appends-then (Some a) (Some b) None x y p q = absurd q
+Appends-then (Some a) (Some b) (Some c) x y p q = q ∙ (ap (λ z. z ++ y) p ∙ append_assoc a x y)
+
+pub Appends-nothing : (a : Option (List ℕ)) → Appends a a []
+Appends-nothing None = tt
+Appends-nothing (Some a) = sym (append-nil a)
+
+pub Appends-kept : (a b c : Option (List ℕ)) (x : List ℕ) → Appends a b x → Keeps b c → Appends a c x
+Appends-kept None b c x p q = tt
+Appends-kept (Some a) None c x p q = absurd p
+Appends-kept (Some a) (Some b) None x p q = absurd q
+Appends-kept (Some a) (Some b) (Some c) x p q = q ∙ p
+
+-- what is left of a slice after its first n bytes were taken
+pub taken_more : (all done rest : List ℕ) (n : ℕ) → n ≤ length rest → all ≡ done ++ rest → all ≡ (done ++ take n rest) ++ take (length rest - n) (drop n rest)
+taken_more all done rest n le e =
+    let d : take (length rest - n) (drop n rest) ≡ drop n rest = take_all (length rest - n) (drop n rest) (omega (arith, length-drop n rest)) in
+    rw d (e ∙ (ap (λ z. done ++ z) (sym (take-append-drop n rest)) ∙ sym (append_assoc done (take n rest) (drop n rest))))
+
+-- a fact, whatever the result
+pub on_err_any : {T E P : Type 0} (r : Result T E) → P → OnErr r P
+on_err_any (Ok x) p = tt
+on_err_any (Err x) p = p
+
+pub on_ok_any : {T E P : Type 0} (r : Result T E) → P → OnOk r P
+on_ok_any (Ok x) p = p
+on_ok_any (Err x) p = tt
+
+-- some bytes, and then a front of others
+pub AppendsPart-after : (a b c : Option (List ℕ)) (x y : List ℕ) → Appends a b x → AppendsPart b c y → AppendsPart a c (x ++ y)
+AppendsPart-after a b c x y p q = record {
+  front = x ++ q.front;
+  rest = q.rest;
+  whole = ap (λ z. x ++ z) q.whole ∙ sym (append_assoc x q.front q.rest);
+  grows = Appends-then a b c x q.front p q.grows;
+}
+
+-- a front of some bytes, of which others follow
+pub AppendsPart-front : (a b : Option (List ℕ)) (x y : List ℕ) → AppendsPart a b x → AppendsPart a b (x ++ y)
+AppendsPart-front a b x y q = record {
+  front = q.front;
+  rest = q.rest ++ y;
+  whole = ap (λ z. z ++ y) q.whole ∙ append_assoc q.front q.rest y;
+  grows = q.grows;
+}
+
+-- a fault in the content of a line
+pub AppendsPart-raw : (a b : Option (List ℕ)) (content : List ℕ) (lf : Bool) → AppendsPart a b content → AppendsPart a b (raw (record { content = content; lf = lf }))
+AppendsPart-raw a b content true q = AppendsPart-front a b content (10 ∷ []) q
+AppendsPart-raw a b content false q = q
+
+-- all of some bytes, or a front of them
+pub AppendsPart-either : {T E : Type 0} (r : Result T E) (a b : Option (List ℕ)) (x : List ℕ) → OnOk r (Appends a b x) → OnErr r (AppendsPart a b x) → AppendsPart a b x
+AppendsPart-either (Ok y) a b x p q = record { front = x; rest = []; whole = sym (append-nil x); grows = p }
+AppendsPart-either (Err y) a b x p q = q
+
+-- what is kept afterwards
+pub AppendsPart-kept : (a b c : Option (List ℕ)) (x : List ℕ) → AppendsPart a b x → Keeps b c → AppendsPart a c x
+AppendsPart-kept a b c x p q = record { front = p.front; rest = p.rest; whole = p.whole; grows = Appends-kept a b c p.front p.grows q }

@@ -1,0 +1,128 @@
+-- The lines of a text that goes on.
+use Rattle.std.proofs.Common.{◌≡◌, ℕ, List, [], ◌∷◌, ◌++◌, Bool, true, false, eqb, cond, suc, ◌<◌, ◌≤◌, length, get_or, arith, refl, ap, ◌∙◌}
+use Rattle.std.proofs.lemmas.List.{append-nil}
+use Rattle.cj_stream.specs.Lines.{closed, begun, begun_with, begun_after, onto_first, first_of, first_content, NoLf}
+
+-- a test that is not true is false
+pub not_true : (x : Bool) → ¬ (x ≡ true) → x ≡ false
+not_true true h = absurd (h refl)
+not_true false h = refl
+
+pub closed-none : (c : List ℕ) → NoLf c → closed c ≡ []
+closed-none [] h = refl
+closed-none (b ∷ c) h = rw (h.0, closed-none c h.1)
+
+pub begun-none : (c : List ℕ) → NoLf c → begun c ≡ c
+begun-none [] h = refl
+begun-none (b ∷ c) h = rw (h.0, closed-none c h.1, begun-none c h.1)
+
+pub closed-ended : (c t : List ℕ) → NoLf c → closed (c ++ 10 ∷ t) ≡ c ∷ closed t
+closed-ended [] t h = refl
+closed-ended (b ∷ c) t h = rw (h.0, closed-ended c t h.1)
+
+pub begun-ended : (c t : List ℕ) → NoLf c → begun (c ++ 10 ∷ t) ≡ begun t
+begun-ended [] t h = refl
+begun-ended (b ∷ c) t h = rw (h.0, closed-ended c t h.1, begun-ended c t h.1)
+
+onto_first-then : (b : ℕ) (cs : List (List ℕ)) (u t : List ℕ) → eqb b 10 ≡ false
+    → onto_first b (cs ++ closed (u ++ t)) ≡ onto_first b cs ++ closed (begun_with cs b u ++ t)
+onto_first-then b [] u t h = rw h
+onto_first-then b (c ∷ cs) u t h = refl
+
+closed-then-byte : (b : ℕ) (is : Bool) (s t : List ℕ) → eqb b 10 ≡ is → closed (s ++ t) ≡ closed s ++ closed (begun s ++ t)
+    → cond is ([] ∷ closed (s ++ t)) (onto_first b (closed (s ++ t))) ≡ cond is ([] ∷ closed s) (onto_first b (closed s)) ++ closed (cond is (begun s) (begun_with (closed s) b (begun s)) ++ t)
+closed-then-byte b true s t h e = ap (λ x. [] ∷ x) e
+closed-then-byte b false s t h e = rw e (onto_first-then b (closed s) (begun s) t h)
+
+pub closed-then : (p t : List ℕ) → closed (p ++ t) ≡ closed p ++ closed (begun p ++ t)
+closed-then [] t = refl
+closed-then (b ∷ s) t = closed-then-byte b (eqb b 10) s t refl (closed-then s t)
+
+begun_with-then : (b : ℕ) (cs : List (List ℕ)) (u t : List ℕ) → eqb b 10 ≡ false
+    → begun_with (cs ++ closed (u ++ t)) b (begun (u ++ t)) ≡ begun (begun_with cs b u ++ t)
+begun_with-then b [] u t h = rw h
+begun_with-then b (c ∷ cs) u t h = refl
+
+begun-then-byte : (b : ℕ) (is : Bool) (s t : List ℕ) → eqb b 10 ≡ is → begun (s ++ t) ≡ begun (begun s ++ t)
+    → cond is (begun (s ++ t)) (begun_with (closed (s ++ t)) b (begun (s ++ t))) ≡ begun (cond is (begun s) (begun_with (closed s) b (begun s)) ++ t)
+begun-then-byte b true s t h e = e
+begun-then-byte b false s t h e = rw (closed-then s t, e) (begun_with-then b (closed s) (begun s) t h)
+
+pub begun-then : (p t : List ℕ) → begun (p ++ t) ≡ begun (begun p ++ t)
+begun-then [] t = refl
+begun-then (b ∷ s) t = begun-then-byte b (eqb b 10) s t refl (begun-then s t)
+
+NoLf-begun_with : (cs : List (List ℕ)) (b : ℕ) (s : List ℕ) → eqb b 10 ≡ false → NoLf s → NoLf (begun_with cs b s)
+NoLf-begun_with [] b s h k = (h, k)
+NoLf-begun_with (c ∷ cs) b s h k = k
+
+NoLf-byte : (b : ℕ) (is : Bool) (s : List ℕ) → eqb b 10 ≡ is → NoLf (begun s) → NoLf (cond is (begun s) (begun_with (closed s) b (begun s)))
+NoLf-byte b true s h k = k
+NoLf-byte b false s h k = NoLf-begun_with (closed s) b (begun s) h k
+
+pub NoLf-begun : (s : List ℕ) → NoLf (begun s)
+NoLf-begun [] = tt
+NoLf-begun (b ∷ s) = NoLf-byte b (eqb b 10) s refl (NoLf-begun s)
+
+pub NoLf-append : (x y : List ℕ) → NoLf x → NoLf y → NoLf (x ++ y)
+NoLf-append [] y p q = q
+NoLf-append (b ∷ x) y p q = (p.0, NoLf-append x y p.1 q)
+
+-- the bytes before a first LF, as a search finds it
+pub NoLf-from_places : (s : List ℕ) → ((k : ℕ) → k < length s → ¬ (eqb (get_or s k 0) 10 ≡ true)) → NoLf s
+NoLf-from_places [] h = tt
+NoLf-from_places (b ∷ s) h = (not_true _ (h 0 (omega arith)), NoLf-from_places s (λ k lt. h (suc k) (omega arith)))
+
+-- bytes without LF
+pub closed-more : (p t : List ℕ) → NoLf t → closed (p ++ t) ≡ closed p
+closed-more p t h = closed-then p t ∙ (ap (λ z. closed p ++ z) (closed-none (begun p ++ t) (NoLf-append (begun p) t (NoLf-begun p) h)) ∙ append-nil (closed p))
+
+pub begun-more : (p t : List ℕ) → NoLf t → begun (p ++ t) ≡ begun p ++ t
+begun-more p t h = begun-then p t ∙ begun-none (begun p ++ t) (NoLf-append (begun p) t (NoLf-begun p) h)
+
+-- an LF, and what follows
+pub closed-lf : (p t : List ℕ) → closed (p ++ 10 ∷ t) ≡ closed p ++ begun p ∷ closed t
+closed-lf p t = closed-then p (10 ∷ t) ∙ ap (λ z. closed p ++ z) (closed-ended (begun p) t (NoLf-begun p))
+
+pub begun-lf : (p t : List ℕ) → begun (p ++ 10 ∷ t) ≡ begun t
+begun-lf p t = begun-then p (10 ∷ t) ∙ begun-ended (begun p) t (NoLf-begun p)
+
+pub first_of-some : (cs : List (List ℕ)) (a b : List ℕ) → 0 < length cs → first_of cs a ≡ first_of cs b
+first_of-some [] a b h = absurd (omega arith)
+first_of-some (c ∷ cs) a b h = refl
+
+pub first_of-lf : (cs : List (List ℕ)) (b : List ℕ) → first_of (cs ++ b ∷ []) [] ≡ first_of cs b
+first_of-lf [] b = refl
+first_of-lf (c ∷ cs) b = refl
+
+pub begun_after-some : (cs : List (List ℕ)) (b : List ℕ) → 0 < length cs → begun_after cs b ≡ b
+begun_after-some [] b h = absurd (omega arith)
+begun_after-some (c ∷ cs) b h = refl
+
+pub begun_after-empty : (cs : List (List ℕ)) → begun_after cs [] ≡ []
+begun_after-empty [] = refl
+begun_after-empty (c ∷ cs) = refl
+
+pub none-from_length : {A : Type 0} (cs : List A) → length cs ≡ 0 → cs ≡ []
+none-from_length [] h = refl
+none-from_length (c ∷ cs) h = absurd (omega arith)
+
+first_of-onto : (b : ℕ) (cs : List (List ℕ)) (s : List ℕ) → first_of (onto_first b cs) (begun_with cs b s) ≡ b ∷ first_of cs s
+first_of-onto b [] s = refl
+first_of-onto b (c ∷ cs) s = refl
+
+-- a byte that is no LF begins the first line
+first_content-byte : (b : ℕ) (s : List ℕ) → eqb b 10 ≡ false → first_content (b ∷ s) ≡ b ∷ first_content s
+first_content-byte b s h = rw h (first_of-onto b (closed s) (begun s))
+
+pub first_content-long : (c t : List ℕ) → NoLf c → length c ≤ length (first_content (c ++ t))
+first_content-long [] t h = omega arith
+first_content-long (b ∷ c) t h = rw (first_content-byte b (c ++ t) h.0) (omega (arith, first_content-long c t h.1))
+
+-- the first line does not get shorter
+pub first_content-grows : (p t : List ℕ) → length (first_content p) ≤ length (first_content (p ++ t))
+first_content-grows p t = first_of-grows (closed p) (begun p) (p ++ t) (closed-then p t) (begun-then p t) (NoLf-begun p)
+  where
+    first_of-grows : (cs : List (List ℕ)) (b : List ℕ) (q : List ℕ) → closed q ≡ cs ++ closed (b ++ t) → begun q ≡ begun (b ++ t) → NoLf b → length (first_of cs b) ≤ length (first_of (closed q) (begun q))
+    first_of-grows [] b q e f h = rw (e, f) (first_content-long b t h)
+    first_of-grows (c ∷ cs) b q e f h = rw e (omega arith)

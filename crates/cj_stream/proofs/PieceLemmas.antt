@@ -1,0 +1,236 @@
+-- How a framer advances over a piece, and where it stops.
+use Rattle.std.proofs.Common.{◌≡◌, ℕ, ◌+◌, ◌<◌, ◌⊎◌, inl, inr, List, [], ◌∷◌, ◌++◌, Bool, true, false, ltb, length, map, Some, None, Result, Ok, Err, arith, refl, sym, ap, ◌∙◌, subst, append_assoc, length-append}
+use Rattle.std.specs.Prelude.{if◌then◌else◌, slice_get}
+use Rattle.cj_stream.specs.Verdict.{WantsTokens}
+use Rattle.std.proofs.lemmas.List.{append-nil}
+use Rattle.std.proofs.lemmas.Bool.Decides.{nat_tests}
+use Rattle.cj_budget.specs.Limits.{LimitPair}
+use Rattle.cj_spans.specs.declared.reason.Reason.TheVariants.{LineTooLong}
+use Rattle.cj_stream.specs.declared.judge.Verdict.{Verdict}
+use Rattle.cj_stream.specs.declared.judge.Verdict.TheVariants.{Refuse, Blank, Valid}
+use Rattle.cj_stream.specs.declared.ending.End.{End}
+use Rattle.cj_stream.specs.declared.ending.End.TheVariants.{Refused, WriteFault, Memory}
+use Rattle.cj_stream.specs.Lines.{Line, lines, closed, begun, ended_line, last_line, NoLf}
+use Rattle.cj_stream.specs.Verdict.{verdict, refusal_of, is_kept, long_line}
+use Rattle.cj_stream.specs.Reading.{Reading, begun_of, Stores, Passes, Deals, Settles, Reads, kept_closed, Puts, Advances, IsNext, HasCause, Stops}
+use Rattle.cj_stream.specs.Sink.{Took}
+use Rattle.cj_stream.proofs.LineLemmas.{closed-more, begun-more, closed-lf, begun-lf}
+use Rattle.cj_stream.proofs.VerdictLemmas.{verdict-long}
+use Rattle.cj_stream.proofs.ReadingLemmas.{Reads-stored, Reads-passed, kept_closed-lf, map_lines-append, length-map_lines}
+use Rattle.cj_stream.proofs.EngineLemmas.{get-next, next-line}
+
+-- steps, and then others
+pub Took-append : {S X : Type 0} (step : S → X → S → Type 0) (a b c : S) (xs ys : List X) → Took step a xs b → Took step b ys c → Took step a (xs ++ ys) c
+Took-append step a b c [] ys h k = subst (λ z. Took step z ys c) h k
+Took-append step a b c (x ∷ xs) ys h k = (h.0, h.1, Took-append step h.0 b c xs ys h.2 k)
+
+module _ {S : Type 0} (takes leaves : S → Line → S → Type 0) where
+  pub Puts-none : (limits : LimitPair) (p q : List ℕ) (s : S) → closed q ≡ closed p → Puts takes limits p q s s
+  Puts-none limits p q s e = ([], rw e (sym (append-nil (kept_closed limits p))), refl)
+
+  pub Puts-then : (limits : LimitPair) (p q r : List ℕ) (s t u : S) → Puts takes limits p q s t → Puts takes limits q r t u → Puts takes limits p r s u
+  Puts-then limits p q r s t u h k =
+      (h.0 ++ k.0, k.1 ∙ (ap (λ z. z ++ k.0) h.1 ∙ append_assoc (kept_closed limits p) h.0 k.0), Took-append takes s t u h.0 k.0 h.2 k.2)
+
+  pub Advances-none : (f : Reading) (s : S) (p : List ℕ) → Reads f p → Advances takes f s p [] f s
+  Advances-none f s p h = record {
+    limits = refl;
+    reads = rw (append-nil p) h;
+    puts = Puts-none f.limits p (p ++ []) s (ap closed (append-nil p));
+  }
+
+  pub Advances-then : (f g h : Reading) (s t u : S) (p a b : List ℕ) → Advances takes f s p a g t → Advances takes g t (p ++ a) b h u → Advances takes f s p (a ++ b) h u
+  Advances-then f g h s t u p a b x y = record {
+    limits = y.limits ∙ x.limits;
+    reads = rw (← append_assoc p a b) y.reads;
+    puts =
+        let k = rw x.limits at y.puts in
+        rw (← append_assoc p a b) (Puts-then f.limits p (p ++ a) ((p ++ a) ++ b) s t u x.puts k);
+  }
+
+  pub Advances-stored : (f g : Reading) (s : S) (p part : List ℕ) → Reads f p → NoLf part → Stores f part g → Advances takes f s p part g s
+  Advances-stored f g s p part h n st = record {
+    limits = st.limits;
+    reads = Reads-stored f g p part h n st;
+    puts = Puts-none f.limits p (p ++ part) s (closed-more p part n);
+  }
+
+  passed : (g h : Reading) (s t : S) (p : List ℕ) (put : Bool) → Reads g p → Passes put g h
+      → refusal_of (g.lines + 1) (verdict g.limits (g.lines + 1) (begun_of g)) ≡ None → put ≡ is_kept (verdict g.limits (g.lines + 1) (begun_of g))
+      → Took takes s (if put then ended_line (begun p) ∷ [] else []) t → Advances takes g s p (10 ∷ []) h t
+  passed g h s t p put r x fine k took = record {
+    limits = x.limits;
+    reads = Reads-passed g h p put r x fine k;
+    puts = (_, kept_closed-lf g.limits p (g.lines + 1) put (ap (λ z. z + 1) r.lines) (rw (← r.begun) k), took);
+  }
+
+  dealt : (g h : Reading) (s t : S) (p : List ℕ) (v : Verdict) (r : Result (Unit {0}) End) → Reads g p → verdict g.limits (g.lines + 1) (begun_of g) ≡ v
+      → Deals takes leaves v (record { content = begun_of g; lf = true }) g s r h t → r ≡ Ok tt → Advances takes g s p (10 ∷ []) h t
+  dealt g h s t p (Refuse place reason) r reads e d ok = absurd (clash r _ d.0 ok)
+    where
+      clash : (r : Result (Unit {0}) End) (x : End) → r ≡ Err x → r ≡ Ok tt → ⊥
+      clash r x a b = cc
+  dealt g h s t p Blank r reads e d ok = passed g h s t p false reads d.1 (rw e refl) (rw e refl) d.2
+  dealt g h s t p Valid (Err x) reads e d ok = absurd (clash x ok)
+    where
+      clash : (x : End) → ◌≡◌ {A = Result (Unit {0}) End} (Err x) (Ok tt) → ⊥
+      clash x a = cc
+  dealt g h s t p Valid (Ok x) reads e d ok =
+      passed g h s t p true reads d.0 (rw e refl) (rw e refl) (t, rw (← reads.begun) d.1, refl)
+
+  settled : (g h : Reading) (s t : S) (p : List ℕ) (r : Result (Unit {0}) End) → Reads g p
+      → Settles takes leaves (verdict g.limits (g.lines + 1) (begun_of g)) (record { content = begun_of g; lf = true }) g s r h t → r ≡ Ok tt → Advances takes g s p (10 ∷ []) h t
+  settled g h s t p r reads (inl d) ok = dealt g h s t p _ r reads refl d ok
+  settled g h s t p r reads (inr m) ok = absurd (clash r m.0 ok)
+    where
+      clash : (r : Result (Unit {0}) End) → r ≡ Err Memory → r ≡ Ok tt → ⊥
+      clash r a b = cc
+
+  -- a part and an LF
+  pub Advances-line : (f g h : Reading) (s t : S) (p part : List ℕ) (r : Result (Unit {0}) End) → Reads f p → NoLf part → Stores f part g
+      → Settles takes leaves (verdict g.limits (g.lines + 1) (begun_of g)) (record { content = begun_of g; lf = true }) g s r h t → r ≡ Ok tt
+      → Advances takes f s p (part ++ 10 ∷ []) h t
+  Advances-line f g h s t p part r reads n st d ok =
+      let a = Advances-stored f g s p part reads n st in
+      Advances-then f g h s s t p part (10 ∷ []) a (settled g h s t (p ++ part) r a.reads d ok)
+
+  pub Stops-later : (f g h : Reading) (s t u : S) (p a b : List ℕ) (e : End) → Advances takes f s p a g t → Stops takes leaves g t (p ++ a) b e h u → Stops takes leaves f s p (a ++ b) e h u
+  Stops-later f g h s t u p a b e x y = record {
+    done = a ++ y.done;
+    left = y.left;
+    middle = y.middle;
+    cut = ap (λ z. a ++ z) y.cut ∙ sym (append_assoc a y.done y.left);
+    limits = y.limits ∙ x.limits;
+    reads = rw (← append_assoc p a y.done) y.reads;
+    puts =
+        let k = rw x.limits at y.puts in
+        rw (← append_assoc p a y.done) (Puts-then f.limits p (p ++ a) ((p ++ a) ++ y.done) s t y.middle x.puts k);
+    cause = let k = rw x.limits at y.cause in rw (← append_assoc p a y.done, ← append_assoc p a b) k;
+  }
+
+  IsNext-ended : (limits : LimitPair) (p part more : List ℕ) → NoLf part → IsNext limits (p ++ part) (p ++ (part ++ 10 ∷ more)) (ended_line (begun p ++ part))
+  IsNext-ended limits p part more n = (
+    map ended_line (closed more) ++ long_line limits (begun more),
+    rw (← append_assoc p part (10 ∷ more), closed-lf (p ++ part) more, begun-lf (p ++ part) more, map_lines-append (closed (p ++ part)) (begun (p ++ part) ∷ closed more), begun-more p part n)
+        (append_assoc (map ended_line (closed (p ++ part))) (ended_line (begun p ++ part) ∷ map ended_line (closed more)) (long_line limits (begun more))),
+  )
+
+  long_line-long : (limits : LimitPair) (c : List ℕ) → limits.line < length c → long_line limits c ≡ record { content = c; lf = false } ∷ []
+  long_line-long limits [] h = absurd (omega arith)
+  long_line-long limits (b ∷ c) h = let e : ltb limits.line (length (b ∷ c)) ≡ true = grind (arith, nat_tests) in rw e refl
+
+  IsNext-long : (limits : LimitPair) (p part : List ℕ) → NoLf part → limits.line < length (begun p ++ part) → IsNext limits p (p ++ part) (record { content = begun p ++ part; lf = false })
+  IsNext-long limits p part n long = (
+    [],
+    rw (closed-more p part n, begun-more p part n, long_line-long limits (begun p ++ part) long) refl,
+  )
+
+  last_line-some : (c : List ℕ) → 0 < length c → last_line c ≡ record { content = c; lf = false } ∷ []
+  last_line-some [] h = absurd (omega arith)
+  last_line-some (b ∷ c) h = refl
+
+  next-begun : (n : ℕ) (p part : List ℕ) → NoLf part → 0 < length part → n ≡ length (closed p) → slice_get (lines (p ++ part)) n ≡ Some (record { content = begun p ++ part; lf = false })
+  next-begun n p part plain some e =
+      rw (closed-more p part plain, begun-more p part plain, last_line-some (begun p ++ part) (omega (arith, some, length-append (begun p) part)))
+      (get-next (map ended_line (closed p)) [] (record { content = begun p ++ part; lf = false }) n (e ∙ sym (length-map_lines (closed p))))
+
+  -- why a part is not stored
+  abbrev pub Unstored : Reading → List ℕ → End → Type 0
+  Unstored f part e = ((e ≡ Memory) × (0 < length part)) ⊎ ((e ≡ Refused (f.lines + 1) f.limits.line LineTooLong) × (f.limits.line < length (begun_of f) + length part))
+
+  Unstored-cause : (f : Reading) (s : S) (p part q : List ℕ) (lf : Bool) (e : End) → Reads f p → Unstored f part e
+      → (0 < length part → slice_get (lines q) f.lines ≡ Some (record { content = begun p ++ part; lf = lf }))
+      → (f.limits.line < length (begun p ++ part) → IsNext f.limits p q (record { content = begun p ++ part; lf = lf }))
+      → HasCause leaves f.limits p q f.lines s s e
+  Unstored-cause f s p part q lf e reads (inl m) at next = rw m.0 (
+    refl,
+    record {
+      line = record { content = begun p ++ part; lf = lf };
+      next = at m.1;
+      cause = inl (omega (arith, m.1, length-append (begun p) part));
+    },
+  )
+  Unstored-cause f s p part q lf e reads (inr d) at next =
+      let long : f.limits.line < length (begun p ++ part) = rw (length-append (begun p) part, ← reads.begun) d.1 in
+      rw d.0 (record { content = begun p ++ part; lf = lf }, next long, refl, verdict-long f.limits (f.lines + 1) (begun p ++ part) long, refl)
+
+  stopped : (f : Reading) (s : S) (p more : List ℕ) (e : End) → Reads f p → HasCause leaves f.limits p (p ++ more) f.lines s s e → Stops takes leaves f s p more e f s
+  stopped f s p more e reads cause = record {
+    done = [];
+    left = more;
+    middle = s;
+    cut = refl;
+    limits = refl;
+    reads = rw (append-nil p) reads;
+    puts = Puts-none f.limits p (p ++ []) s (ap closed (append-nil p));
+    cause = rw (append-nil p) cause;
+  }
+
+  -- a part that is not stored, and an LF comes after it
+  pub Stops-unstored : (f : Reading) (s : S) (p part more : List ℕ) (e : End) → Reads f p → NoLf part → Unstored f part e → Stops takes leaves f s p (part ++ 10 ∷ more) e f s
+  Stops-unstored f s p part more e reads n u = stopped f s p (part ++ 10 ∷ more) e reads
+      (Unstored-cause f s p part (p ++ (part ++ 10 ∷ more)) true e reads u
+      (λ _. next-line f.limits f.lines p (p ++ (part ++ 10 ∷ more)) (ended_line (begun p ++ part)) next reads.lines)
+      (λ _. next))
+    where
+      next : IsNext f.limits p (p ++ (part ++ 10 ∷ more)) (ended_line (begun p ++ part))
+      next = let k = IsNext-ended f.limits p part more n in rw (closed-more p part n) at k
+
+  -- the last part is not stored
+  pub Stops-unstored_last : (f : Reading) (s : S) (p part : List ℕ) (e : End) → Reads f p → NoLf part → Unstored f part e → Stops takes leaves f s p part e f s
+  Stops-unstored_last f s p part e reads n u = stopped f s p part e reads
+      (Unstored-cause f s p part (p ++ part) false e reads u (λ some. next-begun f.lines p part n some reads.lines) (λ long. IsNext-long f.limits p part n long))
+
+  undealt : (g h : Reading) (s t : S) (p part more : List ℕ) (v : Verdict) (r : Result (Unit {0}) End) (e : End) → NoLf part → begun_of g ≡ begun p ++ part
+      → verdict g.limits (g.lines + 1) (begun_of g) ≡ v → Deals takes leaves v (record { content = begun_of g; lf = true }) g s r h t → r ≡ Err e
+      → (h ≡ g) × HasCause leaves g.limits (p ++ part) (p ++ (part ++ 10 ∷ more)) g.lines s t e
+  undealt g h s t p part more (Refuse place reason) r e n b is d err =
+      let same : e ≡ Refused (g.lines + 1) place reason = cc in
+      (d.1, rw same (ended_line (begun p ++ part), IsNext-ended g.limits p part more n, refl, rw (← b) is, d.2))
+  undealt g h s t p part more Blank r e n b is d err = absurd (clash r d.0 err)
+    where
+      clash : (r : Result (Unit {0}) End) → r ≡ Ok tt → r ≡ Err e → ⊥
+      clash r x y = cc
+  undealt g h s t p part more Valid (Ok x) e n b is d err = absurd (clash err)
+    where
+      clash : ◌≡◌ {A = Result (Unit {0}) End} (Ok x) (Err e) → ⊥
+      clash y = cc
+  undealt g h s t p part more Valid (Err x) e n b is d err =
+      let same : e ≡ WriteFault = cc in
+      (d.1, rw same (ended_line (begun p ++ part), IsNext-ended g.limits p part more n, rw (← b, is) refl, rw (← b) d.2))
+
+  unsettled : (g h : Reading) (s t : S) (p part more : List ℕ) (r : Result (Unit {0}) End) (e : End) → NoLf part → begun_of g ≡ begun p ++ part → g.lines ≡ length (closed (p ++ part))
+      → Settles takes leaves (verdict g.limits (g.lines + 1) (begun_of g)) (record { content = begun_of g; lf = true }) g s r h t → r ≡ Err e
+      → (h ≡ g) × HasCause leaves g.limits (p ++ part) (p ++ (part ++ 10 ∷ more)) g.lines s t e
+  unsettled g h s t p part more r e n b len (inl d) err = undealt g h s t p part more _ r e n b refl d err
+  unsettled g h s t p part more r e n b len (inr m) err =
+      let same : e ≡ Memory = cc in (
+        m.1,
+        rw same (
+          m.2,
+          record {
+            line = ended_line (begun p ++ part);
+            next = next-line g.limits g.lines (p ++ part) (p ++ (part ++ 10 ∷ more)) (ended_line (begun p ++ part)) (IsNext-ended g.limits p part more n) len;
+            cause = inr (subst (WantsTokens (g.lines + 1)) b m.3);
+          },
+        ),
+      )
+
+  -- a part that is stored, and a line that is not dealt with
+  pub Stops-undealt : (f g h : Reading) (s t : S) (p part more : List ℕ) (r : Result (Unit {0}) End) (e : End) → Reads f p → NoLf part → Stores f part g
+      → Settles takes leaves (verdict g.limits (g.lines + 1) (begun_of g)) (record { content = begun_of g; lf = true }) g s r h t → r ≡ Err e
+      → Stops takes leaves f s p (part ++ 10 ∷ more) e h t
+  Stops-undealt f g h s t p part more r e reads n st d err =
+      let a = Advances-stored f g s p part reads n st in
+      let b : begun_of g ≡ begun p ++ part = a.reads.begun ∙ begun-more p part n in
+      let u = unsettled g h s t p part more r e n b a.reads.lines d err in
+      record {
+        done = part;
+        left = 10 ∷ more;
+        middle = s;
+        cut = refl;
+        limits = ap (λ x. x.limits) u.0 ∙ st.limits;
+        reads = rw u.0 a.reads;
+        puts = a.puts;
+        cause = let k = rw st.limits at u.1 in rw u.0 k;
+      }

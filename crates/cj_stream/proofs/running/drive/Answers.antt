@@ -1,0 +1,115 @@
+use Rattle.std.proofs.Common.{◌++◌, ◌∙◌, length-take, take, refl, ap, arith, Err}
+use Rattle.std.proofs.lemmas.List.{append-nil}
+use Rattle.cj_stream.specs.declared.ending.End.TheVariants.{ReadFault, ReadLimit}
+use Rattle.cj_stream.specs.Engine.{limits_of, lines_of}
+use Rattle.cj_stream.proofs.RunLemmas.{Consumes-then, Consumes-kept, Delivers-then, Runs-left, kept_first-same, Ends-finished, Ends-fed, whole-good, HasRisen-after, told-not_complete, fault-not_complete, limit-not_complete}
+use Rattle.std.specs.Prelude.{is_err}
+use Rattle.cj_stream.proofs.CutLemmas.{unread-told, unread-concludes}
+use Rattle.cj_stream.proofs.DeviceLemmas.{unfailed-end, unfailed-limit}
+use Rattle.cj_stream.proofs.running.drive.Goals as goal
+
+pub returns-in-Err-clause-runs : goal.returns-in-Err-clause-runs
+returns-in-Err-clause-runs g c =
+    let i = c.loop-i.invariant in
+    let r = i.5.0 in
+    let stands = i.5.2 in (
+      r,
+      Consumes-kept _ _ _ r i.5.1 c.in-Err.ensures.bytes,
+      rw (← i.3) (let k = rw (← i.3) at i.5.3 in Runs-left _ _ c.loop-i.engine r _ _ _ ReadFault fault-not_complete (whole-good c.loop-i.engine r (stands.going i.2).0) (λ m u e. e) stands k),
+    )
+
+pub returns-in-Ok-eq0-clause-runs : goal.returns-in-Ok-eq0-clause-runs
+returns-in-Ok-eq0-clause-runs g c =
+    let i = c.loop-i.invariant in
+    let r = i.5.0 in
+    let stands = c.finish.ensures.stands r i.5.2 in (
+      r,
+      let k = Consumes-then _ _ _ r (take c.in-Ok-eq0.field-0 c.read_once.new.buffer) i.5.1 c.in-Ok-eq0.ensures.bytes.0 in rw (c.in-Ok-eq0.field-0-test, append-nil r) at k,
+      record {
+        account = record {
+          bounded = let k = stands.bounded in rw (c.finish.ensures.limits, i.3) at k;
+          exact = λ h. let k = c.finish.ensures.exact r i.5.2 i.2 h in rw i.3 at k;
+          counts = let k = stands.counts in rw (c.finish.ensures.limits, i.3) at k;
+          ends = Ends-finished _ r _ _ c.finish.result (c.in-Ok-eq0.ensures.bytes.1 c.in-Ok-eq0.field-0-test (omega (arith, c.read_once.auto.buffer, i.0))) (let k = c.finish.ensures.answer r i.5.2 i.2 in rw i.3 at k);
+        };
+        sink =
+            let k = c.finish.ensures.sink r i.5.2 i.2 in
+            let j = rw (i.3, c.finish.ensures.ended) at k in
+            Delivers-then g.S.LineSink.takes g.S.LineSink.leaves _ r r _ _ _ _ _ _ refl i.5.3 j;
+      },
+    )
+
+pub returns-in-Ok-eq0-clause-cause : goal.returns-in-Ok-eq0-clause-cause
+returns-in-Ok-eq0-clause-cause g c = λ e. HasRisen-after _ _ _ c.loop-i.invariant.4 (c.finish.ensures.cause c.loop-i.invariant.2 e)
+
+pub returns-in-Err-feed-clause-runs : goal.returns-in-Err-feed-clause-runs
+returns-in-Err-feed-clause-runs g c =
+    let i = c.loop-i.invariant in
+    let r = i.5.0 in
+    let piece = take c.in-Ok.n c.read_once.new.buffer in
+    let e = c.loop-i.engine in
+    let stands = c.feed.ensures.stands r i.5.2 in (
+      r ++ piece,
+      Consumes-then _ _ _ r piece i.5.1 c.in-Ok.ensures.bytes.0,
+      record {
+        account = record {
+          bounded = let k = stands.bounded in rw (i.2, c.feed.ensures.limits, i.3) at k;
+          exact = λ h. absurd (told-not_complete (limits_of e) (r ++ piece) (lines_of c.feed.new.self) c.in-Err-feed.end (c.in-Err-feed.ensures.told r i.5.2 i.2) h);
+          counts = let k = stands.counts in rw (i.2, c.feed.ensures.limits, i.3) at k;
+          ends = Ends-fed _ (r ++ piece) _ _ c.in-Err-feed.end (let k = c.in-Err-feed.ensures.told r i.5.2 i.2 in rw i.3 at k);
+        };
+        sink =
+            let k = c.feed.ensures.sink r i.5.2 i.2 in
+            let j = rw (i.3, c.in-Err-feed.ensures.ended) at k in
+            Delivers-then g.S.LineSink.takes g.S.LineSink.leaves _ r (r ++ piece) _ _ _ _ _ _ (kept_first-same _ (lines_of e) r piece (i.5.2.going i.2).0.lines) i.5.3 j;
+      },
+    )
+
+pub returns-in-Err-feed-clause-cause : goal.returns-in-Err-feed-clause-cause
+returns-in-Err-feed-clause-cause g c = λ e. HasRisen-after _ _ _ c.loop-i.invariant.4 (c.feed.ensures.cause c.loop-i.invariant.2 (c.in-Err-feed.is ∙ ap Err e))
+
+pub loop-i-preserved : goal.loop-i-preserved
+loop-i-preserved g c =
+    let i = c.loop-i.invariant in
+    let r = i.5.0 in
+    let piece = take c.in-Ok.n c.read_once.new.buffer in
+    let e = c.loop-i.engine in (
+      c.read_once.auto.buffer ∙ i.0,
+      omega (arith, c.in_default.ensures.taken, length-take c.in-Ok.n c.read_once.new.buffer, c.read_once.auto.buffer, i.0, i.1),
+      c.in_default.ensures.open,
+      c.feed.ensures.limits ∙ i.3,
+      omega (arith, i.4, c.feed.ensures.counts),
+      (
+        r ++ piece,
+        Consumes-then _ _ _ r piece i.5.1 c.in-Ok.ensures.bytes.0,
+        let k = c.feed.ensures.stands r i.5.2 in rw i.2 at k,
+        let k = c.feed.ensures.sink r i.5.2 i.2 in
+            let j = rw (i.3, c.in_default.ensures.open) at k in
+            Delivers-then g.S.LineSink.takes g.S.LineSink.leaves _ r (r ++ piece) _ _ _ _ _ _ (kept_first-same _ (lines_of e) r piece (i.5.2.going i.2).0.lines) i.5.3 j,
+      ),
+      c.read_once.ensures.failed ∙ ap is_err c.in-Ok.is,
+    )
+
+-- neither the engine's end nor the end of a piece is a read fault
+pub returns-in-Ok-eq0-clause-failed : goal.returns-in-Ok-eq0-clause-failed
+returns-in-Ok-eq0-clause-failed g c =
+    let i = c.loop-i.invariant in
+    unfailed-end _ c.finish.result (c.read_once.ensures.failed ∙ ap is_err c.in-Ok-eq0.is) (unread-concludes _ i.5.0 _ c.finish.result (c.finish.ensures.answer i.5.0 i.5.2 i.2))
+
+pub returns-in-Err-feed-clause-failed : goal.returns-in-Err-feed-clause-failed
+returns-in-Err-feed-clause-failed g c =
+    let i = c.loop-i.invariant in
+    unfailed-end _ c.in-Err-feed.end (c.read_once.ensures.failed ∙ ap is_err c.in-Ok.is) (unread-told _ (i.5.0 ++ take c.in-Ok.n c.read_once.new.buffer) _ c.in-Err-feed.end (c.in-Err-feed.ensures.told i.5.0 i.5.2 i.2))
+
+pub returns-clause-failed : goal.returns-clause-failed
+returns-clause-failed g c = unfailed-limit _ c.loop-i.invariant.6
+
+pub returns-clause-runs : goal.returns-clause-runs
+returns-clause-runs g c =
+    let i = c.loop-i.invariant in
+    let r = i.5.0 in
+    let stands = i.5.2 in (
+      r,
+      i.5.1,
+      rw (← i.3) (let k = rw (← i.3) at i.5.3 in Runs-left _ _ c.loop-i.engine r _ _ _ ReadLimit limit-not_complete (whole-good c.loop-i.engine r (stands.going i.2).0) (λ m u e. e) stands k),
+    )

@@ -1,0 +1,62 @@
+-- The most that may be held, and how much was held at most.
+use Rattle.std.specs.Prelude.{ℕ, ◌+◌, ◌/◌, ◌≤◌, List, [], ◌∷◌, length, map, max, min}
+use Rattle.cj_budget.specs.Limits.{LimitPair}
+use Rattle.cj_budget.specs.declared.limits.Peaks.{Peaks}
+use Rattle.cj_spans.specs.Judgement.{judged_size, judged_nest}
+use Rattle.cj_spans.proofs.Judgements.{judgement}
+use Rattle.cj_stream.specs.Lines.{lines, later_of, first_content}
+
+-- the bytes of a text's first line, cut at the line limit
+abbrev pub first_bytes : LimitPair → List ℕ → ℕ
+first_bytes limits s = min (length (first_content s)) limits.line
+
+-- the bytes of the first line, and those of one line more
+abbrev pub bytes_bound : LimitPair → List ℕ → ℕ
+bytes_bound limits s = first_bytes limits s + limits.line
+
+-- a token for each two bytes of these, and of open containers
+abbrev pub tokens_bound : LimitPair → List ℕ → ℕ
+tokens_bound limits s = (first_bytes limits s + limits.line + limits.depth) / 2 + 1
+
+-- what was held at most is within the bound for the bytes so far
+pub record IsBounded (limits : LimitPair) (s : List ℕ) (peaks : Peaks) : Type 0 where
+  pub bytes : peaks.bytes ≤ bytes_bound limits s
+  pub tokens : peaks.tokens ≤ tokens_bound limits s
+  pub depth : peaks.depth ≤ limits.depth
+
+-- no count is above the other's
+pub record IsBelow (a b : Peaks) : Type 0 where
+  pub bytes : a.bytes ≤ b.bytes
+  pub tokens : a.tokens ≤ b.tokens
+  pub depth : a.depth ≤ b.depth
+
+-- the values and names of the tree that a content spells, or 0 where it spells none
+abbrev pub tree_size : LimitPair → List ℕ → ℕ
+tree_size limits c = judged_size (judgement c limits.depth)
+
+-- the most containers that are open in it, or 0
+abbrev pub tree_nest : LimitPair → List ℕ → ℕ
+tree_nest limits c = judged_nest (judgement c limits.depth)
+
+-- a measure of the first of some contents, or 0
+abbrev pub of_first : (List ℕ → ℕ) → List (List ℕ) → ℕ
+of_first measure [] = 0
+of_first measure (c ∷ cs) = measure c
+
+-- the greatest measure of some contents, or 0
+abbrev pub greatest : (List ℕ → ℕ) → List (List ℕ) → ℕ
+greatest measure [] = 0
+greatest measure (c ∷ cs) = max (measure c) (greatest measure cs)
+
+-- the contents of the lines of a text
+abbrev pub contents : List ℕ → List (List ℕ)
+contents s = map (λ l. l.content) (lines s)
+
+-- what is held at most of a text without a refused line: the bytes and tokens of the first line with those of the
+-- later line that has the most, and the most open containers of all lines
+abbrev pub exact_peaks : LimitPair → List ℕ → Peaks
+exact_peaks limits s = record {
+  bytes = length (first_content s) + greatest length (later_of (contents s));
+  tokens = of_first (tree_size limits) (contents s) + greatest (tree_size limits) (later_of (contents s));
+  depth = greatest (tree_nest limits) (contents s);
+}

@@ -1,0 +1,55 @@
+-- Streams that come in pieces.
+use Rattle.std.specs.Prelude.{◌≡◌, ℕ, ◌+◌, List, [], ◌∷◌, ◌++◌, Option, Some, None, length, take}
+use Rattle.std.specs.Io.KnownBytes.{Appends}
+use Rattle.cj_budget.specs.Limits.{LimitPair}
+use Rattle.cj_stream.specs.declared.ending.End.{End}
+use Rattle.cj_stream.specs.declared.ending.End.TheVariants.{Complete, Refused, ReadFault, ReadLimit, WriteFault, Memory}
+use Rattle.cj_stream.specs.Lines.{Line, closed, lines, whole}
+use Rattle.cj_stream.specs.Verdict.{refusal_from, ending, output}
+use Rattle.cj_stream.specs.Engine.{Delivers}
+use Rattle.cj_stream.specs.Sink.{AppendsPart}
+
+-- the text that pieces are a cut of; pieces may be empty
+abbrev pub joined : List (List ℕ) → List ℕ
+joined [] = []
+joined (piece ∷ pieces) = piece ++ joined pieces
+
+-- the known bytes grow by these, and perhaps by more
+pub record AppendsMore (old new : Option (List ℕ)) (bs : List ℕ) : Type 0 where
+  pub middle : Option (List ℕ)
+  pub more : List ℕ
+  pub first : Appends old middle bs
+  pub grows : Appends middle new more
+
+-- the known bytes grow by a front of the output of the first n pieces and the next, with all of the output of the whole
+-- lines of the first n
+abbrev pub AppendsFront : LimitPair → List (List ℕ) → ℕ → Option (List ℕ) → Option (List ℕ) → Type 0
+AppendsFront limits pieces n old new =
+    AppendsPart old new (output limits (joined (take (n + 1) pieces))) × AppendsMore old new (output limits (whole (joined (take n pieces))))
+
+-- a writer that was given a cut text: it has the output of the whole text, whose ending is the answer; or, after a
+-- fault, a front of the output of the pieces that were given, of which n were wholly taken
+abbrev pub Copies : LimitPair → List (List ℕ) → ℕ → End → Option (List ℕ) → Option (List ℕ) → Type 0
+Copies limits pieces n Complete old new = (ending limits (joined pieces) ≡ Complete) × Appends old new (output limits (joined pieces))
+Copies limits pieces n (Refused number place reason) old new = (ending limits (joined pieces) ≡ Refused number place reason) × Appends old new (output limits (joined pieces))
+Copies limits pieces n ReadFault old new = ⊥
+Copies limits pieces n ReadLimit old new = ⊥
+Copies limits pieces n WriteFault old new = AppendsFront limits pieces n old new
+Copies limits pieces n Memory old new = AppendsFront limits pieces n old new
+
+-- an end that no reader makes
+abbrev pub IsUnread : End → Type 0
+IsUnread Complete = Unit {0}
+IsUnread (Refused number place reason) = Unit {0}
+IsUnread ReadFault = ⊥
+IsUnread ReadLimit = ⊥
+IsUnread WriteFault = Unit {0}
+IsUnread Memory = Unit {0}
+
+-- a sink took what is kept of the first n pieces, of whose whole lines none was refused, and then came to an end by the
+-- next piece, or after the last
+pub record TookWhole {S : Type 0} (takes leaves : S → Line → S → Type 0) (limits : LimitPair) (pieces : List (List ℕ)) (n lines_now : ℕ) (s t : S) (e : End) : Type 0 where
+  pub middle : S
+  pub good : refusal_from limits 1 (lines (whole (joined (take n pieces)))) ≡ None
+  pub before : Delivers takes leaves limits (joined (take n pieces)) 0 (length (closed (joined (take n pieces)))) s middle None
+  pub after : Delivers takes leaves limits (joined (take (n + 1) pieces)) (length (closed (joined (take n pieces)))) lines_now middle t (Some e)

@@ -1,0 +1,14 @@
+pub mod Bound
+pub mod Cut
+pub mod Device
+pub mod Engine
+pub mod IsLines
+pub mod LentSink
+pub mod Lines
+pub mod Reading
+pub mod Rows
+pub mod Run
+pub mod Scanning
+pub mod Sink
+pub mod Verdict
+pub mod WriteSink

@@ -1,0 +1,83 @@
+-- What is held of the trees of a stream's lines.
+use Rattle.std.specs.Prelude.{◌≡◌, ℕ, ◌+◌, ◌*◌, ◌/◌, ◌<◌, ◌≤◌, List, [], length, max, min, Result, Ok, Err}
+use Rattle.cj_budget.specs.Bounded.{BoundedList, IsWithin, Becomes}
+use Rattle.cj_budget.specs.Limits.{LimitPair, InDepth}
+use Rattle.cj_budget.specs.declared.bounded.NoMemory.{NoMemory}
+use Rattle.cj_spans.specs.declared.token.Token.{Token}
+use Rattle.cj_spans.specs.Judgement.{judged_size, judged_nest}
+use Rattle.cj_spans.specs.Scan.{KeepsLaw}
+use Rattle.cj_spans.proofs.Judgements.{judgement}
+use Rattle.cj_stream.specs.declared.framer.Framer.{Framer}
+use Rattle.cj_stream.specs.declared.judge.Verdict.{Verdict}
+use Rattle.cj_stream.specs.declared.judge.Verdict.TheVariants.{Refuse, Blank, Valid}
+use Rattle.cj_stream.specs.Lines.{first_of, later_of}
+use Rattle.cj_stream.specs.Bound.{tree_size, tree_nest, of_first, greatest}
+
+-- the tokens of the first line, those of the line that is judged, and its open containers
+pub record Scanning : Type 0 where
+  pub header : BoundedList Token
+  pub line : BoundedList Token
+  pub opened : BoundedList ℕ
+
+-- what a framer holds
+abbrev pub scanning : Framer → Scanning
+scanning f = record { header = f.header_tokens; line = f.line_tokens; opened = f.opened }
+
+-- the depth limit is in range, no list is longer than its peak, nor the peak above the limit, which is what a line
+-- within the limits needs
+pub record HasRoom (limits : LimitPair) (s : Scanning) : Type 0 where
+  pub range : InDepth limits.depth
+  pub header : s.header.limit ≡ (limits.line + limits.depth + 1) / 2
+  pub line : s.line.limit ≡ (limits.line + limits.depth + 1) / 2
+  pub opened : s.opened.limit ≡ limits.depth
+  pub header_within : IsWithin s.header
+  pub line_within : IsWithin s.line
+  pub opened_within : IsWithin s.opened
+
+-- the lines with these contents were dealt with: the tokens of the first are held, and of the later ones none; what
+-- was held at most is exact, and within what the bytes allow
+pub record Scanned (limits : LimitPair) (cs : List (List ℕ)) (s : Scanning) : Type 0 where
+  pub header : length s.header.elements ≡ of_first (tree_size limits) cs
+  pub header_peak : s.header.peak ≡ of_first (tree_size limits) cs
+  pub line : s.line.elements ≡ []
+  pub line_peak : s.line.peak ≡ greatest (tree_size limits) (later_of cs)
+  pub opened : s.opened.elements ≡ []
+  pub opened_peak : s.opened.peak ≡ greatest (tree_nest limits) cs
+  pub header_law : 2 * s.header.peak ≤ min (length (first_of cs [])) limits.line + 1
+  pub line_law : 2 * s.line.peak ≤ limits.line + limits.depth + 1
+
+-- what was held at most, at any exit, where the first line has so many bytes at least
+abbrev pub HoldsFew : LimitPair → ℕ → Scanning → Type 0
+HoldsFew limits h s = 2 * (s.header.peak + s.line.peak) ≤ min h limits.line + limits.line + limits.depth + 2
+
+-- peaks that do not fall
+pub record Rises (old new : Scanning) : Type 0 where
+  pub header : old.header.peak ≤ new.header.peak
+  pub line : old.line.peak ≤ new.line.peak
+  pub opened : old.opened.peak ≤ new.opened.peak
+
+-- the lists have taken the tree that a content spells
+pub record HoldsTree (c : List ℕ) (old new : BoundedList Token) (old_open new_open : BoundedList ℕ) : Type 0 where
+  pub count : length new.elements ≡ judged_size (judgement c old_open.limit)
+  pub peak : new.peak ≡ max old.peak (judged_size (judgement c old_open.limit))
+  pub closed : new_open.elements ≡ []
+  pub opened_peak : new_open.peak ≡ max old_open.peak (judged_nest (judgement c old_open.limit))
+
+-- what judging a content makes of the lists: nothing where it is blank; its tree where it is valid; and in any other
+-- case no more than the law of a scan allows
+abbrev pub Judges : List ℕ → BoundedList Token → BoundedList Token → BoundedList ℕ → BoundedList ℕ → Result Verdict NoMemory → Type 0
+Judges c old new old_open new_open (Ok Blank) = (new ≡ old) × (new_open ≡ old_open)
+Judges c old new old_open new_open (Ok Valid) = HoldsTree c old new old_open new_open × KeepsLaw c old new old_open new_open
+Judges c old new old_open new_open (Ok (Refuse place reason)) = KeepsLaw c old new old_open new_open
+Judges c old new old_open new_open (Err e) = KeepsLaw c old new old_open new_open
+
+-- the first line goes into the lists that are kept, a later one into the others
+pub record JudgesLine (lines : ℕ) (c : List ℕ) (old new : Scanning) (r : Result Verdict NoMemory) : Type 0 where
+  pub first : lines ≡ 0 → Judges c old.header new.header old.opened new.opened r × (new.line ≡ old.line)
+  pub later : 0 < lines → Judges c old.line new.line old.opened new.opened r × (new.header ≡ old.header)
+
+-- the lists of a line that was dealt with are emptied
+pub record Forgets (old new : Scanning) : Type 0 where
+  pub header : new.header ≡ old.header
+  pub line : Becomes old.line [] new.line
+  pub opened : Becomes old.opened [] new.opened

@@ -1,0 +1,105 @@
+//! Copies of the kept lines to a writer.
+ghost use Rattle.std.specs.Prelude.{◌≡◌, ◌+◌, ◌≤◌, ◌^◌, ℕ, List, [], None, length, map, take};
+ghost use Rattle.std.specs.Io.KnownBytes.{Consumes, IsAtEnd};
+ghost use Rattle.cj_stream.specs.Cut.{joined, Copies, TookWhole, IsUnread};
+ghost use Rattle.cj_stream.specs.Engine.{StandsFor, limits_of, lines_of, peaks_of};
+ghost use Rattle.cj_stream.specs.Run.{Account, Runs, Writes};
+ghost use Rattle.cj_stream.specs.WriteSink.{writer_of};
+
+use crate::ending::End;
+use crate::engine::Engine;
+use crate::lent::LentSink;
+use crate::running::{Outcome, run};
+use crate::sink::{LineSink, WriteSink};
+use cj_budget::{Limits, NoMemory};
+use std::alloc::Global;
+use std::io::{Read, Write};
+
+/// Copies the kept lines of what a reader gives to a writer.
+pub fn copy<R: Read, W: Write + Drop>(
+    alloc: Global,
+    reader: &mut R,
+    sink: &mut WriteSink<W>,
+    limits: Limits,
+) -> Outcome
+    ensures { (r : List ℕ) × Consumes (R.remaining reader.old) (R.remaining reader.new) r
+        × Account limits r (IsAtEnd (R.remaining reader.new)) result.lines result.kept result.peaks result.ended
+        × Writes limits r result.ended (W.contents (writer_of sink.old)) (W.contents (writer_of sink.new)) }
+{
+    run(alloc, reader, sink, limits)
+}
+
+/// Copies the kept lines of what a reader gives to a writer that is lent.
+pub fn copy_out<R: Read, W: Write>(
+    alloc: Global,
+    reader: &mut R,
+    writer: &mut W,
+    limits: Limits,
+) -> Outcome
+    ensures { (r : List ℕ) × Consumes (R.remaining reader.old) (R.remaining reader.new) r
+        × Account limits r (IsAtEnd (R.remaining reader.new)) result.lines result.kept result.peaks result.ended
+        × Writes limits r result.ended (W.contents writer.old) (W.contents writer.new) }
+{
+    let mut sink = LentSink::new(writer);
+    run(alloc, reader, &mut sink, limits)
+}
+
+/// How a copy of pieces went.
+#[derive(Clone, Copy, Debug, PartialEq, Eq)]
+pub struct Copied {
+    /// The pieces that were wholly taken. Where a line ended the copy, it is the next one at which it
+    /// did, if there is one.
+    pub taken: usize,
+    /// How it ended.
+    pub ended: End,
+}
+
+// Feeds all pieces, and finishes, until an end.
+fn feed_all<S: LineSink>(engine: &mut Engine, pieces: &[&[u8]], sink: &mut S) -> Copied
+    requires start { engine.old.taken ≡ 0 }
+    requires open { engine.old.ended ≡ None }
+    requires stands { StandsFor engine.old [] }
+    requires short { length (joined (map (λ piece. piece.now) pieces.now)) ≤ 2 ^ 60 }
+    ensures runs { let given = joined (take (result.taken + 1) (map (λ piece. piece.now) pieces.now)) in
+        Runs S.takes S.leaves (limits_of engine.old) given (given ≡ joined (map (λ piece. piece.now) pieces.now))
+        sink.old sink.new (lines_of engine.new) engine.new.reading.kept (peaks_of engine.new) result.ended }
+    ensures taken { TookWhole S.takes S.leaves (limits_of engine.old) (map (λ piece. piece.now) pieces.now) result.taken
+        (lines_of engine.new) sink.old sink.new result.ended }
+    ensures unread { IsUnread result.ended }
+{
+    for (taken, piece) in pieces.iter().enumerate() {
+        if let Err(ended) = engine.feed(piece, sink) {
+            return Copied { taken, ended };
+        }
+    }
+    Copied {
+        taken: pieces.len(),
+        ended: engine.finish(sink),
+    }
+}
+
+/// Copies the kept lines of a text that comes in pieces to a writer. However the text is cut, the
+/// writer gets the output of the text, and the end is its ending, unless a write fails or memory is
+/// refused: then it has a front of the output of the pieces that were given, with all of the output of
+/// those that were wholly taken.
+pub fn copy_pieces<W: Write + Drop>(
+    alloc: Global,
+    pieces: &[&[u8]],
+    sink: &mut WriteSink<W>,
+    limits: Limits,
+) -> Copied
+    requires { length (joined (map (λ piece. piece.now) pieces.now)) ≤ 2 ^ 60 }
+    ensures { Copies limits (map (λ piece. piece.now) pieces.now) result.taken result.ended
+        (W.contents (writer_of sink.old)) (W.contents (writer_of sink.new)) }
+{
+    let mut engine = match Engine::open(alloc, limits) {
+        Ok(engine) => engine,
+        Err(NoMemory) => {
+            return Copied {
+                taken: 0,
+                ended: End::Memory,
+            };
+        }
+    };
+    feed_all(&mut engine, pieces, sink)
+}

@@ -1,0 +1,179 @@
+//! The engine: it takes a stream in pieces, and puts each kept line to a sink.
+ghost use Rattle.std.specs.Prelude.{◌≡◌, ◌≢◌, ◌+◌, ◌^◌, ◌≤◌, ℕ, List, [], ◌∷◌, ◌++◌, length, OnOk, OnErr, IfOk, IfErr, IsErrOf, IsOk, Some, None, Err};
+ghost use Rattle.cj_stream.specs.Bound.{IsBelow, exact_peaks};
+ghost use Rattle.cj_stream.specs.Lines.{begun};
+ghost use Rattle.cj_stream.specs.Reading.{begun_of, LacksMemory};
+ghost use Rattle.cj_stream.specs.Sink.{HasRisen};
+ghost use Rattle.cj_stream.specs.Verdict.{WantsTokens};
+ghost use Rattle.cj_stream.specs.Engine.{StandsFor, given, limits_of, lines_of, held_by, peaks_of, Delivers, Going, Tells, Concludes, end_of};
+
+use crate::ending::End;
+use crate::framer::Framer;
+use crate::sink::LineSink;
+use cj_budget::{Limits, NoMemory, Peaks};
+use std::alloc::Global;
+use std::marker::Model;
+
+/// Reads a stream once, within a bound, and puts its kept lines to a sink.
+///
+/// After an end every call answers that end again, puts nothing and changes nothing.
+#[derive(Drop)]
+pub struct Engine {
+    framer: Framer,
+    taken: u64,
+    ended: Option<End>,
+}
+
+impl Model for Engine {
+    ghost use Rattle.std.specs.Prelude.{◌≡◌, ◌≤◌, ◌^◌, None};
+    ghost use Rattle.cj_stream.specs.Reading.{reading, IsSound};
+    ghost use Rattle.cj_stream.specs.Scanning.{scanning, HasRoom};
+    ghost use Rattle.cj_stream.specs.Engine.{State};
+
+    ghost Value = { State };
+
+    ghost view = { λ e. record { reading = reading e.framer; scanning = scanning e.framer; taken = e.taken; ended = e.ended } };
+
+    ghost invariant = { λ e. IsSound (reading e.framer) × HasRoom e.framer.limits (scanning e.framer) × (e.ended ≡ None → e.framer.lines ≤ e.taken) × (e.taken ≤ 2 ^ 60) };
+}
+
+impl Engine {
+    /// An engine that has read nothing. It takes no memory.
+    pub fn open(alloc: Global, limits: Limits) -> Result<Engine, NoMemory>
+        ensures empty { IfOk result (λ e. StandsFor e [] × (limits_of e ≡ limits) × (e.ended ≡ None) × (e.taken ≡ 0)) }
+        ensures opens { IsOk result }
+    {
+        Ok(Engine {
+            framer: Framer::new(alloc, limits),
+            taken: 0,
+            ended: None,
+        })
+    }
+
+    /// Takes a piece of the stream. An error is the end of the stream.
+    pub fn feed<S: LineSink>(&mut self, piece: &[u8], sink: &mut S) -> Result<(), End>
+        requires { self.old.taken + length piece.now ≤ 2 ^ 60 }
+
+        // After an end, nothing changes.
+        ensures again { (e : End) → self.old.ended ≡ Some e →
+            (result ≡ Err e) × (self.new ≡ self.old) × (sink.new ≡ sink.old) }
+        ensures open { OnOk result (self.new.ended ≡ None) }
+        ensures ended { IfErr result (λ e. self.new.ended ≡ Some e) }
+
+        // The cause of a write fault is a failure of the sink in this call.
+        ensures counts { S.failures sink.old ≤ S.failures sink.new }
+        ensures cause { self.old.ended ≡ None → IsErrOf result End.WriteFault →
+            HasRisen (S.failures sink.old) (S.failures sink.new) }
+
+        // What the engine stands for, and what it may hold.
+        ensures limits { limits_of self.new ≡ limits_of self.old }
+        ensures stands { (p : List ℕ) → StandsFor self.old p → StandsFor self.new (given self.old p piece.now) }
+        ensures rises { IsBelow (peaks_of self.old) (peaks_of self.new) }
+        ensures taken { OnOk result (self.new.taken ≡ self.old.taken + length piece.now) }
+        ensures untaken { OnErr result (self.new.taken ≡ self.old.taken) }
+
+        // What the answer says of all bytes so far.
+        ensures going { OnOk result ((p : List ℕ) → StandsFor self.old p → Going self.new (p ++ piece.now)) }
+        ensures told { IfErr result (λ e. (p : List ℕ) → StandsFor self.old p → self.old.ended ≡ None →
+            Tells (limits_of self.old) (p ++ piece.now) (lines_of self.new) e) }
+        ensures memory { (p : List ℕ) → StandsFor self.old p → self.old.ended ≡ None → IsErrOf result End.Memory →
+            LacksMemory (p ++ piece.now) (lines_of self.new) (begun_of self.new.reading) }
+        ensures sink { (p : List ℕ) → StandsFor self.old p → self.old.ended ≡ None →
+            Delivers S.takes S.leaves (limits_of self.old) (p ++ piece.now)
+            (lines_of self.old) (lines_of self.new) sink.old sink.new self.new.ended }
+    {
+        if let Some(end) = self.ended {
+            return Err(end);
+        }
+        match self.framer.take_piece(piece, sink) {
+            Ok(()) => {
+                self.taken += piece.len() as u64;
+                Ok(())
+            }
+            Err(end) => {
+                self.ended = Some(end);
+                Err(end)
+            }
+        }
+    }
+
+    /// Ends the stream, and deals with a last line that LF has not ended.
+    pub fn finish<S: LineSink>(&mut self, sink: &mut S) -> End
+        ensures again { (e : End) → self.old.ended ≡ Some e →
+            (result ≡ e) × (self.new ≡ self.old) × (sink.new ≡ sink.old) }
+        ensures ended { self.new.ended ≡ Some result }
+
+        ensures counts { S.failures sink.old ≤ S.failures sink.new }
+        ensures cause { self.old.ended ≡ None → result ≡ End.WriteFault →
+            HasRisen (S.failures sink.old) (S.failures sink.new) }
+
+        ensures limits { limits_of self.new ≡ limits_of self.old }
+        ensures stands { (p : List ℕ) → StandsFor self.old p → StandsFor self.new p }
+        ensures rises { IsBelow (peaks_of self.old) (peaks_of self.new) }
+        ensures untaken { self.new.taken ≡ self.old.taken }
+
+        ensures answer { (p : List ℕ) → StandsFor self.old p → self.old.ended ≡ None →
+            Concludes (limits_of self.old) p (lines_of self.new) result }
+        ensures exact { (p : List ℕ) → StandsFor self.old p → self.old.ended ≡ None →
+            result ≡ End.Complete → peaks_of self.new ≡ exact_peaks (limits_of self.old) p }
+        ensures memory { (p : List ℕ) → StandsFor self.old p → self.old.ended ≡ None → result ≡ End.Memory →
+            (begun p ≢ []) × WantsTokens (lines_of self.old + 1) (begun p) }
+        ensures sink { (p : List ℕ) → StandsFor self.old p → self.old.ended ≡ None →
+            Delivers S.takes S.leaves (limits_of self.old) p
+            (lines_of self.old) (lines_of self.new) sink.old sink.new self.new.ended }
+    {
+        if let Some(end) = self.ended {
+            return end;
+        }
+        let end = last_end(self.framer.finish(sink));
+        self.ended = Some(end);
+        end
+    }
+
+    /// The bytes of the pieces whose `feed` answered Ok.
+    pub fn taken(&self) -> u64
+        ensures value { result ≡ self.now.taken }
+        ensures bound { result ≤ 2 ^ 60 }
+    {
+        self.taken
+    }
+
+    /// What is held now: of bytes and tokens those of the first line and of the line that is read, and
+    /// the open containers of a line that was refused.
+    pub fn held(&self) -> Peaks
+        ensures { result ≡ held_by self.now }
+    {
+        self.framer.held()
+    }
+
+    /// The most that was held.
+    pub fn peaks(&self) -> Peaks
+        ensures { result ≡ peaks_of self.now }
+    {
+        self.framer.peaks()
+    }
+
+    /// How many lines were dealt with: the header, features and blank lines.
+    pub fn lines(&self) -> u64
+        ensures { result ≡ lines_of self.now }
+    {
+        self.framer.lines()
+    }
+
+    /// How many features the sink took.
+    pub fn kept(&self) -> u64
+        ensures { result ≡ self.now.reading.kept }
+    {
+        self.framer.kept()
+    }
+}
+
+// The end of a stream, by what came of its last line.
+fn last_end(answer: Result<(), End>) -> End
+    ensures { result ≡ end_of answer }
+{
+    match answer {
+        Ok(()) => End::Complete,
+        Err(end) => end,
+    }
+}

@@ -1,0 +1,312 @@
+//! Cuts pieces into lines, and deals with each.
+ghost use Rattle.std.specs.Prelude.{◌≡◌, ◌+◌, ◌^◌, ◌<◌, ◌≤◌, ◌⊎◌, ℕ, List, [], ◌∷◌, ◌++◌, length, OnOk, OnErr, IfOk, IfErr, IsErrOf};
+ghost use Rattle.cj_stream.specs.Bound.{contents};
+ghost use Rattle.cj_stream.specs.Lines.{newline, NoLf, closed, first_of, first_content};
+ghost use Rattle.cj_stream.specs.Sink.{HasRisen};
+ghost use Rattle.cj_stream.specs.Verdict.{WantsTokens, verdict};
+
+use crate::ending::End;
+use crate::judge::{Verdict, judge};
+use crate::sink::LineSink;
+use cj_budget::{Bounded, ExtendFault, Limits, NoMemory, Peaks, Stack};
+use cj_spans::{Reason, Token};
+use memchr::memchr;
+use std::alloc::Global;
+
+/// The content of the first line with its tokens, and that of a later line that has begun.
+///
+/// Each line is put together in a list of the engine's own before it is judged, also where it
+/// stands whole in a piece, so that what is held does not depend on how the stream is cut. Beside
+/// these five lists nothing is held that takes memory.
+#[derive(Drop)]
+pub struct Framer {
+    limits: Limits,
+    header: Bounded<u8>,
+    line: Bounded<u8>,
+    header_tokens: Bounded<Token>,
+    line_tokens: Bounded<Token>,
+    opened: Stack,
+    lines: u64,
+    kept: u64,
+}
+
+impl Framer {
+    ghost use Rattle.cj_stream.specs.Reading.{reading, begun_of, IsSound, Stays, Stores, Passes, Settles, Reads, Advances, Stops, Finishes};
+    ghost use Rattle.cj_stream.specs.Scanning.{scanning, HasRoom, Scanned, HoldsFew, Rises, JudgesLine, Forgets};
+
+    /// A framer that has read nothing. It takes no memory.
+    pub fn new(alloc: Global, limits: Limits) -> Framer
+        ensures sound { IsSound (reading result) }
+        ensures limits { result.limits ≡ limits }
+        ensures empty { Reads (reading result) [] }
+        ensures room { HasRoom limits (scanning result) }
+        ensures scanned { Scanned limits [] (scanning result) }
+    {
+        let limit = limits.line() as usize;
+        let depth = limits.depth() as usize;
+        let tokens = (limit + depth + 1) / 2; // each but the last has two bytes or an open container
+        Framer {
+            limits,
+            header: Bounded::new(alloc, limit),
+            line: Bounded::new(alloc, limit),
+            header_tokens: Bounded::new(alloc, tokens),
+            line_tokens: Bounded::new(alloc, tokens),
+            opened: Stack::new(alloc, depth),
+            lines: 0,
+            kept: 0,
+        }
+    }
+
+    fn begun(&self) -> &[u8]
+        requires { IsSound (reading self.now) }
+        ensures value { result.now ≡ begun_of (reading self.now) }
+        ensures short { length (begun_of (reading self.now)) ≤ self.now.limits.line }
+    {
+        if self.lines == 0 {
+            self.header.as_slice()
+        } else {
+            self.line.as_slice()
+        }
+    }
+
+    // Stores a part of the begun line.
+    fn store(&mut self, part: &[u8]) -> Result<(), End>
+        requires sound { IsSound (reading self.old) }
+        requires room { self.old.lines < 2 ^ 62 }
+        ensures ok { OnOk result (Stores (reading self.old) part.now (reading self.new)) }
+        ensures err { OnErr result (self.new ≡ self.old) }
+        ensures cause { IfErr result (λ e. ((e ≡ End.Memory) × (0 < length part.now))
+            ⊎ ((e ≡ End.Refused (self.old.lines + 1) self.old.limits.line Reason.LineTooLong)
+            × (self.old.limits.line < length (begun_of (reading self.old)) + length part.now))) }
+        ensures lists { scanning self.new ≡ scanning self.old }
+    {
+        let stored = if self.lines == 0 {
+            self.header.extend_from_slice(part)
+        } else {
+            self.line.extend_from_slice(part)
+        };
+        match stored {
+            Ok(()) => Ok(()),
+            Err(ExtendFault::Full) => Err(End::Refused {
+                line: self.lines + 1,
+                place: self.limits.line(),
+                reason: Reason::LineTooLong,
+            }),
+            Err(ExtendFault::Memory) => Err(End::Memory),
+        }
+    }
+
+    // The begun line is done with.
+    fn pass(&mut self, put: bool)
+        requires sound { IsSound (reading self.old) }
+        requires room { self.old.lines < 2 ^ 62 }
+        ensures passes { Passes put (reading self.old) (reading self.new) }
+        ensures forgets { Forgets (scanning self.old) (scanning self.new) }
+    {
+        if put && self.lines > 0 {
+            self.kept += 1;
+        }
+        self.lines += 1;
+        self.line.clear();
+        self.line_tokens.clear();
+        self.opened.clear();
+    }
+
+    // The verdict on the begun line.
+    fn judge(&mut self) -> Result<Verdict, NoMemory>
+        requires sound { IsSound (reading self.old) }
+        requires room { self.old.lines < 2 ^ 62 }
+        requires lists { HasRoom self.old.limits (scanning self.old) }
+        requires short { length (begun_of (reading self.old)) ≤ self.old.limits.line }
+        ensures reading { reading self.new ≡ reading self.old }
+        ensures verdict { IfOk result (λ v. v ≡ verdict self.old.limits (self.old.lines + 1) (begun_of (reading self.old))) }
+        ensures lists { JudgesLine self.old.lines (begun_of (reading self.old)) (scanning self.old) (scanning self.new) result }
+        ensures memory { OnErr result (WantsTokens (self.old.lines + 1) (begun_of (reading self.old))) }
+    {
+        if self.lines == 0 {
+            judge(
+                1,
+                self.header.as_slice(),
+                &mut self.header_tokens,
+                &mut self.opened,
+            )
+        } else {
+            judge(
+                self.lines + 1,
+                self.line.as_slice(),
+                &mut self.line_tokens,
+                &mut self.opened,
+            )
+        }
+    }
+
+    // Judges the begun line, and puts it to the sink if it is kept.
+    fn deal<S: LineSink>(&mut self, lf: bool, sink: &mut S) -> Result<(), End>
+        requires sound { IsSound (reading self.old) }
+        requires room { self.old.lines < 2 ^ 62 }
+        requires lists { HasRoom self.old.limits (scanning self.old) }
+        requires short { length (begun_of (reading self.old)) ≤ self.old.limits.line }
+        ensures counts { S.failures sink.old ≤ S.failures sink.new }
+        ensures cause { IsErrOf result End.WriteFault → HasRisen (S.failures sink.old) (S.failures sink.new) }
+        ensures settles { Settles S.takes S.leaves (verdict self.old.limits (self.old.lines + 1) (begun_of (reading self.old)))
+            (record { content = begun_of (reading self.old); lf = lf }) (reading self.old) sink.old result (reading self.new) sink.new }
+        ensures room { HasRoom self.old.limits (scanning self.new) }
+        ensures rises { Rises (scanning self.old) (scanning self.new) }
+        ensures scanned { OnOk result ((cs : List (List ℕ)) → length cs ≡ self.old.lines → Scanned self.old.limits cs (scanning self.old)
+            → Scanned self.old.limits (cs ++ begun_of (reading self.old) ∷ []) (scanning self.new)) }
+        ensures few { (cs : List (List ℕ)) → length cs ≡ self.old.lines → Scanned self.old.limits cs (scanning self.old)
+            → HoldsFew self.old.limits (length (first_of cs (begun_of (reading self.old)))) (scanning self.new) }
+    {
+        let Ok(verdict) = self.judge() else {
+            return Err(End::Memory);
+        };
+        match verdict {
+            Verdict::Refuse { place, reason } => Err(End::Refused {
+                line: self.lines + 1,
+                place,
+                reason,
+            }),
+            Verdict::Blank => {
+                self.pass(false);
+                Ok(())
+            }
+            Verdict::Valid => {
+                if sink.line(self.begun(), lf).is_err() {
+                    return Err(End::WriteFault);
+                }
+                self.pass(true);
+                Ok(())
+            }
+        }
+    }
+
+    // Takes the last part of a line that LF ends.
+    fn take_line<S: LineSink>(&mut self, part: &[u8], sink: &mut S) -> Result<(), End>
+        requires sound { IsSound (reading self.old) }
+        requires room { self.old.lines < 2 ^ 62 }
+        requires lists { HasRoom self.old.limits (scanning self.old) }
+        requires one { NoLf part.now }
+        ensures stays { Stays (reading self.old) (reading self.new) }
+        ensures few { self.new.lines ≤ self.old.lines + 1 }
+        ensures counts { S.failures sink.old ≤ S.failures sink.new }
+        ensures cause { IsErrOf result End.WriteFault → HasRisen (S.failures sink.old) (S.failures sink.new) }
+        ensures ok { OnOk result ((p : List ℕ) → Reads (reading self.old) p →
+            Advances S.takes (reading self.old) sink.old p (part.now ++ newline ∷ []) (reading self.new) sink.new) }
+        ensures err { IfErr result (λ e. (p more : List ℕ) → Reads (reading self.old) p →
+            Stops S.takes S.leaves (reading self.old) sink.old p (part.now ++ newline ∷ more) e (reading self.new) sink.new) }
+        ensures room { HasRoom self.old.limits (scanning self.new) }
+        ensures rises { Rises (scanning self.old) (scanning self.new) }
+        ensures scanned { OnOk result ((p : List ℕ) → Reads (reading self.old) p → Scanned self.old.limits (closed p) (scanning self.old)
+            → Scanned self.old.limits (closed (p ++ (part.now ++ newline ∷ []))) (scanning self.new)) }
+        ensures held { OnErr result ((p more : List ℕ) → Reads (reading self.old) p → Scanned self.old.limits (closed p) (scanning self.old)
+            → HoldsFew self.old.limits (length (first_content (p ++ (part.now ++ newline ∷ more)))) (scanning self.new)) }
+    {
+        self.store(part)?;
+        self.deal(true, sink)?;
+        Ok(())
+    }
+
+    /// Takes a piece of the stream, and deals with each line that it ends.
+    pub fn take_piece<S: LineSink>(&mut self, piece: &[u8], sink: &mut S) -> Result<(), End>
+        requires sound { IsSound (reading self.old) }
+        requires room { self.old.lines + length piece.now < 2 ^ 62 }
+        requires lists { HasRoom self.old.limits (scanning self.old) }
+        ensures stays { Stays (reading self.old) (reading self.new) }
+        ensures few { self.new.lines ≤ self.old.lines + length piece.now }
+        ensures counts { S.failures sink.old ≤ S.failures sink.new }
+        ensures cause { IsErrOf result End.WriteFault → HasRisen (S.failures sink.old) (S.failures sink.new) }
+        ensures ok { OnOk result ((p : List ℕ) → Reads (reading self.old) p →
+            Advances S.takes (reading self.old) sink.old p piece.now (reading self.new) sink.new) }
+        ensures err { IfErr result (λ e. (p : List ℕ) → Reads (reading self.old) p →
+            Stops S.takes S.leaves (reading self.old) sink.old p piece.now e (reading self.new) sink.new) }
+        ensures room { HasRoom self.old.limits (scanning self.new) }
+        ensures rises { Rises (scanning self.old) (scanning self.new) }
+        ensures scanned { OnOk result ((p : List ℕ) → Reads (reading self.old) p → Scanned self.old.limits (closed p) (scanning self.old)
+            → Scanned self.old.limits (closed (p ++ piece.now)) (scanning self.new)) }
+        ensures held { OnErr result ((p : List ℕ) → Reads (reading self.old) p → Scanned self.old.limits (closed p) (scanning self.old)
+            → HoldsFew self.old.limits (length (first_content (p ++ piece.now))) (scanning self.new)) }
+    {
+        let mut rest = piece;
+        while let Some(at) = memchr(b'\n', rest) {
+            self.take_line(&rest[..at], sink)?;
+            rest = &rest[at + 1..];
+        }
+        self.store(rest)?;
+        Ok(())
+    }
+
+    /// Deals with a last line that LF has not ended, and with a stream that has no line.
+    pub fn finish<S: LineSink>(&mut self, sink: &mut S) -> Result<(), End>
+        requires sound { IsSound (reading self.old) }
+        requires room { self.old.lines < 2 ^ 62 }
+        requires lists { HasRoom self.old.limits (scanning self.old) }
+        ensures stays { Stays (reading self.old) (reading self.new) }
+        ensures few { self.new.lines ≤ self.old.lines + 1 }
+        ensures counts { S.failures sink.old ≤ S.failures sink.new }
+        ensures cause { IsErrOf result End.WriteFault → HasRisen (S.failures sink.old) (S.failures sink.new) }
+        ensures finishes { (p : List ℕ) → Reads (reading self.old) p →
+            Finishes S.takes S.leaves (reading self.old) sink.old p result (reading self.new) sink.new }
+        ensures room { HasRoom self.old.limits (scanning self.new) }
+        ensures rises { Rises (scanning self.old) (scanning self.new) }
+        ensures scanned { OnOk result ((p : List ℕ) → Reads (reading self.old) p → Scanned self.old.limits (closed p) (scanning self.old)
+            → Scanned self.old.limits (contents p) (scanning self.new)) }
+        ensures held { (p : List ℕ) → Reads (reading self.old) p → Scanned self.old.limits (closed p) (scanning self.old)
+            → HoldsFew self.old.limits (length (first_content p)) (scanning self.new) }
+    {
+        if !self.begun().is_empty() {
+            return self.deal(false, sink);
+        }
+        if self.lines == 0 {
+            return Err(End::Refused {
+                line: 1,
+                place: 0,
+                reason: Reason::NoHeader,
+            });
+        }
+        Ok(())
+    }
+
+    /// How many lines were dealt with.
+    pub fn lines(&self) -> u64
+        ensures { result ≡ self.now.lines }
+    {
+        self.lines
+    }
+
+    /// How many features were kept.
+    pub fn kept(&self) -> u64
+        ensures { result ≡ self.now.kept }
+    {
+        self.kept
+    }
+
+    /// What is held now.
+    pub fn held(&self) -> Peaks
+        requires sound { IsSound (reading self.now) }
+        requires lists { HasRoom self.now.limits (scanning self.now) }
+        ensures bytes { result.bytes ≡ length self.now.header.elements + length self.now.line.elements }
+        ensures tokens { result.tokens ≡ length self.now.header_tokens.elements + length self.now.line_tokens.elements }
+        ensures depth { result.depth ≡ length self.now.opened.elements }
+    {
+        Peaks {
+            bytes: self.header.len() as u64 + self.line.len() as u64,
+            tokens: self.header_tokens.len() as u64 + self.line_tokens.len() as u64,
+            depth: self.opened.len() as u64,
+        }
+    }
+
+    /// The most that each list has held; of two lists of a kind, added up.
+    pub fn peaks(&self) -> Peaks
+        requires sound { IsSound (reading self.now) }
+        requires lists { HasRoom self.now.limits (scanning self.now) }
+        ensures bytes { result.bytes ≡ self.now.header.peak + self.now.line.peak }
+        ensures tokens { result.tokens ≡ self.now.header_tokens.peak + self.now.line_tokens.peak }
+        ensures depth { result.depth ≡ self.now.opened.peak }
+    {
+        Peaks {
+            bytes: self.header.peak() as u64 + self.line.peak() as u64,
+            tokens: self.header_tokens.peak() as u64 + self.line_tokens.peak() as u64,
+            depth: self.opened.peak() as u64,
+        }
+    }
+}

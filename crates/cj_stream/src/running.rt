@@ -1,0 +1,147 @@
+//! A whole run, from a reader to a sink.
+ghost use Rattle.std.specs.Prelude.{◌≡◌, ◌↔◌, ℕ, List, [], None, length, false, is_err, IsTrue, IsOk};
+ghost use Rattle.std.specs.Io.{ReadsAtMost};
+ghost use Rattle.std.specs.Io.KnownBytes.{Consumes, IsAtEnd, ReadConsumes};
+ghost use Rattle.cj_stream.specs.Sink.{HasRisen};
+ghost use Rattle.cj_stream.specs.Engine.{StandsFor, limits_of, lines_of, peaks_of};
+ghost use Rattle.cj_stream.specs.Run.{Runs};
+ghost use Rattle.cj_stream.specs.Device.{given_by};
+
+use crate::ending::End;
+use crate::engine::Engine;
+use crate::sink::LineSink;
+use cj_budget::{Limits, NoMemory, Peaks};
+use std::alloc::Global;
+use std::io;
+use std::io::Read;
+
+/// The most reads of one run.
+const MOST_READS: u64 = 1_099_511_627_776;
+
+const _: () = prove!(MOST_READS == 1 << 40);
+
+/// The bytes of one read at most.
+const PIECE_LENGTH: usize = 8_192;
+
+/// A read failed.
+#[derive(Clone, Copy, Debug, PartialEq, Eq)]
+struct ReadFault;
+
+/// How a run went.
+#[derive(Clone, Copy, Debug, PartialEq, Eq)]
+pub struct Outcome {
+    /// The lines that were wholly dealt with: the header, features and blank lines.
+    pub lines: u64,
+    /// The features that the sink took.
+    pub kept: u64,
+    /// The most that was held.
+    pub peaks: Peaks,
+    /// How it ended.
+    pub ended: End,
+}
+
+impl Outcome {
+    /// The outcome of a run that was refused its memory before the first read.
+    fn refused() -> Outcome
+        ensures { result ≡ record { lines = 0; kept = 0; peaks = record { bytes = 0; tokens = 0; depth = 0 }; ended = End.Memory } }
+    {
+        Outcome {
+            lines: 0,
+            kept: 0,
+            peaks: Peaks {
+                bytes: 0,
+                tokens: 0,
+                depth: 0,
+            },
+            ended: End::Memory,
+        }
+    }
+}
+
+// What a read says by its answer: how many bytes it gave, or that it failed. Each error is a failure,
+// also `Interrupted`.
+fn bytes_given(answer: io::Result<usize>) -> Result<usize, ReadFault>
+    ensures { result ≡ given_by answer }
+{
+    match answer {
+        Ok(n) => Ok(n),
+        Err(_) => Err(ReadFault),
+    }
+}
+
+// Reads once, and notes whether the read has failed.
+fn read_once<R: Read>(
+    reader: &mut R,
+    buffer: &mut [u8],
+    failed: &mut bool,
+) -> Result<usize, ReadFault>
+    ensures bound { ReadsAtMost result buffer.new }
+    ensures bytes { ReadConsumes (R.remaining reader.old) (R.remaining reader.new) result buffer.new }
+    ensures failed { failed.new ≡ is_err result }
+{
+    let given = bytes_given(reader.read(buffer));
+    *failed = given.is_err();
+    given
+}
+
+// Feeds what the reader gives, by pieces of at most the buffer's length, and finishes at its end. The
+// first read that fails is the end.
+fn drive<R: Read, S: LineSink>(
+    engine: &mut Engine,
+    buffer: &mut [u8],
+    reader: &mut R,
+    failed: &mut bool,
+    sink: &mut S,
+) -> End
+    requires piece { length buffer.old ≡ PIECE_LENGTH }
+    requires unfailed { failed.old ≡ false }
+    requires start { engine.old.taken ≡ 0 }
+    requires open { engine.old.ended ≡ None }
+    requires stands { StandsFor engine.old [] }
+    ensures limits { limits_of engine.new ≡ limits_of engine.old }
+    ensures runs { (r : List ℕ) × Consumes (R.remaining reader.old) (R.remaining reader.new) r
+        × Runs S.takes S.leaves (limits_of engine.old) r (IsAtEnd (R.remaining reader.new)) sink.old sink.new
+        (lines_of engine.new) engine.new.reading.kept (peaks_of engine.new) result }
+    ensures cause { result ≡ End.WriteFault → HasRisen (S.failures sink.old) (S.failures sink.new) }
+    ensures failed { IsTrue failed.new ↔ (result ≡ End.ReadFault) }
+{
+    for _i in 0..MOST_READS {
+        match read_once(reader, buffer, failed) {
+            Err(ReadFault) => return End::ReadFault,
+            Ok(0) => return engine.finish(sink),
+            Ok(n) => {
+                if let Err(end) = engine.feed(&buffer[..n], sink) {
+                    return end;
+                }
+            }
+        }
+    }
+    End::ReadLimit
+}
+
+/// Puts the kept lines of what the reader gives to the sink, until its end or a fault.
+pub fn run<R: Read, S: LineSink>(
+    alloc: Global,
+    reader: &mut R,
+    sink: &mut S,
+    limits: Limits,
+) -> Outcome
+    ensures runs { (r : List ℕ) × Consumes (R.remaining reader.old) (R.remaining reader.new) r
+        × Runs S.takes S.leaves limits r (IsAtEnd (R.remaining reader.new)) sink.old sink.new
+        result.lines result.kept result.peaks result.ended }
+    ensures cause { result.ended ≡ End.WriteFault → HasRisen (S.failures sink.old) (S.failures sink.new) }
+{
+    let mut engine = match Engine::open(alloc, limits) {
+        Ok(engine) => engine,
+        Err(NoMemory) => return Outcome::refused(),
+    };
+    let mut buffer = [0u8; PIECE_LENGTH];
+    let mut failed = false;
+    let ended = drive(&mut engine, &mut buffer, reader, &mut failed, sink);
+    Outcome {
+        lines: engine.lines(),
+        kept: engine.kept(),
+        peaks: engine.peaks(),
+        ended,
+    }
+}

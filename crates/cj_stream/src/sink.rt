@@ -1,0 +1,133 @@
+//! Where the kept lines go.
+ghost use Rattle.std.specs.Prelude.{◌≡◌, ◌≤◌, ℕ, OnOk, OnErr};
+ghost use Rattle.std.specs.List.{flat_map};
+ghost use Rattle.std.specs.Io.KnownBytes.{Appends};
+ghost use Rattle.cj_stream.specs.Lines.{Line, raw};
+ghost use Rattle.cj_stream.specs.Sink.{HasRisen, AppendsPart, counted};
+
+use std::io::Write;
+use thiserror::Error;
+
+/// A line was not taken.
+#[derive(Clone, Copy, Debug, PartialEq, Eq, Error)]
+#[error("a line could not be written")]
+pub struct WriteFault;
+
+/// What takes lines, one after another.
+///
+/// A law: a fault is answered only where the count of device failures rose in that call.
+pub trait LineSink {
+    /// What one whole line makes of the sink.
+    ghost takes: { Self → Line → Self → Type 0 };
+
+    /// What a fault may leave of it.
+    ghost leaves: { Self → Line → Self → Type 0 };
+
+    /// How often its device has failed.
+    ghost failures: { Self → ℕ };
+
+    /// Takes a line: its content, and whether LF ended it.
+    fn line(&mut self, content: &[u8], lf: bool) -> Result<(), WriteFault>
+        ensures ok { OnOk result (takes self.old (record { content = content.now; lf = lf }) self.new) }
+        ensures fault { OnErr result (leaves self.old (record { content = content.now; lf = lf }) self.new) }
+        ensures cause { OnErr result (HasRisen (failures self.old) (failures self.new)) }
+        ensures counts { failures self.old ≤ failures self.new };
+}
+
+/// Writes each line to a writer as it came, with LF exactly if it came with one.
+#[derive(Drop)]
+pub struct WriteSink<W: Write + Drop> {
+    writer: W,
+    failures: u64,
+}
+
+impl<W: Write + Drop> WriteSink<W> {
+    ghost use Rattle.cj_stream.specs.WriteSink.{writer_of, failures_of};
+
+    /// A sink over a writer that has not failed.
+    pub fn new(writer: W) -> Self
+        ensures writer { writer_of result ≡ writer }
+        ensures failures { failures_of result ≡ 0 }
+    {
+        WriteSink {
+            writer,
+            failures: 0,
+        }
+    }
+
+    /// The writer, as it is now.
+    pub fn into_inner(self) -> W
+        ensures { result ≡ writer_of self }
+    {
+        let WriteSink {
+            writer,
+            failures: _,
+        } = self;
+        writer
+    }
+}
+
+/// The count of failures after a call that answered so: one more where it failed. At 2^64 - 1 it
+/// stays.
+pub fn count_failure(failures: u64, answer: Result<(), WriteFault>) -> u64
+    ensures { result ≡ counted failures answer }
+{
+    match answer {
+        Ok(()) => failures,
+        Err(WriteFault) => failures.saturating_add(1),
+    }
+}
+
+/// Writes all of the bytes, by one write after another, or as many as the writer takes before it
+/// fails. An error of a write, also `Interrupted`, and a write that takes none are failures.
+pub fn write_whole<W: Write>(writer: &mut W, bytes: &[u8]) -> Result<(), WriteFault>
+    ensures ok { OnOk result (Appends (W.contents writer.old) (W.contents writer.new) bytes.now) }
+    ensures fault { OnErr result (AppendsPart (W.contents writer.old) (W.contents writer.new) bytes.now) }
+{
+    let mut rest = bytes;
+    while !rest.is_empty() {
+        match writer.write(rest) {
+            Ok(n) if n > 0 => rest = &rest[n..],
+            _ => return Err(WriteFault),
+        }
+    }
+    Ok(())
+}
+
+/// Writes a line as it came.
+pub fn write_line<W: Write>(writer: &mut W, content: &[u8], lf: bool) -> Result<(), WriteFault>
+    ensures ok { OnOk result (Appends (W.contents writer.old) (W.contents writer.new)
+        (raw (record { content = content.now; lf = lf }))) }
+    ensures fault { OnErr result (AppendsPart (W.contents writer.old) (W.contents writer.new)
+        (raw (record { content = content.now; lf = lf }))) }
+{
+    write_whole(writer, content)?;
+    if lf {
+        write_whole(writer, b"\n")?;
+    }
+    Ok(())
+}
+
+impl<W: Write + Drop> LineSink for WriteSink<W> {
+    ghost use Rattle.cj_stream.specs.WriteSink.{writer_of, failures_of};
+
+    ghost takes = { λ a l b. Appends (W.contents (writer_of a)) (W.contents (writer_of b)) (raw l) };
+
+    ghost leaves = { λ a l b. AppendsPart (W.contents (writer_of a)) (W.contents (writer_of b)) (raw l) };
+
+    ghost failures = { failures_of };
+
+    fn line(&mut self, content: &[u8], lf: bool) -> Result<(), WriteFault>
+        ensures ok { OnOk result (Appends (W.contents (writer_of self.old)) (W.contents (writer_of self.new))
+            (raw (record { content = content.now; lf = lf }))) }
+        ensures fault { OnErr result (AppendsPart (W.contents (writer_of self.old)) (W.contents (writer_of self.new))
+            (raw (record { content = content.now; lf = lf }))) }
+        ensures cause { OnErr result (HasRisen (failures_of self.old) (failures_of self.new)) }
+        ensures counts { failures_of self.old ≤ failures_of self.new }
+        ensures counted { failures_of self.new ≡ counted (failures_of self.old) result }
+    {
+        let answer = write_line(&mut self.writer, content, lf);
+        self.failures = count_failure(self.failures, answer);
+        answer
+    }
+}
