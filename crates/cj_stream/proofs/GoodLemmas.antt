@@ -1,5 +1,5 @@
 -- The good lines of a text, and what is kept of them.
-use Rattle.std.proofs.Common.{◌≡◌, ℕ, ◌+◌, ◌≤◌, List, [], ◌∷◌, ◌++◌, true, false, cond, zero, suc, length, take, drop, Option, Some, None, refl, sym, ap, ◌∙◌, arith, add-zero, length-take}
+use Rattle.std.proofs.Common.{◌≡◌, ℕ, ◌+◌, ◌≤◌, List, [], ◌∷◌, ◌++◌, true, cond, zero, suc, length, take, drop, Option, Some, None, refl, sym, ap, ◌∙◌, arith, add-zero, length-take}
 use Rattle.std.specs.Prelude.{unwrap_or, is_some, slice_get}
 use Rattle.std.proofs.lemmas.List.{take-append-drop}
 use Rattle.cj_budget.specs.Limits.{LimitPair}
