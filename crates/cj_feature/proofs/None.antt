@@ -6,7 +6,7 @@ use Rattle.cj_spans.specs.declared.reason.Reason.TheVariants.{WrongKind}
 use Rattle.cj_spans.specs.declared.finding.Finding.{Finding}
 use Rattle.cj_spans.specs.Tree.{Tree}
 use Rattle.cj_spans.specs.Parts.{kind_of, member_of}
-use Rattle.cj_geometry.specs.Rule.{one, of_kind, needed, needs}
+use Rattle.cj_geometry.specs.Rule.{one, of_kind, missing, if_there, needs}
 
 -- neither of two lists has one
 pub none-both : (fs gs : List Finding) → fs ++ gs ≡ [] → (fs ≡ []) × (gs ≡ [])
@@ -22,7 +22,7 @@ module _ (rule : Tree → List Finding) (t : Tree) where
   pub of_kind-none : (is : Kind → Bool) → of_kind is rule t ≡ [] → (is (kind_of t) ≡ true) × (rule t ≡ [])
   of_kind-none is h = by-kind (is (kind_of t)) h
 
-  pub by-member : (o : Option Tree) → needed rule t o ≡ [] → (u : Tree) × (o ≡ Some u) × (rule u ≡ [])
+  pub by-member : (o : Option Tree) → missing t o ++ if_there rule o ≡ [] → (u : Tree) × (o ≡ Some u) × (rule u ≡ [])
   by-member None h = absurd (cc h)
   by-member (Some u) h = (u, refl, h)
 
