@@ -16,7 +16,6 @@ use cj_decimal::{Affine, Decimal};
 use cj_geometry::Templates;
 use cj_spans::{Doc, Kind};
 pub use parts::HeaderParts;
-pub(crate) use rules::count_member;
 
 /// A valid header.
 #[derive(Clone, Copy)]

@@ -1,13 +1,15 @@
-//! Members that have to be a certain text.
+//! Members that have to be a certain text, and members that are counted.
 ghost use Rattle.std.specs.Prelude.{◌≡◌};
 ghost use Rattle.std.specs.Str.{chars};
 ghost use Rattle.cj_spans.specs.Finding.{least};
 ghost use Rattle.cj_spans.specs.Kinds.{is_text};
+ghost use Rattle.cj_spans.specs.Parts.{member_of};
 ghost use Rattle.cj_spans.specs.View.{tree};
+ghost use Rattle.cj_geometry.specs.Geometry.{count_of};
 ghost use Rattle.cj_geometry.specs.Rule.{of_kind};
 ghost use Rattle.cj_feature.specs.Header.{is_named, has_member_named};
 
-use cj_geometry::rule::{add, needed};
+use cj_geometry::rule::{add, count_items, needed};
 use cj_spans::{Kind, Least, Node, Reason};
 
 /// The value is this text; another text has `reason`.
@@ -30,5 +32,18 @@ pub fn check_name_member(object: Node, name: &str, text: &str, reason: Reason, f
 {
     if let Some(value) = needed(object, name, found) {
         check_name(value, text, reason, found);
+    }
+}
+
+/// How many items the member of this name has, if it is an array.
+pub fn count_member(object: Node, name: &str) -> Option<u64>
+    ensures { result ≡ count_of (member_of (chars name.now) (tree object.entry)) }
+{
+    match object.get(name) {
+        Some(value) => match value.kind() {
+            Kind::Array => Some(count_items(value)),
+            _ => None,
+        },
+        None => None,
     }
 }

@@ -12,8 +12,7 @@ ghost use Rattle.cj_feature.specs.Feature.{vertex_list, feature_rules};
 use crate::feature::ids::check_id_member;
 use crate::feature::links::check_links;
 use crate::feature::objects::check_city_objects_member;
-use crate::header::count_member;
-use crate::member::check_name_member;
+use crate::member::{check_name_member, count_member};
 use cj_geometry::Templates;
 use cj_geometry::rule::{
     check_array, check_length, check_names, check_object, check_whole, needed,

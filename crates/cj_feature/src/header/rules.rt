@@ -9,15 +9,15 @@ ghost use Rattle.cj_geometry.specs.Geometry.{count_of};
 ghost use Rattle.cj_spans.specs.Parts.{member_of};
 ghost use Rattle.cj_feature.specs.Header.{three_numbers, transform, no_members, empty_object, empty_array, template_vertices, template_list, geometry_templates, header};
 
-use crate::member::check_name_member;
+use crate::member::{check_name_member, count_member};
 use cj_geometry::rule::{
-    add, check_array, check_length, check_names, check_number, check_object, count_items, needed,
+    add, check_array, check_length, check_names, check_number, check_object, needed,
 };
 use cj_geometry::{Templates, check_geometry};
-use cj_spans::{Kind, Least, Node, Reason};
+use cj_spans::{Least, Node, Reason};
 
 /// The value is an array of three numbers.
-pub fn check_three_numbers(node: Node, found: &mut Least)
+fn check_three_numbers(node: Node, found: &mut Least)
     ensures { found.new ≡ least found.old (of_length NotThree 3 number (tree node.entry)) }
 {
     check_length(node, 3, Reason::NotThree, found);
@@ -121,19 +121,6 @@ fn check_template_list(node: Node, vertices: Option<u64>, found: &mut Least)
         for item in node.items() {
             check_geometry(item, vertices, Templates::template(), found);
         }
-    }
-}
-
-/// How many items the member of this name has, if it is an array.
-pub fn count_member(object: Node, name: &str) -> Option<u64>
-    ensures { result ≡ count_of (member_of (chars name.now) (tree object.entry)) }
-{
-    match object.get(name) {
-        Some(value) => match value.kind() {
-            Kind::Array => Some(count_items(value)),
-            _ => None,
-        },
-        None => None,
     }
 }
 
