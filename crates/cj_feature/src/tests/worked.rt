@@ -60,6 +60,8 @@ fn city_objects(rt: HostRuntime) -> Result<(), Fail> {
         a part without parents | "b":{"type":"BuildingPart"} | 54 10 member missing
         the same name twice | "b":{"type":"Building"},"\u0062":{"type":"Building"} | 74 11 duplicate name
         names of a member that is not read | "b":{"type":"Building","attributes":{"a":1,"a":2}} | none
+        an id that begins with a plus | "b":{"type":"Building"},"+x":{"type":"Shed"} | 87 19 unknown object type
+        a member that begins with a plus | "b":{"type":"Building","+x":{"type":"Shed"}} | none
         "#,
     )?;
     Ok(())
