@@ -1,9 +1,11 @@
 //! The rules on features, one after another.
-ghost use Rattle.std.specs.Prelude.{◌≡◌, codes};
+ghost use Rattle.std.specs.Prelude.{◌≡◌, codes, length};
+ghost use Rattle.std.specs.List.{flat_map};
 ghost use Rattle.std.specs.Str.{chars};
 ghost use Rattle.cj_spans.specs.declared.reason.Reason.TheVariants.{NotThree};
 ghost use Rattle.cj_spans.specs.Finding.{least};
 ghost use Rattle.cj_spans.specs.Kinds.{is_object};
+ghost use Rattle.cj_spans.specs.Parts.{items_of};
 ghost use Rattle.cj_spans.specs.View.{tree};
 ghost use Rattle.cj_geometry.specs.Given.{given};
 ghost use Rattle.cj_geometry.specs.Rule.{of_kind, needs, whole_number, of_length};
@@ -14,18 +16,32 @@ use crate::feature::links::check_links;
 use crate::feature::objects::check_city_objects_member;
 use crate::member::{check_name_member, count_member};
 use cj_geometry::Templates;
-use cj_geometry::rule::{
-    check_array, check_length, check_names, check_object, check_whole, needed,
-};
+use cj_geometry::rule::{add, check_array, check_names, check_object, check_whole, needed};
 use cj_spans::{Least, Node, Reason};
 
+/// Each item is a whole number; answers how many there are, so that they are gone over once.
+#[inline(always)]
+fn check_wholes(node: Node, found: &mut Least) -> u64
+    ensures count { result ≡ length (items_of (tree node.entry)) }
+    ensures found { found.new ≡ least found.old (flat_map whole_number (items_of (tree node.entry))) }
+{
+    let mut count = 0;
+    for item in node.items() {
+        check_whole(item, found);
+        count += 1;
+    }
+    count
+}
+
 /// The value is an array of three whole numbers.
+#[inline(always)]
 fn check_vertex(node: Node, found: &mut Least)
     ensures { found.new ≡ least found.old (of_length NotThree 3 whole_number (tree node.entry)) }
 {
-    check_length(node, 3, Reason::NotThree, found);
-    for item in node.items() {
-        check_whole(item, found);
+    if check_array(node, found) {
+        if check_wholes(node, found) != 3 {
+            add(node, Reason::NotThree, found);
+        }
     }
 }
 

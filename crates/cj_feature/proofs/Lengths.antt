@@ -1,0 +1,29 @@
+-- Arrays whose items are gone over before they are counted.
+use Rattle.std.proofs.Common.{◌≡◌, ℕ, List, [], ◌++◌, Bool, true, false, length, nat_eq, cond, Option, refl, sym, ◌∙◌, ap}
+use Rattle.std.specs.List.{flat_map}
+use Rattle.std.proofs.lemmas.Bool.{eqb-true}
+use Rattle.cj_spans.specs.declared.finding.Finding.{Finding}
+use Rattle.cj_spans.specs.declared.reason.Reason.{Reason}
+use Rattle.cj_spans.specs.Finding.{least}
+use Rattle.cj_spans.specs.Kinds.{is_array}
+use Rattle.cj_spans.specs.Tree.{Tree}
+use Rattle.cj_spans.specs.Parts.{kind_of, items_of}
+use Rattle.cj_spans.proofs.Findings.{least-two, least-swap}
+use Rattle.cj_geometry.specs.Rule.{one, of_kind, nothing, has_length, of_length}
+use Rattle.cj_geometry.proofs.OfKind.{of_kind-then}
+
+-- another length has its reason
+other-length : (reason : Reason) (n : ℕ) (t : Tree) → (length (items_of t) ≡ n → ⊥) → has_length reason n t ≡ one reason t
+other-length reason n t other = go (nat_eq (length (items_of t)) n) refl
+  where
+    go : (b : Bool) → nat_eq (length (items_of t)) n ≡ b → cond b [] (one reason t) ≡ one reason t
+    go true e = absurd (other (eqb-true (length (items_of t)) n e))
+    go false e = refl
+
+-- the kind, then the items, and then the length
+pub of_length-late : (reason : Reason) (n : ℕ) (rule : Tree → List Finding) (t : Tree) (o p q r : Option Finding) → is_array (kind_of t) ≡ true → p ≡ least o (of_kind is_array nothing t)
+    → q ≡ least p (flat_map rule (items_of t)) → (length (items_of t) ≡ n → ⊥) → r ≡ least q (one reason t) → r ≡ least o (of_length reason n rule t)
+of_length-late reason n rule t o p q r kind h k other l =
+    let late : r ≡ least q (has_length reason n t) = rw (other-length reason n t other) l in
+    of_kind-then is_array (λ u. has_length reason n u ++ flat_map rule (items_of u)) t o p r kind h
+    (least-two p q r (flat_map rule (items_of t)) (has_length reason n t) k late ∙ least-swap p (flat_map rule (items_of t)) (has_length reason n t))

@@ -1,0 +1,12 @@
+use Rattle.std.proofs.Common.{◌≡◌, ◌+◌, length}
+use Rattle.std.specs.List.{flat_map}
+use Rattle.cj_spans.specs.Finding.{least}
+use Rattle.cj_spans.specs.Parts.{items_of}
+use Rattle.cj_spans.specs.View.{tree, items_left}
+use Rattle.cj_geometry.specs.Rule.{whole_number}
+use Rattle.cj_feature.proofs.feature.rules.check_wholes.Given as goal
+
+abbrev pub invariant-loop-item : goal.invariant-loop-item
+invariant-loop-item l =
+    (l.count + length (items_left l.item-iterator) ≡ length (items_of (tree l.node)))
+    × (least l.found (flat_map whole_number (items_left l.item-iterator)) ≡ least l.initial.found (flat_map whole_number (items_of (tree l.node))))
