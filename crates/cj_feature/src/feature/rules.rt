@@ -5,8 +5,9 @@ ghost use Rattle.std.specs.Str.{chars};
 ghost use Rattle.cj_spans.specs.declared.reason.Reason.TheVariants.{NotThree};
 ghost use Rattle.cj_spans.specs.Finding.{least};
 ghost use Rattle.cj_spans.specs.Kinds.{is_object};
-ghost use Rattle.cj_spans.specs.Parts.{items_of};
+ghost use Rattle.cj_spans.specs.Parts.{items_of, member_of};
 ghost use Rattle.cj_spans.specs.View.{tree};
+ghost use Rattle.cj_geometry.specs.Geometry.{count_if, count_of};
 ghost use Rattle.cj_geometry.specs.Given.{given};
 ghost use Rattle.cj_geometry.specs.Rule.{of_kind, needs, whole_number, of_length};
 ghost use Rattle.cj_feature.specs.Feature.{vertex_list, feature_rules};
@@ -14,7 +15,7 @@ ghost use Rattle.cj_feature.specs.Feature.{vertex_list, feature_rules};
 use crate::feature::ids::check_id_member;
 use crate::feature::links::check_links;
 use crate::feature::objects::check_city_objects_member;
-use crate::member::{check_name_member, count_member};
+use crate::member::check_name_member;
 use cj_geometry::Templates;
 use cj_geometry::rule::{add, check_array, check_names, check_object, check_whole, needed};
 use cj_spans::{Least, Node, Reason};
@@ -45,27 +46,35 @@ fn check_vertex(node: Node, found: &mut Least)
     }
 }
 
-/// The value is an array of vertices.
-fn check_vertices(node: Node, found: &mut Least)
-    ensures { found.new ≡ least found.old (vertex_list (tree node.entry)) }
+/// The value is an array of vertices; answers how many, if it is an array.
+fn check_vertices(node: Node, found: &mut Least) -> Option<u64>
+    ensures count { result ≡ count_if (tree node.entry) }
+    ensures found { found.new ≡ least found.old (vertex_list (tree node.entry)) }
 {
-    if check_array(node, found) {
-        for item in node.items() {
-            check_vertex(item, found);
-        }
+    if !check_array(node, found) {
+        return None;
+    }
+    let mut count = 0;
+    for item in node.items() {
+        check_vertex(item, found);
+        count += 1;
+    }
+    Some(count)
+}
+
+/// The feature has vertices; answers how many, if they are an array.
+fn check_vertices_member(object: Node, found: &mut Least) -> Option<u64>
+    ensures count { result ≡ count_of (member_of (chars (codes "vertices")) (tree object.entry)) }
+    ensures found { found.new ≡ least found.old (needs (chars (codes "vertices")) vertex_list (tree object.entry)) }
+{
+    match needed(object, "vertices", found) {
+        Some(value) => check_vertices(value, found),
+        None => None,
     }
 }
 
-/// The feature has vertices.
-fn check_vertices_member(object: Node, found: &mut Least)
-    ensures { found.new ≡ least found.old (needs (chars (codes "vertices")) vertex_list (tree object.entry)) }
-{
-    if let Some(value) = needed(object, "vertices", found) {
-        check_vertices(value, found);
-    }
-}
-
-/// The value is a feature, beside these templates.
+/// The value is a feature, beside these templates. Vertices come before the city objects, which ask for
+/// their number.
 pub fn check_root(node: Node, templates: Templates, found: &mut Least)
     ensures { found.new ≡ least found.old (of_kind is_object (feature_rules (given templates.entry)) (tree node.entry)) }
 {
@@ -73,8 +82,8 @@ pub fn check_root(node: Node, templates: Templates, found: &mut Least)
         check_names(node, found);
         check_name_member(node, "type", "CityJSONFeature", Reason::WrongType, found);
         check_id_member(node, found);
-        check_city_objects_member(node, count_member(node, "vertices"), templates, found);
-        check_vertices_member(node, found);
+        let vertices = check_vertices_member(node, found);
+        check_city_objects_member(node, vertices, templates, found);
         check_links(node.get("CityObjects"), found);
     }
 }

@@ -1,10 +1,11 @@
-use Rattle.std.proofs.Common.{sym, codes, ◌++◌}
+use Rattle.std.proofs.Common.{sym, codes, ◌++◌, ◌∙◌, ap, append_assoc}
 use Rattle.std.specs.Str.{chars}
 use Rattle.cj_spans.specs.declared.reason.Reason.TheVariants.{WrongType}
+use Rattle.cj_spans.specs.Finding.{least}
 use Rattle.cj_spans.specs.Kinds.{is_object}
 use Rattle.cj_spans.specs.Parts.{member_of}
 use Rattle.cj_spans.specs.View.{tree}
-use Rattle.cj_spans.proofs.Findings.{least-two, least-three}
+use Rattle.cj_spans.proofs.Findings.{least-two, least-three, least-swap}
 use Rattle.cj_geometry.specs.Geometry.{count_of}
 use Rattle.cj_geometry.specs.Given.{given}
 use Rattle.cj_geometry.specs.Rule.{needs, distinct}
@@ -23,8 +24,10 @@ returns-then-check_object c =
     let objects = needs (chars (codes "CityObjects")) (city_objects (count_of (member_of (chars (codes "vertices")) n)) templates) n in
     let vertices = needs (chars (codes "vertices")) vertex_list n in
     let linked = rw c.get.ensures.value at c.check_links.ensures in
-    let counted = rw c.count_member.ensures at c.check_city_objects_member.ensures in
+    let counted = rw c.check_vertices_member-vertices.ensures.count at c.check_city_objects_member.ensures in
     let three = least-three o _ _ _ (distinct n) type_rule (id_rule n) c.check_names.ensures c.check_name_member.ensures c.check_id_member.ensures in
-    let five = least-three o _ _ _ (distinct n ++ type_rule ++ id_rule n) objects vertices three counted c.check_vertices_member.ensures in
+    let first = distinct n ++ type_rule ++ id_rule n in
+    let both = least-two c.check_id_member.new.found _ _ vertices objects c.check_vertices_member-vertices.ensures.found counted ∙ least-swap c.check_id_member.new.found vertices objects in
+    let five = least-two o _ _ first (objects ++ vertices) three both ∙ ap (λ fs. least o fs) (sym (append_assoc first objects vertices)) in
     let six = least-two o _ _ (distinct n ++ type_rule ++ id_rule n ++ objects ++ vertices) (links (member_of (chars (codes "CityObjects")) n)) five linked in
     of_kind-then is_object (feature_rules templates) n _ _ _ (sym c.if-check_object.ensures.is) c.check_object.ensures.found six

@@ -1,4 +1,4 @@
-use Rattle.std.proofs.Common.{◌≡◌}
+use Rattle.std.proofs.Common.{◌≡◌, ◌+◌, length}
 use Rattle.std.specs.List.{flat_map}
 use Rattle.cj_spans.specs.Finding.{least}
 use Rattle.cj_spans.specs.Parts.{items_of}
@@ -8,4 +8,6 @@ use Rattle.cj_geometry.specs.Rule.{whole_number, of_length}
 use Rattle.cj_feature.proofs.feature.rules.check_vertices.Given as goal
 
 abbrev pub invariant-loop-item : goal.invariant-loop-item
-invariant-loop-item l = least l.found (flat_map (of_length NotThree 3 whole_number) (items_left l.item-iterator)) ≡ least l.initial.found (flat_map (of_length NotThree 3 whole_number) (items_of (tree l.node)))
+invariant-loop-item l =
+    (l.count + length (items_left l.item-iterator) ≡ length (items_of (tree l.node)))
+    × (least l.found (flat_map (of_length NotThree 3 whole_number) (items_left l.item-iterator)) ≡ least l.initial.found (flat_map (of_length NotThree 3 whole_number) (items_of (tree l.node))))
