@@ -1,5 +1,5 @@
 -- Arrays whose items are gone over before they are counted.
-use Rattle.std.proofs.Common.{◌≡◌, ℕ, List, [], ◌++◌, Bool, true, false, length, nat_eq, cond, Option, refl, sym, ◌∙◌, ap}
+use Rattle.std.proofs.Common.{◌≡◌, ℕ, List, [], ◌++◌, Bool, true, false, length, nat_eq, cond, Option, refl, ◌∙◌}
 use Rattle.std.specs.List.{flat_map}
 use Rattle.std.proofs.lemmas.Bool.{eqb-true}
 use Rattle.cj_spans.specs.declared.finding.Finding.{Finding}

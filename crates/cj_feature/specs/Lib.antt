@@ -1,6 +1,7 @@
 pub mod Examples
 pub mod Feature
 pub mod Header
+pub mod HeaderView
 pub mod Links
 pub mod Members
 pub mod Relations

@@ -1,25 +1,15 @@
--- What views of headers and features show: a tree and a line.
+-- What a view of a feature shows: a tree, a line, and its header's tree.
 use Rattle.std.specs.Prelude.{ℕ, List}
 use Rattle.cj_spans.specs.Tree.{Tree}
 use Rattle.cj_spans.specs.View.{document, document_line}
-use Rattle.cj_geometry.specs.Geometry.{Given}
-use Rattle.cj_geometry.specs.Given.{given}
-use Rattle.cj_feature.specs.declared.header.Header.{Header}
 use Rattle.cj_feature.specs.declared.feature.Feature.{Feature}
 
--- the tree of a header, and its line
-unfoldable pub header_tree : Header → Tree
-header_tree h = document h.doc
-
-unfoldable pub header_line : Header → List ℕ
-header_line h = document_line h.doc
-
--- the tree of a feature, its line, and the templates that its geometries may name
+-- the tree of a feature, its line, and the tree of its header
 unfoldable pub feature_tree : Feature → Tree
 feature_tree f = document f.doc
 
 unfoldable pub feature_line : Feature → List ℕ
 feature_line f = document_line f.doc
 
-unfoldable pub feature_templates : Feature → Given
-feature_templates f = given f.templates
+unfoldable pub feature_header : Feature → Tree
+feature_header f = document f.header

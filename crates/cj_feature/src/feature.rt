@@ -1,12 +1,10 @@
 //! Features: the later lines of a text.
 ghost use Rattle.std.specs.Prelude.{◌≡◌, [], Some, codes, map};
 ghost use Rattle.std.specs.Str.{chars};
-ghost use Rattle.cj_spans.specs.Kinds.{is_object};
 ghost use Rattle.cj_spans.specs.Parts.{member_of};
 ghost use Rattle.cj_spans.specs.View.{document, document_line, tree, line_of};
 ghost use Rattle.cj_geometry.specs.Given.{given};
-ghost use Rattle.cj_geometry.specs.Rule.{of_kind};
-ghost use Rattle.cj_feature.specs.Feature.{feature_rules};
+ghost use Rattle.cj_feature.specs.Feature.{feature, templates_of};
 
 mod check;
 mod city_object;
@@ -17,6 +15,7 @@ mod objects;
 mod rules;
 mod vertices;
 
+use crate::header::templates_in;
 pub use check::check_feature;
 pub use city_object::{CityObject, Objects};
 use cj_geometry::Templates;
@@ -24,30 +23,30 @@ use cj_spans::{Doc, Node};
 pub use geometries::Geometries;
 pub use vertices::Vertices;
 
-/// A valid feature, beside the templates of its header.
+/// A valid feature, beside its header.
 #[derive(Clone, Copy)]
 pub struct Feature<'a> {
     doc: Doc<'a>,
-    templates: Templates<'a>,
-    ghost valid: { of_kind is_object (feature_rules (given templates)) (document doc) ≡ [] },
+    header: Doc<'a>,
+    ghost valid: { feature (document header) (document doc) ≡ [] },
 }
 
 impl<'a> Feature<'a> {
     ghost use Rattle.std.specs.List.{flat_map};
     ghost use Rattle.cj_feature.specs.Members.{items_if};
     ghost use Rattle.cj_feature.specs.Typed.{members_if, vertex_of};
-    ghost use Rattle.cj_feature.specs.View.{feature_tree, feature_line, feature_templates};
+    ghost use Rattle.cj_feature.specs.View.{feature_tree, feature_line, feature_header};
     ghost use Rattle.cj_feature.specs.Walks.{objects_left, objects_line, geometries_left, object_geometries, vertices_left};
 
-    /// The feature of a document that has no findings beside these templates.
-    #[tactic(auto, unfolding(crate::specs::View::feature_tree, crate::specs::View::feature_line, crate::specs::View::feature_templates))]
-    fn of(doc: Doc<'a>, templates: Templates<'a>) -> Feature<'a>
-        requires { of_kind is_object (feature_rules (given templates)) (document doc) ≡ [] }
+    /// The feature of a document that has no findings beside this header.
+    #[tactic(auto, unfolding(crate::specs::View::feature_tree, crate::specs::View::feature_line, crate::specs::View::feature_header))]
+    fn of(doc: Doc<'a>, header: Doc<'a>) -> Feature<'a>
+        requires { feature (document header) (document doc) ≡ [] }
         ensures tree { feature_tree result ≡ document doc.entry }
         ensures line { feature_line result ≡ document_line doc.entry }
-        ensures templates { feature_templates result ≡ given templates.entry }
+        ensures header { feature_header result ≡ document header.entry }
     {
-        Feature { doc, templates }
+        Feature { doc, header }
     }
 
     /// The id, which is the name of one of the city objects.
@@ -110,10 +109,10 @@ impl<'a> Feature<'a> {
     }
 
     /// The header's templates, which instances name.
-    #[tactic(auto, unfolding(crate::specs::View::feature_templates))]
+    #[tactic(auto, unfolding(crate::specs::View::feature_header))]
     pub fn templates(&self) -> Templates<'a>
-        ensures { given result ≡ feature_templates self.now }
+        ensures { given result ≡ templates_of (feature_header self.now) }
     {
-        self.templates
+        templates_in(self.header)
     }
 }

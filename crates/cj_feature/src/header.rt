@@ -25,12 +25,28 @@ pub struct Header<'a> {
     ghost known: { ArePartsOf (document doc) parts },
 }
 
+/// The templates of a header, by its document.
+pub(crate) fn templates_in(header: Doc) -> Templates
+    ensures { given result ≡ templates_of (document header.entry) }
+{
+    let Some(templates) = header.root().get("geometry-templates") else {
+        return Templates::empty();
+    };
+    let Some(list) = templates.get("templates") else {
+        return Templates::empty();
+    };
+    match list.kind() {
+        Kind::Array => Templates::list(list),
+        _ => Templates::empty(),
+    }
+}
+
 impl<'a> Header<'a> {
     ghost use Rattle.cj_feature.specs.Shown.{transform_values};
-    ghost use Rattle.cj_feature.specs.View.{header_tree, header_line};
+    ghost use Rattle.cj_feature.specs.HeaderView.{header_tree, header_line};
 
     /// The header of this document again, where its parts came from it.
-    #[tactic(auto, unfolding(crate::specs::View::header_tree, crate::specs::View::header_line))]
+    #[tactic(auto, unfolding(crate::specs::HeaderView::header_tree, crate::specs::HeaderView::header_line))]
     pub fn of(doc: Doc<'a>, parts: HeaderParts) -> Header<'a>
         requires { ArePartsOf (document doc) parts }
         ensures tree { header_tree result ≡ document doc.entry }
@@ -40,7 +56,7 @@ impl<'a> Header<'a> {
     }
 
     /// What each axis of a vertex is multiplied by (CityJSON 2.0, section 4).
-    #[tactic(auto, unfolding(crate::specs::View::header_tree, crate::specs::View::header_line))]
+    #[tactic(auto, unfolding(crate::specs::HeaderView::header_tree, crate::specs::HeaderView::header_line))]
     pub fn scale(&self) -> [Decimal; 3]
         ensures { transform_values (chars (codes "scale")) (header_tree self.now) ≡ map Some result }
     {
@@ -49,7 +65,7 @@ impl<'a> Header<'a> {
     }
 
     /// What is then added to each axis of a vertex.
-    #[tactic(auto, unfolding(crate::specs::View::header_tree, crate::specs::View::header_line))]
+    #[tactic(auto, unfolding(crate::specs::HeaderView::header_tree, crate::specs::HeaderView::header_line))]
     pub fn translate(&self) -> [Decimal; 3]
         ensures { transform_values (chars (codes "translate")) (header_tree self.now) ≡ map Some result }
     {
@@ -58,20 +74,19 @@ impl<'a> Header<'a> {
     }
 
     /// The templates that instances of later lines name.
-    #[tactic(auto, unfolding(crate::specs::View::header_tree, crate::specs::View::header_line))]
+    #[tactic(auto, unfolding(crate::specs::HeaderView::header_tree, crate::specs::HeaderView::header_line))]
     pub fn templates(&self) -> Templates<'a>
         ensures { given result ≡ templates_of (header_tree self.now) }
     {
-        let Some(templates) = self.doc.root().get("geometry-templates") else {
-            return Templates::empty();
-        };
-        let Some(list) = templates.get("templates") else {
-            return Templates::empty();
-        };
-        match list.kind() {
-            Kind::Array => Templates::list(list),
-            _ => Templates::empty(),
-        }
+        templates_in(self.doc)
+    }
+
+    /// The document that it is.
+    #[tactic(auto, unfolding(crate::specs::HeaderView::header_tree))]
+    pub(crate) fn doc(&self) -> Doc<'a>
+        ensures { document result ≡ header_tree self.now }
+    {
+        self.doc
     }
 
     /// The maps of the x and y axes, where the header was checked with a box.
@@ -82,7 +97,7 @@ impl<'a> Header<'a> {
     }
 
     /// The line's content.
-    #[tactic(auto, unfolding(crate::specs::View::header_tree, crate::specs::View::header_line))]
+    #[tactic(auto, unfolding(crate::specs::HeaderView::header_tree, crate::specs::HeaderView::header_line))]
     pub fn bytes(&self) -> &'a [u8]
         ensures { result.now ≡ header_line self.now }
     {
@@ -90,7 +105,7 @@ impl<'a> Header<'a> {
     }
 
     /// What [`Header::of`] makes the same header of.
-    #[tactic(auto, unfolding(crate::specs::View::header_tree, crate::specs::View::header_line))]
+    #[tactic(auto, unfolding(crate::specs::HeaderView::header_tree, crate::specs::HeaderView::header_line))]
     pub fn parts(&self) -> HeaderParts
         ensures { ArePartsOf (header_tree self.now) result }
     {

@@ -2,8 +2,9 @@
 ghost use Rattle.std.specs.Prelude.{◌≡◌, [], Some, MatchResult, IfOk};
 ghost use Rattle.cj_spans.specs.Finding.{IsLeast};
 ghost use Rattle.cj_spans.specs.View.{document, document_line};
-ghost use Rattle.cj_feature.specs.Feature.{feature, templates_of};
-ghost use Rattle.cj_feature.specs.View.{header_tree, feature_tree, feature_line, feature_templates};
+ghost use Rattle.cj_feature.specs.Feature.{feature};
+ghost use Rattle.cj_feature.specs.HeaderView.{header_tree};
+ghost use Rattle.cj_feature.specs.View.{feature_tree, feature_line, feature_header};
 
 use crate::feature::Feature;
 use crate::feature::rules::check_root;
@@ -21,13 +22,13 @@ pub fn check_feature<'a>(doc: Doc<'a>, header: &Header<'a>) -> Result<Feature<'a
         (λ f. IsLeast (feature (header_tree header.now) (document doc.entry)) (Some f)) }
     ensures tree { IfOk result (λ f. feature_tree f ≡ document doc.entry) }
     ensures line { IfOk result (λ f. feature_line f ≡ document_line doc.entry) }
-    ensures templates { IfOk result (λ f. feature_templates f ≡ templates_of (header_tree header.now)) }
+    ensures header { IfOk result (λ f. feature_header f ≡ header_tree header.now) }
 {
     let templates = header.templates();
     let mut found = Least::new();
     check_root(doc.root(), templates, &mut found);
     match found.get() {
         Some(finding) => Err(finding),
-        None => Ok(Feature::of(doc, templates)),
+        None => Ok(Feature::of(doc, header.doc())),
     }
 }

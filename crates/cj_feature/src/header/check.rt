@@ -3,7 +3,7 @@ ghost use Rattle.std.specs.Prelude.{◌≡◌, [], Some, false, MatchResult, IfO
 ghost use Rattle.cj_spans.specs.Finding.{IsLeast};
 ghost use Rattle.cj_spans.specs.View.{document, document_line};
 ghost use Rattle.cj_feature.specs.Header.{header};
-ghost use Rattle.cj_feature.specs.View.{header_tree, header_line};
+ghost use Rattle.cj_feature.specs.HeaderView.{header_tree, header_line};
 
 use crate::header::Header;
 use crate::header::reading::read_parts;

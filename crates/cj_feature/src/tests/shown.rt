@@ -1,7 +1,7 @@
 //! What valid headers and features show: places of values, counted in the lines, and numbers.
 ghost use Rattle.std.specs.Prelude.{◌≡◌};
 ghost use Rattle.cj_spans.specs.View.{document};
-ghost use Rattle.cj_feature.specs.View.{header_tree};
+ghost use Rattle.cj_feature.specs.HeaderView.{header_tree};
 
 use super::templates::TEMPLATES;
 use super::{HEADER, tokens_of};

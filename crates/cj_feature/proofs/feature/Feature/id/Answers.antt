@@ -3,7 +3,7 @@ use Rattle.std.specs.Str.{chars}
 use Rattle.cj_spans.specs.Kinds.{is_text}
 use Rattle.cj_spans.specs.Parts.{member_of}
 use Rattle.cj_spans.specs.View.{document}
-use Rattle.cj_geometry.specs.Given.{given}
+use Rattle.cj_feature.specs.Feature.{templates_of}
 use Rattle.cj_geometry.specs.Rule.{of_kind}
 use Rattle.cj_feature.specs.Feature.{id_in}
 use Rattle.cj_feature.proofs.None.{is-there}
@@ -14,4 +14,4 @@ pub unreachable-requires : goal.unreachable-requires
 unreachable-requires c =
     let f = c.args.self.now in
     let t = document f.doc in
-    is-there (of_kind is_text (id_in (member_of (chars (codes "CityObjects")) t))) t (chars (codes "id")) (has-id (given f.templates) t f.valid) None (rw c.root.ensures.tree at c.in-None.ensures.value) refl
+    is-there (of_kind is_text (id_in (member_of (chars (codes "CityObjects")) t))) t (chars (codes "id")) (has-id (templates_of (document f.header)) t f.valid) None (rw c.root.ensures.tree at c.in-None.ensures.value) refl

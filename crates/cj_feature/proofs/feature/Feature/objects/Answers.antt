@@ -4,7 +4,7 @@ use Rattle.std.specs.List.{list_all}
 use Rattle.cj_spans.specs.Parts.{member_of}
 use Rattle.cj_spans.specs.View.{document, tree}
 use Rattle.cj_geometry.specs.Geometry.{count_of}
-use Rattle.cj_geometry.specs.Given.{given}
+use Rattle.cj_feature.specs.Feature.{templates_of}
 use Rattle.cj_feature.specs.Feature.{city_objects}
 use Rattle.cj_feature.specs.Typed.{is_typed}
 use Rattle.cj_feature.proofs.None.{then-none}
@@ -18,5 +18,5 @@ over-requires c =
     let t = document f.doc in
     let objects = tree c.objects_node.result in
     let vertices = count_of (member_of (chars (codes "vertices")) t) in
-    let none = then-none (city_objects vertices (given f.templates)) t (chars (codes "CityObjects")) (has-objects (given f.templates) t f.valid) (Some objects) (sym c.objects_node.ensures.tree) objects refl in
-    ap (list_all is_typed) c.members.ensures.members ∙ all-typed vertices (given f.templates) objects none
+    let none = then-none (city_objects vertices (templates_of (document f.header))) t (chars (codes "CityObjects")) (has-objects (templates_of (document f.header)) t f.valid) (Some objects) (sym c.objects_node.ensures.tree) objects refl in
+    ap (list_all is_typed) c.members.ensures.members ∙ all-typed vertices (templates_of (document f.header)) objects none

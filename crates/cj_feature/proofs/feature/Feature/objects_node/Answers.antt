@@ -3,7 +3,7 @@ use Rattle.std.specs.Str.{chars}
 use Rattle.cj_spans.specs.Parts.{member_of}
 use Rattle.cj_spans.specs.View.{document}
 use Rattle.cj_geometry.specs.Geometry.{count_of}
-use Rattle.cj_geometry.specs.Given.{given}
+use Rattle.cj_feature.specs.Feature.{templates_of}
 use Rattle.cj_feature.specs.Feature.{city_objects}
 use Rattle.cj_feature.proofs.None.{is-there}
 use Rattle.cj_feature.proofs.Valid.{has-objects}
@@ -13,4 +13,4 @@ pub unreachable-requires : goal.unreachable-requires
 unreachable-requires c =
     let f = c.args.self.now in
     let t = document f.doc in
-    is-there (city_objects (count_of (member_of (chars (codes "vertices")) t)) (given f.templates)) t (chars (codes "CityObjects")) (has-objects (given f.templates) t f.valid) None (rw c.root.ensures.tree at c.in-None.ensures.value) refl
+    is-there (city_objects (count_of (member_of (chars (codes "vertices")) t)) (templates_of (document f.header))) t (chars (codes "CityObjects")) (has-objects (templates_of (document f.header)) t f.valid) None (rw c.root.ensures.tree at c.in-None.ensures.value) refl

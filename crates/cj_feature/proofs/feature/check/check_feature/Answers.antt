@@ -3,7 +3,7 @@ use Rattle.cj_spans.specs.declared.finding.Finding.{Finding}
 use Rattle.cj_spans.specs.Finding.{least, IsLeast}
 use Rattle.cj_spans.specs.View.{document}
 use Rattle.cj_feature.specs.Feature.{feature}
-use Rattle.cj_feature.specs.View.{header_tree}
+use Rattle.cj_feature.specs.HeaderView.{header_tree}
 use Rattle.cj_feature.proofs.Verdict.{only-findings}
 use Rattle.cj_feature.proofs.feature.check.check_feature.Goals as goal
 
