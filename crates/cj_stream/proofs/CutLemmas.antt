@@ -5,15 +5,15 @@ use Rattle.std.specs.List.{flat_map}
 use Rattle.std.proofs.lemmas.List.{append-nil}
 use Rattle.std.proofs.lemmas.Bool.{ltb-true}
 use Rattle.std.specs.Io.KnownBytes.{Appends}
-use Rattle.cj_budget.specs.Limits.{LimitPair}
 use Rattle.cj_budget.specs.declared.limits.Peaks.{Peaks}
 use Rattle.cj_spans.specs.declared.reason.Reason.TheVariants.{LineTooLong}
 use Rattle.cj_stream.specs.declared.ending.End.{End}
 use Rattle.cj_stream.specs.declared.ending.End.TheVariants.{Complete, Refused, ReadFault, ReadLimit, WriteFault, Memory}
-use Rattle.cj_stream.specs.Lines.{Line, raw, NoLf, closed, begun, first_of, ended_line, last_line, lines, whole}
-use Rattle.cj_stream.specs.Verdict.{verdict, refusal_of, refusal_from, good_from, kept_from, kept, output, ending, judged, long_line}
+use Rattle.cj_stream.specs.Item.{Item, raw_item}
+use Rattle.cj_stream.specs.Lines.{Line, NoLf, closed, begun, first_of, ended_line, last_line, lines, whole}
+use Rattle.cj_stream.specs.Verdict.{Rules, verdict, refusal_of, refusal_in, refusal_from, good_from, kept_from, kept, output, ending, judged, long_line}
 use Rattle.cj_stream.specs.Cut.{joined, AppendsMore, Copies, TookWhole, IsUnread}
-use Rattle.cj_stream.specs.Engine.{State, limits_of, lines_of, Delivers, Faults, Tells, Concludes}
+use Rattle.cj_stream.specs.Engine.{State, rules_of, lines_of, Delivers, Faults, Tells, Concludes}
 use Rattle.cj_stream.specs.Reading.{Reads}
 use Rattle.cj_stream.specs.Run.{Runs}
 use Rattle.cj_stream.specs.Sink.{AppendsPart}
@@ -44,76 +44,76 @@ first-line c t free some = go (closed (c ++ t)) (begun (c ++ t)) (first_content-
     go (d ∷ ds) u h = (ended_line d, map ended_line ds ++ last_line u, refl, h)
 
 -- lines after a refusal change nothing of what is good
-good-stays : (limits : LimitPair) (n : ℕ) (xs ys : List Line) (e : End) → refusal_from limits n xs ≡ Some e → good_from limits n (xs ++ ys) ≡ good_from limits n xs
-good-stays limits n [] ys e h = absurd (none-some e h)
-good-stays limits n (x ∷ xs) ys e h = step (refusal_of n (verdict limits n x.content)) (good-stays limits (n + 1) xs ys e) h
+good-stays : (rules : Rules) (before xs ys : List Line) (e : End) → refusal_from rules before xs ≡ Some e → good_from rules before (xs ++ ys) ≡ good_from rules before xs
+good-stays rules before [] ys e h = absurd (none-some e h)
+good-stays rules before (x ∷ xs) ys e h = step (refusal_of (length before + 1) (verdict rules before x.content)) (good-stays rules (before ++ x ∷ []) xs ys e) h
   where
-    step : (first : Option End) → (refusal_from limits (n + 1) xs ≡ Some e → good_from limits (n + 1) (xs ++ ys) ≡ good_from limits (n + 1) xs)
-        → cond (is_some first) first (refusal_from limits (n + 1) xs) ≡ Some e
-        → cond (is_some first) [] (x ∷ good_from limits (n + 1) (xs ++ ys)) ≡ cond (is_some first) [] (x ∷ good_from limits (n + 1) xs)
+    step : (first : Option End) → (refusal_from rules (before ++ x ∷ []) xs ≡ Some e → good_from rules (before ++ x ∷ []) (xs ++ ys) ≡ good_from rules (before ++ x ∷ []) xs)
+        → cond (is_some first) first (refusal_from rules (before ++ x ∷ []) xs) ≡ Some e
+        → cond (is_some first) [] (x ∷ good_from rules (before ++ x ∷ []) (xs ++ ys)) ≡ cond (is_some first) [] (x ∷ good_from rules (before ++ x ∷ []) xs)
     step None later h = ap (λ z. x ∷ z) (later h)
     step (Some y) later h = refl
 
 -- a line that is too long
-refusal-long : (limits : LimitPair) (n : ℕ) (l : Line) (rest : List Line) → limits.line < length l.content
-    → (refusal_from limits n (l ∷ rest) ≡ Some (Refused n limits.line LineTooLong)) × (good_from limits n (l ∷ rest) ≡ [])
-refusal-long limits n l rest long = let v = verdict-long limits n l.content long in (rw v refl, rw v refl)
+refusal-long : (rules : Rules) (before : List Line) (l : Line) (rest : List Line) → rules.limits.line < length l.content
+    → (refusal_from rules before (l ∷ rest) ≡ Some (Refused (length before + 1) rules.limits.line LineTooLong)) × (good_from rules before (l ∷ rest) ≡ [])
+refusal-long rules before l rest long = let v = verdict-long rules _ _ l.content long in (rw v refl, rw v refl)
 
-module _ (limits : LimitPair) (q more : List ℕ) (e : End) where
+module _ (rules : Rules) (q more : List ℕ) (e : End) where
   -- the refusal of what can be judged of a text is that of each text that begins so
   Stays : Type 0
-  Stays = (refusal_from limits 1 (lines (q ++ more)) ≡ Some e) × (good_from limits 1 (lines (q ++ more)) ≡ good_from limits 1 (map ended_line (closed q)))
+  Stays = (refusal_in rules (lines (q ++ more)) ≡ Some e) × (good_from rules [] (lines (q ++ more)) ≡ good_from rules [] (map ended_line (closed q)))
 
-  ended-stays : (x : End) → refusal_from limits 1 (map ended_line (closed q)) ≡ Some x → refusal_from limits 1 (judged limits q) ≡ Some e → Stays
+  ended-stays : (x : End) → refusal_in rules (map ended_line (closed q)) ≡ Some x → refusal_in rules (judged rules.limits q) ≡ Some e → Stays
   unfolding Stays
   ended-stays x h k =
       let cs = map ended_line (closed q) in
-      let stays = refusal-stays limits 1 (map ended_line (closed q)) (long_line limits (begun q)) x h in
+      let stays = refusal-stays rules [] (map ended_line (closed q)) (long_line rules.limits (begun q)) x h in
       let same : ◌≡◌ {A = Option End} (Some x) (Some e) = sym stays ∙ k in
-      rw (lines-more q more) (refusal-stays limits 1 cs (lines (begun q ++ more)) x h ∙ same, good-stays limits 1 cs (lines (begun q ++ more)) x h)
+      rw (lines-more q more) (refusal-stays rules [] cs (lines (begun q ++ more)) x h ∙ same, good-stays rules [] cs (lines (begun q ++ more)) x h)
 
-  long-stays : (is : Bool) → ltb limits.line (length (begun q)) ≡ is → refusal_from limits 1 (map ended_line (closed q)) ≡ None
-      → refusal_from limits (1 + length (map ended_line (closed q))) (cond is (last_line (begun q)) []) ≡ Some e → Stays
+  long-stays : (is : Bool) → ltb rules.limits.line (length (begun q)) ≡ is → refusal_in rules (map ended_line (closed q)) ≡ None
+      → refusal_from rules (map ended_line (closed q)) (cond is (last_line (begun q)) []) ≡ Some e → Stays
   unfolding Stays
   long-stays true is h k =
       let cs = map ended_line (closed q) in
-      let long : limits.line < length (begun q) = ltb-true limits.line (length (begun q)) is in
+      let long : rules.limits.line < length (begun q) = ltb-true rules.limits.line (length (begun q)) is in
       let first = first-line (begun q) more (NoLf-begun q) (omega arith) in
-      let later = refusal-long limits (1 + length (map ended_line (closed q))) first.0 first.1 (omega (arith, first.3, long)) in
+      let later = refusal-long rules (map ended_line (closed q)) first.0 first.1 (omega (arith, first.3, long)) in
       let now = refused_now (begun q) long k in
       rw (lines-more q more, first.2) (
-        refusal-append limits 1 cs (first.0 ∷ first.1) h ∙ (later.0 ∙ now),
-        good-append limits 1 cs (first.0 ∷ first.1) h ∙ (ap (λ z. cs ++ z) later.1 ∙ (append-nil cs ∙ sym (good-all limits 1 cs h))),
+        refusal-append rules [] cs (first.0 ∷ first.1) h ∙ (later.0 ∙ now),
+        good-append rules [] cs (first.0 ∷ first.1) h ∙ (ap (λ z. cs ++ z) later.1 ∙ (append-nil cs ∙ sym (good-all rules [] cs h))),
       )
     where
-      refused_now : (c : List ℕ) → limits.line < length c → refusal_from limits (1 + length (map ended_line (closed q))) (last_line c) ≡ Some e
-          → Some (Refused (1 + length (map ended_line (closed q))) limits.line LineTooLong) ≡ Some e
+      refused_now : (c : List ℕ) → rules.limits.line < length c → refusal_from rules (map ended_line (closed q)) (last_line c) ≡ Some e
+          → Some (Refused (length (map ended_line (closed q)) + 1) rules.limits.line LineTooLong) ≡ Some e
       refused_now [] long k = absurd (omega arith)
-      refused_now (b ∷ c) long k = sym (refusal-long limits (1 + length (map ended_line (closed q))) (record { content = b ∷ c; lf = false }) [] long).0 ∙ k
+      refused_now (b ∷ c) long k = sym (refusal-long rules (map ended_line (closed q)) (record { content = b ∷ c; lf = false }) [] long).0 ∙ k
   long-stays false is h k = absurd (none-some e k)
 
-  judged-stays : refusal_from limits 1 (judged limits q) ≡ Some e → Stays
-  judged-stays k = go (refusal_from limits 1 (map ended_line (closed q))) refl
+  judged-stays : refusal_in rules (judged rules.limits q) ≡ Some e → Stays
+  judged-stays k = go (refusal_in rules (map ended_line (closed q))) refl
     where
-      go : (o : Option End) → refusal_from limits 1 (map ended_line (closed q)) ≡ o → Stays
+      go : (o : Option End) → refusal_in rules (map ended_line (closed q)) ≡ o → Stays
       go None h =
-          let later = refusal-append limits 1 (map ended_line (closed q)) (long_line limits (begun q)) h in
-          long-stays (ltb limits.line (length (begun q))) refl h (sym later ∙ k)
+          let later = refusal-append rules [] (map ended_line (closed q)) (long_line rules.limits (begun q)) h in
+          long-stays (ltb rules.limits.line (length (begun q))) refl h (sym later ∙ k)
       go (Some x) h = ended-stays x h k
 
 -- the ending and the output of a text, where what came first of it was refused
-pub refused-more : (limits : LimitPair) (q more : List ℕ) (e : End) → refusal_from limits 1 (judged limits q) ≡ Some e
-    → (ending limits (q ++ more) ≡ e) × (output limits (q ++ more) ≡ output limits q)
+pub refused-more : (rules : Rules) (q more : List ℕ) (e : End) → refusal_in rules (judged rules.limits q) ≡ Some e
+    → (ending rules (q ++ more) ≡ e) × (output rules (q ++ more) ≡ output rules q)
 unfolding Stays
-refused-more limits q more e k =
-    let all = judged-stays limits q more e k in
-    let front = judged-stays limits q [] e k in
-    let same : good_from limits 1 (lines q) ≡ good_from limits 1 (map ended_line (closed q)) = let z = front.1 in rw (append-nil q) at z in
-    (ending-refused limits (lines (q ++ more)) e all.0, ap (λ z. flat_map raw (kept_from limits 1 z)) (all.1 ∙ sym same))
+refused-more rules q more e k =
+    let all = judged-stays rules q more e k in
+    let front = judged-stays rules q [] e k in
+    let same : good_from rules [] (lines q) ≡ good_from rules [] (map ended_line (closed q)) = let z = front.1 in rw (append-nil q) at z in
+    (ending-refused rules (lines (q ++ more)) e all.0, ap (λ z. flat_map raw_item (kept_from rules [] z)) (all.1 ∙ sym same))
 
 -- what a failed step left of a line, in bytes
-module _ {S : Type 0} (contents : S → Option (List ℕ)) (limits : LimitPair) (q : List ℕ) (n : ℕ) (s t : S) where
-  left-more : (e : End) → Faults (λ a l b. AppendsPart (contents a) (contents b) (raw l)) limits q n s t (Some e) → (more : List ℕ) × Appends (contents s) (contents t) more
+module _ {S : Type 0} (contents : S → Option (List ℕ)) (rules : Rules) (q : List ℕ) (n : ℕ) (s t : S) where
+  left-more : (e : End) → Faults (λ a l b. AppendsPart (contents a) (contents b) (raw_item l)) rules q n s t (Some e) → (more : List ℕ) × Appends (contents s) (contents t) more
   left-more Complete h = ([], rw h (Appends-nothing (contents s)))
   left-more (Refused number place reason) h = ([], rw h (Appends-nothing (contents s)))
   left-more ReadFault h = ([], rw h (Appends-nothing (contents s)))
@@ -122,68 +122,68 @@ module _ {S : Type 0} (contents : S → Option (List ℕ)) (limits : LimitPair) 
   left-more Memory h = ([], rw h (Appends-nothing (contents s)))
 
 -- the output of the whole lines of the pieces that were wholly taken is there
-whole-taken : {S : Type 0} (contents : S → Option (List ℕ)) (limits : LimitPair) (pieces : List (List ℕ)) (n count : ℕ) (s t : S) (e : End)
-    → TookWhole (λ a l b. Appends (contents a) (contents b) (raw l)) (λ a l b. AppendsPart (contents a) (contents b) (raw l)) limits pieces n count s t e
-    → AppendsMore (contents s) (contents t) (output limits (whole (joined (take n pieces))))
-whole-taken contents limits pieces n count s t e h =
+whole-taken : {S : Type 0} (contents : S → Option (List ℕ)) (rules : Rules) (pieces : List (List ℕ)) (n count : ℕ) (s t : S) (e : End)
+    → TookWhole (λ a l b. Appends (contents a) (contents b) (raw_item l)) (λ a l b. AppendsPart (contents a) (contents b) (raw_item l)) rules pieces n count s t e
+    → AppendsMore (contents s) (contents t) (output rules (whole (joined (take n pieces))))
+whole-taken contents rules pieces n count s t e h =
     let r = joined (take n pieces) in
     let all : length (closed (joined (take n pieces))) ≡ length (lines (whole (joined (take n pieces)))) = sym (ap length (lines-whole r) ∙ length-map_lines (closed r)) in
-    let k : h.before.added ≡ kept limits (whole (joined (take n pieces))) = sym h.before.kept ∙ kept-whole limits (length (closed r)) r h.good all in
-    let more = left-more contents limits (joined (take (n + 1) pieces)) count h.after.middle t e h.after.fault in
+    let k : h.before.added ≡ kept rules (whole (joined (take n pieces))) = sym h.before.kept ∙ kept-whole rules (length (closed r)) r h.good all in
+    let more = left-more contents rules (joined (take (n + 1) pieces)) count h.after.middle t e h.after.fault in
     record {
       middle = contents h.middle;
-      more = flat_map raw h.after.added ++ more.0;
+      more = flat_map raw_item h.after.added ++ more.0;
       first = rw (← k, h.before.fault) (Took-appends contents s h.before.middle h.before.added h.before.took);
-      grows = Appends-then (contents h.middle) (contents h.after.middle) (contents t) (flat_map raw h.after.added) more.0 (Took-appends contents h.middle h.after.middle h.after.added h.after.took) more.1;
+      grows = Appends-then (contents h.middle) (contents h.after.middle) (contents t) (flat_map raw_item h.after.added) more.0 (Took-appends contents h.middle h.after.middle h.after.added h.after.took) more.1;
     }
 
-module _ {S : Type 0} (contents : S → Option (List ℕ)) (limits : LimitPair) (pieces : List (List ℕ)) (n : ℕ) (s t : S) (count features : ℕ) (peaks : Peaks) where
+module _ {S : Type 0} (contents : S → Option (List ℕ)) (rules : Rules) (pieces : List (List ℕ)) (n : ℕ) (s t : S) (count features : ℕ) (peaks : Peaks) where
   -- what a run over pieces has written
-  pub Copies-runs : (e : End) → Runs (λ a l b. Appends (contents a) (contents b) (raw l)) (λ a l b. AppendsPart (contents a) (contents b) (raw l)) limits
+  pub Copies-runs : (e : End) → Runs (λ a l b. Appends (contents a) (contents b) (raw_item l)) (λ a l b. AppendsPart (contents a) (contents b) (raw_item l)) rules
       (joined (take (n + 1) pieces)) (joined (take (n + 1) pieces) ≡ joined pieces) s t count features peaks e
-      → TookWhole (λ a l b. Appends (contents a) (contents b) (raw l)) (λ a l b. AppendsPart (contents a) (contents b) (raw l)) limits pieces n count s t e
-      → IsUnread e → Copies limits pieces n e (contents s) (contents t)
+      → TookWhole (λ a l b. Appends (contents a) (contents b) (raw_item l)) (λ a l b. AppendsPart (contents a) (contents b) (raw_item l)) rules pieces n count s t e
+      → IsUnread e → Copies rules pieces n e (contents s) (contents t)
   Copies-runs Complete h k u =
-      let w = Writes-runs contents limits (joined (take (n + 1) pieces)) _ s t count features peaks Complete h in
+      let w = Writes-runs contents rules (joined (take (n + 1) pieces)) _ s t count features peaks Complete h in
       rw (← h.account.ends.2) (h.account.ends.0, w)
   Copies-runs (Refused number place reason) h k u = go h.account.ends.2
     where
-      w : Appends (contents s) (contents t) (output limits (joined (take (n + 1) pieces)))
-      w = Writes-runs contents limits (joined (take (n + 1) pieces)) _ s t count features peaks (Refused number place reason) h
+      w : Appends (contents s) (contents t) (output rules (joined (take (n + 1) pieces)))
+      w = Writes-runs contents rules (joined (take (n + 1) pieces)) _ s t count features peaks (Refused number place reason) h
 
-      go : (joined (take (n + 1) pieces) ≡ joined pieces) ⊎ (refusal_from limits 1 (judged limits (joined (take (n + 1) pieces))) ≡ Some (Refused number place reason)) → Copies limits pieces n (Refused number place reason) (contents s) (contents t)
+      go : (joined (take (n + 1) pieces) ≡ joined pieces) ⊎ (refusal_in rules (judged rules.limits (joined (take (n + 1) pieces))) ≡ Some (Refused number place reason)) → Copies rules pieces n (Refused number place reason) (contents s) (contents t)
       go (inl same) = rw (← same) (h.account.ends.0, w)
       go (inr told) =
-          let more = refused-more limits (joined (take (n + 1) pieces)) (joined (drop (n + 1) pieces)) (Refused number place reason) told in
-          let out : output limits (joined (take (n + 1) pieces)) ≡ output limits (joined (take (n + 1) pieces) ++ joined (drop (n + 1) pieces)) = sym more.1 in
+          let more = refused-more rules (joined (take (n + 1) pieces)) (joined (drop (n + 1) pieces)) (Refused number place reason) told in
+          let out : output rules (joined (take (n + 1) pieces)) ≡ output rules (joined (take (n + 1) pieces) ++ joined (drop (n + 1) pieces)) = sym more.1 in
           let v = rw out at w in
           rw (← joined-cut (n + 1) pieces) (more.0, v)
   Copies-runs ReadFault h k u = absurd u
   Copies-runs ReadLimit h k u = absurd u
-  Copies-runs WriteFault h k u = (Writes-runs contents limits (joined (take (n + 1) pieces)) _ s t count features peaks WriteFault h, whole-taken contents limits pieces n count s t WriteFault k)
-  Copies-runs Memory h k u = (Writes-runs contents limits (joined (take (n + 1) pieces)) _ s t count features peaks Memory h, whole-taken contents limits pieces n count s t Memory k)
+  Copies-runs WriteFault h k u = (Writes-runs contents rules (joined (take (n + 1) pieces)) _ s t count features peaks WriteFault h, whole-taken contents rules pieces n count s t WriteFault k)
+  Copies-runs Memory h k u = (Writes-runs contents rules (joined (take (n + 1) pieces)) _ s t count features peaks Memory h, whole-taken contents rules pieces n count s t Memory k)
 
-pub unread-told : (limits : LimitPair) (q : List ℕ) (n : ℕ) (e : End) → Tells limits q n e → IsUnread e
-unread-told limits q n Complete h = tt
-unread-told limits q n (Refused number place reason) h = tt
-unread-told limits q n ReadFault h = h
-unread-told limits q n ReadLimit h = h
-unread-told limits q n WriteFault h = tt
-unread-told limits q n Memory h = tt
+pub unread-told : (rules : Rules) (q : List ℕ) (n : ℕ) (e : End) → Tells rules q n e → IsUnread e
+unread-told rules q n Complete h = tt
+unread-told rules q n (Refused number place reason) h = tt
+unread-told rules q n ReadFault h = h
+unread-told rules q n ReadLimit h = h
+unread-told rules q n WriteFault h = tt
+unread-told rules q n Memory h = tt
 
-pub unread-concludes : (limits : LimitPair) (q : List ℕ) (n : ℕ) (e : End) → Concludes limits q n e → IsUnread e
-unread-concludes limits q n Complete h = tt
-unread-concludes limits q n (Refused number place reason) h = tt
-unread-concludes limits q n ReadFault h = h
-unread-concludes limits q n ReadLimit h = h
-unread-concludes limits q n WriteFault h = tt
-unread-concludes limits q n Memory h = tt
+pub unread-concludes : (rules : Rules) (q : List ℕ) (n : ℕ) (e : End) → Concludes rules q n e → IsUnread e
+unread-concludes rules q n Complete h = tt
+unread-concludes rules q n (Refused number place reason) h = tt
+unread-concludes rules q n ReadFault h = h
+unread-concludes rules q n ReadLimit h = h
+unread-concludes rules q n WriteFault h = tt
+unread-concludes rules q n Memory h = tt
 
 -- what an engine that had read some pieces did with the next, or at the end
-pub TookWhole-left : {S : Type 0} (takes leaves : S → Line → S → Type 0) (e : State) (limits : LimitPair) (pieces : List (List ℕ)) (n count : ℕ) (s m t : S) (end : End)
-    → limits_of e ≡ limits → Reads e.reading (joined (take n pieces)) → Delivers takes leaves limits (joined (take n pieces)) 0 (lines_of e) s m None
-    → Delivers takes leaves limits (joined (take (n + 1) pieces)) (lines_of e) count m t (Some end) → TookWhole takes leaves limits pieces n count s t end
-TookWhole-left takes leaves e limits pieces n count s m t end same reads before after = record {
+pub TookWhole-left : {S : Type 0} (takes leaves : S → Item → S → Type 0) (e : State) (rules : Rules) (pieces : List (List ℕ)) (n count : ℕ) (s m t : S) (end : End)
+    → rules_of e ≡ rules → Reads e.reading (joined (take n pieces)) → Delivers takes leaves rules (joined (take n pieces)) 0 (lines_of e) s m None
+    → Delivers takes leaves rules (joined (take (n + 1) pieces)) (lines_of e) count m t (Some end) → TookWhole takes leaves rules pieces n count s t end
+TookWhole-left takes leaves e rules pieces n count s m t end same reads before after = record {
   middle = m;
   good = let x = (whole-good e (joined (take n pieces)) reads).0 in rw same at x;
   before = rw (← reads.lines) before;

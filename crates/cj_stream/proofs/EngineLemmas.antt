@@ -4,17 +4,17 @@ use Rattle.std.specs.Prelude.{nat_lt, slice_get}
 use Rattle.std.proofs.lemmas.List.{append-nil}
 use Rattle.std.proofs.lemmas.Bool.Decides.{nat_tests}
 use Rattle.cj_budget.specs.Limits.{LimitPair}
-use Rattle.cj_stream.specs.declared.judge.Verdict.TheVariants.{Refuse}
 use Rattle.cj_stream.specs.declared.ending.End.{End}
 use Rattle.cj_stream.specs.declared.ending.End.TheVariants.{Complete, Refused, ReadFault, ReadLimit, WriteFault, Memory}
 use Rattle.cj_stream.specs.Lines.{Line, closed, begun, ended_line, last_line, lines, first_content}
-use Rattle.cj_stream.specs.Verdict.{verdict, refusal_from, kept_from, judged, kept_first}
+use Rattle.cj_stream.specs.Item.{Item}
+use Rattle.cj_stream.specs.Verdict.{Rules, Refuse, verdict, refusal_in, refusal_from, kept_from, judged, kept_first}
 use Rattle.cj_budget.specs.Bounded.{IsWithin}
 use Rattle.cj_budget.specs.declared.limits.Peaks.{Peaks}
 use Rattle.cj_stream.specs.Bound.{bytes_bound, IsBelow, IsBounded}
 use Rattle.cj_stream.specs.Scanning.{Scanning, HasRoom, Scanned, HoldsFew}
 use Rattle.cj_stream.specs.Reading.{Reading, IsSound, Reads, kept_closed, begun_of, Advances, IsNext, LacksMemory, HasCause, Stops}
-use Rattle.cj_stream.specs.Engine.{State, StandsFor, Counts, Going, Faults, Delivers, Tells, limits_of, held_by, peaks_of}
+use Rattle.cj_stream.specs.Engine.{State, StandsFor, Counts, Going, Faults, Delivers, Tells, rules_of, limits_of, held_by, peaks_of}
 use Rattle.cj_stream.proofs.LineLemmas.{closed-then, first_content-grows}
 use Rattle.cj_stream.proofs.IsLinesLemmas.{lines-whole}
 use Rattle.cj_stream.proofs.VerdictLemmas.{refusal-append}
@@ -42,7 +42,7 @@ peaks-bounded limits s bytes f h room few = record {
 pub same-peaks : (a b c x y z : ℕ) → a ≡ x → b ≡ y → c ≡ z → ◌≡◌ {A = Peaks} (record { bytes = a; tokens = b; depth = c }) (record { bytes = x; tokens = y; depth = z })
 same-peaks a b c x y z e f g = rw (e, f, g) refl
 
-pub peak-le : (f : Reading) (p more : List ℕ) → IsSound f → Reads f p → f.header.peak + f.line.peak ≤ bytes_bound f.limits (p ++ more)
+pub peak-le : (f : Reading) (p more : List ℕ) → IsSound f → Reads f p → f.header.peak + f.line.peak ≤ bytes_bound f.rules.limits (p ++ more)
 peak-le f p more s h =
     omega (arith, h.peak, ap length h.header, first_content-grows p more, h.header_within.below_limit, h.line_within.below_limit, s.header, s.line)
 
@@ -68,8 +68,8 @@ lines-front n p more e =
     let t : take n (cs ++ ds) ≡ cs = take-front cs ds n (e ∙ sym (length-map_lines (closed p))) in
     rw (closed-then p more, map_lines-append (closed p) (closed (begun p ++ more)), append_assoc cs (map ended_line (closed (begun p ++ more))) (last_line (begun (p ++ more))), t) refl
 
-pub kept_first-front : (limits : LimitPair) (n : ℕ) (p more : List ℕ) → n ≡ length (closed p) → kept_first limits n (p ++ more) ≡ kept_closed limits p
-kept_first-front limits n p more e = ap (λ z. kept_from limits 1 z) (lines-front n p more e)
+pub kept_first-front : (rules : Rules) (n : ℕ) (p more : List ℕ) → n ≡ length (closed p) → kept_first rules n (p ++ more) ≡ kept_closed rules p
+kept_first-front rules n p more e = ap (λ z. kept_from rules [] z) (lines-front n p more e)
 
 few-front : (n : ℕ) (p more : List ℕ) → n ≡ length (closed p) → n ≤ length (lines (p ++ more))
 few-front n p more e =
@@ -78,7 +78,7 @@ few-front n p more e =
     (omega (arith, e, length-map_lines (closed p), length-append cs (map ended_line (closed (begun p ++ more)) ++ last_line (begun (p ++ more)))))
 
 -- the counts of what has been read, whatever bytes follow
-pub Counts-front : (f : Reading) (p more : List ℕ) → Reads f p → Counts f.limits (p ++ more) f.lines f.kept
+pub Counts-front : (f : Reading) (p more : List ℕ) → Reads f p → Counts f.rules (p ++ more) f.lines f.kept
 Counts-front f p more h = record {
   few = few-front f.lines p more h.lines;
   good = rw (lines-front f.lines p more h.lines) h.good;
@@ -99,44 +99,53 @@ next-line limits n p q l h e =
     let cs = map ended_line (closed p) in
     rw (x.1, h.1, append_assoc cs (l ∷ h.0) x.0) (get-next cs (h.0 ++ x.0) l n (e ∙ sym (length-map_lines (closed p))))
 
-pub next-refusal : (limits : LimitPair) (n place : ℕ) (reason : _) (p q : List ℕ) (l : Line) → IsNext limits p q l → n ≡ length (closed p) + 1
-    → refusal_from limits 1 (map ended_line (closed p)) ≡ None → verdict limits n l.content ≡ Refuse place reason
-    → refusal_from limits 1 (judged limits q) ≡ Some (Refused n place reason)
-next-refusal limits n place reason p q l h e good v =
-    let at : 1 + length (map ended_line (closed p)) ≡ n = omega (arith, length-map_lines (closed p), e) in
-    rw (h.1, refusal-append limits 1 (map ended_line (closed p)) (l ∷ h.0) good, at, v) refl
+-- as many lines as LF ended in a front, of a text that goes on with a line that can be judged
+front-next : (limits : LimitPair) (p q : List ℕ) (l : Line) (n : ℕ) → IsNext limits p q l → n ≡ length (closed p) → take n (lines q) ≡ map ended_line (closed p)
+front-next limits p q l n h e =
+    let x = judged-front limits q in
+    let cs = map ended_line (closed p) in
+    rw (x.1, h.1, append_assoc cs (l ∷ h.0) x.0) (take-front cs (l ∷ h.0 ++ x.0) n (e ∙ sym (length-map_lines (closed p))))
 
-pub Tells-cause : {S : Type 0} (leaves : S → Line → S → Type 0) (limits : LimitPair) (p q : List ℕ) (n : ℕ) (s t : S) (e : End) → n ≡ length (closed p)
-    → refusal_from limits 1 (map ended_line (closed p)) ≡ None → HasCause leaves limits p q n s t e → Tells limits q n e
-Tells-cause leaves limits p q n s t Complete len good c = c
-Tells-cause leaves limits p q n s t (Refused number place reason) len good c =
-    (next-refusal limits number place reason p q c.0 c.1 (omega (arith, c.2, len)) good c.3, c.2)
-Tells-cause leaves limits p q n s t ReadFault len good c = c
-Tells-cause leaves limits p q n s t ReadLimit len good c = c
-Tells-cause leaves limits p q n s t WriteFault len good c = tt
-Tells-cause leaves limits p q n s t Memory len good c = tt
+pub next-refusal : (rules : Rules) (n place : ℕ) (reason : _) (p q : List ℕ) (l : Line) → IsNext rules.limits p q l → n ≡ length (closed p) + 1
+    → refusal_in rules (map ended_line (closed p)) ≡ None → verdict rules (map ended_line (closed p)) l.content ≡ Refuse place reason
+    → refusal_in rules (judged rules.limits q) ≡ Some (Refused n place reason)
+next-refusal rules n place reason p q l h e good v =
+    let at : length (map ended_line (closed p)) + 1 ≡ n = omega (arith, length-map_lines (closed p), e) in
+    rw (h.1, refusal-append rules [] (map ended_line (closed p)) (l ∷ h.0) good, v, at) refl
 
-pub Faults-cause : {S : Type 0} (leaves : S → Line → S → Type 0) (limits : LimitPair) (p q : List ℕ) (n : ℕ) (s t : S) (e : End) → n ≡ length (closed p)
-    → HasCause leaves limits p q n s t e → Faults leaves limits q n s t (Some e)
-Faults-cause leaves limits p q n s t Complete len c = absurd c
-Faults-cause leaves limits p q n s t (Refused number place reason) len c = c.4
-Faults-cause leaves limits p q n s t ReadFault len c = absurd c
-Faults-cause leaves limits p q n s t ReadLimit len c = absurd c
-Faults-cause leaves limits p q n s t WriteFault len c = (c.0, next-line limits n p q c.0 c.1 len, c.2, c.3)
-Faults-cause leaves limits p q n s t Memory len c = c.0
+pub Tells-cause : {S : Type 0} (leaves : S → Item → S → Type 0) (rules : Rules) (p q : List ℕ) (n : ℕ) (s t : S) (e : End) → n ≡ length (closed p)
+    → refusal_in rules (map ended_line (closed p)) ≡ None → HasCause leaves rules p q n s t e → Tells rules q n e
+Tells-cause leaves rules p q n s t Complete len good c = c
+Tells-cause leaves rules p q n s t (Refused number place reason) len good c =
+    (next-refusal rules number place reason p q c.0 c.1 (omega (arith, c.2, len)) good c.3, c.2)
+Tells-cause leaves rules p q n s t ReadFault len good c = c
+Tells-cause leaves rules p q n s t ReadLimit len good c = c
+Tells-cause leaves rules p q n s t WriteFault len good c = tt
+Tells-cause leaves rules p q n s t Memory len good c = tt
+
+pub Faults-cause : {S : Type 0} (leaves : S → Item → S → Type 0) (rules : Rules) (p q : List ℕ) (n : ℕ) (s t : S) (e : End) → n ≡ length (closed p)
+    → HasCause leaves rules p q n s t e → Faults leaves rules q n s t (Some e)
+Faults-cause leaves rules p q n s t Complete len c = absurd c
+Faults-cause leaves rules p q n s t (Refused number place reason) len c = c.4
+Faults-cause leaves rules p q n s t ReadFault len c = absurd c
+Faults-cause leaves rules p q n s t ReadLimit len c = absurd c
+Faults-cause leaves rules p q n s t WriteFault len c =
+    let before = front-next rules.limits p q c.0 n c.1 len in
+    (c.0, next-line rules.limits n p q c.0 c.1 len, rw before c.2, rw before c.3)
+Faults-cause leaves rules p q n s t Memory len c = c.0
 
 -- what has begun is within the limit
-begun-within : (f : Reading) (p : List ℕ) → IsSound f → Reads f p → length (begun p) ≤ f.limits.line
+begun-within : (f : Reading) (p : List ℕ) → IsSound f → Reads f p → length (begun p) ≤ f.rules.limits.line
 begun-within f p s h = go (zero_or f.lines)
   where
-    go : (f.lines ≡ 0) ⊎ (0 < f.lines) → length (begun p) ≤ f.limits.line
+    go : (f.lines ≡ 0) ⊎ (0 < f.lines) → length (begun p) ≤ f.rules.limits.line
     go (inl z) = rw (← h.begun, begun_of-first f z) (omega (arith, h.header_within.below_peak, h.header_within.below_limit, s.header))
     go (inr z) = rw (← h.begun, begun_of-later f z) (omega (arith, h.line_within.below_peak, h.line_within.below_limit, s.line))
 
 pub Going-reads : (e : State) (q : List ℕ) → IsSound e.reading → Reads e.reading q → Scanned (limits_of e) (closed q) e.scanning → Going e q
 Going-reads e q s h sc = record {
   good =
-      let short : ltb e.reading.limits.line (length (begun q)) ≡ false = let w = begun-within e.reading q s h in grind (arith, nat_tests) in
+      let short : ltb e.reading.rules.limits.line (length (begun q)) ≡ false = let w = begun-within e.reading q s h in grind (arith, nat_tests) in
       rw (short, append-nil (map ended_line (closed q))) h.good;
   lines = rw (lines-whole q) (h.lines ∙ sym (length-map_lines (closed q)));
   held = same-peaks _ _ _ _ _ _ (rw (h.header, h.line) refl) (omega (arith, sc.header, ap length sc.line)) (ap length sc.opened);
@@ -154,40 +163,40 @@ StandsFor-reads e p taken s room h sc = record {
   going = λ _. (h, sc, taken);
 }
 
-module _ {S : Type 0} (takes leaves : S → Line → S → Type 0) where
-  pub Tells-stops : (f g : Reading) (s t : S) (p more : List ℕ) (e : End) → Stops takes leaves f s p more e g t → Tells f.limits (p ++ more) g.lines e
+module _ {S : Type 0} (takes leaves : S → Item → S → Type 0) where
+  pub Tells-stops : (f g : Reading) (s t : S) (p more : List ℕ) (e : End) → Stops takes leaves f s p more e g t → Tells f.rules (p ++ more) g.lines e
   Tells-stops f g s t p more e h =
-      let good = rw h.limits at h.reads.good in
-      Tells-cause leaves f.limits (p ++ h.done) (p ++ more) g.lines h.middle t e h.reads.lines good h.cause
+      let good = rw h.rules at h.reads.good in
+      Tells-cause leaves f.rules (p ++ h.done) (p ++ more) g.lines h.middle t e h.reads.lines good h.cause
 
   pub Delivers-advances : (f g : Reading) (s t : S) (p more : List ℕ) → Reads f p → Advances takes f s p more g t
-      → Delivers takes leaves f.limits (p ++ more) f.lines g.lines s t None
+      → Delivers takes leaves f.rules (p ++ more) f.lines g.lines s t None
   Delivers-advances f g s t p more r h =
-      let limits = f.limits in
+      let rules = f.rules in
       record {
         added = h.puts.0;
         middle = t;
         kept =
-            let new_front : kept_first limits g.lines (p ++ more) ≡ kept_closed limits (p ++ more) = front_all limits g.lines (p ++ more) h.reads.lines in
-            new_front ∙ (h.puts.1 ∙ ap (λ z. z ++ h.puts.0) (sym (kept_first-front limits f.lines p more r.lines)));
+            let new_front : kept_first rules g.lines (p ++ more) ≡ kept_closed rules (p ++ more) = front_all rules g.lines (p ++ more) h.reads.lines in
+            new_front ∙ (h.puts.1 ∙ ap (λ z. z ++ h.puts.0) (sym (kept_first-front rules f.lines p more r.lines)));
         took = h.puts.2;
         fault = refl;
       }
     where
-      front_all : (limits : LimitPair) (n : ℕ) (q : List ℕ) → n ≡ length (closed q) → kept_first limits n q ≡ kept_closed limits q
-      front_all limits n q e = let k = kept_first-front limits n q [] e in rw (append-nil q) at k
+      front_all : (rules : Rules) (n : ℕ) (q : List ℕ) → n ≡ length (closed q) → kept_first rules n q ≡ kept_closed rules q
+      front_all rules n q e = let k = kept_first-front rules n q [] e in rw (append-nil q) at k
 
   pub Delivers-stops : (f g : Reading) (s t : S) (p more : List ℕ) (e : End) → Reads f p → Stops takes leaves f s p more e g t
-      → Delivers takes leaves f.limits (p ++ more) f.lines g.lines s t (Some e)
+      → Delivers takes leaves f.rules (p ++ more) f.lines g.lines s t (Some e)
   Delivers-stops f g s t p more e r h =
-      let limits = f.limits in
+      let rules = f.rules in
       let whole : p ++ more ≡ (p ++ h.done) ++ h.left = ap (λ z. p ++ z) h.cut ∙ sym (append_assoc p h.done h.left) in
       record {
         added = h.puts.0;
         middle = h.middle;
-        kept = rw (kept_first-front limits f.lines p more r.lines, whole, kept_first-front limits g.lines (p ++ h.done) h.left h.reads.lines) h.puts.1;
+        kept = rw (kept_first-front rules f.lines p more r.lines, whole, kept_first-front rules g.lines (p ++ h.done) h.left h.reads.lines) h.puts.1;
         took = h.puts.2;
-        fault = (Faults-cause leaves limits (p ++ h.done) (p ++ more) g.lines h.middle t e h.reads.lines h.cause);
+        fault = (Faults-cause leaves rules (p ++ h.done) (p ++ more) g.lines h.middle t e h.reads.lines h.cause);
       }
 
   pub StandsFor-stops : (old new : State) (s t : S) (p more : List ℕ) (e : End) → new.ended ≡ Some e → IsSound new.reading → HasRoom (limits_of new) new.scanning
@@ -202,7 +211,7 @@ module _ {S : Type 0} (takes leaves : S → Line → S → Type 0) where
       }
 
 -- what an end for want of memory tells
-pub LacksMemory-stops : {S : Type 0} (takes leaves : S → Line → S → Type 0) (f g : Reading) (s t : S) (p more : List ℕ) (e : End) → Stops takes leaves f s p more e g t → e ≡ Memory
+pub LacksMemory-stops : {S : Type 0} (takes leaves : S → Item → S → Type 0) (f g : Reading) (s t : S) (p more : List ℕ) (e : End) → Stops takes leaves f s p more e g t → e ≡ Memory
     → LacksMemory (p ++ more) g.lines (begun_of g)
 LacksMemory-stops takes leaves f g s t p more e h m =
     let cause = rw m at h.cause in

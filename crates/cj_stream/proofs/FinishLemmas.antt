@@ -1,7 +1,6 @@
 -- What the end of a text makes of an engine.
 use Rattle.std.proofs.Common.{◌≡◌, ℕ, ◌+◌, ◌<◌, ◌≤◌, ◌⊎◌, inl, inr, max, List, [], ◌∷◌, ◌++◌, Bool, true, false, cond, eqb, length, take, map, Some, None, Result, Ok, Err, arith, refl, sym, ap, ◌∙◌, length-append}
 use Rattle.std.specs.Prelude.{unwrap_or, OnOk, if◌then◌else◌, ◌≢◌}
-use Rattle.cj_stream.specs.Verdict.{WantsTokens}
 use Rattle.std.proofs.lemmas.List.{append-nil}
 use Rattle.std.proofs.lemmas.Bool.Decides.{nat_tests}
 use Rattle.cj_budget.specs.Limits.{LimitPair}
@@ -9,47 +8,46 @@ use Rattle.cj_budget.specs.Bounded.{IsWithin}
 use Rattle.cj_budget.specs.declared.limits.Peaks.{Peaks}
 use Rattle.cj_spans.specs.declared.reason.Reason.{Reason}
 use Rattle.cj_spans.specs.declared.reason.Reason.TheVariants.{NoHeader}
-use Rattle.cj_stream.specs.declared.judge.Verdict.{Verdict}
-use Rattle.cj_stream.specs.declared.judge.Verdict.TheVariants.{Refuse, Blank, Valid}
 use Rattle.cj_stream.specs.declared.ending.End.{End}
 use Rattle.cj_stream.specs.declared.ending.End.TheVariants.{Complete, Refused, ReadFault, ReadLimit, WriteFault, Memory}
 use Rattle.cj_stream.specs.Lines.{Line, closed, begun, begun_after, first_content, ended_line, last_line, later_of, lines}
-use Rattle.cj_stream.specs.Verdict.{verdict, refusal_of, is_kept, refusal_from, kept_from, ending, ending_of, kept_first}
+use Rattle.cj_stream.specs.Item.{Item}
+use Rattle.cj_stream.specs.Verdict.{WantsTokens, Rules, Verdict, Refuse, Blank, Valid, verdict, item_after, refusal_of, is_kept, refusal_in, refusal_from, kept_from, ending, ending_of, kept_first}
 use Rattle.cj_stream.specs.Bound.{bytes_bound, greatest, contents, exact_peaks}
-use Rattle.cj_stream.specs.Reading.{Reading, begun_of, Deals, Reads, Finishes, FinishesWith, Passes}
+use Rattle.cj_stream.specs.Reading.{Reading, begun_of, next_verdict, next_item, Deals, Reads, Finishes, FinishesWith, Passes}
 use Rattle.cj_stream.specs.Scanning.{Scanning, Scanned, HasRoom, HoldsFew}
 use Rattle.cj_stream.specs.Engine.{StandsFor, Counts, Faults, Delivers, Concludes, end_of}
 use Rattle.cj_stream.proofs.LineLemmas.{none-from_length, begun_after-empty}
 use Rattle.cj_stream.proofs.VerdictLemmas.{refusal-append, kept-append}
-use Rattle.cj_stream.proofs.ReadingLemmas.{length-map_lines, zero_or, kept-next, longest-later, max-zero}
+use Rattle.cj_stream.proofs.ReadingLemmas.{length-map_lines, zero_or, next-verdict, next-item, kept-next, longest-later, max-zero}
 use Rattle.cj_stream.proofs.Apart.{some-none}
 use Rattle.cj_stream.proofs.GoodLemmas.{good-complete, good-refused}
 use Rattle.cj_stream.proofs.EngineLemmas.{held-below, peaks-bounded, same-peaks, take-front, get-next, lines-front, Counts-front}
 
 -- the end of a text, by the number of its lines
-abbrev pub Concluded : LimitPair → List ℕ → ℕ → End → Type 0
-Concluded limits p n Complete = (ending limits p ≡ Complete) × (n ≡ length (lines p))
-Concluded limits p n (Refused number place reason) = (ending limits p ≡ Refused number place reason) × (number ≡ n + 1)
-Concluded limits p n ReadFault = ⊥
-Concluded limits p n ReadLimit = ⊥
-Concluded limits p n WriteFault = Unit {0}
-Concluded limits p n Memory = Unit {0}
+abbrev pub Concluded : Rules → List ℕ → ℕ → End → Type 0
+Concluded rules p n Complete = (ending rules p ≡ Complete) × (n ≡ length (lines p))
+Concluded rules p n (Refused number place reason) = (ending rules p ≡ Refused number place reason) × (number ≡ n + 1)
+Concluded rules p n ReadFault = ⊥
+Concluded rules p n ReadLimit = ⊥
+Concluded rules p n WriteFault = Unit {0}
+Concluded rules p n Memory = Unit {0}
 
-pub Concludes-concluded : (limits : LimitPair) (p : List ℕ) (n : ℕ) (e : End) → Concluded limits p n e → Concludes limits p n e
-Concludes-concluded limits p n Complete h = (h.0, h.1 ∙ ap length (sym (good-complete limits p h.0)))
-Concludes-concluded limits p n (Refused number place reason) h = (h.0, omega (arith, h.1, good-refused limits p number place reason h.0))
-Concludes-concluded limits p n ReadFault h = h
-Concludes-concluded limits p n ReadLimit h = h
-Concludes-concluded limits p n WriteFault h = h
-Concludes-concluded limits p n Memory h = h
+pub Concludes-concluded : (rules : Rules) (p : List ℕ) (n : ℕ) (e : End) → Concluded rules p n e → Concludes rules p n e
+Concludes-concluded rules p n Complete h = (h.0, h.1 ∙ ap length (sym (good-complete rules p h.0)))
+Concludes-concluded rules p n (Refused number place reason) h = (h.0, omega (arith, h.1, good-refused rules p number place reason h.0))
+Concludes-concluded rules p n ReadFault h = h
+Concludes-concluded rules p n ReadLimit h = h
+Concludes-concluded rules p n WriteFault h = h
+Concludes-concluded rules p n Memory h = h
 
-ending-some : (limits : LimitPair) (xs ys : List Line) → 0 < length xs → ending_of limits (xs ++ ys) ≡ unwrap_or (refusal_from limits 1 (xs ++ ys)) Complete
-ending-some limits [] ys h = absurd (omega arith)
-ending-some limits (x ∷ xs) ys h = refl
+ending-some : (rules : Rules) (xs ys : List Line) → 0 < length xs → ending_of rules (xs ++ ys) ≡ unwrap_or (refusal_in rules (xs ++ ys)) Complete
+ending-some rules [] ys h = absurd (omega arith)
+ending-some rules (x ∷ xs) ys h = refl
 
-ending-last : (limits : LimitPair) (xs : List Line) (l : Line) → ending_of limits (xs ++ l ∷ []) ≡ unwrap_or (refusal_from limits 1 (xs ++ l ∷ [])) Complete
-ending-last limits [] l = refl
-ending-last limits (x ∷ xs) l = refl
+ending-last : (rules : Rules) (xs : List Line) (l : Line) → ending_of rules (xs ++ l ∷ []) ≡ unwrap_or (refusal_in rules (xs ++ l ∷ [])) Complete
+ending-last rules [] l = refl
+ending-last rules (x ∷ xs) l = refl
 
 -- the contents of lines
 pub contents-closed : (cs : List (List ℕ)) → map (λ l. l.content) (map ended_line cs ++ []) ≡ cs
@@ -66,11 +64,11 @@ ok-then P Q (Ok x) f h = f h
 ok-then P Q (Err x) f h = h
 
 -- the lists after a last line was dealt with, and of a text without one
-pub scanned-last : (f : Reading) (p : List ℕ) (a b : Scanning) → Reads f p → 0 < length (begun_of f) → Scanned f.limits (closed p) a
-    → ((cs : List (List ℕ)) → length cs ≡ f.lines → Scanned f.limits cs a → Scanned f.limits (cs ++ begun_of f ∷ []) b) → Scanned f.limits (contents p) b
+pub scanned-last : (f : Reading) (p : List ℕ) (a b : Scanning) → Reads f p → 0 < length (begun_of f) → Scanned f.rules.limits (closed p) a
+    → ((cs : List (List ℕ)) → length cs ≡ f.lines → Scanned f.rules.limits cs a → Scanned f.rules.limits (cs ++ begun_of f ∷ []) b) → Scanned f.rules.limits (contents p) b
 scanned-last f p a b reads some s deal = go (begun p) (rw reads.begun at some) (let k = deal (closed p) (sym reads.lines) s in rw reads.begun at k)
   where
-    go : (c : List ℕ) → 0 < length c → Scanned f.limits (closed p ++ c ∷ []) b → Scanned f.limits (map (λ l. l.content) (map ended_line (closed p) ++ last_line c)) b
+    go : (c : List ℕ) → 0 < length c → Scanned f.rules.limits (closed p ++ c ∷ []) b → Scanned f.rules.limits (map (λ l. l.content) (map ended_line (closed p) ++ last_line c)) b
     go [] some k = absurd (omega arith)
     go (x ∷ c) some k = rw (contents-last (closed p) (x ∷ c)) k
 
@@ -81,7 +79,7 @@ scanned-closed limits p a e s = rw (e, contents-closed (closed p)) s
 abbrev unended : ℕ → List ℕ → Line
 unended b c = record { content = b ∷ c; lf = false }
 
-module _ {S : Type 0} (takes leaves : S → Line → S → Type 0) (f g : Reading) (s t : S) (p : List ℕ) (reads : Reads f p) where
+module _ {S : Type 0} (takes leaves : S → Item → S → Type 0) (f g : Reading) (s t : S) (p : List ℕ) (reads : Reads f p) where
   length-cs : length (map ended_line (closed p)) ≡ f.lines
   length-cs = length-map_lines (closed p) ∙ sym reads.lines
 
@@ -100,92 +98,90 @@ module _ {S : Type 0} (takes leaves : S → Line → S → Type 0) (f g : Readin
   take-closed = let k = lines-front f.lines p [] reads.lines in rw (append-nil p) at k
 
   -- the end, where a last line has this verdict
-  ending-verdict : (b : ℕ) (c : List ℕ) → begun p ≡ b ∷ c → ending f.limits p ≡ unwrap_or (refusal_from f.limits (f.lines + 1) (unended b c ∷ [])) Complete
+  ending-verdict : (b : ℕ) (c : List ℕ) → begun p ≡ b ∷ c → ending f.rules p ≡ unwrap_or (refusal_from f.rules (map ended_line (closed p)) (unended b c ∷ [])) Complete
   ending-verdict b c e =
       let l : Line = unended b c in
-      let at : 1 + length (map ended_line (closed p)) ≡ f.lines + 1 = omega (arith, length-cs) in
-      rw (lines-last b c e, ending-last f.limits (map ended_line (closed p)) l, refusal-append f.limits 1 (map ended_line (closed p)) (l ∷ []) reads.good, at) refl
+      rw (lines-last b c e, ending-last f.rules (map ended_line (closed p)) l, refusal-append f.rules [] (map ended_line (closed p)) (l ∷ []) reads.good) refl
 
   count-last : (b : ℕ) (c : List ℕ) → begun p ≡ b ∷ c → g.lines ≡ f.lines + 1 → g.lines ≡ length (lines p)
   count-last b c e h = rw (lines-last b c e) (omega (arith, h, length-cs, length-append (map ended_line (closed p)) (unended b c ∷ [])))
 
-  concluded-last : (b : ℕ) (c : List ℕ) (v : Verdict) (r : Result (Unit {0}) End) → begun p ≡ b ∷ c → verdict f.limits (f.lines + 1) (b ∷ c) ≡ v
-      → Deals takes leaves v (unended b c) f s r g t → Concluded f.limits p g.lines (end_of r)
-  concluded-last b c (Refuse place reason) r e h d = rw d.0 (ending-verdict b c e ∙ rw h refl, ap (λ x. x.lines + 1) (sym d.1))
+  concluded-last : (b : ℕ) (c : List ℕ) (v : Verdict) (r : Result (Unit {0}) End) → begun p ≡ b ∷ c → verdict f.rules (map ended_line (closed p)) (b ∷ c) ≡ v
+      → Deals takes leaves v (next_item f (unended b c)) f s r g t → Concluded f.rules p g.lines (end_of r)
+  concluded-last b c (Refuse place reason) r e h d = rw d.0 (ending-verdict b c e ∙ rw (h, length-cs) refl, ap (λ x. x.lines + 1) (sym d.1))
   concluded-last b c Blank r e h d = rw d.0 (ending-verdict b c e ∙ rw h refl, count-last b c e d.1.lines)
   concluded-last b c Valid (Ok x) e h d = (ending-verdict b c e ∙ rw h refl, count-last b c e d.0.lines)
   concluded-last b c Valid (Err x) e h d = rw d.0 tt
 
-  concluded-none : (r : Result (Unit {0}) End) → begun p ≡ [] → FinishesWith takes leaves [] f s r g t → Concluded f.limits p g.lines (end_of r)
+  concluded-none : (r : Result (Unit {0}) End) → begun p ≡ [] → FinishesWith takes leaves [] f s r g t → Concluded f.rules p g.lines (end_of r)
   concluded-none r e d = go (zero_or f.lines)
     where
-      go : (f.lines ≡ 0) ⊎ (0 < f.lines) → Concluded f.limits p g.lines (end_of r)
+      go : (f.lines ≡ 0) ⊎ (0 < f.lines) → Concluded f.rules p g.lines (end_of r)
       go (inl z) =
           let none : closed p ≡ [] = none-from_length (closed p) (sym reads.lines ∙ z) in
           rw (d.0, z, none, e) (refl, ap (λ x. x + 1) (sym (ap (λ x. x.lines) d.1 ∙ z)))
       go (inr z) =
           let no : eqb f.lines 0 ≡ false = grind (arith, nat_tests) in
           let whole : lines p ≡ map ended_line (closed p) ++ [] = rw e refl in
-          let good : refusal_from f.limits 1 (map ended_line (closed p) ++ []) ≡ None = rw (append-nil (map ended_line (closed p))) reads.good in
-          rw (d.0, no, d.1, whole) (ending-some f.limits (map ended_line (closed p)) [] (omega (arith, length-cs)) ∙ rw good refl, rw (append-nil (map ended_line (closed p))) (sym length-cs))
+          let good : refusal_in f.rules (map ended_line (closed p) ++ []) ≡ None = rw (append-nil (map ended_line (closed p))) reads.good in
+          rw (d.0, no, d.1, whole) (ending-some f.rules (map ended_line (closed p)) [] (omega (arith, length-cs)) ∙ rw good refl, rw (append-nil (map ended_line (closed p))) (sym length-cs))
 
-  pub Finishes-concludes : (r : Result (Unit {0}) End) → Finishes takes leaves f s p r g t → Concludes f.limits p g.lines (end_of r)
-  Finishes-concludes r d = Concludes-concluded f.limits p g.lines (end_of r) (go (begun p) refl d)
+  pub Finishes-concludes : (r : Result (Unit {0}) End) → Finishes takes leaves f s p r g t → Concludes f.rules p g.lines (end_of r)
+  Finishes-concludes r d = Concludes-concluded f.rules p g.lines (end_of r) (go (begun p) refl d)
     where
-      go : (x : List ℕ) → begun p ≡ x → FinishesWith takes leaves x f s r g t → Concluded f.limits p g.lines (end_of r)
+      go : (x : List ℕ) → begun p ≡ x → FinishesWith takes leaves x f s r g t → Concluded f.rules p g.lines (end_of r)
       go [] e d = concluded-none r e d
-      go (b ∷ c) e (inl d) = concluded-last b c _ r e refl d
+      go (b ∷ c) e (inl d) = concluded-last b c _ r e (sym (next-verdict f p reads (b ∷ c))) d
       go (b ∷ c) e (inr m) = rw m.0 tt
 
   -- the counts are those of f where nothing was dealt with
-  counts-same : g ≡ f → Counts f.limits p g.lines g.kept
+  counts-same : g ≡ f → Counts f.rules p g.lines g.kept
   counts-same e = let k = Counts-front f p [] reads in rw e (rw (append-nil p) at k)
 
-  counts-passed : (b : ℕ) (c : List ℕ) (put : Bool) → begun p ≡ b ∷ c → Passes put f g → refusal_of (f.lines + 1) (verdict f.limits (f.lines + 1) (b ∷ c)) ≡ None
-      → put ≡ is_kept (verdict f.limits (f.lines + 1) (b ∷ c)) → Counts f.limits p g.lines g.kept
+  counts-passed : (b : ℕ) (c : List ℕ) (put : Bool) → begun p ≡ b ∷ c → Passes put f g → refusal_of (length (map ended_line (closed p)) + 1) (verdict f.rules (map ended_line (closed p)) (b ∷ c)) ≡ None
+      → put ≡ is_kept (verdict f.rules (map ended_line (closed p)) (b ∷ c)) → Counts f.rules p g.lines g.kept
   counts-passed b c put e d fine k =
       let xs = map ended_line (closed p) in
-      let at : 1 + length (map ended_line (closed p)) ≡ f.lines + 1 = omega (arith, length-cs) in
       record {
         few = omega (arith, count-last b c e d.lines);
-        good = rw (d.lines, take-last b c e, refusal-append f.limits 1 xs (unended b c ∷ []) reads.good, at, fine) refl;
+        good = rw (d.lines, take-last b c e, refusal-append f.rules [] xs (unended b c ∷ []) reads.good, fine) refl;
         kept = rw (d.lines, take-last b c e) (kept-next f g xs (unended b c) put (sym length-cs) reads.kept d k);
       }
 
-  counts-last : (b : ℕ) (c : List ℕ) (v : Verdict) (r : Result (Unit {0}) End) → begun p ≡ b ∷ c → verdict f.limits (f.lines + 1) (b ∷ c) ≡ v
-      → Deals takes leaves v (unended b c) f s r g t → Counts f.limits p g.lines g.kept
+  counts-last : (b : ℕ) (c : List ℕ) (v : Verdict) (r : Result (Unit {0}) End) → begun p ≡ b ∷ c → verdict f.rules (map ended_line (closed p)) (b ∷ c) ≡ v
+      → Deals takes leaves v (next_item f (unended b c)) f s r g t → Counts f.rules p g.lines g.kept
   counts-last b c (Refuse place reason) r e h d = counts-same d.1
   counts-last b c Blank r e h d = counts-passed b c false e d.1 (rw h refl) (rw h refl)
   counts-last b c Valid (Ok x) e h d = counts-passed b c true e d.0 (rw h refl) (rw h refl)
   counts-last b c Valid (Err x) e h d = counts-same d.1
 
-  Counts-finished : (r : Result (Unit {0}) End) → Finishes takes leaves f s p r g t → Counts f.limits p g.lines g.kept
+  Counts-finished : (r : Result (Unit {0}) End) → Finishes takes leaves f s p r g t → Counts f.rules p g.lines g.kept
   Counts-finished r d = go (begun p) refl d
     where
-      go : (x : List ℕ) → begun p ≡ x → FinishesWith takes leaves x f s r g t → Counts f.limits p g.lines g.kept
+      go : (x : List ℕ) → begun p ≡ x → FinishesWith takes leaves x f s r g t → Counts f.rules p g.lines g.kept
       go [] e d = counts-same d.1
-      go (b ∷ c) e (inl d) = counts-last b c _ r e refl d
+      go (b ∷ c) e (inl d) = counts-last b c _ r e (sym (next-verdict f p reads (b ∷ c))) d
       go (b ∷ c) e (inr m) = counts-same m.1
 
   -- the lists are within their peaks, and those have not changed
   record Settled : Type 0 where
-    pub limits : g.limits ≡ f.limits
+    pub rules : g.rules ≡ f.rules
     pub header : IsWithin g.header
     pub line : IsWithin g.line
     pub peaks : g.header.peak + g.line.peak ≡ f.header.peak + f.line.peak
 
   settled-same : g ≡ f → Settled
-  settled-same e = rw e (record { limits = refl; header = reads.header_within; line = reads.line_within; peaks = refl })
+  settled-same e = rw e (record { rules = refl; header = reads.header_within; line = reads.line_within; peaks = refl })
 
   settled-passed : (put : Bool) → Passes put f g → Settled
   settled-passed put d = record {
-    limits = d.limits;
+    rules = d.rules;
     header = rw d.header reads.header_within;
     line = d.line.within;
     peaks = rw d.header (omega (arith, d.line.peak));
   }
 
-  settled-dealt : (l : Line) (v : Verdict) (r : Result (Unit {0}) End) → Deals takes leaves v l f s r g t → Settled
+  settled-dealt : (l : Item) (v : Verdict) (r : Result (Unit {0}) End) → Deals takes leaves v l f s r g t → Settled
   settled-dealt l (Refuse place reason) r d = settled-same d.1
   settled-dealt l Blank r d = settled-passed false d.1
   settled-dealt l Valid (Ok x) d = settled-passed true d.0
@@ -196,38 +192,38 @@ module _ {S : Type 0} (takes leaves : S → Line → S → Type 0) (f g : Readin
     where
       go : (x : List ℕ) → FinishesWith takes leaves x f s r g t → Settled
       go [] d = settled-same d.1
-      go (b ∷ c) (inl d) = settled-dealt (unended b c) _ r d
+      go (b ∷ c) (inl d) = settled-dealt (next_item f (unended b c)) _ r d
       go (b ∷ c) (inr m) = settled-same m.1
 
-  pub StandsFor-finished : (r : Result (Unit {0}) End) (sc : Scanning) (n : ℕ) (e : End) → f.header.peak + f.line.peak ≤ bytes_bound f.limits p → HasRoom f.limits sc
-      → HoldsFew f.limits (length (first_content p)) sc → Finishes takes leaves f s p r g t → StandsFor (record { reading = g; scanning = sc; taken = n; ended = Some e }) p
+  pub StandsFor-finished : (r : Result (Unit {0}) End) (sc : Scanning) (n : ℕ) (e : End) → f.header.peak + f.line.peak ≤ bytes_bound f.rules.limits p → HasRoom f.rules.limits sc
+      → HoldsFew f.rules.limits (length (first_content p)) sc → Finishes takes leaves f s p r g t → StandsFor (record { reading = g; scanning = sc; taken = n; ended = Some e }) p
   StandsFor-finished r sc n e bounded room few d =
       let k = Settled-finished r d in
       let counts = Counts-finished r d in
       record {
-        held = held-below (record { reading = g; scanning = sc; taken = n; ended = Some e }) k.header k.line (rw k.limits room);
-        bounded = rw k.limits (peaks-bounded f.limits p (g.header.peak + g.line.peak) sc (omega (arith, k.peaks, bounded)) room few);
-        counts = rw k.limits counts;
+        held = held-below (record { reading = g; scanning = sc; taken = n; ended = Some e }) k.header k.line (rw k.rules room);
+        bounded = rw k.rules (peaks-bounded f.rules.limits p (g.header.peak + g.line.peak) sc (omega (arith, k.peaks, bounded)) room few);
+        counts = rw k.rules counts;
         going = λ none. absurd (some-none e none);
       }
 
   -- what was held at most, of all lines
-  peak-all : (put : Bool) (b : ℕ) (c : List ℕ) → begun p ≡ b ∷ c → Passes put f g → g.header.peak + g.line.peak ≡ (exact_peaks f.limits p).bytes
+  peak-all : (put : Bool) (b : ℕ) (c : List ℕ) → begun p ≡ b ∷ c → Passes put f g → g.header.peak + g.line.peak ≡ (exact_peaks f.rules.limits p).bytes
   peak-all put b c e d =
       let later : greatest length (later_of (contents p)) ≡ max (greatest length (later_of (closed p))) (length (begun_after (closed p) (begun p))) =
       rw (lines-last b c e, contents-last (closed p) (b ∷ c), ← e) (sym (max-zero _) ∙ longest-later (closed p) (begun p)) in
       let first : g.header.peak ≡ length (first_content p) = ap (λ x. x.peak) d.header ∙ (reads.peak ∙ ap length reads.header) in
       omega (arith, later, first, d.line.peak, reads.line_peak)
 
-  peak-closed : g ≡ f → begun p ≡ [] → g.header.peak + g.line.peak ≡ (exact_peaks f.limits p).bytes
+  peak-closed : g ≡ f → begun p ≡ [] → g.header.peak + g.line.peak ≡ (exact_peaks f.rules.limits p).bytes
   peak-closed same e =
       let later : greatest length (later_of (contents p)) ≡ greatest length (later_of (closed p)) = rw (e, contents-closed (closed p)) refl in
       let first : f.header.peak ≡ length (first_content p) = reads.peak ∙ ap length reads.header in
       let line = rw (e, begun_after-empty (closed p)) at reads.line_peak in
       rw same (omega (arith, later, first, line))
 
-  peak-dealt : (b : ℕ) (c : List ℕ) (v : Verdict) (r : Result (Unit {0}) End) → begun p ≡ b ∷ c → Deals takes leaves v (unended b c) f s r g t → end_of r ≡ Complete
-      → g.header.peak + g.line.peak ≡ (exact_peaks f.limits p).bytes
+  peak-dealt : (b : ℕ) (c : List ℕ) (v : Verdict) (r : Result (Unit {0}) End) → begun p ≡ b ∷ c → Deals takes leaves v (next_item f (unended b c)) f s r g t → end_of r ≡ Complete
+      → g.header.peak + g.line.peak ≡ (exact_peaks f.rules.limits p).bytes
   peak-dealt b c (Refuse place reason) r e d done = absurd (clash (sym (ap end_of d.0) ∙ done))
     where
       clash : Refused (f.lines + 1) place reason ≡ Complete → ⊥
@@ -239,10 +235,10 @@ module _ {S : Type 0} (takes leaves : S → Line → S → Type 0) (f g : Readin
       clash : WriteFault ≡ Complete → ⊥
       clash x = cc
 
-  pub peak-finished : (r : Result (Unit {0}) End) → Finishes takes leaves f s p r g t → end_of r ≡ Complete → g.header.peak + g.line.peak ≡ (exact_peaks f.limits p).bytes
+  pub peak-finished : (r : Result (Unit {0}) End) → Finishes takes leaves f s p r g t → end_of r ≡ Complete → g.header.peak + g.line.peak ≡ (exact_peaks f.rules.limits p).bytes
   peak-finished r d done = go (begun p) refl d
     where
-      go : (x : List ℕ) → begun p ≡ x → FinishesWith takes leaves x f s r g t → g.header.peak + g.line.peak ≡ (exact_peaks f.limits p).bytes
+      go : (x : List ℕ) → begun p ≡ x → FinishesWith takes leaves x f s r g t → g.header.peak + g.line.peak ≡ (exact_peaks f.rules.limits p).bytes
       go [] e d = peak-closed d.1 e
       go (b ∷ c) e (inl d) = peak-dealt b c _ r e d done
       go (b ∷ c) e (inr m) = absurd (clash (sym (ap end_of m.0) ∙ done))
@@ -262,7 +258,7 @@ module _ {S : Type 0} (takes leaves : S → Line → S → Type 0) (f g : Readin
       none true r e h = refused 1 0 NoHeader r e h
       none false r e h = e
 
-      dealt : (v : Verdict) (l : Line) (r : Result (Unit {0}) End) → Deals takes leaves v l f s r g t → end_of r ≡ Complete → r ≡ Ok tt
+      dealt : (v : Verdict) (l : Item) (r : Result (Unit {0}) End) → Deals takes leaves v l f s r g t → end_of r ≡ Complete → r ≡ Ok tt
       dealt (Refuse place reason) l r d h = refused (f.lines + 1) place reason r d.0 h
       dealt Blank l r d h = d.0
       dealt Valid l (Ok x) d h = refl
@@ -274,7 +270,7 @@ module _ {S : Type 0} (takes leaves : S → Line → S → Type 0) (f g : Readin
 
       go : (x : List ℕ) (r : Result (Unit {0}) End) → FinishesWith takes leaves x f s r g t → end_of r ≡ Complete → r ≡ Ok tt
       go [] r d h = none (eqb f.lines 0) r d.0 h
-      go (b ∷ c) r (inl d) h = dealt _ (unended b c) r d h
+      go (b ∷ c) r (inl d) h = dealt _ (next_item f (unended b c)) r d h
       go (b ∷ c) r (inr m) h = memory r m.0 h
 
   -- there is a last line for whose tokens no memory was granted, and it is UTF-8 and not blank
@@ -292,7 +288,7 @@ module _ {S : Type 0} (takes leaves : S → Line → S → Type 0) (f g : Readin
       none true r e h = clash _ r e (λ x. cc) h
       none false r e h = fine r e h
 
-      dealt : (v : Verdict) (l : Line) (r : Result (Unit {0}) End) → Deals takes leaves v l f s r g t → end_of r ≡ Memory → ⊥
+      dealt : (v : Verdict) (l : Item) (r : Result (Unit {0}) End) → Deals takes leaves v l f s r g t → end_of r ≡ Memory → ⊥
       dealt (Refuse place reason) l r d h = clash _ r d.0 (λ x. cc) h
       dealt Blank l r d h = fine r d.0 h
       dealt Valid l (Ok x) d h = cc
@@ -300,32 +296,31 @@ module _ {S : Type 0} (takes leaves : S → Line → S → Type 0) (f g : Readin
 
       go : (x : List ℕ) (r : Result (Unit {0}) End) → FinishesWith takes leaves x f s r g t → end_of r ≡ Memory → (x ≢ []) × WantsTokens (f.lines + 1) x
       go [] r d h = absurd (none (eqb f.lines 0) r d.0 h)
-      go (b ∷ c) r (inl d) h = absurd (dealt _ (unended b c) r d h)
+      go (b ∷ c) r (inl d) h = absurd (dealt _ (next_item f (unended b c)) r d h)
       go (b ∷ c) r (inr m) h = (λ e. cc, m.3)
 
   -- and of all three counts
-  pub peaks-finished : (r : Result (Unit {0}) End) (sc : Scanning) → Finishes takes leaves f s p r g t → end_of r ≡ Complete → Scanned f.limits (contents p) sc
-      → ◌≡◌ {A = Peaks} (record { bytes = g.header.peak + g.line.peak; tokens = sc.header.peak + sc.line.peak; depth = sc.opened.peak }) (exact_peaks f.limits p)
+  pub peaks-finished : (r : Result (Unit {0}) End) (sc : Scanning) → Finishes takes leaves f s p r g t → end_of r ≡ Complete → Scanned f.rules.limits (contents p) sc
+      → ◌≡◌ {A = Peaks} (record { bytes = g.header.peak + g.line.peak; tokens = sc.header.peak + sc.line.peak; depth = sc.opened.peak }) (exact_peaks f.rules.limits p)
   peaks-finished r sc d done k = same-peaks _ _ _ _ _ _ (peak-finished r d done) (rw (k.header_peak, k.line_peak) refl) k.opened_peak
 
   kept-last : (b : ℕ) (c : List ℕ) → begun p ≡ b ∷ c
-      → kept_first f.limits (f.lines + 1) p ≡ kept_first f.limits f.lines p ++ kept_from f.limits (f.lines + 1) (unended b c ∷ [])
+      → kept_first f.rules (f.lines + 1) p ≡ kept_first f.rules f.lines p ++ kept_from f.rules (map ended_line (closed p)) (unended b c ∷ [])
   kept-last b c e =
       let xs = map ended_line (closed p) in
-      let at : 1 + length (map ended_line (closed p)) ≡ f.lines + 1 = omega (arith, length-cs) in
-      rw (take-last b c e, take-closed, kept-append f.limits 1 xs (unended b c ∷ []), at) refl
+      rw (take-last b c e, take-closed, kept-append f.rules [] xs (unended b c ∷ [])) refl
 
-  quiet : (x : End) → g.lines ≡ f.lines → Faults leaves f.limits p g.lines s t (Some x) → Delivers takes leaves f.limits p f.lines g.lines s t (Some x)
+  quiet : (x : End) → g.lines ≡ f.lines → Faults leaves f.rules p g.lines s t (Some x) → Delivers takes leaves f.rules p f.lines g.lines s t (Some x)
   quiet x same fault = record {
     added = [];
     middle = s;
-    kept = rw same (sym (append-nil (kept_first f.limits f.lines p)));
+    kept = rw same (sym (append-nil (kept_first f.rules f.lines p)));
     took = refl;
     fault = fault;
   }
 
-  delivers-last : (b : ℕ) (c : List ℕ) (v : Verdict) (r : Result (Unit {0}) End) → begun p ≡ b ∷ c → verdict f.limits (f.lines + 1) (b ∷ c) ≡ v
-      → Deals takes leaves v (unended b c) f s r g t → Delivers takes leaves f.limits p f.lines g.lines s t (Some (end_of r))
+  delivers-last : (b : ℕ) (c : List ℕ) (v : Verdict) (r : Result (Unit {0}) End) → begun p ≡ b ∷ c → verdict f.rules (map ended_line (closed p)) (b ∷ c) ≡ v
+      → Deals takes leaves v (next_item f (unended b c)) f s r g t → Delivers takes leaves f.rules p f.lines g.lines s t (Some (end_of r))
   delivers-last b c (Refuse place reason) r e h d = rw d.0 (quiet (Refused (f.lines + 1) place reason) (ap (λ x. x.lines) d.1) d.2)
   delivers-last b c Blank r e h d = rw d.0 (record {
     added = [];
@@ -335,26 +330,26 @@ module _ {S : Type 0} (takes leaves : S → Line → S → Type 0) (f g : Readin
     fault = d.2;
   })
   delivers-last b c Valid (Ok x) e h d = record {
-    added = unended b c ∷ [];
+    added = item_after f.rules (map ended_line (closed p)) (unended b c) ∷ [];
     middle = t;
     kept = rw d.0.lines (kept-last b c e ∙ rw h refl);
-    took = (t, d.1, refl);
+    took = (t, rw (← next-item f p reads (unended b c)) d.1, refl);
     fault = refl;
   }
   delivers-last b c Valid (Err x) e h d = rw d.0 (quiet WriteFault (ap (λ x. x.lines) d.1)
-      (unended b c, rw (d.1, lines-last b c e) (get-next (map ended_line (closed p)) [] (unended b c) f.lines (sym length-cs)), rw (d.1, h) refl, d.2))
+      (unended b c, rw (d.1, lines-last b c e) (get-next (map ended_line (closed p)) [] (unended b c) f.lines (sym length-cs)), rw (d.1, take-closed, h) refl, rw (d.1, take-closed, ← next-item f p reads (unended b c)) d.2))
 
-  delivers-none : (r : Result (Unit {0}) End) → FinishesWith takes leaves [] f s r g t → Delivers takes leaves f.limits p f.lines g.lines s t (Some (end_of r))
+  delivers-none : (r : Result (Unit {0}) End) → FinishesWith takes leaves [] f s r g t → Delivers takes leaves f.rules p f.lines g.lines s t (Some (end_of r))
   delivers-none r d = go (zero_or f.lines)
     where
-      go : (f.lines ≡ 0) ⊎ (0 < f.lines) → Delivers takes leaves f.limits p f.lines g.lines s t (Some (end_of r))
+      go : (f.lines ≡ 0) ⊎ (0 < f.lines) → Delivers takes leaves f.rules p f.lines g.lines s t (Some (end_of r))
       go (inl z) = let yes_none : eqb f.lines 0 ≡ true = grind (arith, nat_tests) in rw (d.0, yes_none) (quiet (Refused 1 0 NoHeader) (ap (λ x. x.lines) d.1) d.2)
       go (inr z) = let not_none : eqb f.lines 0 ≡ false = grind (arith, nat_tests) in rw (d.0, not_none) (quiet Complete (ap (λ x. x.lines) d.1) d.2)
 
-  pub Finishes-delivers : (r : Result (Unit {0}) End) → Finishes takes leaves f s p r g t → Delivers takes leaves f.limits p f.lines g.lines s t (Some (end_of r))
+  pub Finishes-delivers : (r : Result (Unit {0}) End) → Finishes takes leaves f s p r g t → Delivers takes leaves f.rules p f.lines g.lines s t (Some (end_of r))
   Finishes-delivers r d = go (begun p) refl d
     where
-      go : (x : List ℕ) → begun p ≡ x → FinishesWith takes leaves x f s r g t → Delivers takes leaves f.limits p f.lines g.lines s t (Some (end_of r))
+      go : (x : List ℕ) → begun p ≡ x → FinishesWith takes leaves x f s r g t → Delivers takes leaves f.rules p f.lines g.lines s t (Some (end_of r))
       go [] e d = delivers-none r d
-      go (b ∷ c) e (inl d) = delivers-last b c _ r e refl d
+      go (b ∷ c) e (inl d) = delivers-last b c _ r e (sym (next-verdict f p reads (b ∷ c))) d
       go (b ∷ c) e (inr m) = rw m.0 (quiet Memory (ap (λ x. x.lines) m.1) m.2)

@@ -69,9 +69,12 @@ raw-last : (c : List ℕ) → flat_map raw (last_line c) ≡ c
 raw-last [] = refl
 raw-last (b ∷ c) = append-nil (b ∷ c)
 
-pub raw-append : (xs ys : List Line) → flat_map raw (xs ++ ys) ≡ flat_map raw xs ++ flat_map raw ys
-raw-append [] ys = refl
-raw-append (x ∷ xs) ys = ap (λ z. raw x ++ z) (raw-append xs ys) ∙ sym (append_assoc (raw x) (flat_map raw xs) (flat_map raw ys))
+pub joined-append : {X : Type 0} (f : X → List ℕ) (xs ys : List X) → flat_map f (xs ++ ys) ≡ flat_map f xs ++ flat_map f ys
+joined-append f [] ys = refl
+joined-append f (x ∷ xs) ys = ap (λ z. f x ++ z) (joined-append f xs ys) ∙ sym (append_assoc (f x) (flat_map f xs) (flat_map f ys))
+
+raw-append : (xs ys : List Line) → flat_map raw (xs ++ ys) ≡ flat_map raw xs ++ flat_map raw ys
+raw-append xs ys = joined-append raw xs ys
 
 AreEnded-last : (cs : List (List ℕ)) (c : List ℕ) → AreEnded (map ended_line cs ++ last_line c)
 AreEnded-last [] [] = tt

@@ -9,34 +9,44 @@ use Rattle.cj_spans.specs.declared.reason.Reason.TheVariants.{Syntax as SyntaxRe
 use Rattle.cj_spans.specs.Tree.{Tree, size, nest}
 use Rattle.cj_spans.specs.Json.{Json}
 use Rattle.cj_spans.specs.Judgement.{Judgement, spelled, broken, sunk, IsAnswerOf, judged_size, judged_nest}
-use Rattle.cj_stream.specs.declared.judge.Verdict.TheVariants.{Refuse, Valid}
-use Rattle.cj_stream.specs.Verdict.{text_verdict}
+use Rattle.cj_stream.specs.Item.{judged_tree}
+use Rattle.cj_stream.specs.Verdict.{Rules, Refuse, tree_verdict, text_verdict}
 
 -- a scan that answers Ok has found the tree
-pub ok-valid : {b : List ℕ} {d : ℕ} (j : Judgement b d) (x : Unit {0}) (t : Tree) → ((u : Tree) → Json b u → u ≡ t) → IsAnswerOf j (Ok x)
-    → (text_verdict j ≡ Valid) × (judged_size j ≡ size t) × (judged_nest j ≡ nest t)
-ok-valid (spelled u json shallow) x t only h = (refl, ap size (only u json), ap nest (only u json))
-ok-valid (broken i s n) x t only (inl e) = cc
-ok-valid (broken i s n) x t only (inr e) = cc
-ok-valid (sunk i s) x t only (inl e) = cc
-ok-valid (sunk i s) x t only (inr e) = cc
+pub ok-tree : {b : List ℕ} {d : ℕ} (j : Judgement b d) (x : Unit {0}) (t : Tree) → ((u : Tree) → Json b u → u ≡ t) → IsAnswerOf j (Ok x)
+    → (judged_tree j ≡ t) × (judged_size j ≡ size t) × (judged_nest j ≡ nest t)
+ok-tree (spelled u json shallow) x t only h = (only u json, ap size (only u json), ap nest (only u json))
+ok-tree (broken i s n) x t only (inl e) = cc
+ok-tree (broken i s n) x t only (inr e) = cc
+ok-tree (sunk i s) x t only (inl e) = cc
+ok-tree (sunk i s) x t only (inr e) = cc
+
+-- and the verdict goes by that tree
+pub ok-verdict : {b : List ℕ} {d : ℕ} (rules : Rules) (n : ℕ) (header : Tree) (j : Judgement b d) (x : Unit {0}) → IsAnswerOf j (Ok x)
+    → text_verdict rules n header j ≡ tree_verdict rules n header (judged_tree j)
+ok-verdict rules n header (spelled u json shallow) x h = refl
+ok-verdict rules n header (broken i s k) x (inl e) = cc
+ok-verdict rules n header (broken i s k) x (inr e) = cc
+ok-verdict rules n header (sunk i s) x (inl e) = cc
+ok-verdict rules n header (sunk i s) x (inr e) = cc
 
 -- and each fault the place
-pub syntax-refused : {b : List ℕ} {d : ℕ} (j : Judgement b d) (i : ℕ) → IsAnswerOf j (Err (Syntax i)) → text_verdict j ≡ Refuse i SyntaxReason
-syntax-refused (spelled u json shallow) i (inl e) = cc
-syntax-refused (spelled u json shallow) i (inr e) = cc
-syntax-refused (broken k s n) i (inl e) = cc
-syntax-refused (broken k s n) i (inr e) = cc
-syntax-refused (sunk k s) i (inl e) = cc
-syntax-refused (sunk k s) i (inr e) = cc
+module _ {b : List ℕ} {d : ℕ} (rules : Rules) (n : ℕ) (header : Tree) where
+  pub syntax-refused : (j : Judgement b d) (i : ℕ) → IsAnswerOf j (Err (Syntax i)) → text_verdict rules n header j ≡ Refuse i SyntaxReason
+  syntax-refused (spelled u json shallow) i (inl e) = cc
+  syntax-refused (spelled u json shallow) i (inr e) = cc
+  syntax-refused (broken k s m) i (inl e) = cc
+  syntax-refused (broken k s m) i (inr e) = cc
+  syntax-refused (sunk k s) i (inl e) = cc
+  syntax-refused (sunk k s) i (inr e) = cc
 
-pub deep-refused : {b : List ℕ} {d : ℕ} (j : Judgement b d) (i : ℕ) → IsAnswerOf j (Err (TooDeep i)) → text_verdict j ≡ Refuse i TooDeepReason
-deep-refused (spelled u json shallow) i (inl e) = cc
-deep-refused (spelled u json shallow) i (inr e) = cc
-deep-refused (broken k s n) i (inl e) = cc
-deep-refused (broken k s n) i (inr e) = cc
-deep-refused (sunk k s) i (inl e) = cc
-deep-refused (sunk k s) i (inr e) = cc
+  pub deep-refused : (j : Judgement b d) (i : ℕ) → IsAnswerOf j (Err (TooDeep i)) → text_verdict rules n header j ≡ Refuse i TooDeepReason
+  deep-refused (spelled u json shallow) i (inl e) = cc
+  deep-refused (spelled u json shallow) i (inr e) = cc
+  deep-refused (broken k s m) i (inl e) = cc
+  deep-refused (broken k s m) i (inr e) = cc
+  deep-refused (sunk k s) i (inl e) = cc
+  deep-refused (sunk k s) i (inr e) = cc
 
 -- bytes that are UTF-8 up to a place are not UTF-8
 pub not_text : (b : List ℕ) (i : ℕ) → IsValidUpTo b i → IsUtf8 b → ⊥

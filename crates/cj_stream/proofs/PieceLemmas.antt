@@ -1,22 +1,20 @@
 -- How a framer advances over a piece, and where it stops.
 use Rattle.std.proofs.Common.{◌≡◌, ℕ, ◌+◌, ◌<◌, ◌⊎◌, inl, inr, List, [], ◌∷◌, ◌++◌, Bool, true, false, ltb, length, map, Some, None, Result, Ok, Err, arith, refl, sym, ap, ◌∙◌, subst, append_assoc, length-append}
 use Rattle.std.specs.Prelude.{if◌then◌else◌, slice_get}
-use Rattle.cj_stream.specs.Verdict.{WantsTokens}
 use Rattle.std.proofs.lemmas.List.{append-nil}
 use Rattle.std.proofs.lemmas.Bool.Decides.{nat_tests}
 use Rattle.cj_budget.specs.Limits.{LimitPair}
 use Rattle.cj_spans.specs.declared.reason.Reason.TheVariants.{LineTooLong}
-use Rattle.cj_stream.specs.declared.judge.Verdict.{Verdict}
-use Rattle.cj_stream.specs.declared.judge.Verdict.TheVariants.{Refuse, Blank, Valid}
 use Rattle.cj_stream.specs.declared.ending.End.{End}
 use Rattle.cj_stream.specs.declared.ending.End.TheVariants.{Refused, WriteFault, Memory}
 use Rattle.cj_stream.specs.Lines.{Line, lines, closed, begun, ended_line, last_line, NoLf}
-use Rattle.cj_stream.specs.Verdict.{verdict, refusal_of, is_kept, long_line}
-use Rattle.cj_stream.specs.Reading.{Reading, begun_of, Stores, Passes, Deals, Settles, Reads, kept_closed, Puts, Advances, IsNext, HasCause, Stops}
+use Rattle.cj_stream.specs.Item.{Item}
+use Rattle.cj_stream.specs.Verdict.{WantsTokens, Rules, Verdict, Refuse, Blank, Valid, verdict, item_after, refusal_of, is_kept, long_line}
+use Rattle.cj_stream.specs.Reading.{Reading, begun_of, next_verdict, next_item, Stores, Passes, Deals, Settles, Reads, kept_closed, Puts, Advances, IsNext, HasCause, Stops}
 use Rattle.cj_stream.specs.Sink.{Took}
 use Rattle.cj_stream.proofs.LineLemmas.{closed-more, begun-more, closed-lf, begun-lf}
 use Rattle.cj_stream.proofs.VerdictLemmas.{verdict-long}
-use Rattle.cj_stream.proofs.ReadingLemmas.{Reads-stored, Reads-passed, kept_closed-lf, map_lines-append, length-map_lines}
+use Rattle.cj_stream.proofs.ReadingLemmas.{Reads-stored, Reads-passed, next-verdict, next-item, kept_closed-lf, map_lines-append, length-map_lines}
 use Rattle.cj_stream.proofs.EngineLemmas.{get-next, next-line}
 
 -- steps, and then others
@@ -24,48 +22,48 @@ pub Took-append : {S X : Type 0} (step : S → X → S → Type 0) (a b c : S) (
 Took-append step a b c [] ys h k = subst (λ z. Took step z ys c) h k
 Took-append step a b c (x ∷ xs) ys h k = (h.0, h.1, Took-append step h.0 b c xs ys h.2 k)
 
-module _ {S : Type 0} (takes leaves : S → Line → S → Type 0) where
-  pub Puts-none : (limits : LimitPair) (p q : List ℕ) (s : S) → closed q ≡ closed p → Puts takes limits p q s s
-  Puts-none limits p q s e = ([], rw e (sym (append-nil (kept_closed limits p))), refl)
+module _ {S : Type 0} (takes leaves : S → Item → S → Type 0) where
+  pub Puts-none : (rules : Rules) (p q : List ℕ) (s : S) → closed q ≡ closed p → Puts takes rules p q s s
+  Puts-none rules p q s e = ([], rw e (sym (append-nil (kept_closed rules p))), refl)
 
-  pub Puts-then : (limits : LimitPair) (p q r : List ℕ) (s t u : S) → Puts takes limits p q s t → Puts takes limits q r t u → Puts takes limits p r s u
-  Puts-then limits p q r s t u h k =
-      (h.0 ++ k.0, k.1 ∙ (ap (λ z. z ++ k.0) h.1 ∙ append_assoc (kept_closed limits p) h.0 k.0), Took-append takes s t u h.0 k.0 h.2 k.2)
+  pub Puts-then : (rules : Rules) (p q r : List ℕ) (s t u : S) → Puts takes rules p q s t → Puts takes rules q r t u → Puts takes rules p r s u
+  Puts-then rules p q r s t u h k =
+      (h.0 ++ k.0, k.1 ∙ (ap (λ z. z ++ k.0) h.1 ∙ append_assoc (kept_closed rules p) h.0 k.0), Took-append takes s t u h.0 k.0 h.2 k.2)
 
   pub Advances-none : (f : Reading) (s : S) (p : List ℕ) → Reads f p → Advances takes f s p [] f s
   Advances-none f s p h = record {
-    limits = refl;
+    rules = refl;
     reads = rw (append-nil p) h;
-    puts = Puts-none f.limits p (p ++ []) s (ap closed (append-nil p));
+    puts = Puts-none f.rules p (p ++ []) s (ap closed (append-nil p));
   }
 
   pub Advances-then : (f g h : Reading) (s t u : S) (p a b : List ℕ) → Advances takes f s p a g t → Advances takes g t (p ++ a) b h u → Advances takes f s p (a ++ b) h u
   Advances-then f g h s t u p a b x y = record {
-    limits = y.limits ∙ x.limits;
+    rules = y.rules ∙ x.rules;
     reads = rw (← append_assoc p a b) y.reads;
     puts =
-        let k = rw x.limits at y.puts in
-        rw (← append_assoc p a b) (Puts-then f.limits p (p ++ a) ((p ++ a) ++ b) s t u x.puts k);
+        let k = rw x.rules at y.puts in
+        rw (← append_assoc p a b) (Puts-then f.rules p (p ++ a) ((p ++ a) ++ b) s t u x.puts k);
   }
 
   pub Advances-stored : (f g : Reading) (s : S) (p part : List ℕ) → Reads f p → NoLf part → Stores f part g → Advances takes f s p part g s
   Advances-stored f g s p part h n st = record {
-    limits = st.limits;
+    rules = st.rules;
     reads = Reads-stored f g p part h n st;
-    puts = Puts-none f.limits p (p ++ part) s (closed-more p part n);
+    puts = Puts-none f.rules p (p ++ part) s (closed-more p part n);
   }
 
   passed : (g h : Reading) (s t : S) (p : List ℕ) (put : Bool) → Reads g p → Passes put g h
-      → refusal_of (g.lines + 1) (verdict g.limits (g.lines + 1) (begun_of g)) ≡ None → put ≡ is_kept (verdict g.limits (g.lines + 1) (begun_of g))
-      → Took takes s (if put then ended_line (begun p) ∷ [] else []) t → Advances takes g s p (10 ∷ []) h t
+      → refusal_of (g.lines + 1) (next_verdict g (begun_of g)) ≡ None → put ≡ is_kept (next_verdict g (begun_of g))
+      → Took takes s (if put then item_after g.rules (map ended_line (closed p)) (ended_line (begun p)) ∷ [] else []) t → Advances takes g s p (10 ∷ []) h t
   passed g h s t p put r x fine k took = record {
-    limits = x.limits;
+    rules = x.rules;
     reads = Reads-passed g h p put r x fine k;
-    puts = (_, kept_closed-lf g.limits p (g.lines + 1) put (ap (λ z. z + 1) r.lines) (rw (← r.begun) k), took);
+    puts = (_, kept_closed-lf g.rules p put (k ∙ ap is_kept (next-verdict g p r (begun_of g) ∙ ap (λ c. verdict g.rules (map ended_line (closed p)) c) r.begun)), took);
   }
 
-  dealt : (g h : Reading) (s t : S) (p : List ℕ) (v : Verdict) (r : Result (Unit {0}) End) → Reads g p → verdict g.limits (g.lines + 1) (begun_of g) ≡ v
-      → Deals takes leaves v (record { content = begun_of g; lf = true }) g s r h t → r ≡ Ok tt → Advances takes g s p (10 ∷ []) h t
+  dealt : (g h : Reading) (s t : S) (p : List ℕ) (v : Verdict) (r : Result (Unit {0}) End) → Reads g p → next_verdict g (begun_of g) ≡ v
+      → Deals takes leaves v (next_item g (ended_line (begun_of g))) g s r h t → r ≡ Ok tt → Advances takes g s p (10 ∷ []) h t
   dealt g h s t p (Refuse place reason) r reads e d ok = absurd (clash r _ d.0 ok)
     where
       clash : (r : Result (Unit {0}) End) (x : End) → r ≡ Err x → r ≡ Ok tt → ⊥
@@ -76,10 +74,11 @@ module _ {S : Type 0} (takes leaves : S → Line → S → Type 0) where
       clash : (x : End) → ◌≡◌ {A = Result (Unit {0}) End} (Err x) (Ok tt) → ⊥
       clash x a = cc
   dealt g h s t p Valid (Ok x) reads e d ok =
-      passed g h s t p true reads d.0 (rw e refl) (rw e refl) (t, rw (← reads.begun) d.1, refl)
+      let is = next-item g p reads (ended_line (begun_of g)) ∙ ap (λ c. item_after g.rules (map ended_line (closed p)) (ended_line c)) reads.begun in
+      passed g h s t p true reads d.0 (rw e refl) (rw e refl) (t, rw (← is) d.1, refl)
 
   settled : (g h : Reading) (s t : S) (p : List ℕ) (r : Result (Unit {0}) End) → Reads g p
-      → Settles takes leaves (verdict g.limits (g.lines + 1) (begun_of g)) (record { content = begun_of g; lf = true }) g s r h t → r ≡ Ok tt → Advances takes g s p (10 ∷ []) h t
+      → Settles takes leaves (next_verdict g (begun_of g)) (next_item g (ended_line (begun_of g))) g s r h t → r ≡ Ok tt → Advances takes g s p (10 ∷ []) h t
   settled g h s t p r reads (inl d) ok = dealt g h s t p _ r reads refl d ok
   settled g h s t p r reads (inr m) ok = absurd (clash r m.0 ok)
     where
@@ -88,7 +87,7 @@ module _ {S : Type 0} (takes leaves : S → Line → S → Type 0) where
 
   -- a part and an LF
   pub Advances-line : (f g h : Reading) (s t : S) (p part : List ℕ) (r : Result (Unit {0}) End) → Reads f p → NoLf part → Stores f part g
-      → Settles takes leaves (verdict g.limits (g.lines + 1) (begun_of g)) (record { content = begun_of g; lf = true }) g s r h t → r ≡ Ok tt
+      → Settles takes leaves (next_verdict g (begun_of g)) (next_item g (ended_line (begun_of g))) g s r h t → r ≡ Ok tt
       → Advances takes f s p (part ++ 10 ∷ []) h t
   Advances-line f g h s t p part r reads n st d ok =
       let a = Advances-stored f g s p part reads n st in
@@ -100,12 +99,12 @@ module _ {S : Type 0} (takes leaves : S → Line → S → Type 0) where
     left = y.left;
     middle = y.middle;
     cut = ap (λ z. a ++ z) y.cut ∙ sym (append_assoc a y.done y.left);
-    limits = y.limits ∙ x.limits;
+    rules = y.rules ∙ x.rules;
     reads = rw (← append_assoc p a y.done) y.reads;
     puts =
-        let k = rw x.limits at y.puts in
-        rw (← append_assoc p a y.done) (Puts-then f.limits p (p ++ a) ((p ++ a) ++ y.done) s t y.middle x.puts k);
-    cause = let k = rw x.limits at y.cause in rw (← append_assoc p a y.done, ← append_assoc p a b) k;
+        let k = rw x.rules at y.puts in
+        rw (← append_assoc p a y.done) (Puts-then f.rules p (p ++ a) ((p ++ a) ++ y.done) s t y.middle x.puts k);
+    cause = let k = rw x.rules at y.cause in rw (← append_assoc p a y.done, ← append_assoc p a b) k;
   }
 
   IsNext-ended : (limits : LimitPair) (p part more : List ℕ) → NoLf part → IsNext limits (p ++ part) (p ++ (part ++ 10 ∷ more)) (ended_line (begun p ++ part))
@@ -136,12 +135,12 @@ module _ {S : Type 0} (takes leaves : S → Line → S → Type 0) where
 
   -- why a part is not stored
   abbrev pub Unstored : Reading → List ℕ → End → Type 0
-  Unstored f part e = ((e ≡ Memory) × (0 < length part)) ⊎ ((e ≡ Refused (f.lines + 1) f.limits.line LineTooLong) × (f.limits.line < length (begun_of f) + length part))
+  Unstored f part e = ((e ≡ Memory) × (0 < length part)) ⊎ ((e ≡ Refused (f.lines + 1) f.rules.limits.line LineTooLong) × (f.rules.limits.line < length (begun_of f) + length part))
 
   Unstored-cause : (f : Reading) (s : S) (p part q : List ℕ) (lf : Bool) (e : End) → Reads f p → Unstored f part e
       → (0 < length part → slice_get (lines q) f.lines ≡ Some (record { content = begun p ++ part; lf = lf }))
-      → (f.limits.line < length (begun p ++ part) → IsNext f.limits p q (record { content = begun p ++ part; lf = lf }))
-      → HasCause leaves f.limits p q f.lines s s e
+      → (f.rules.limits.line < length (begun p ++ part) → IsNext f.rules.limits p q (record { content = begun p ++ part; lf = lf }))
+      → HasCause leaves f.rules p q f.lines s s e
   Unstored-cause f s p part q lf e reads (inl m) at next = rw m.0 (
     refl,
     record {
@@ -151,18 +150,18 @@ module _ {S : Type 0} (takes leaves : S → Line → S → Type 0) where
     },
   )
   Unstored-cause f s p part q lf e reads (inr d) at next =
-      let long : f.limits.line < length (begun p ++ part) = rw (length-append (begun p) part, ← reads.begun) d.1 in
-      rw d.0 (record { content = begun p ++ part; lf = lf }, next long, refl, verdict-long f.limits (f.lines + 1) (begun p ++ part) long, refl)
+      let long : f.rules.limits.line < length (begun p ++ part) = rw (length-append (begun p) part, ← reads.begun) d.1 in
+      rw d.0 (record { content = begun p ++ part; lf = lf }, next long, refl, verdict-long f.rules _ _ (begun p ++ part) long, refl)
 
-  stopped : (f : Reading) (s : S) (p more : List ℕ) (e : End) → Reads f p → HasCause leaves f.limits p (p ++ more) f.lines s s e → Stops takes leaves f s p more e f s
+  stopped : (f : Reading) (s : S) (p more : List ℕ) (e : End) → Reads f p → HasCause leaves f.rules p (p ++ more) f.lines s s e → Stops takes leaves f s p more e f s
   stopped f s p more e reads cause = record {
     done = [];
     left = more;
     middle = s;
     cut = refl;
-    limits = refl;
+    rules = refl;
     reads = rw (append-nil p) reads;
-    puts = Puts-none f.limits p (p ++ []) s (ap closed (append-nil p));
+    puts = Puts-none f.rules p (p ++ []) s (ap closed (append-nil p));
     cause = rw (append-nil p) cause;
   }
 
@@ -170,47 +169,52 @@ module _ {S : Type 0} (takes leaves : S → Line → S → Type 0) where
   pub Stops-unstored : (f : Reading) (s : S) (p part more : List ℕ) (e : End) → Reads f p → NoLf part → Unstored f part e → Stops takes leaves f s p (part ++ 10 ∷ more) e f s
   Stops-unstored f s p part more e reads n u = stopped f s p (part ++ 10 ∷ more) e reads
       (Unstored-cause f s p part (p ++ (part ++ 10 ∷ more)) true e reads u
-      (λ _. next-line f.limits f.lines p (p ++ (part ++ 10 ∷ more)) (ended_line (begun p ++ part)) next reads.lines)
+      (λ _. next-line f.rules.limits f.lines p (p ++ (part ++ 10 ∷ more)) (ended_line (begun p ++ part)) next reads.lines)
       (λ _. next))
     where
-      next : IsNext f.limits p (p ++ (part ++ 10 ∷ more)) (ended_line (begun p ++ part))
-      next = let k = IsNext-ended f.limits p part more n in rw (closed-more p part n) at k
+      next : IsNext f.rules.limits p (p ++ (part ++ 10 ∷ more)) (ended_line (begun p ++ part))
+      next = let k = IsNext-ended f.rules.limits p part more n in rw (closed-more p part n) at k
 
   -- the last part is not stored
   pub Stops-unstored_last : (f : Reading) (s : S) (p part : List ℕ) (e : End) → Reads f p → NoLf part → Unstored f part e → Stops takes leaves f s p part e f s
   Stops-unstored_last f s p part e reads n u = stopped f s p part e reads
-      (Unstored-cause f s p part (p ++ part) false e reads u (λ some. next-begun f.lines p part n some reads.lines) (λ long. IsNext-long f.limits p part n long))
+      (Unstored-cause f s p part (p ++ part) false e reads u (λ some. next-begun f.lines p part n some reads.lines) (λ long. IsNext-long f.rules.limits p part n long))
 
-  undealt : (g h : Reading) (s t : S) (p part more : List ℕ) (v : Verdict) (r : Result (Unit {0}) End) (e : End) → NoLf part → begun_of g ≡ begun p ++ part
-      → verdict g.limits (g.lines + 1) (begun_of g) ≡ v → Deals takes leaves v (record { content = begun_of g; lf = true }) g s r h t → r ≡ Err e
-      → (h ≡ g) × HasCause leaves g.limits (p ++ part) (p ++ (part ++ 10 ∷ more)) g.lines s t e
-  undealt g h s t p part more (Refuse place reason) r e n b is d err =
+  -- a line that has begun, and was not dealt with: g has read p, whose last bytes they are
+  undealt : (g h : Reading) (s t : S) (p part more : List ℕ) (v : Verdict) (r : Result (Unit {0}) End) (e : End) → NoLf part → Reads g (p ++ part) → begun_of g ≡ begun p ++ part
+      → next_verdict g (begun_of g) ≡ v → Deals takes leaves v (next_item g (ended_line (begun_of g))) g s r h t → r ≡ Err e
+      → (h ≡ g) × HasCause leaves g.rules (p ++ part) (p ++ (part ++ 10 ∷ more)) g.lines s t e
+  undealt g h s t p part more (Refuse place reason) r e n reads b is d err =
       let same : e ≡ Refused (g.lines + 1) place reason = cc in
-      (d.1, rw same (ended_line (begun p ++ part), IsNext-ended g.limits p part more n, refl, rw (← b) is, d.2))
-  undealt g h s t p part more Blank r e n b is d err = absurd (clash r d.0 err)
+      let told = sym (next-verdict g (p ++ part) reads (begun_of g)) ∙ is in
+      (d.1, rw same (ended_line (begun p ++ part), IsNext-ended g.rules.limits p part more n, refl, rw b at told, d.2))
+  undealt g h s t p part more Blank r e n reads b is d err = absurd (clash r d.0 err)
     where
       clash : (r : Result (Unit {0}) End) → r ≡ Ok tt → r ≡ Err e → ⊥
       clash r x y = cc
-  undealt g h s t p part more Valid (Ok x) e n b is d err = absurd (clash err)
+  undealt g h s t p part more Valid (Ok x) e n reads b is d err = absurd (clash err)
     where
       clash : ◌≡◌ {A = Result (Unit {0}) End} (Ok x) (Err e) → ⊥
       clash y = cc
-  undealt g h s t p part more Valid (Err x) e n b is d err =
+  undealt g h s t p part more Valid (Err x) e n reads b is d err =
       let same : e ≡ WriteFault = cc in
-      (d.1, rw same (ended_line (begun p ++ part), IsNext-ended g.limits p part more n, rw (← b, is) refl, rw (← b) d.2))
+      let told : is_kept (verdict g.rules (map ended_line (closed (p ++ part))) (begun_of g)) ≡ true = ap is_kept (sym (next-verdict g (p ++ part) reads (begun_of g)) ∙ is) in
+      let item = next-item g (p ++ part) reads (ended_line (begun_of g)) in
+      let left : leaves s (item_after g.rules (map ended_line (closed (p ++ part))) (ended_line (begun_of g))) t = rw (← item) d.2 in
+      (d.1, rw same (ended_line (begun p ++ part), IsNext-ended g.rules.limits p part more n, rw b at told, rw b at left))
 
-  unsettled : (g h : Reading) (s t : S) (p part more : List ℕ) (r : Result (Unit {0}) End) (e : End) → NoLf part → begun_of g ≡ begun p ++ part → g.lines ≡ length (closed (p ++ part))
-      → Settles takes leaves (verdict g.limits (g.lines + 1) (begun_of g)) (record { content = begun_of g; lf = true }) g s r h t → r ≡ Err e
-      → (h ≡ g) × HasCause leaves g.limits (p ++ part) (p ++ (part ++ 10 ∷ more)) g.lines s t e
-  unsettled g h s t p part more r e n b len (inl d) err = undealt g h s t p part more _ r e n b refl d err
-  unsettled g h s t p part more r e n b len (inr m) err =
+  unsettled : (g h : Reading) (s t : S) (p part more : List ℕ) (r : Result (Unit {0}) End) (e : End) → NoLf part → Reads g (p ++ part) → begun_of g ≡ begun p ++ part
+      → Settles takes leaves (next_verdict g (begun_of g)) (next_item g (ended_line (begun_of g))) g s r h t → r ≡ Err e
+      → (h ≡ g) × HasCause leaves g.rules (p ++ part) (p ++ (part ++ 10 ∷ more)) g.lines s t e
+  unsettled g h s t p part more r e n reads b (inl d) err = undealt g h s t p part more _ r e n reads b refl d err
+  unsettled g h s t p part more r e n reads b (inr m) err =
       let same : e ≡ Memory = cc in (
         m.1,
         rw same (
           m.2,
           record {
             line = ended_line (begun p ++ part);
-            next = next-line g.limits g.lines (p ++ part) (p ++ (part ++ 10 ∷ more)) (ended_line (begun p ++ part)) (IsNext-ended g.limits p part more n) len;
+            next = next-line g.rules.limits g.lines (p ++ part) (p ++ (part ++ 10 ∷ more)) (ended_line (begun p ++ part)) (IsNext-ended g.rules.limits p part more n) reads.lines;
             cause = inr (subst (WantsTokens (g.lines + 1)) b m.3);
           },
         ),
@@ -218,19 +222,19 @@ module _ {S : Type 0} (takes leaves : S → Line → S → Type 0) where
 
   -- a part that is stored, and a line that is not dealt with
   pub Stops-undealt : (f g h : Reading) (s t : S) (p part more : List ℕ) (r : Result (Unit {0}) End) (e : End) → Reads f p → NoLf part → Stores f part g
-      → Settles takes leaves (verdict g.limits (g.lines + 1) (begun_of g)) (record { content = begun_of g; lf = true }) g s r h t → r ≡ Err e
+      → Settles takes leaves (next_verdict g (begun_of g)) (next_item g (ended_line (begun_of g))) g s r h t → r ≡ Err e
       → Stops takes leaves f s p (part ++ 10 ∷ more) e h t
   Stops-undealt f g h s t p part more r e reads n st d err =
       let a = Advances-stored f g s p part reads n st in
       let b : begun_of g ≡ begun p ++ part = a.reads.begun ∙ begun-more p part n in
-      let u = unsettled g h s t p part more r e n b a.reads.lines d err in
+      let u = unsettled g h s t p part more r e n a.reads b d err in
       record {
         done = part;
         left = 10 ∷ more;
         middle = s;
         cut = refl;
-        limits = ap (λ x. x.limits) u.0 ∙ st.limits;
+        rules = ap (λ x. x.rules) u.0 ∙ st.rules;
         reads = rw u.0 a.reads;
         puts = a.puts;
-        cause = let k = rw st.limits at u.1 in rw u.0 k;
+        cause = let k = rw st.rules at u.1 in rw u.0 k;
       }

@@ -4,13 +4,15 @@ use Rattle.std.specs.Prelude.{◌&&◌, nat_lt, if◌then◌else◌}
 use Rattle.std.proofs.lemmas.List.{append-nil}
 use Rattle.std.proofs.lemmas.Bool.Decides.{nat_tests}
 use Rattle.cj_budget.specs.Bounded.{IsWithin}
-use Rattle.cj_budget.specs.Limits.{LimitPair}
 use Rattle.cj_stream.specs.Lines.{Line, closed, begun, begun_after, begun_later, ended_line, first_of, first_content, later_of, NoLf}
-use Rattle.cj_stream.specs.Verdict.{verdict, refusal_of, is_kept, kept_from}
+use Rattle.std.specs.List.{filter}
+use Rattle.cj_spans.specs.Tree.{Tree}
+use Rattle.cj_stream.specs.Item.{Item, is_feature, tree_of, item_at}
+use Rattle.cj_stream.specs.Verdict.{Rules, Verdict, verdict_at, verdict, header_of, item_after, refusal_of, is_kept, kept_from}
 use Rattle.cj_stream.specs.Bound.{greatest}
-use Rattle.cj_stream.specs.Reading.{Reading, begun_of, Stores, Passes, Reads, kept_closed}
+use Rattle.cj_stream.specs.Reading.{Reading, begun_of, held_header, next_verdict, next_item, Stores, Passes, Reads, kept_closed}
 use Rattle.cj_stream.proofs.LineLemmas.{closed-more, begun-more, closed-lf, begun-lf, first_of-some, first_of-lf, begun_after-some, begun_after-empty, none-from_length}
-use Rattle.cj_stream.proofs.VerdictLemmas.{refusal-append, kept-append}
+use Rattle.cj_stream.proofs.VerdictLemmas.{verdict-first, refusal-append, kept-append}
 
 pub zero_or : (n : ℕ) → (n ≡ 0) ⊎ (0 < n)
 zero_or zero = inl refl
@@ -35,8 +37,8 @@ Reads-stored f g p part h n s = record {
   begun = begun_of-stored f g part s ∙ (ap (λ x. x ++ part) h.begun ∙ sym (begun-more p part n));
   header = header (zero_or f.lines);
   line = line (zero_or f.lines);
-  good = rw (more, s.limits) h.good;
-  kept = rw (more, s.limits, s.kept) h.kept;
+  good = rw (more, s.rules) h.good;
+  kept = rw (more, s.rules, s.kept) h.kept;
   peak = peak (zero_or f.lines);
   line_peak = line_peak (zero_or f.lines);
   header_within = header_within (zero_or f.lines);
@@ -95,45 +97,77 @@ pub map_lines-append : (cs ds : List (List ℕ)) → map ended_line (cs ++ ds) �
 map_lines-append [] ds = refl
 map_lines-append (c ∷ cs) ds = ap (λ x. ended_line c ∷ x) (map_lines-append cs ds)
 
-later_of-later : (xs : List Line) (l : Line) → 0 < length xs → later_of (xs ++ l ∷ []) ≡ later_of xs ++ l ∷ []
-later_of-later [] l h = absurd (omega arith)
-later_of-later (x ∷ xs) l h = refl
+-- ---- the line that comes next
 
-length-later_of : (xs : List Line) → 0 < length xs → length (later_of xs) + 1 ≡ length xs
-length-later_of [] h = absurd (omega arith)
-length-later_of (x ∷ xs) h = omega arith
+first-verdict : (rules : Rules) (n : ℕ) (x y : Tree) (c : List ℕ) → n ≡ 1 → verdict_at rules n x c ≡ verdict_at rules n y c
+first-verdict rules n x y c e = rw e (verdict-first rules x y c)
+
+first-item : (depth n : ℕ) (x y : Tree) (l : Line) → n ≡ 1 → item_at depth n x l ≡ item_at depth n y l
+first-item depth n x y l e = rw e refl
+
+module _ (f : Reading) (p : List ℕ) (h : Reads f p) where
+  before : List Line
+  before = map ended_line (closed p)
+
+  number : f.lines + 1 ≡ length (map ended_line (closed p)) + 1
+  number = omega (arith, h.lines, length-map_lines (closed p))
+
+  same-header : (d : List ℕ) (ds : List (List ℕ)) → closed p ≡ d ∷ ds → held_header f ≡ header_of f.rules (map ended_line (closed p))
+  same-header d ds e = rw (h.header, e) refl
+
+  -- its verdict, told by what is held and by the lines before it
+  pub next-verdict : (c : List ℕ) → next_verdict f c ≡ verdict f.rules (map ended_line (closed p)) c
+  next-verdict c = go (closed p) refl
+    where
+      go : (cs : List (List ℕ)) → closed p ≡ cs → next_verdict f c ≡ verdict f.rules (map ended_line (closed p)) c
+      go [] e =
+          let one : f.lines + 1 ≡ 1 = omega (arith, h.lines, ap length e) in
+          first-verdict f.rules (f.lines + 1) (held_header f) (header_of f.rules (map ended_line (closed p))) c one ∙ ap (λ n. verdict_at f.rules n (header_of f.rules (map ended_line (closed p))) c) number
+      go (d ∷ ds) e = ap (λ x. verdict_at f.rules (f.lines + 1) x c) (same-header d ds e) ∙ ap (λ n. verdict_at f.rules n (header_of f.rules (map ended_line (closed p))) c) number
+
+  -- and the item that it is
+  pub next-item : (l : Line) → next_item f l ≡ item_after f.rules (map ended_line (closed p)) l
+  next-item l = go (closed p) refl
+    where
+      go : (cs : List (List ℕ)) → closed p ≡ cs → next_item f l ≡ item_after f.rules (map ended_line (closed p)) l
+      go [] e =
+          let one : f.lines + 1 ≡ 1 = omega (arith, h.lines, ap length e) in
+          first-item f.rules.limits.depth (f.lines + 1) (held_header f) (header_of f.rules (map ended_line (closed p))) l one ∙ ap (λ n. item_at f.rules.limits.depth n (header_of f.rules (map ended_line (closed p))) l) number
+      go (d ∷ ds) e = ap (λ x. item_at f.rules.limits.depth (f.lines + 1) x l) (same-header d ds e) ∙ ap (λ n. item_at f.rules.limits.depth n (header_of f.rules (map ended_line (closed p))) l) number
+
+-- ---- what is kept
 
 -- the kept ones after one more line
-pub kept_closed-lf : (limits : LimitPair) (p : List ℕ) (n : ℕ) (put : Bool) → n ≡ length (closed p) + 1 → put ≡ is_kept (verdict limits n (begun p))
-    → kept_closed limits (p ++ 10 ∷ []) ≡ kept_closed limits p ++ (if put then ended_line (begun p) ∷ [] else [])
-kept_closed-lf limits p n put e k =
-    let at : 1 + length (map ended_line (closed p)) ≡ n = omega (arith, length-map_lines (closed p)) in
-    rw (closed-lf p [], map_lines-append (closed p) (begun p ∷ []), kept-append limits 1 (map ended_line (closed p)) (map ended_line (begun p ∷ [])), at, k) refl
+pub kept_closed-lf : (rules : Rules) (p : List ℕ) (put : Bool) → put ≡ is_kept (verdict rules (map ended_line (closed p)) (begun p))
+    → kept_closed rules (p ++ 10 ∷ []) ≡ kept_closed rules p ++ (if put then item_after rules (map ended_line (closed p)) (ended_line (begun p)) ∷ [] else [])
+kept_closed-lf rules p put k =
+    rw (closed-lf p [], map_lines-append (closed p) (begun p ∷ []), kept-append rules [] (map ended_line (closed p)) (map ended_line (begun p ∷ [])), k) refl
 
-and_false : (b : Bool) → b && false ≡ false
-and_false true = refl
-and_false false = refl
+filter-append : {A : Type 0} (test : A → Bool) (xs ys : List A) → filter test (xs ++ ys) ≡ filter test xs ++ filter test ys
+filter-append test [] ys = refl
+filter-append test (x ∷ xs) ys = go (test x) (filter-append test xs ys)
+  where
+    go : (b : Bool) → filter test (xs ++ ys) ≡ filter test xs ++ filter test ys → cond b (x ∷ filter test (xs ++ ys)) (filter test (xs ++ ys)) ≡ cond b (x ∷ filter test xs) (filter test xs) ++ filter test ys
+    go true e = ap (λ z. x ∷ z) e
+    go false e = e
 
-count_more : (put : Bool) (n : ℕ) (xs : List Line) (x : Line) → n ≡ length xs → cond (put && true) (n + 1) n ≡ length (xs ++ cond put (x ∷ []) [])
-count_more true n xs x h = omega (arith, length-append xs (x ∷ []))
-count_more false n xs x h = rw (append-nil xs) h
+-- one item more, if it is put, is one feature more, if it is no header
+count-feature : (put later : Bool) (i : Item) (n : ℕ) (xs : List Item) → is_feature i ≡ later → n ≡ length (filter is_feature xs)
+    → cond (put && later) (n + 1) n ≡ length (filter is_feature (xs ++ cond put (i ∷ []) []))
+count-feature true true i n xs e h = rw (filter-append is_feature xs (i ∷ []), e) (omega (arith, h, length-append (filter is_feature xs) (i ∷ [])))
+count-feature true false i n xs e h = rw (filter-append is_feature xs (i ∷ []), e, append-nil (filter is_feature xs)) h
+count-feature false later i n xs e h = rw (append-nil xs) h
+
+-- a line after others is a feature, and the first one is none
+after-feature : (rules : Rules) (before : List Line) (l : Line) → is_feature (item_after rules before l) ≡ nat_lt 0 (length before)
+after-feature rules [] l = refl
+after-feature rules (x ∷ xs) l = let no_header : eqb (suc (length xs) + 1) 1 ≡ false = grind (arith, nat_tests) in rw no_header refl
 
 -- the features that are kept, after one line more
-pub kept-next : (f g : Reading) (xs : List Line) (l : Line) (put : Bool) → f.lines ≡ length xs → f.kept ≡ length (kept_from f.limits 2 (later_of xs))
-    → Passes put f g → put ≡ is_kept (verdict f.limits (f.lines + 1) l.content) → g.kept ≡ length (kept_from f.limits 2 (later_of (xs ++ l ∷ [])))
-kept-next f g xs l put n k s e = go (zero_or f.lines)
-  where
-    go : (f.lines ≡ 0) ⊎ (0 < f.lines) → g.kept ≡ length (kept_from f.limits 2 (later_of (xs ++ l ∷ [])))
-    go (inl z) =
-        let no_more : nat_lt 0 f.lines ≡ false = grind (arith, nat_tests) in
-        let none : xs ≡ [] = none-from_length xs (sym n ∙ z) in
-        let count = rw none at k in
-        rw (s.kept, no_more, and_false put, none) count
-    go (inr z) =
-        let more : nat_lt 0 f.lines ≡ true = grind (arith, nat_tests) in
-        let there : 2 + length (later_of xs) ≡ f.lines + 1 = omega (arith, length-later_of xs (omega (arith, n)), n) in
-        rw (s.kept, more, later_of-later xs l (omega (arith, n)), kept-append f.limits 2 (later_of xs) (l ∷ []), there, ← e)
-        (count_more put f.kept (kept_from f.limits 2 (later_of xs)) l k)
+pub kept-next : (f g : Reading) (xs : List Line) (l : Line) (put : Bool) → f.lines ≡ length xs → f.kept ≡ length (filter is_feature (kept_from f.rules [] xs))
+    → Passes put f g → put ≡ is_kept (verdict f.rules xs l.content) → g.kept ≡ length (filter is_feature (kept_from f.rules [] (xs ++ l ∷ [])))
+kept-next f g xs l put n k s e =
+    rw (s.kept, kept-append f.rules [] xs (l ∷ []), ← e, n) (count-feature put (nat_lt 0 (length xs)) (item_after f.rules xs l) f.kept (kept_from f.rules [] xs) (after-feature f.rules xs l) k)
 
 pub greatest-append : (measure : List ℕ → ℕ) (cs : List (List ℕ)) (c : List ℕ) → greatest measure (cs ++ c ∷ []) ≡ max (greatest measure cs) (measure c)
 greatest-append measure [] c = omega arith
@@ -148,23 +182,25 @@ longest-later [] b = refl
 longest-later (c ∷ cs) b = omega (arith, greatest-append length cs b)
 
 pub Reads-passed : (f g : Reading) (p : List ℕ) (put : Bool) → Reads f p → Passes put f g
-    → refusal_of (f.lines + 1) (verdict f.limits (f.lines + 1) (begun_of f)) ≡ None → put ≡ is_kept (verdict f.limits (f.lines + 1) (begun_of f))
+    → refusal_of (f.lines + 1) (next_verdict f (begun_of f)) ≡ None → put ≡ is_kept (next_verdict f (begun_of f))
     → Reads g (p ++ 10 ∷ [])
 Reads-passed f g p put h s fine k = record {
   lines = rw (closed-lf p [], s.lines, h.lines) (sym (length-append (closed p) (begun p ∷ [])));
   begun = begun_of-later g (omega (arith, s.lines)) ∙ (s.line.elements ∙ sym (begun-lf p []));
   header = rw (closed-lf p [], begun-lf p [], s.header) (h.header ∙ sym (first_of-lf (closed p) (begun p)));
   line = rw (closed-lf p [], begun-lf p [], begun_after-empty (closed p ++ begun p ∷ [])) s.line.elements;
-  good = rw (closed-lf p [], map_lines-append (closed p) (begun p ∷ []), s.limits, refusal-append f.limits 1 (map ended_line (closed p)) (map ended_line (begun p ∷ [])) h.good, at, ← h.begun, fine) refl;
+  good = rw (closed-lf p [], map_lines-append (closed p) (begun p ∷ []), s.rules, refusal-append f.rules [] (map ended_line (closed p)) (map ended_line (begun p ∷ [])) h.good, ← is, ← at, fine) refl;
   kept =
-      let e = rw h.begun at k in
-      rw (closed-lf p [], map_lines-append (closed p) (begun p ∷ []), s.limits)
-      (kept-next f g (map ended_line (closed p)) (ended_line (begun p)) put (h.lines ∙ sym (length-map_lines (closed p))) h.kept s e);
+      rw (closed-lf p [], map_lines-append (closed p) (begun p ∷ []), s.rules)
+      (kept-next f g (map ended_line (closed p)) (ended_line (begun p)) put (h.lines ∙ sym (length-map_lines (closed p))) h.kept s (k ∙ ap is_kept is));
   peak = rw s.header h.peak;
   line_peak = rw (closed-lf p [], begun-lf p [], begun_after-empty (closed p ++ begun p ∷ [])) (s.line.peak ∙ (ap (λ n. max n 0) h.line_peak ∙ (max-zero _ ∙ sym (longest-later (closed p) (begun p)))));
   header_within = rw s.header h.header_within;
   line_within = s.line.within;
 }
   where
-    at : 1 + length (map ended_line (closed p)) ≡ f.lines + 1
+    at : f.lines + 1 ≡ length (map ended_line (closed p)) + 1
     at = omega (arith, length-map_lines (closed p), h.lines)
+
+    is : next_verdict f (begun_of f) ≡ verdict f.rules (map ended_line (closed p)) (begun p)
+    is = next-verdict f p h (begun_of f) ∙ ap (λ c. verdict f.rules (map ended_line (closed p)) c) h.begun

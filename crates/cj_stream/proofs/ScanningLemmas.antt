@@ -7,8 +7,8 @@ use Rattle.cj_spans.specs.declared.token.Token.{Token}
 use Rattle.cj_spans.specs.Judgement.{judged_size, judged_nest}
 use Rattle.cj_spans.specs.Scan.{KeepsLaw}
 use Rattle.cj_spans.proofs.Judgements.{judgement}
-use Rattle.cj_stream.specs.declared.judge.Verdict.{Verdict}
-use Rattle.cj_stream.specs.declared.judge.Verdict.TheVariants.{Refuse, Blank, Valid}
+use Rattle.cj_stream.specs.declared.judge.Content.{Content}
+use Rattle.cj_stream.specs.declared.judge.Content.TheVariants.{Faulty, White, Sound}
 use Rattle.cj_stream.specs.Lines.{closed, begun, first_of, first_content, NoLf}
 use Rattle.cj_stream.specs.Bound.{tree_size, tree_nest}
 use Rattle.cj_stream.specs.Scanning.{Scanning, HasRoom, Scanned, HoldsFew, Rises, Judges, JudgesLine, Forgets}
@@ -81,17 +81,17 @@ module _ (c : List ℕ) (a b : BoundedList Token) (x y : BoundedList ℕ) where
     few = λ w. omega arith;
   })
 
-  pub kept-judges : (r : Result Verdict NoMemory) → Judges c a b x y r → Kept
-  kept-judges (Ok Blank) h = kept-same h.0 h.1
-  kept-judges (Ok Valid) h = kept-law h.1
-  kept-judges (Ok (Refuse place reason)) h = kept-law h
+  pub kept-judges : (r : Result Content NoMemory) → Judges c a b x y r → Kept
+  kept-judges (Ok White) h = kept-same h.0 h.1
+  kept-judges (Ok Sound) h = kept-law h.1
+  kept-judges (Ok (Faulty place reason)) h = kept-law h
   kept-judges (Err e) h = kept-law h
 
 -- a number of lines, told otherwise
-pub judges-at : (n m : ℕ) (c : List ℕ) (f g : Scanning) (r : Result Verdict NoMemory) → m ≡ n → JudgesLine n c f g r → JudgesLine m c f g r
+pub judges-at : (n m : ℕ) (c : List ℕ) (f g : Scanning) (r : Result Content NoMemory) → m ≡ n → JudgesLine n c f g r → JudgesLine m c f g r
 judges-at n m c f g r e h = rw e h
 
-module _ (limits : LimitPair) (n : ℕ) (c : List ℕ) (f g : Scanning) (r : Result Verdict NoMemory) where
+module _ (limits : LimitPair) (n : ℕ) (c : List ℕ) (f g : Scanning) (r : Result Content NoMemory) where
   pub room-judges : HasRoom limits f → JudgesLine n c f g r → HasRoom limits g
   room-judges room j = go (zero_or n)
     where
@@ -135,7 +135,7 @@ module _ (limits : LimitPair) (n : ℕ) (c : List ℕ) (f g : Scanning) (r : Res
 pub few-scanned : (limits : LimitPair) (cs : List (List ℕ)) (f : Scanning) (h : ℕ) → Scanned limits cs f → length (first_of cs []) ≤ h → HoldsFew limits h f
 few-scanned limits cs f h s le = omega (arith, s.header_law, s.line_law, le)
 
-pub few-judges : (limits : LimitPair) (cs : List (List ℕ)) (c : List ℕ) (f g : Scanning) (r : Result Verdict NoMemory) → HasRoom limits f → length c ≤ limits.line
+pub few-judges : (limits : LimitPair) (cs : List (List ℕ)) (c : List ℕ) (f g : Scanning) (r : Result Content NoMemory) → HasRoom limits f → length c ≤ limits.line
     → Scanned limits cs f → JudgesLine (length cs) c f g r → HoldsFew limits (length (first_of cs c)) g
 few-judges limits [] c f g r room short s j =
     let k = kept-judges c f.header g.header f.opened g.opened r (j.first refl).0 in
@@ -159,7 +159,7 @@ module _ (limits : LimitPair) (c : List ℕ) (f g h : Scanning) (room : HasRoom 
   nest-is : judged_nest (judgement c f.opened.limit) ≡ tree_nest limits c
   nest-is = rw room.opened refl
 
-  pub scanned-valid : (cs : List (List ℕ)) → Scanned limits cs f → JudgesLine (length cs) c f g (Ok Valid) → Scanned limits (cs ++ c ∷ []) h
+  pub scanned-valid : (cs : List (List ℕ)) → Scanned limits cs f → JudgesLine (length cs) c f g (Ok Sound) → Scanned limits (cs ++ c ∷ []) h
   scanned-valid [] s j =
       let t = (j.first refl).0.0 in
       let law = (j.first refl).0.1 in
@@ -194,7 +194,7 @@ module _ (limits : LimitPair) (c : List ℕ) (f g h : Scanning) (room : HasRoom 
         line_law = omega (arith, k.line.peak, t.peak, t.count, law.law, none, s.line_law, short);
       }
 
-  pub scanned-blank : (cs : List (List ℕ)) → 0 < length cs → (tree_size limits c ≡ 0) × (tree_nest limits c ≡ 0) → Scanned limits cs f → JudgesLine (length cs) c f g (Ok Blank)
+  pub scanned-blank : (cs : List (List ℕ)) → 0 < length cs → (tree_size limits c ≡ 0) × (tree_nest limits c ≡ 0) → Scanned limits cs f → JudgesLine (length cs) c f g (Ok White)
       → Scanned limits (cs ++ c ∷ []) h
   scanned-blank [] later zero s j = absurd (omega arith)
   scanned-blank (d ∷ ds) later zero s j =
@@ -237,25 +237,25 @@ few-more limits h i f le s = omega (arith, le, s)
 
 -- ---- a part that was stored, and its line dealt with
 
-module _ (f g : Reading) (p part : List ℕ) (now mid new : Scanning) (reads : Reads f p) (n : NoLf part) (st : Stores f part g) (same : mid ≡ now) (s : Scanned f.limits (closed p) now) where
+module _ (f g : Reading) (p part : List ℕ) (now mid new : Scanning) (reads : Reads f p) (n : NoLf part) (st : Stores f part g) (same : mid ≡ now) (s : Scanned f.rules.limits (closed p) now) where
   begun-is : begun_of g ≡ begun p ++ part
   begun-is = begun_of-stored f g part st ∙ ap (λ z. z ++ part) reads.begun
 
-  before : Scanned g.limits (closed p) mid
-  before = rw (same, st.limits) s
+  before : Scanned g.rules.limits (closed p) mid
+  before = rw (same, st.rules) s
 
-  pub scanned-line : ((cs : List (List ℕ)) → length cs ≡ g.lines → Scanned g.limits cs mid → Scanned g.limits (cs ++ begun_of g ∷ []) new) → Scanned f.limits (closed (p ++ (part ++ 10 ∷ []))) new
+  pub scanned-line : ((cs : List (List ℕ)) → length cs ≡ g.lines → Scanned g.rules.limits cs mid → Scanned g.rules.limits (cs ++ begun_of g ∷ []) new) → Scanned f.rules.limits (closed (p ++ (part ++ 10 ∷ []))) new
   scanned-line deal =
       let k = deal (closed p) (sym (st.lines ∙ reads.lines)) before in
-      let j = rw (begun-is, st.limits) at k in
+      let j = rw (begun-is, st.rules) at k in
       rw (closed-line p part n) j
 
-  pub few-line : (more : List ℕ) → ((cs : List (List ℕ)) → length cs ≡ g.lines → Scanned g.limits cs mid → HoldsFew g.limits (length (first_of cs (begun_of g))) new)
-      → HoldsFew f.limits (length (first_content (p ++ (part ++ 10 ∷ more)))) new
+  pub few-line : (more : List ℕ) → ((cs : List (List ℕ)) → length cs ≡ g.lines → Scanned g.rules.limits cs mid → HoldsFew g.rules.limits (length (first_of cs (begun_of g))) new)
+      → HoldsFew f.rules.limits (length (first_content (p ++ (part ++ 10 ∷ more)))) new
   few-line more deal =
       let k = deal (closed p) (sym (st.lines ∙ reads.lines)) before in
-      let j = rw (begun-is, st.limits) at k in
-      few-more f.limits (length (first_of (closed p) (begun p ++ part))) (length (first_content (p ++ (part ++ 10 ∷ more)))) new (first-part p part more n) j
+      let j = rw (begun-is, st.rules) at k in
+      few-more f.rules.limits (length (first_of (closed p) (begun p ++ part))) (length (first_content (p ++ (part ++ 10 ∷ more)))) new (first-part p part more n) j
 
 -- ---- one part of a text after another
 

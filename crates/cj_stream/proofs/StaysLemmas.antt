@@ -1,19 +1,18 @@
 -- What stays of a reading, whatever comes of some bytes.
 use Rattle.std.proofs.Common.{◌≡◌, ℕ, ◌+◌, ◌<◌, ◌≤◌, ◌⊎◌, inl, inr, List, Bool, true, false, cond, length, Result, Ok, Err, arith, refl, sym, ap, ◌∙◌}
-use Rattle.cj_stream.specs.declared.judge.Verdict.{Verdict}
-use Rattle.cj_stream.specs.declared.judge.Verdict.TheVariants.{Refuse, Blank, Valid}
 use Rattle.cj_stream.specs.declared.ending.End.{End}
-use Rattle.cj_stream.specs.Lines.{Line}
+use Rattle.cj_stream.specs.Item.{Item}
+use Rattle.cj_stream.specs.Verdict.{Verdict, Refuse, Blank, Valid}
 use Rattle.cj_stream.specs.Reading.{Reading, begun_of, IsSound, Stays, Stores, Passes, Deals, Settles}
 use Rattle.cj_stream.proofs.ReadingLemmas.{begun_of-first, begun_of-later, zero_or}
 
 pub Stays-same : (f g : Reading) → IsSound f → g ≡ f → Stays f g
-Stays-same f g h e = rw e (record { sound = h; limits = refl; header_rises = omega arith; line_rises = omega arith })
+Stays-same f g h e = rw e (record { sound = h; rules = refl; header_rises = omega arith; line_rises = omega arith })
 
 pub Stays-then : (f g h : Reading) → Stays f g → Stays g h → Stays f h
 Stays-then f g h a b = record {
   sound = b.sound;
-  limits = b.limits ∙ a.limits;
+  rules = b.rules ∙ a.rules;
   header_rises = omega (arith, a.header_rises, b.header_rises);
   line_rises = omega (arith, a.line_rises, b.line_rises);
 }
@@ -27,8 +26,8 @@ Stays-stored f g part h s = go (zero_or f.lines)
         let b = (s.first z).0 in
         let same = (s.first z).1 in
         record {
-          sound = record { range = rw s.limits h.range; header = b.limit ∙ (h.header ∙ ap (λ x. x.line) (sym s.limits)); line = rw (same, s.limits) h.line; kept = rw (s.kept, s.lines) h.kept };
-          limits = s.limits;
+          sound = record { range = rw s.rules h.range; header = b.limit ∙ (h.header ∙ ap (λ x. x.limits.line) (sym s.rules)); line = rw (same, s.rules) h.line; kept = rw (s.kept, s.lines) h.kept };
+          rules = s.rules;
           header_rises = omega (arith, b.peak);
           line_rises = rw same (omega arith);
         }
@@ -36,19 +35,19 @@ Stays-stored f g part h s = go (zero_or f.lines)
         let b = (s.later z).0 in
         let same = (s.later z).1 in
         record {
-          sound = record { range = rw s.limits h.range; header = rw (same, s.limits) h.header; line = b.limit ∙ (h.line ∙ ap (λ x. x.line) (sym s.limits)); kept = rw (s.kept, s.lines) h.kept };
-          limits = s.limits;
+          sound = record { range = rw s.rules h.range; header = rw (same, s.rules) h.header; line = b.limit ∙ (h.line ∙ ap (λ x. x.limits.line) (sym s.rules)); kept = rw (s.kept, s.lines) h.kept };
+          rules = s.rules;
           header_rises = rw same (omega arith);
           line_rises = omega (arith, b.peak);
         }
 
 -- the begun line is within the limit
-pub begun-short : (f g : Reading) (part : List ℕ) → IsSound f → Stores f part g → length (begun_of g) ≤ g.limits.line
+pub begun-short : (f g : Reading) (part : List ℕ) → IsSound f → Stores f part g → length (begun_of g) ≤ g.rules.limits.line
 begun-short f g part h s = go (zero_or f.lines)
   where
-    go : (f.lines ≡ 0) ⊎ (0 < f.lines) → length (begun_of g) ≤ g.limits.line
-    go (inl z) = let w = (s.first z).0 in rw (begun_of-first g (s.lines ∙ z), s.limits) (omega (arith, w.within.below_peak, w.within.below_limit, w.limit, h.header))
-    go (inr z) = let w = (s.later z).0 in rw (begun_of-later g (omega (arith, s.lines)), s.limits) (omega (arith, w.within.below_peak, w.within.below_limit, w.limit, h.line))
+    go : (f.lines ≡ 0) ⊎ (0 < f.lines) → length (begun_of g) ≤ g.rules.limits.line
+    go (inl z) = let w = (s.first z).0 in rw (begun_of-first g (s.lines ∙ z), s.rules) (omega (arith, w.within.below_peak, w.within.below_limit, w.limit, h.header))
+    go (inr z) = let w = (s.later z).0 in rw (begun_of-later g (omega (arith, s.lines)), s.rules) (omega (arith, w.within.below_peak, w.within.below_limit, w.limit, h.line))
 
 kept_at_most : (b : Bool) (n m : ℕ) → n ≤ m → cond b (n + 1) n ≤ m + 1
 kept_at_most true n m h = omega arith
@@ -57,17 +56,17 @@ kept_at_most false n m h = omega arith
 Stays-passed : (put : Bool) (f g : Reading) → IsSound f → Passes put f g → Stays f g
 Stays-passed put f g h s = record {
   sound = record {
-    range = rw s.limits h.range;
-    header = rw (s.header, s.limits) h.header;
-    line = s.line.limit ∙ (h.line ∙ ap (λ x. x.line) (sym s.limits));
+    range = rw s.rules h.range;
+    header = rw (s.header, s.rules) h.header;
+    line = s.line.limit ∙ (h.line ∙ ap (λ x. x.limits.line) (sym s.rules));
     kept = rw (s.kept, s.lines) (kept_at_most _ f.kept f.lines h.kept);
   };
-  limits = s.limits;
+  rules = s.rules;
   header_rises = rw s.header (omega arith);
   line_rises = omega (arith, s.line.peak);
 }
 
-module _ {S : Type 0} (takes leaves : S → Line → S → Type 0) (l : Line) (f g : Reading) (s t : S) where
+module _ {S : Type 0} (takes leaves : S → Item → S → Type 0) (l : Item) (f g : Reading) (s t : S) where
   pub Stays-dealt : (v : Verdict) (r : Result (Unit {0}) End) → IsSound f → Deals takes leaves v l f s r g t → Stays f g
   Stays-dealt (Refuse place reason) r h d = Stays-same f g h d.1
   Stays-dealt Blank r h d = Stays-passed false f g h d.1

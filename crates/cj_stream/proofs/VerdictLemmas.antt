@@ -1,21 +1,25 @@
 -- The verdict case by case, and the refusals and kept lines of lines that follow one another.
-use Rattle.std.proofs.Common.{◌≡◌, ℕ, ◌+◌, ◌<◌, ◌≤◌, zero, suc, List, [], ◌∷◌, ◌++◌, Bool, true, false, cond, eqb, ltb, length, Option, Some, None, arith, refl, ap, ◌∙◌, add-zero}
+use Rattle.std.proofs.Common.{◌≡◌, ℕ, ◌+◌, ◌<◌, ◌≤◌, zero, suc, List, [], ◌∷◌, ◌++◌, Bool, true, false, cond, eqb, ltb, length, map, Option, Some, None, arith, refl, sym, ap, ◌∙◌, append_assoc}
 use Rattle.std.specs.Prelude.{not, ◌&&◌, ◌||◌, nat_lt, if◌then◌else◌, is_some}
 use Rattle.std.specs.List.{list_all}
+use Rattle.std.proofs.lemmas.List.{append-nil}
 use Rattle.std.specs.Str.{IsUtf8, is_utf8}
 use Rattle.std.specs.Str.Lossy.{utf8_valid_len}
 use Rattle.std.proofs.lemmas.Str.{IsUtf8-from_is_utf8, is_utf8-from_IsUtf8, IsUtf8-from_ascii}
 use Rattle.std.specs.Str.{IsAscii}
 use Rattle.std.proofs.lemmas.Bool.Decides.{nat_tests}
-use Rattle.cj_budget.specs.Limits.{LimitPair}
 use Rattle.cj_spans.specs.declared.reason.Reason.TheVariants.{LineTooLong, NotUtf8}
 use Rattle.cj_spans.specs.Judgement.{Judgement, spelled, broken, sunk}
 use Rattle.cj_spans.proofs.Judgements.{judgement}
 use Rattle.std.proofs.lemmas.Bool.{ltb-true}
-use Rattle.cj_stream.specs.declared.judge.Verdict.TheVariants.{Refuse, Blank}
 use Rattle.cj_stream.specs.declared.ending.End.{End}
+use Rattle.cj_spans.specs.Tree.{Tree}
+use Rattle.cj_spans.specs.declared.finding.Finding.{Finding}
+use Rattle.cj_spans.specs.Finding.{least, IsLeast}
+use Rattle.cj_spans.proofs.Findings.{least_only, fold_least}
 use Rattle.cj_stream.specs.Lines.{Line}
-use Rattle.cj_stream.specs.Verdict.{verdict, text_verdict, is_blank_byte, refusal_of, is_kept, refusal_from, kept_from}
+use Rattle.cj_stream.specs.Item.{Item}
+use Rattle.cj_stream.specs.Verdict.{Rules, Verdict, Refuse, Blank, Valid, verdict_at, verdict, findings, by_least, tree_verdict, text_verdict, item_after, is_blank_byte, refusal_of, is_kept, refusal_from, kept_from}
 use Rattle.cj_stream.proofs.LineLemmas.{not_true}
 
 blank-byte : (b : ℕ) → is_blank_byte b ≡ true → b < 128
@@ -44,21 +48,21 @@ blank-ascii [] h i = omega arith
 blank-ascii (b ∷ c) h zero = blank-byte b (and-both (is_blank_byte b) (list_all is_blank_byte c) h).0
 blank-ascii (b ∷ c) h (suc i) = blank-ascii c (and-both (is_blank_byte b) (list_all is_blank_byte c) h).1 i
 
-pub verdict-long : (limits : LimitPair) (n : ℕ) (c : List ℕ) → limits.line < length c → verdict limits n c ≡ Refuse limits.line LineTooLong
-unfolding verdict
-verdict-long limits n c h = let e : ltb limits.line (length c) ≡ true = grind (arith, nat_tests) in rw e
+pub verdict-long : (rules : Rules) (n : ℕ) (header : Tree) (c : List ℕ) → rules.limits.line < length c → verdict_at rules n header c ≡ Refuse rules.limits.line LineTooLong
+unfolding verdict_at
+verdict-long rules n header c h = let e : ltb rules.limits.line (length c) ≡ true = grind (arith, nat_tests) in rw e
 
-pub verdict-bytes : (limits : LimitPair) (n : ℕ) (c : List ℕ) → length c ≤ limits.line → ¬ IsUtf8 c → verdict limits n c ≡ Refuse (utf8_valid_len c) NotUtf8
-unfolding verdict
-verdict-bytes limits n c h not_text =
-    let e : ltb limits.line (length c) ≡ false = grind (arith, nat_tests) in
+pub verdict-bytes : (rules : Rules) (n : ℕ) (header : Tree) (c : List ℕ) → length c ≤ rules.limits.line → ¬ IsUtf8 c → verdict_at rules n header c ≡ Refuse (utf8_valid_len c) NotUtf8
+unfolding verdict_at
+verdict-bytes rules n header c h not_text =
+    let e : ltb rules.limits.line (length c) ≡ false = grind (arith, nat_tests) in
     let u : is_utf8 c ≡ false = not_true (is_utf8 c) (λ y. not_text (IsUtf8-from_is_utf8 c y)) in
     rw (e, u)
 
-pub verdict-blank : (limits : LimitPair) (n : ℕ) (c : List ℕ) → length c ≤ limits.line → nat_lt 1 n && list_all is_blank_byte c ≡ true → verdict limits n c ≡ Blank
-unfolding verdict
-verdict-blank limits n c h blank =
-    let e : ltb limits.line (length c) ≡ false = grind (arith, nat_tests) in
+pub verdict-blank : (rules : Rules) (n : ℕ) (header : Tree) (c : List ℕ) → length c ≤ rules.limits.line → nat_lt 1 n && list_all is_blank_byte c ≡ true → verdict_at rules n header c ≡ Blank
+unfolding verdict_at
+verdict-blank rules n header c h blank =
+    let e : ltb rules.limits.line (length c) ≡ false = grind (arith, nat_tests) in
     let only : list_all is_blank_byte c ≡ true = second (nat_lt 1 n) (list_all is_blank_byte c) blank in
     rw (e, is_utf8-from_IsUtf8 c (IsUtf8-from_ascii c (blank-ascii c only)), blank) refl
   where
@@ -66,53 +70,86 @@ verdict-blank limits n c h blank =
     second true y k = k
     second false y k = cc
 
-pub verdict-json : (limits : LimitPair) (n : ℕ) (c : List ℕ) → length c ≤ limits.line → IsUtf8 c → nat_lt 1 n && list_all is_blank_byte c ≡ false
-    → verdict limits n c ≡ text_verdict (judgement c limits.depth)
-unfolding verdict
-verdict-json limits n c h is_text not_blank =
-    let e : ltb limits.line (length c) ≡ false = grind (arith, nat_tests) in
+pub verdict-json : (rules : Rules) (n : ℕ) (header : Tree) (c : List ℕ) → length c ≤ rules.limits.line → IsUtf8 c → nat_lt 1 n && list_all is_blank_byte c ≡ false
+    → verdict_at rules n header c ≡ text_verdict rules n header (judgement c rules.limits.depth)
+unfolding verdict_at
+verdict-json rules n header c h is_text not_blank =
+    let e : ltb rules.limits.line (length c) ≡ false = grind (arith, nat_tests) in
     rw (e, is_utf8-from_IsUtf8 c is_text, not_blank) refl
 
+-- the first line has no header before it
+pub verdict-first : (rules : Rules) (x y : Tree) (c : List ℕ) → verdict_at rules 1 x c ≡ verdict_at rules 1 y c
+unfolding verdict_at
+verdict-first rules x y c = go (judgement c rules.limits.depth)
+  where
+    go : {d : ℕ} (j : Judgement c d) → cond (ltb rules.limits.line (length c)) (Refuse rules.limits.line LineTooLong) (cond (not (is_utf8 c)) (Refuse (utf8_valid_len c) NotUtf8) (cond (nat_lt 1 1 && list_all is_blank_byte c) Blank (text_verdict rules 1 x j)))
+        ≡ cond (ltb rules.limits.line (length c)) (Refuse rules.limits.line LineTooLong) (cond (not (is_utf8 c)) (Refuse (utf8_valid_len c) NotUtf8) (cond (nat_lt 1 1 && list_all is_blank_byte c) Blank (text_verdict rules 1 y j)))
+    go (spelled t json n) = refl
+    go (broken i s n) = refl
+    go (sunk i s) = refl
+
+-- ---- the verdict by findings
+
+least-is : (fs : List Finding) (f : Finding) → IsLeast fs (Some f) → least None fs ≡ Some f
+least-is fs f h = least_only fs fs (Some f) (least None fs) (λ g. (λ x. x, λ x. x)) h (fold_least None fs)
+
+pub tree-refused : (rules : Rules) (n : ℕ) (header t : Tree) (f : Finding) → IsLeast (findings rules n header t) (Some f) → tree_verdict rules n header t ≡ Refuse f.place f.reason
+tree-refused rules n header t f h = ap by_least (least-is (findings rules n header t) f h)
+
+pub tree-valid : (rules : Rules) (n : ℕ) (header t : Tree) → findings rules n header t ≡ [] → tree_verdict rules n header t ≡ Valid
+tree-valid rules n header t h = ap (λ fs. by_least (least None fs)) h
+
+tree-not_blank : (rules : Rules) (n : ℕ) (header t : Tree) → tree_verdict rules n header t ≡ Blank → ⊥
+tree-not_blank rules n header t h = go (least None (findings rules n header t)) h
+  where
+    go : (o : Option Finding) → by_least o ≡ Blank → ⊥
+    go None e = cc
+    go (Some f) e = cc
+
 -- a line whose verdict is blank is a later one, and blank
-pub blank-is : (limits : LimitPair) (n : ℕ) (c : List ℕ) → verdict limits n c ≡ Blank → (1 < n) × (list_all is_blank_byte c ≡ true)
-unfolding verdict
-blank-is limits n c h = let k = go (ltb limits.line (length c)) (is_utf8 c) (nat_lt 1 n) (list_all is_blank_byte c) (judgement c limits.depth) h in (ltb-true 1 n k.0, k.1)
+pub blank-is : (rules : Rules) (n : ℕ) (header : Tree) (c : List ℕ) → verdict_at rules n header c ≡ Blank → (1 < n) × (list_all is_blank_byte c ≡ true)
+unfolding verdict_at
+blank-is rules n header c h = let k = go (ltb rules.limits.line (length c)) (is_utf8 c) (nat_lt 1 n) (list_all is_blank_byte c) (judgement c rules.limits.depth) h in (ltb-true 1 n k.0, k.1)
   where
     go : {d : ℕ} (long text later blank : Bool) (j : Judgement c d)
-        → cond long (Refuse limits.line LineTooLong) (cond (not text) (Refuse (utf8_valid_len c) NotUtf8) (cond (later && blank) Blank (text_verdict j))) ≡ Blank → (later ≡ true) × (blank ≡ true)
+        → cond long (Refuse rules.limits.line LineTooLong) (cond (not text) (Refuse (utf8_valid_len c) NotUtf8) (cond (later && blank) Blank (text_verdict rules n header j))) ≡ Blank → (later ≡ true) × (blank ≡ true)
     go true text later blank j e = cc
     go false false later blank j e = cc
     go false true true true j e = (refl, refl)
-    go false true true false (spelled t json n) e = cc
-    go false true true false (broken i s n) e = cc
+    go false true true false (spelled t json k) e = absurd (tree-not_blank rules n header t e)
+    go false true true false (broken i s k) e = cc
     go false true true false (sunk i s) e = cc
-    go false true false blank (spelled t json n) e = cc
-    go false true false blank (broken i s n) e = cc
+    go false true false blank (spelled t json k) e = absurd (tree-not_blank rules n header t e)
+    go false true false blank (broken i s k) e = cc
     go false true false blank (sunk i s) e = cc
 
-refusal-step : (limits : LimitPair) (n m : ℕ) (first : Option End) (rest all : Option End) → (rest ≡ None → all ≡ None) → (if is_some first then first else rest) ≡ None → (first ≡ None) × (rest ≡ None)
-refusal-step limits n m None rest all h e = (refl, e)
-refusal-step limits n m (Some x) rest all h e = absurd (some-none x e)
+-- ---- lines that follow one another
+
+refusal-step : (first rest : Option End) → (if is_some first then first else rest) ≡ None → (first ≡ None) × (rest ≡ None)
+refusal-step None rest e = (refl, e)
+refusal-step (Some x) rest e = absurd (some-none x e)
   where
     some-none : (x : End) → ◌≡◌ {A = Option End} (Some x) None → ⊥
     some-none x e = cc
 
--- lines without a refusal, and then others
-pub refusal-append : (limits : LimitPair) (n : ℕ) (xs ys : List Line) → refusal_from limits n xs ≡ None → refusal_from limits n (xs ++ ys) ≡ refusal_from limits (n + length xs) ys
-refusal-append limits n [] ys h = rw add-zero refl
-refusal-append limits n (x ∷ xs) ys h =
-    let s = refusal-step limits n n (refusal_of n (verdict limits n x.content)) (refusal_from limits (n + 1) xs) None (λ e. refl) h in
-    let r : refusal_from limits (n + 1) (xs ++ ys) ≡ refusal_from limits (n + 1 + length xs) ys = refusal-append limits (n + 1) xs ys s.1 in
-    let k : n + 1 + length xs ≡ n + suc (length xs) = omega arith in
-    rw (s.0, r, k) refl
+-- one line more before the others
+pub before-more : {A : Type 0} (before : List A) (x : A) (xs : List A) → (before ++ x ∷ []) ++ xs ≡ before ++ x ∷ xs
+before-more before x xs = append_assoc before (x ∷ []) xs
 
-pub kept-append : (limits : LimitPair) (n : ℕ) (xs ys : List Line) → kept_from limits n (xs ++ ys) ≡ kept_from limits n xs ++ kept_from limits (n + length xs) ys
-kept-append limits n [] ys = rw add-zero refl
-kept-append limits n (x ∷ xs) ys =
-    let r = kept-append limits (n + 1) xs ys in
-    let k : n + 1 + length xs ≡ n + suc (length xs) = omega arith in
-    kept-cases (is_kept (verdict limits n x.content)) x _ _ _ (r ∙ ap (λ z. kept_from limits (n + 1) xs ++ kept_from limits z ys) k)
+-- lines without a refusal, and then others
+pub refusal-append : (rules : Rules) (before xs ys : List Line) → refusal_from rules before xs ≡ None → refusal_from rules before (xs ++ ys) ≡ refusal_from rules (before ++ xs) ys
+refusal-append rules before [] ys h = rw (append-nil before) refl
+refusal-append rules before (x ∷ xs) ys h =
+    let s = refusal-step (refusal_of (length before + 1) (verdict rules before x.content)) (refusal_from rules (before ++ x ∷ []) xs) h in
+    let r = refusal-append rules (before ++ x ∷ []) xs ys s.1 in
+    rw s.0 (r ∙ ap (λ z. refusal_from rules z ys) (before-more before x xs))
+
+pub kept-append : (rules : Rules) (before xs ys : List Line) → kept_from rules before (xs ++ ys) ≡ kept_from rules before xs ++ kept_from rules (before ++ xs) ys
+kept-append rules before [] ys = rw (append-nil before) refl
+kept-append rules before (x ∷ xs) ys =
+    let r = kept-append rules (before ++ x ∷ []) xs ys in
+    kept-cases (is_kept (verdict rules before x.content)) (item_after rules before x) _ _ _ (r ∙ ap (λ z. kept_from rules (before ++ x ∷ []) xs ++ kept_from rules z ys) (before-more before x xs))
   where
-    kept-cases : (b : Bool) (x : Line) (all front back : List Line) → all ≡ front ++ back → cond b (x ∷ all) all ≡ cond b (x ∷ front) front ++ back
+    kept-cases : (b : Bool) (x : Item) (all front back : List Item) → all ≡ front ++ back → cond b (x ∷ all) all ≡ cond b (x ∷ front) front ++ back
     kept-cases true x all front back e = ap (λ z. x ∷ z) e
     kept-cases false x all front back e = e

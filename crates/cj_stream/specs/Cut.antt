@@ -1,11 +1,11 @@
 -- Streams that come in pieces.
 use Rattle.std.specs.Prelude.{◌≡◌, ℕ, ◌+◌, List, [], ◌∷◌, ◌++◌, Option, Some, None, length, take}
 use Rattle.std.specs.Io.KnownBytes.{Appends}
-use Rattle.cj_budget.specs.Limits.{LimitPair}
 use Rattle.cj_stream.specs.declared.ending.End.{End}
 use Rattle.cj_stream.specs.declared.ending.End.TheVariants.{Complete, Refused, ReadFault, ReadLimit, WriteFault, Memory}
-use Rattle.cj_stream.specs.Lines.{Line, closed, lines, whole}
-use Rattle.cj_stream.specs.Verdict.{refusal_from, ending, output}
+use Rattle.cj_stream.specs.Lines.{closed, lines, whole}
+use Rattle.cj_stream.specs.Item.{Item}
+use Rattle.cj_stream.specs.Verdict.{Rules, refusal_in, ending, output}
 use Rattle.cj_stream.specs.Engine.{Delivers}
 use Rattle.cj_stream.specs.Sink.{AppendsPart}
 
@@ -23,19 +23,19 @@ pub record AppendsMore (old new : Option (List ℕ)) (bs : List ℕ) : Type 0 wh
 
 -- the known bytes grow by a front of the output of the first n pieces and the next, with all of the output of the whole
 -- lines of the first n
-abbrev pub AppendsFront : LimitPair → List (List ℕ) → ℕ → Option (List ℕ) → Option (List ℕ) → Type 0
-AppendsFront limits pieces n old new =
-    AppendsPart old new (output limits (joined (take (n + 1) pieces))) × AppendsMore old new (output limits (whole (joined (take n pieces))))
+abbrev pub AppendsFront : Rules → List (List ℕ) → ℕ → Option (List ℕ) → Option (List ℕ) → Type 0
+AppendsFront rules pieces n old new =
+    AppendsPart old new (output rules (joined (take (n + 1) pieces))) × AppendsMore old new (output rules (whole (joined (take n pieces))))
 
 -- a writer that was given a cut text: it has the output of the whole text, whose ending is the answer; or, after a
 -- fault, a front of the output of the pieces that were given, of which n were wholly taken
-abbrev pub Copies : LimitPair → List (List ℕ) → ℕ → End → Option (List ℕ) → Option (List ℕ) → Type 0
-Copies limits pieces n Complete old new = (ending limits (joined pieces) ≡ Complete) × Appends old new (output limits (joined pieces))
-Copies limits pieces n (Refused number place reason) old new = (ending limits (joined pieces) ≡ Refused number place reason) × Appends old new (output limits (joined pieces))
-Copies limits pieces n ReadFault old new = ⊥
-Copies limits pieces n ReadLimit old new = ⊥
-Copies limits pieces n WriteFault old new = AppendsFront limits pieces n old new
-Copies limits pieces n Memory old new = AppendsFront limits pieces n old new
+abbrev pub Copies : Rules → List (List ℕ) → ℕ → End → Option (List ℕ) → Option (List ℕ) → Type 0
+Copies rules pieces n Complete old new = (ending rules (joined pieces) ≡ Complete) × Appends old new (output rules (joined pieces))
+Copies rules pieces n (Refused number place reason) old new = (ending rules (joined pieces) ≡ Refused number place reason) × Appends old new (output rules (joined pieces))
+Copies rules pieces n ReadFault old new = ⊥
+Copies rules pieces n ReadLimit old new = ⊥
+Copies rules pieces n WriteFault old new = AppendsFront rules pieces n old new
+Copies rules pieces n Memory old new = AppendsFront rules pieces n old new
 
 -- an end that no reader makes
 abbrev pub IsUnread : End → Type 0
@@ -48,8 +48,8 @@ IsUnread Memory = Unit {0}
 
 -- a sink took what is kept of the first n pieces, of whose whole lines none was refused, and then came to an end by the
 -- next piece, or after the last
-pub record TookWhole {S : Type 0} (takes leaves : S → Line → S → Type 0) (limits : LimitPair) (pieces : List (List ℕ)) (n lines_now : ℕ) (s t : S) (e : End) : Type 0 where
+pub record TookWhole {S : Type 0} (takes leaves : S → Item → S → Type 0) (rules : Rules) (pieces : List (List ℕ)) (n lines_now : ℕ) (s t : S) (e : End) : Type 0 where
   pub middle : S
-  pub good : refusal_from limits 1 (lines (whole (joined (take n pieces)))) ≡ None
-  pub before : Delivers takes leaves limits (joined (take n pieces)) 0 (length (closed (joined (take n pieces)))) s middle None
-  pub after : Delivers takes leaves limits (joined (take (n + 1) pieces)) (length (closed (joined (take n pieces)))) lines_now middle t (Some e)
+  pub good : refusal_in rules (lines (whole (joined (take n pieces)))) ≡ None
+  pub before : Delivers takes leaves rules (joined (take n pieces)) 0 (length (closed (joined (take n pieces)))) s middle None
+  pub after : Delivers takes leaves rules (joined (take (n + 1) pieces)) (length (closed (joined (take n pieces)))) lines_now middle t (Some e)

@@ -5,7 +5,8 @@ use Rattle.cj_budget.specs.declared.limits.Peaks.{Peaks}
 use Rattle.cj_stream.specs.declared.ending.End.{End}
 use Rattle.cj_stream.specs.declared.ending.End.TheVariants.{Complete, Refused, ReadFault, ReadLimit, WriteFault, Memory}
 use Rattle.cj_stream.specs.Lines.{Line, closed, lines, whole, first_content, begun_later}
-use Rattle.cj_stream.specs.Verdict.{refusal_from, judged, verdict, is_kept, good, ending, kept_first, features_first}
+use Rattle.cj_stream.specs.Item.{Item}
+use Rattle.cj_stream.specs.Verdict.{Rules, refusal_in, judged, verdict, item_after, is_kept, good, ending, kept_first, features_first}
 use Rattle.cj_stream.specs.Bound.{IsBounded, IsBelow, of_first, tree_size}
 use Rattle.cj_stream.specs.Reading.{Reading, Reads}
 use Rattle.cj_stream.specs.Scanning.{Scanning, Scanned}
@@ -19,9 +20,12 @@ pub record State : Type 0 where
   pub taken : ℕ
   pub ended : Option End
 
--- the limits that it was opened with
+-- the rules that it judges by, and the limits among them
+abbrev pub rules_of : State → Rules
+rules_of e = e.reading.rules
+
 abbrev pub limits_of : State → LimitPair
-limits_of e = e.reading.limits
+limits_of e = e.reading.rules.limits
 
 -- the lines that were dealt with
 abbrev pub lines_of : State → ℕ
@@ -44,17 +48,17 @@ peaks_of e = record {
 }
 
 -- the first n lines of p are good, and this many features are kept of them
-pub record Counts (limits : LimitPair) (p : List ℕ) (n features : ℕ) : Type 0 where
+pub record Counts (rules : Rules) (p : List ℕ) (n features : ℕ) : Type 0 where
   pub few : n ≤ length (lines p)
-  pub good : refusal_from limits 1 (take n (lines p)) ≡ None
-  pub kept : features ≡ length (features_first limits n p)
+  pub good : refusal_in rules (take n (lines p)) ≡ None
+  pub kept : features ≡ length (features_first rules n p)
 
 -- the engine stands for these bytes: what it holds is within their bound, its counts are of their lines, and
 -- before an end it has read them all
 pub record StandsFor (e : State) (p : List ℕ) : Type 0 where
   pub held : IsBelow (held_by e) (peaks_of e)
   pub bounded : IsBounded (limits_of e) p (peaks_of e)
-  pub counts : Counts (limits_of e) p (lines_of e) e.reading.kept
+  pub counts : Counts (rules_of e) p (lines_of e) e.reading.kept
   pub going : e.ended ≡ None → Reads e.reading p × Scanned (limits_of e) (closed p) e.scanning × (e.taken ≡ length p)
 
 -- the bytes given so far, after a piece: those after an end do not count
@@ -62,27 +66,28 @@ abbrev pub given : State → List ℕ → List ℕ → List ℕ
 given e p piece = if is_none e.ended then p ++ piece else p
 
 -- what a fault on the line after n may leave, if the end is a write fault, and else nothing
-abbrev pub Faults : {S : Type 0} → (S → Line → S → Type 0) → LimitPair → List ℕ → ℕ → S → S → Option End → Type 0
-Faults leaves limits q n s t None = t ≡ s
-Faults leaves limits q n s t (Some WriteFault) = (l : Line) × (slice_get (lines q) n ≡ Some l) × (is_kept (verdict limits (n + 1) l.content) ≡ true) × leaves s l t
-Faults leaves limits q n s t (Some Complete) = t ≡ s
-Faults leaves limits q n s t (Some (Refused number place reason)) = t ≡ s
-Faults leaves limits q n s t (Some ReadFault) = t ≡ s
-Faults leaves limits q n s t (Some ReadLimit) = t ≡ s
-Faults leaves limits q n s t (Some Memory) = t ≡ s
+abbrev pub Faults : {S : Type 0} → (S → Item → S → Type 0) → Rules → List ℕ → ℕ → S → S → Option End → Type 0
+Faults leaves rules q n s t None = t ≡ s
+Faults leaves rules q n s t (Some WriteFault) =
+    (l : Line) × (slice_get (lines q) n ≡ Some l) × (is_kept (verdict rules (take n (lines q)) l.content) ≡ true) × leaves s (item_after rules (take n (lines q)) l) t
+Faults leaves rules q n s t (Some Complete) = t ≡ s
+Faults leaves rules q n s t (Some (Refused number place reason)) = t ≡ s
+Faults leaves rules q n s t (Some ReadFault) = t ≡ s
+Faults leaves rules q n s t (Some ReadLimit) = t ≡ s
+Faults leaves rules q n s t (Some Memory) = t ≡ s
 
 -- the sink has taken the kept ones of the lines of q from one count to another, and after a write fault what that leaves
-pub record Delivers {S : Type 0} (takes leaves : S → Line → S → Type 0) (limits : LimitPair) (q : List ℕ) (from to : ℕ) (s t : S) (ended : Option End) : Type 0 where
-  pub added : List Line
+pub record Delivers {S : Type 0} (takes leaves : S → Item → S → Type 0) (rules : Rules) (q : List ℕ) (from to : ℕ) (s t : S) (ended : Option End) : Type 0 where
+  pub added : List Item
   pub middle : S
-  pub kept : kept_first limits to q ≡ kept_first limits from q ++ added
+  pub kept : kept_first rules to q ≡ kept_first rules from q ++ added
   pub took : Took takes s added middle
-  pub fault : Faults leaves limits q to middle t ended
+  pub fault : Faults leaves rules q to middle t ended
 
 -- nothing that could be judged of these bytes was refused: all whole lines are dealt with, and what is held are the
 -- bytes of the first line and of the begun one, and the tokens of the first line if it is whole
 pub record Going (e : State) (q : List ℕ) : Type 0 where
-  pub good : refusal_from (limits_of e) 1 (judged (limits_of e) q) ≡ None
+  pub good : refusal_in (rules_of e) (judged (limits_of e) q) ≡ None
   pub lines : lines_of e ≡ length (lines (whole q))
   pub held : held_by e ≡ record {
     bytes = length (first_content q) + length (begun_later q);
@@ -91,22 +96,22 @@ pub record Going (e : State) (q : List ℕ) : Type 0 where
   }
 
 -- what an end tells of the lines of q that can be judged, after n of them
-abbrev pub Tells : LimitPair → List ℕ → ℕ → End → Type 0
-Tells limits q n Complete = ⊥
-Tells limits q n (Refused number place reason) = (refusal_from limits 1 (judged limits q) ≡ Some (Refused number place reason)) × (number ≡ n + 1)
-Tells limits q n ReadFault = ⊥
-Tells limits q n ReadLimit = ⊥
-Tells limits q n WriteFault = Unit {0}
-Tells limits q n Memory = Unit {0}
+abbrev pub Tells : Rules → List ℕ → ℕ → End → Type 0
+Tells rules q n Complete = ⊥
+Tells rules q n (Refused number place reason) = (refusal_in rules (judged rules.limits q) ≡ Some (Refused number place reason)) × (number ≡ n + 1)
+Tells rules q n ReadFault = ⊥
+Tells rules q n ReadLimit = ⊥
+Tells rules q n WriteFault = Unit {0}
+Tells rules q n Memory = Unit {0}
 
 -- what the end of a text tells of it, after n of its lines: its ending, after all good lines
-abbrev pub Concludes : LimitPair → List ℕ → ℕ → End → Type 0
-Concludes limits p n Complete = (ending limits p ≡ Complete) × (n ≡ length (good limits p))
-Concludes limits p n (Refused number place reason) = (ending limits p ≡ Refused number place reason) × (n ≡ length (good limits p))
-Concludes limits p n ReadFault = ⊥
-Concludes limits p n ReadLimit = ⊥
-Concludes limits p n WriteFault = Unit {0}
-Concludes limits p n Memory = Unit {0}
+abbrev pub Concludes : Rules → List ℕ → ℕ → End → Type 0
+Concludes rules p n Complete = (ending rules p ≡ Complete) × (n ≡ length (good rules p))
+Concludes rules p n (Refused number place reason) = (ending rules p ≡ Refused number place reason) × (n ≡ length (good rules p))
+Concludes rules p n ReadFault = ⊥
+Concludes rules p n ReadLimit = ⊥
+Concludes rules p n WriteFault = Unit {0}
+Concludes rules p n Memory = Unit {0}
 
 -- the end of a stream, by what came of its last line
 abbrev pub end_of : Result (Unit {0}) End → End

@@ -1,10 +1,14 @@
 pub mod Bound
+pub mod CountSink
 pub mod Cut
 pub mod Device
 pub mod Engine
 pub mod IsLines
+pub mod Item
+pub mod Judging
 pub mod LentSink
 pub mod Lines
+pub mod Query
 pub mod Reading
 pub mod Rows
 pub mod Run

@@ -1,22 +1,24 @@
 -- What is held of a stream while its lines are read, and which bytes it stands for.
+use Rattle.std.specs.List.{filter}
+use Rattle.cj_spans.specs.Tree.{Tree}
 use Rattle.std.specs.Prelude.{◌≡◌, ◌⊎◌, ℕ, ◌+◌, ◌<◌, ◌≤◌, List, [], ◌∷◌, ◌++◌, Bool, true, false, ◌&&◌, ◌==◌, nat_lt, if◌then◌else◌, Some, None, Result, Ok, Err, length, map, max, MatchResult, slice_get}
 use Rattle.cj_budget.specs.Bounded.{BoundedList, IsWithin, Becomes}
 use Rattle.cj_budget.specs.Limits.{LimitPair, InLine}
 use Rattle.cj_stream.specs.declared.framer.Framer.{Framer}
-use Rattle.cj_stream.specs.declared.judge.Verdict.{Verdict}
-use Rattle.cj_stream.specs.declared.judge.Verdict.TheVariants.{Refuse, Blank, Valid}
 use Rattle.cj_spans.specs.declared.reason.Reason.TheVariants.{NoHeader}
 use Rattle.cj_stream.specs.declared.ending.End.{End}
 use Rattle.cj_stream.specs.declared.ending.End.TheVariants.{Complete, Refused, ReadFault, ReadLimit, WriteFault, Memory}
 use Rattle.cj_stream.specs.Lines.{Line, lines, closed, begun, begun_later, ended_line, first_content, later_of}
-use Rattle.cj_stream.specs.Verdict.{WantsTokens, verdict, is_kept, refusal_from, kept_from, judged}
+use Rattle.cj_stream.specs.Item.{Item, is_feature, tree_of, item_at}
+use Rattle.cj_stream.specs.Query.{rules_for}
+use Rattle.cj_stream.specs.Verdict.{Rules, Verdict, Refuse, Blank, Valid, WantsTokens, verdict_at, verdict, item_after, is_kept, refusal_in, kept_from, judged}
 use Rattle.cj_stream.specs.Bound.{greatest}
 use Rattle.cj_stream.specs.Sink.{Took}
 
--- the limits, the content of the first line, the content of a later line that has begun, and how many lines
+-- the rules, the content of the first line, the content of a later line that has begun, and how many lines
 -- were dealt with and how many features kept
 pub record Reading : Type 0 where
-  pub limits : LimitPair
+  pub rules : Rules
   pub header : BoundedList ℕ
   pub line : BoundedList ℕ
   pub lines : ℕ
@@ -24,22 +26,33 @@ pub record Reading : Type 0 where
 
 -- what a framer holds
 abbrev pub reading : Framer → Reading
-reading f = record { limits = f.limits; header = f.header; line = f.line; lines = f.lines; kept = f.kept }
+reading f = record { rules = rules_for f.limits f.query.now; header = f.header; line = f.line; lines = f.lines; kept = f.kept }
 
 -- the content of the begun line
 abbrev pub begun_of : Reading → List ℕ
 begun_of f = if f.lines == 0 then f.header.elements else f.line.elements
 
+-- the tree of the first line that is held
+abbrev pub held_header : Reading → Tree
+held_header f = tree_of f.rules.limits.depth f.header.elements
+
+-- the verdict on a content as the line that comes next, and the item that it is
+abbrev pub next_verdict : Reading → List ℕ → Verdict
+next_verdict f content = verdict_at f.rules (f.lines + 1) (held_header f) content
+
+abbrev pub next_item : Reading → Line → Item
+next_item f l = item_at f.rules.limits.depth (f.lines + 1) (held_header f) l
+
 -- the line limit is in range, both lists have it, and no more features are kept than there are lines
 pub record IsSound (f : Reading) : Type 0 where
-  pub range : InLine f.limits.line
-  pub header : f.header.limit ≡ f.limits.line
-  pub line : f.line.limit ≡ f.limits.line
+  pub range : InLine f.rules.limits.line
+  pub header : f.header.limit ≡ f.rules.limits.line
+  pub line : f.line.limit ≡ f.rules.limits.line
   pub kept : f.kept ≤ f.lines
 
 -- the begun line has grown by these bytes
 pub record Stores (old : Reading) (part : List ℕ) (new : Reading) : Type 0 where
-  pub limits : new.limits ≡ old.limits
+  pub rules : new.rules ≡ old.rules
   pub lines : new.lines ≡ old.lines
   pub kept : new.kept ≡ old.kept
   pub first : old.lines ≡ 0 → Becomes old.header (old.header.elements ++ part) new.header × (new.line ≡ old.line)
@@ -47,22 +60,22 @@ pub record Stores (old : Reading) (part : List ℕ) (new : Reading) : Type 0 whe
 
 -- the begun line was dealt with, and put to the sink or not
 pub record Passes (put : Bool) (old new : Reading) : Type 0 where
-  pub limits : new.limits ≡ old.limits
+  pub rules : new.rules ≡ old.rules
   pub lines : new.lines ≡ old.lines + 1
   pub kept : new.kept ≡ (if put && nat_lt 0 old.lines then old.kept + 1 else old.kept)
   pub header : new.header ≡ old.header
   pub line : Becomes old.line [] new.line
 
 -- what comes of a line with this verdict
-abbrev pub Deals : {S : Type 0} → (S → Line → S → Type 0) → (S → Line → S → Type 0) → Verdict → Line → Reading → S → Result (Unit {0}) End → Reading → S → Type 0
-Deals takes leaves (Refuse place reason) line f s r g t = (r ≡ Err (Refused (f.lines + 1) place reason)) × (g ≡ f) × (t ≡ s)
-Deals takes leaves Blank line f s r g t = (r ≡ Ok tt) × Passes false f g × (t ≡ s)
-Deals takes leaves Valid line f s r g t = MatchResult r (λ _. Passes true f g × takes s line t) (λ e. (e ≡ WriteFault) × (g ≡ f) × leaves s line t)
+abbrev pub Deals : {S : Type 0} → (S → Item → S → Type 0) → (S → Item → S → Type 0) → Verdict → Item → Reading → S → Result (Unit {0}) End → Reading → S → Type 0
+Deals takes leaves (Refuse place reason) i f s r g t = (r ≡ Err (Refused (f.lines + 1) place reason)) × (g ≡ f) × (t ≡ s)
+Deals takes leaves Blank i f s r g t = (r ≡ Ok tt) × Passes false f g × (t ≡ s)
+Deals takes leaves Valid i f s r g t = MatchResult r (λ _. Passes true f g × takes s i t) (λ e. (e ≡ WriteFault) × (g ≡ f) × leaves s i t)
 
 -- what comes of a line with this verdict, or no memory was granted for its tokens, and nothing comes of it; so it is
 -- only with a line that is UTF-8 and not blank
-abbrev pub Settles : {S : Type 0} → (S → Line → S → Type 0) → (S → Line → S → Type 0) → Verdict → Line → Reading → S → Result (Unit {0}) End → Reading → S → Type 0
-Settles takes leaves v line f s r g t = Deals takes leaves v line f s r g t ⊎ ((r ≡ Err Memory) × (g ≡ f) × (t ≡ s) × WantsTokens (f.lines + 1) line.content)
+abbrev pub Settles : {S : Type 0} → (S → Item → S → Type 0) → (S → Item → S → Type 0) → Verdict → Item → Reading → S → Result (Unit {0}) End → Reading → S → Type 0
+Settles takes leaves v i f s r g t = Deals takes leaves v i f s r g t ⊎ ((r ≡ Err Memory) × (g ≡ f) × (t ≡ s) × WantsTokens (f.lines + 1) i.line.content)
 
 -- these bytes have been read, and no line of them was refused
 pub record Reads (f : Reading) (p : List ℕ) : Type 0 where
@@ -70,26 +83,26 @@ pub record Reads (f : Reading) (p : List ℕ) : Type 0 where
   pub begun : begun_of f ≡ begun p
   pub header : f.header.elements ≡ first_content p
   pub line : f.line.elements ≡ begun_later p
-  pub good : refusal_from f.limits 1 (map ended_line (closed p)) ≡ None
-  pub kept : f.kept ≡ length (kept_from f.limits 2 (later_of (map ended_line (closed p))))
+  pub good : refusal_in f.rules (map ended_line (closed p)) ≡ None
+  pub kept : f.kept ≡ length (filter is_feature (kept_from f.rules [] (map ended_line (closed p))))
   pub peak : f.header.peak ≡ length f.header.elements
   pub line_peak : f.line.peak ≡ max (greatest length (later_of (closed p))) (length (begun_later p))
   pub header_within : IsWithin f.header
   pub line_within : IsWithin f.line
 
 -- the kept ones of the lines that LF ended, of a text without a refused line
-abbrev pub kept_closed : LimitPair → List ℕ → List Line
-kept_closed limits s = kept_from limits 1 (map ended_line (closed s))
+abbrev pub kept_closed : Rules → List ℕ → List Item
+kept_closed rules s = kept_from rules [] (map ended_line (closed s))
 
 -- the sink has taken the kept lines of q that are not of p
-abbrev pub Puts : {S : Type 0} → (S → Line → S → Type 0) → LimitPair → List ℕ → List ℕ → S → S → Type 0
-Puts takes limits p q s t = (added : List Line) × (kept_closed limits q ≡ kept_closed limits p ++ added) × Took takes s added t
+abbrev pub Puts : {S : Type 0} → (S → Item → S → Type 0) → Rules → List ℕ → List ℕ → S → S → Type 0
+Puts takes rules p q s t = (added : List Item) × (kept_closed rules q ≡ kept_closed rules p ++ added) × Took takes s added t
 
 -- these bytes more have been read too, and the sink has what is kept of them
-pub record Advances {S : Type 0} (takes : S → Line → S → Type 0) (f : Reading) (s : S) (p more : List ℕ) (g : Reading) (t : S) : Type 0 where
-  pub limits : g.limits ≡ f.limits
+pub record Advances {S : Type 0} (takes : S → Item → S → Type 0) (f : Reading) (s : S) (p more : List ℕ) (g : Reading) (t : S) : Type 0 where
+  pub rules : g.rules ≡ f.rules
   pub reads : Reads g (p ++ more)
-  pub puts : Puts takes f.limits p (p ++ more) s t
+  pub puts : Puts takes f.rules p (p ++ more) s t
 
 -- this line comes after those that LF ended in p, of the lines of q that can be judged
 abbrev pub IsNext : LimitPair → List ℕ → List ℕ → Line → Type 0
@@ -103,39 +116,39 @@ pub record LacksMemory (q : List ℕ) (n : ℕ) (held : List ℕ) : Type 0 where
   pub cause : (length held < length line.content) ⊎ WantsTokens (n + 1) line.content
 
 -- why reading stopped after the lines that LF ended in p, of q, and what the sink is then
-abbrev pub HasCause : {S : Type 0} → (S → Line → S → Type 0) → LimitPair → List ℕ → List ℕ → ℕ → S → S → End → Type 0
-HasCause leaves limits p q n s t Complete = ⊥
-HasCause leaves limits p q n s t (Refused number place reason) =
-    (l : Line) × IsNext limits p q l × (number ≡ n + 1) × (verdict limits number l.content ≡ Refuse place reason) × (t ≡ s)
-HasCause leaves limits p q n s t ReadFault = ⊥
-HasCause leaves limits p q n s t ReadLimit = ⊥
-HasCause leaves limits p q n s t WriteFault =
-    (l : Line) × IsNext limits p q l × (is_kept (verdict limits (n + 1) l.content) ≡ true) × leaves s l t
-HasCause leaves limits p q n s t Memory = (t ≡ s) × LacksMemory q n (begun p)
+abbrev pub HasCause : {S : Type 0} → (S → Item → S → Type 0) → Rules → List ℕ → List ℕ → ℕ → S → S → End → Type 0
+HasCause leaves rules p q n s t Complete = ⊥
+HasCause leaves rules p q n s t (Refused number place reason) =
+    (l : Line) × IsNext rules.limits p q l × (number ≡ n + 1) × (verdict rules (map ended_line (closed p)) l.content ≡ Refuse place reason) × (t ≡ s)
+HasCause leaves rules p q n s t ReadFault = ⊥
+HasCause leaves rules p q n s t ReadLimit = ⊥
+HasCause leaves rules p q n s t WriteFault =
+    (l : Line) × IsNext rules.limits p q l × (is_kept (verdict rules (map ended_line (closed p)) l.content) ≡ true) × leaves s (item_after rules (map ended_line (closed p)) l) t
+HasCause leaves rules p q n s t Memory = (t ≡ s) × LacksMemory q n (begun p)
 
 -- reading stopped within these bytes
-pub record Stops {S : Type 0} (takes leaves : S → Line → S → Type 0) (f : Reading) (s : S) (p more : List ℕ) (e : End) (g : Reading) (t : S) : Type 0 where
+pub record Stops {S : Type 0} (takes leaves : S → Item → S → Type 0) (f : Reading) (s : S) (p more : List ℕ) (e : End) (g : Reading) (t : S) : Type 0 where
   pub done : List ℕ
   pub left : List ℕ
   pub middle : S
   pub cut : more ≡ done ++ left
-  pub limits : g.limits ≡ f.limits
+  pub rules : g.rules ≡ f.rules
   pub reads : Reads g (p ++ done)
-  pub puts : Puts takes f.limits p (p ++ done) s middle
-  pub cause : HasCause leaves f.limits (p ++ done) (p ++ more) g.lines middle t e
+  pub puts : Puts takes f.rules p (p ++ done) s middle
+  pub cause : HasCause leaves f.rules (p ++ done) (p ++ more) g.lines middle t e
 
 -- what stays, whatever comes of some bytes: the limits, and peaks that never fall
 pub record Stays (f g : Reading) : Type 0 where
   pub sound : IsSound g
-  pub limits : g.limits ≡ f.limits
+  pub rules : g.rules ≡ f.rules
   pub header_rises : f.header.peak ≤ g.header.peak
   pub line_rises : f.line.peak ≤ g.line.peak
 
 -- what comes of the end of a text, where this is the begun line: of a last line, and of a text without one
-abbrev pub FinishesWith : {S : Type 0} → (S → Line → S → Type 0) → (S → Line → S → Type 0) → List ℕ → Reading → S → Result (Unit {0}) End → Reading → S → Type 0
+abbrev pub FinishesWith : {S : Type 0} → (S → Item → S → Type 0) → (S → Item → S → Type 0) → List ℕ → Reading → S → Result (Unit {0}) End → Reading → S → Type 0
 FinishesWith takes leaves [] f s r g t = (r ≡ (if f.lines == 0 then Err (Refused 1 0 NoHeader) else Ok tt)) × (g ≡ f) × (t ≡ s)
 FinishesWith takes leaves (b ∷ c) f s r g t =
-    Settles takes leaves (verdict f.limits (f.lines + 1) (b ∷ c)) (record { content = b ∷ c; lf = false }) f s r g t
+    Settles takes leaves (next_verdict f (b ∷ c)) (next_item f (record { content = b ∷ c; lf = false })) f s r g t
 
-abbrev pub Finishes : {S : Type 0} → (S → Line → S → Type 0) → (S → Line → S → Type 0) → Reading → S → List ℕ → Result (Unit {0}) End → Reading → S → Type 0
+abbrev pub Finishes : {S : Type 0} → (S → Item → S → Type 0) → (S → Item → S → Type 0) → Reading → S → List ℕ → Result (Unit {0}) End → Reading → S → Type 0
 Finishes takes leaves f s p r g t = FinishesWith takes leaves (begun p) f s r g t

@@ -8,8 +8,8 @@ use Rattle.cj_spans.specs.Judgement.{judged_size, judged_nest}
 use Rattle.cj_spans.specs.Scan.{KeepsLaw}
 use Rattle.cj_spans.proofs.Judgements.{judgement}
 use Rattle.cj_stream.specs.declared.framer.Framer.{Framer}
-use Rattle.cj_stream.specs.declared.judge.Verdict.{Verdict}
-use Rattle.cj_stream.specs.declared.judge.Verdict.TheVariants.{Refuse, Blank, Valid}
+use Rattle.cj_stream.specs.declared.judge.Content.{Content}
+use Rattle.cj_stream.specs.declared.judge.Content.TheVariants.{Faulty, White, Sound}
 use Rattle.cj_stream.specs.Lines.{first_of, later_of}
 use Rattle.cj_stream.specs.Bound.{tree_size, tree_nest, of_first, greatest}
 
@@ -63,16 +63,16 @@ pub record HoldsTree (c : List ℕ) (old new : BoundedList Token) (old_open new_
   pub closed : new_open.elements ≡ []
   pub opened_peak : new_open.peak ≡ max old_open.peak (judged_nest (judgement c old_open.limit))
 
--- what judging a content makes of the lists: nothing where it is blank; its tree where it is valid; and in any other
+-- what judging a content makes of the lists: nothing where it is blank; its tree where it is JSON; and in any other
 -- case no more than the law of a scan allows
-abbrev pub Judges : List ℕ → BoundedList Token → BoundedList Token → BoundedList ℕ → BoundedList ℕ → Result Verdict NoMemory → Type 0
-Judges c old new old_open new_open (Ok Blank) = (new ≡ old) × (new_open ≡ old_open)
-Judges c old new old_open new_open (Ok Valid) = HoldsTree c old new old_open new_open × KeepsLaw c old new old_open new_open
-Judges c old new old_open new_open (Ok (Refuse place reason)) = KeepsLaw c old new old_open new_open
+abbrev pub Judges : List ℕ → BoundedList Token → BoundedList Token → BoundedList ℕ → BoundedList ℕ → Result Content NoMemory → Type 0
+Judges c old new old_open new_open (Ok White) = (new ≡ old) × (new_open ≡ old_open)
+Judges c old new old_open new_open (Ok Sound) = HoldsTree c old new old_open new_open × KeepsLaw c old new old_open new_open
+Judges c old new old_open new_open (Ok (Faulty place reason)) = KeepsLaw c old new old_open new_open
 Judges c old new old_open new_open (Err e) = KeepsLaw c old new old_open new_open
 
 -- the first line goes into the lists that are kept, a later one into the others
-pub record JudgesLine (lines : ℕ) (c : List ℕ) (old new : Scanning) (r : Result Verdict NoMemory) : Type 0 where
+pub record JudgesLine (lines : ℕ) (c : List ℕ) (old new : Scanning) (r : Result Content NoMemory) : Type 0 where
   pub first : lines ≡ 0 → Judges c old.header new.header old.opened new.opened r × (new.line ≡ old.line)
   pub later : 0 < lines → Judges c old.line new.line old.opened new.opened r × (new.header ≡ old.header)
 

@@ -1,17 +1,33 @@
 -- Which lines are refused, which are blank, and what is kept of a text.
 use Rattle.std.specs.Prelude.{◌≡◌, IsUtf8, ℕ, ◌+◌, List, [], ◌∷◌, ◌++◌, Bool, true, false, not, ◌&&◌, ◌||◌, ◌==◌, nat_lt, if◌then◌else◌, Option, Some, None, length, take, map, unwrap_or, is_some}
-use Rattle.std.specs.List.{flat_map, list_all}
+use Rattle.std.specs.List.{filter, flat_map, list_all}
 use Rattle.std.specs.Str.{is_utf8}
 use Rattle.std.specs.Str.Lossy.{utf8_valid_len}
 use Rattle.cj_budget.specs.Limits.{LimitPair}
+use Rattle.cj_spans.specs.declared.reason.Reason.{Reason}
 use Rattle.cj_spans.specs.declared.reason.Reason.TheVariants.{NoHeader, LineTooLong, NotUtf8, Syntax, TooDeep}
+use Rattle.cj_spans.specs.declared.finding.Finding.{Finding}
+use Rattle.cj_spans.specs.Finding.{least}
+use Rattle.cj_spans.specs.Tree.{Tree}
 use Rattle.cj_spans.specs.Judgement.{Judgement, spelled, broken, sunk}
 use Rattle.cj_spans.proofs.Judgements.{judgement}
-use Rattle.cj_stream.specs.declared.judge.Verdict.{Verdict}
-use Rattle.cj_stream.specs.declared.judge.Verdict.TheVariants.{Refuse, Blank, Valid}
+use Rattle.cj_feature.specs.Header.{header as header_findings}
+use Rattle.cj_feature.specs.Feature.{feature as feature_findings}
 use Rattle.cj_stream.specs.declared.ending.End.{End}
 use Rattle.cj_stream.specs.declared.ending.End.TheVariants.{Complete, Refused}
-use Rattle.cj_stream.specs.Lines.{Line, raw, lines, closed, begun, ended_line, last_line, later_of}
+use Rattle.cj_stream.specs.Lines.{Line, lines, closed, begun, ended_line, last_line}
+use Rattle.cj_stream.specs.Item.{Item, raw_item, is_feature, tree_of, item_at}
+
+-- what lines are judged by: the limits, and whether there is a box
+pub record Rules : Type 0 where
+  pub limits : LimitPair
+  pub with_box : Bool
+
+-- a line is refused at a byte of its content for a reason, or blank, or valid
+pub data Verdict : Type 0 where
+  Refuse : ℕ → Reason → Verdict
+  Blank : Verdict
+  Valid : Verdict
 
 -- space, tab and CR
 abbrev pub is_blank_byte : ℕ → Bool
@@ -26,20 +42,51 @@ pub record WantsTokens (number : ℕ) (content : List ℕ) : Type 0 where
   pub text : IsUtf8 content
   pub not_blank : is_blank_line number content ≡ false
 
--- the verdict on bytes of UTF-8, by what they are as a JSON text under a depth limit
-abbrev pub text_verdict : {c : List ℕ} {depth : ℕ} → Judgement c depth → Verdict
-text_verdict (spelled tree json shallow) = Valid
-text_verdict (broken place syntax shallow) = Refuse place Syntax
-text_verdict (sunk place deep) = Refuse place TooDeep
+-- the findings of the tree of a line: of a header on the first line, and of a feature beside the header on a later one
+abbrev pub findings : Rules → ℕ → Tree → Tree → List Finding
+findings rules number header t = if number == 1 then header_findings rules.with_box t else feature_findings header t
 
--- The verdict on a content, by the limits and the line's number: too long, no UTF-8, blank, or as JSON. Each content
--- has one judgement, whose type says what it is; the proof that it has one computes it.
-unfoldable pub verdict : LimitPair → ℕ → List ℕ → Verdict
-verdict limits number content =
-    if nat_lt limits.line (length content) then Refuse limits.line LineTooLong
+-- the verdict by the least of some findings
+abbrev pub by_least : Option Finding → Verdict
+by_least None = Valid
+by_least (Some f) = Refuse f.place f.reason
+
+-- the verdict on a line of this tree
+abbrev pub tree_verdict : Rules → ℕ → Tree → Tree → Verdict
+tree_verdict rules number header t = by_least (least None (findings rules number header t))
+
+-- the verdict on bytes of UTF-8, by what they are as a JSON text under a depth limit
+abbrev pub text_verdict : {c : List ℕ} {depth : ℕ} → Rules → ℕ → Tree → Judgement c depth → Verdict
+text_verdict rules number header (spelled tree json shallow) = tree_verdict rules number header tree
+text_verdict rules number header (broken place syntax shallow) = Refuse place Syntax
+text_verdict rules number header (sunk place deep) = Refuse place TooDeep
+
+-- The verdict on a content, by the rules, the line's number and the tree of the header: too long, no UTF-8, blank, no
+-- JSON or nested too deep, or by its findings. Each content has one judgement, whose type says what it is; the proof
+-- that it has one computes it.
+unfoldable pub verdict_at : Rules → ℕ → Tree → List ℕ → Verdict
+verdict_at rules number header content =
+    if nat_lt rules.limits.line (length content) then Refuse rules.limits.line LineTooLong
     else (if not (is_utf8 content) then Refuse (utf8_valid_len content) NotUtf8
     else (if is_blank_line number content then Blank
-    else text_verdict (judgement content limits.depth)))
+    else text_verdict rules number header (judgement content rules.limits.depth)))
+
+-- the content of the first of some lines
+abbrev pub first_line : List Line → List ℕ
+first_line [] = []
+first_line (l ∷ ls) = l.content
+
+-- the tree of the header, of the lines before another: that of the first of them
+abbrev pub header_of : Rules → List Line → Tree
+header_of rules before = tree_of rules.limits.depth (first_line before)
+
+-- the verdict on a content, by the rules and the lines before it
+abbrev pub verdict : Rules → List Line → List ℕ → Verdict
+verdict rules before content = verdict_at rules (length before + 1) (header_of rules before) content
+
+-- the item that a line is after these
+abbrev pub item_after : Rules → List Line → Line → Item
+item_after rules before l = item_at rules.limits.depth (length before + 1) (header_of rules before) l
 
 -- the end that a refusal makes
 abbrev pub refusal_of : ℕ → Verdict → Option End
@@ -53,45 +100,50 @@ is_kept (Refuse place reason) = false
 is_kept Blank = false
 is_kept Valid = true
 
--- the first refusal among lines that are numbered from `number` on
-abbrev pub refusal_from : LimitPair → ℕ → List Line → Option End
-refusal_from limits number [] = None
-refusal_from limits number (l ∷ ls) =
-    let first = refusal_of number (verdict limits number l.content) in
-    if is_some first then first else refusal_from limits (number + 1) ls
+-- the first refusal among lines that come after others
+abbrev pub refusal_from : Rules → List Line → List Line → Option End
+refusal_from rules before [] = None
+refusal_from rules before (l ∷ ls) =
+    let first = refusal_of (length before + 1) (verdict rules before l.content) in
+    if is_some first then first else refusal_from rules (before ++ l ∷ []) ls
 
 -- the longest front without a refused line
-abbrev pub good_from : LimitPair → ℕ → List Line → List Line
-good_from limits number [] = []
-good_from limits number (l ∷ ls) =
-    if is_some (refusal_of number (verdict limits number l.content)) then [] else l ∷ good_from limits (number + 1) ls
+abbrev pub good_from : Rules → List Line → List Line → List Line
+good_from rules before [] = []
+good_from rules before (l ∷ ls) =
+    if is_some (refusal_of (length before + 1) (verdict rules before l.content)) then [] else l ∷ good_from rules (before ++ l ∷ []) ls
 
--- the lines that are neither refused nor blank
-abbrev pub kept_from : LimitPair → ℕ → List Line → List Line
-kept_from limits number [] = []
-kept_from limits number (l ∷ ls) =
-    if is_kept (verdict limits number l.content) then l ∷ kept_from limits (number + 1) ls else kept_from limits (number + 1) ls
+-- the items of the lines that are neither refused nor blank
+abbrev pub kept_from : Rules → List Line → List Line → List Item
+kept_from rules before [] = []
+kept_from rules before (l ∷ ls) =
+    if is_kept (verdict rules before l.content) then item_after rules before l ∷ kept_from rules (before ++ l ∷ []) ls
+    else kept_from rules (before ++ l ∷ []) ls
+
+-- the first refusal among the lines of a text, or of a front of them
+abbrev pub refusal_in : Rules → List Line → Option End
+refusal_in rules ls = refusal_from rules [] ls
 
 -- the lines up to the first refused one
-abbrev pub good : LimitPair → List ℕ → List Line
-good limits s = good_from limits 1 (lines s)
+abbrev pub good : Rules → List ℕ → List Line
+good rules s = good_from rules [] (lines s)
 
 -- the header and the features among them
-abbrev pub kept : LimitPair → List ℕ → List Line
-kept limits s = kept_from limits 1 (good limits s)
+abbrev pub kept : Rules → List ℕ → List Item
+kept rules s = kept_from rules [] (good rules s)
 
 -- what is written of a text
-abbrev pub output : LimitPair → List ℕ → List ℕ
-output limits s = flat_map raw (kept limits s)
+abbrev pub output : Rules → List ℕ → List ℕ
+output rules s = flat_map raw_item (kept rules s)
 
 -- the end of these lines: a text without a line is refused, and else the first refused line is
-abbrev pub ending_of : LimitPair → List Line → End
-ending_of limits [] = Refused 1 0 NoHeader
-ending_of limits (l ∷ ls) = unwrap_or (refusal_from limits 1 (l ∷ ls)) Complete
+abbrev pub ending_of : Rules → List Line → End
+ending_of rules [] = Refused 1 0 NoHeader
+ending_of rules (l ∷ ls) = unwrap_or (refusal_in rules (l ∷ ls)) Complete
 
 -- how a text ends
-abbrev pub ending : LimitPair → List ℕ → End
-ending limits s = ending_of limits (lines s)
+abbrev pub ending : Rules → List ℕ → End
+ending rules s = ending_of rules (lines s)
 
 -- a begun line that is too long already
 abbrev pub long_line : LimitPair → List ℕ → List Line
@@ -102,9 +154,9 @@ abbrev pub judged : LimitPair → List ℕ → List Line
 judged limits s = map ended_line (closed s) ++ long_line limits (begun s)
 
 -- the kept ones of the first n lines
-abbrev pub kept_first : LimitPair → ℕ → List ℕ → List Line
-kept_first limits n s = kept_from limits 1 (take n (lines s))
+abbrev pub kept_first : Rules → ℕ → List ℕ → List Item
+kept_first rules n s = kept_from rules [] (take n (lines s))
 
--- the kept ones of the first n lines but the header
-abbrev pub features_first : LimitPair → ℕ → List ℕ → List Line
-features_first limits n s = kept_from limits 2 (later_of (take n (lines s)))
+-- the features among them
+abbrev pub features_first : Rules → ℕ → List ℕ → List Item
+features_first rules n s = filter is_feature (kept_first rules n s)

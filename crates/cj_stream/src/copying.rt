@@ -2,13 +2,15 @@
 ghost use Rattle.std.specs.Prelude.{◌≡◌, ◌+◌, ◌≤◌, ◌^◌, ℕ, List, [], None, length, map, take};
 ghost use Rattle.std.specs.Io.KnownBytes.{Consumes, IsAtEnd};
 ghost use Rattle.cj_stream.specs.Cut.{joined, Copies, TookWhole, IsUnread};
-ghost use Rattle.cj_stream.specs.Engine.{StandsFor, limits_of, lines_of, peaks_of};
+ghost use Rattle.cj_stream.specs.Engine.{StandsFor, rules_of, lines_of, peaks_of};
+ghost use Rattle.cj_stream.specs.Query.{rules_for};
 ghost use Rattle.cj_stream.specs.Run.{Account, Runs, Writes};
 ghost use Rattle.cj_stream.specs.WriteSink.{writer_of};
 
 use crate::ending::End;
 use crate::engine::Engine;
 use crate::lent::LentSink;
+use crate::query::Query;
 use crate::running::{Outcome, run};
 use crate::sink::{LineSink, WriteSink};
 use cj_budget::{Limits, NoMemory};
@@ -21,12 +23,13 @@ pub fn copy<R: Read, W: Write + Drop>(
     reader: &mut R,
     sink: &mut WriteSink<W>,
     limits: Limits,
+    query: &Query,
 ) -> Outcome
     ensures { (r : List ℕ) × Consumes (R.remaining reader.old) (R.remaining reader.new) r
-        × Account limits r (IsAtEnd (R.remaining reader.new)) result.lines result.kept result.peaks result.ended
-        × Writes limits r result.ended (W.contents (writer_of sink.old)) (W.contents (writer_of sink.new)) }
+        × Account (rules_for limits query.now) r (IsAtEnd (R.remaining reader.new)) result.lines result.kept result.peaks result.ended
+        × Writes (rules_for limits query.now) r result.ended (W.contents (writer_of sink.old)) (W.contents (writer_of sink.new)) }
 {
-    run(alloc, reader, sink, limits)
+    run(alloc, reader, sink, limits, query)
 }
 
 /// Copies the kept lines of what a reader gives to a writer that is lent.
@@ -35,13 +38,14 @@ pub fn copy_out<R: Read, W: Write>(
     reader: &mut R,
     writer: &mut W,
     limits: Limits,
+    query: &Query,
 ) -> Outcome
     ensures { (r : List ℕ) × Consumes (R.remaining reader.old) (R.remaining reader.new) r
-        × Account limits r (IsAtEnd (R.remaining reader.new)) result.lines result.kept result.peaks result.ended
-        × Writes limits r result.ended (W.contents writer.old) (W.contents writer.new) }
+        × Account (rules_for limits query.now) r (IsAtEnd (R.remaining reader.new)) result.lines result.kept result.peaks result.ended
+        × Writes (rules_for limits query.now) r result.ended (W.contents writer.old) (W.contents writer.new) }
 {
     let mut sink = LentSink::new(writer);
-    run(alloc, reader, &mut sink, limits)
+    run(alloc, reader, &mut sink, limits, query)
 }
 
 /// How a copy of pieces went.
@@ -61,9 +65,9 @@ fn feed_all<S: LineSink>(engine: &mut Engine, pieces: &[&[u8]], sink: &mut S) ->
     requires stands { StandsFor engine.old [] }
     requires short { length (joined (map (λ piece. piece.now) pieces.now)) ≤ 2 ^ 60 }
     ensures runs { let given = joined (take (result.taken + 1) (map (λ piece. piece.now) pieces.now)) in
-        Runs S.takes S.leaves (limits_of engine.old) given (given ≡ joined (map (λ piece. piece.now) pieces.now))
+        Runs S.takes S.leaves (rules_of engine.old) given (given ≡ joined (map (λ piece. piece.now) pieces.now))
         sink.old sink.new (lines_of engine.new) engine.new.reading.kept (peaks_of engine.new) result.ended }
-    ensures taken { TookWhole S.takes S.leaves (limits_of engine.old) (map (λ piece. piece.now) pieces.now) result.taken
+    ensures taken { TookWhole S.takes S.leaves (rules_of engine.old) (map (λ piece. piece.now) pieces.now) result.taken
         (lines_of engine.new) sink.old sink.new result.ended }
     ensures unread { IsUnread result.ended }
 {
@@ -87,12 +91,13 @@ pub fn copy_pieces<W: Write + Drop>(
     pieces: &[&[u8]],
     sink: &mut WriteSink<W>,
     limits: Limits,
+    query: &Query,
 ) -> Copied
     requires { length (joined (map (λ piece. piece.now) pieces.now)) ≤ 2 ^ 60 }
-    ensures { Copies limits (map (λ piece. piece.now) pieces.now) result.taken result.ended
+    ensures { Copies (rules_for limits query.now) (map (λ piece. piece.now) pieces.now) result.taken result.ended
         (W.contents (writer_of sink.old)) (W.contents (writer_of sink.new)) }
 {
-    let mut engine = match Engine::open(alloc, limits) {
+    let mut engine = match Engine::open(alloc, limits, query) {
         Ok(engine) => engine,
         Err(NoMemory) => {
             return Copied {

@@ -2,13 +2,15 @@
 ghost use Rattle.std.specs.Prelude.{◌≡◌, ◌≢◌, ◌+◌, ◌^◌, ◌≤◌, ℕ, List, [], ◌∷◌, ◌++◌, length, OnOk, OnErr, IfOk, IfErr, IsErrOf, IsOk, Some, None, Err};
 ghost use Rattle.cj_stream.specs.Bound.{IsBelow, exact_peaks};
 ghost use Rattle.cj_stream.specs.Lines.{begun};
+ghost use Rattle.cj_stream.specs.Query.{rules_for};
 ghost use Rattle.cj_stream.specs.Reading.{begun_of, LacksMemory};
 ghost use Rattle.cj_stream.specs.Sink.{HasRisen};
 ghost use Rattle.cj_stream.specs.Verdict.{WantsTokens};
-ghost use Rattle.cj_stream.specs.Engine.{StandsFor, given, limits_of, lines_of, held_by, peaks_of, Delivers, Going, Tells, Concludes, end_of};
+ghost use Rattle.cj_stream.specs.Engine.{StandsFor, given, rules_of, limits_of, lines_of, held_by, peaks_of, Delivers, Going, Tells, Concludes, end_of};
 
 use crate::ending::End;
 use crate::framer::Framer;
+use crate::query::Query;
 use crate::sink::LineSink;
 use cj_budget::{Limits, NoMemory, Peaks};
 use std::alloc::Global;
@@ -18,14 +20,15 @@ use std::marker::Model;
 ///
 /// After an end every call answers that end again, puts nothing and changes nothing.
 #[derive(Drop)]
-pub struct Engine {
-    framer: Framer,
+pub struct Engine<'q> {
+    framer: Framer<'q>,
     taken: u64,
     ended: Option<End>,
 }
 
-impl Model for Engine {
+impl<'q> Model for Engine<'q> {
     ghost use Rattle.std.specs.Prelude.{◌≡◌, ◌≤◌, ◌^◌, None};
+    ghost use Rattle.cj_stream.specs.Judging.{KeepsFirst};
     ghost use Rattle.cj_stream.specs.Reading.{reading, IsSound};
     ghost use Rattle.cj_stream.specs.Scanning.{scanning, HasRoom};
     ghost use Rattle.cj_stream.specs.Engine.{State};
@@ -34,17 +37,17 @@ impl Model for Engine {
 
     ghost view = { λ e. record { reading = reading e.framer; scanning = scanning e.framer; taken = e.taken; ended = e.ended } };
 
-    ghost invariant = { λ e. IsSound (reading e.framer) × HasRoom e.framer.limits (scanning e.framer) × (e.ended ≡ None → e.framer.lines ≤ e.taken) × (e.taken ≤ 2 ^ 60) };
+    ghost invariant = { λ e. IsSound (reading e.framer) × HasRoom e.framer.limits (scanning e.framer) × KeepsFirst (reading e.framer) (scanning e.framer) e.framer.parts × (e.ended ≡ None → e.framer.lines ≤ e.taken) × (e.taken ≤ 2 ^ 60) };
 }
 
-impl Engine {
+impl<'q> Engine<'q> {
     /// An engine that has read nothing. It takes no memory.
-    pub fn open(alloc: Global, limits: Limits) -> Result<Engine, NoMemory>
-        ensures empty { IfOk result (λ e. StandsFor e [] × (limits_of e ≡ limits) × (e.ended ≡ None) × (e.taken ≡ 0)) }
+    pub fn open(alloc: Global, limits: Limits, query: &'q Query) -> Result<Engine<'q>, NoMemory>
+        ensures empty { IfOk result (λ e. StandsFor e [] × (rules_of e ≡ rules_for limits query.now) × (e.ended ≡ None) × (e.taken ≡ 0)) }
         ensures opens { IsOk result }
     {
         Ok(Engine {
-            framer: Framer::new(alloc, limits),
+            framer: Framer::new(alloc, limits, query),
             taken: 0,
             ended: None,
         })
@@ -66,7 +69,7 @@ impl Engine {
             HasRisen (S.failures sink.old) (S.failures sink.new) }
 
         // What the engine stands for, and what it may hold.
-        ensures limits { limits_of self.new ≡ limits_of self.old }
+        ensures rules { rules_of self.new ≡ rules_of self.old }
         ensures stands { (p : List ℕ) → StandsFor self.old p → StandsFor self.new (given self.old p piece.now) }
         ensures rises { IsBelow (peaks_of self.old) (peaks_of self.new) }
         ensures taken { OnOk result (self.new.taken ≡ self.old.taken + length piece.now) }
@@ -75,11 +78,11 @@ impl Engine {
         // What the answer says of all bytes so far.
         ensures going { OnOk result ((p : List ℕ) → StandsFor self.old p → Going self.new (p ++ piece.now)) }
         ensures told { IfErr result (λ e. (p : List ℕ) → StandsFor self.old p → self.old.ended ≡ None →
-            Tells (limits_of self.old) (p ++ piece.now) (lines_of self.new) e) }
+            Tells (rules_of self.old) (p ++ piece.now) (lines_of self.new) e) }
         ensures memory { (p : List ℕ) → StandsFor self.old p → self.old.ended ≡ None → IsErrOf result End.Memory →
             LacksMemory (p ++ piece.now) (lines_of self.new) (begun_of self.new.reading) }
         ensures sink { (p : List ℕ) → StandsFor self.old p → self.old.ended ≡ None →
-            Delivers S.takes S.leaves (limits_of self.old) (p ++ piece.now)
+            Delivers S.takes S.leaves (rules_of self.old) (p ++ piece.now)
             (lines_of self.old) (lines_of self.new) sink.old sink.new self.new.ended }
     {
         if let Some(end) = self.ended {
@@ -107,19 +110,19 @@ impl Engine {
         ensures cause { self.old.ended ≡ None → result ≡ End.WriteFault →
             HasRisen (S.failures sink.old) (S.failures sink.new) }
 
-        ensures limits { limits_of self.new ≡ limits_of self.old }
+        ensures rules { rules_of self.new ≡ rules_of self.old }
         ensures stands { (p : List ℕ) → StandsFor self.old p → StandsFor self.new p }
         ensures rises { IsBelow (peaks_of self.old) (peaks_of self.new) }
         ensures untaken { self.new.taken ≡ self.old.taken }
 
         ensures answer { (p : List ℕ) → StandsFor self.old p → self.old.ended ≡ None →
-            Concludes (limits_of self.old) p (lines_of self.new) result }
+            Concludes (rules_of self.old) p (lines_of self.new) result }
         ensures exact { (p : List ℕ) → StandsFor self.old p → self.old.ended ≡ None →
             result ≡ End.Complete → peaks_of self.new ≡ exact_peaks (limits_of self.old) p }
         ensures memory { (p : List ℕ) → StandsFor self.old p → self.old.ended ≡ None → result ≡ End.Memory →
             (begun p ≢ []) × WantsTokens (lines_of self.old + 1) (begun p) }
         ensures sink { (p : List ℕ) → StandsFor self.old p → self.old.ended ≡ None →
-            Delivers S.takes S.leaves (limits_of self.old) p
+            Delivers S.takes S.leaves (rules_of self.old) p
             (lines_of self.old) (lines_of self.new) sink.old sink.new self.new.ended }
     {
         if let Some(end) = self.ended {

@@ -3,41 +3,50 @@ ghost use Rattle.std.specs.Prelude.{◌≡◌, ◌+◌, ◌^◌, ◌<◌, ◌≤
 ghost use Rattle.cj_stream.specs.Bound.{contents};
 ghost use Rattle.cj_stream.specs.Lines.{newline, NoLf, closed, first_of, first_content};
 ghost use Rattle.cj_stream.specs.Sink.{HasRisen};
-ghost use Rattle.cj_stream.specs.Verdict.{WantsTokens, verdict};
+ghost use Rattle.cj_stream.specs.Verdict.{WantsTokens, tree_verdict};
+ghost use Rattle.cj_stream.specs.Item.{tree_of};
 
 use crate::ending::End;
-use crate::judge::{Verdict, judge};
+use crate::judge::{Content, judge};
+use crate::query::Query;
 use crate::sink::LineSink;
 use cj_budget::{Bounded, ExtendFault, Limits, NoMemory, Peaks, Stack};
-use cj_spans::{Reason, Token};
+use cj_feature::{Header, HeaderParts, check_feature, check_header};
+use cj_spans::{Doc, Finding, Reason, Token};
 use memchr::memchr;
 use std::alloc::Global;
 
-/// The content of the first line with its tokens, and that of a later line that has begun.
+/// The content of the first line with its tokens and what is read of the header once, and that of a
+/// later line that has begun.
 ///
 /// Each line is put together in a list of the engine's own before it is judged, also where it
 /// stands whole in a piece, so that what is held does not depend on how the stream is cut. Beside
 /// these five lists nothing is held that takes memory.
 #[derive(Drop)]
-pub struct Framer {
+pub struct Framer<'q> {
     limits: Limits,
+    query: &'q Query,
     header: Bounded<u8>,
     line: Bounded<u8>,
     header_tokens: Bounded<Token>,
     line_tokens: Bounded<Token>,
     opened: Stack,
+    parts: Option<HeaderParts>,
     lines: u64,
     kept: u64,
 }
 
-impl Framer {
-    ghost use Rattle.cj_stream.specs.Reading.{reading, begun_of, IsSound, Stays, Stores, Passes, Settles, Reads, Advances, Stops, Finishes};
+impl<'q> Framer<'q> {
+    ghost use Rattle.cj_stream.specs.Judging.{Says, ShowsTree, KeepsFirst};
+    ghost use Rattle.cj_stream.specs.Query.{rules_for};
+    ghost use Rattle.cj_stream.specs.Reading.{reading, begun_of, held_header, next_verdict, next_item, IsSound, Stays, Stores, Passes, Deals, Settles, Reads, Advances, Stops, Finishes};
     ghost use Rattle.cj_stream.specs.Scanning.{scanning, HasRoom, Scanned, HoldsFew, Rises, JudgesLine, Forgets};
 
     /// A framer that has read nothing. It takes no memory.
-    pub fn new(alloc: Global, limits: Limits) -> Framer
+    pub fn new(alloc: Global, limits: Limits, query: &'q Query) -> Framer<'q>
         ensures sound { IsSound (reading result) }
-        ensures limits { result.limits ≡ limits }
+        ensures rules { (reading result).rules ≡ rules_for limits query.now }
+        ensures fresh { result.lines ≡ 0 }
         ensures empty { Reads (reading result) [] }
         ensures room { HasRoom limits (scanning result) }
         ensures scanned { Scanned limits [] (scanning result) }
@@ -47,11 +56,13 @@ impl Framer {
         let tokens = (limit + depth + 1) / 2; // each but the last has two bytes or an open container
         Framer {
             limits,
+            query,
             header: Bounded::new(alloc, limit),
             line: Bounded::new(alloc, limit),
             header_tokens: Bounded::new(alloc, tokens),
             line_tokens: Bounded::new(alloc, tokens),
             opened: Stack::new(alloc, depth),
+            parts: None,
             lines: 0,
             kept: 0,
         }
@@ -79,6 +90,7 @@ impl Framer {
             ⊎ ((e ≡ End.Refused (self.old.lines + 1) self.old.limits.line Reason.LineTooLong)
             × (self.old.limits.line < length (begun_of (reading self.old)) + length part.now))) }
         ensures lists { scanning self.new ≡ scanning self.old }
+        ensures parts { self.new.parts ≡ self.old.parts }
     {
         let stored = if self.lines == 0 {
             self.header.extend_from_slice(part)
@@ -102,6 +114,7 @@ impl Framer {
         requires room { self.old.lines < 2 ^ 62 }
         ensures passes { Passes put (reading self.old) (reading self.new) }
         ensures forgets { Forgets (scanning self.old) (scanning self.new) }
+        ensures parts { self.new.parts ≡ self.old.parts }
     {
         if put && self.lines > 0 {
             self.kept += 1;
@@ -112,14 +125,19 @@ impl Framer {
         self.opened.clear();
     }
 
-    // The verdict on the begun line.
-    fn judge(&mut self) -> Result<Verdict, NoMemory>
+    // What the begun line is as a text.
+    fn judge(&mut self) -> Result<Content, NoMemory>
         requires sound { IsSound (reading self.old) }
         requires room { self.old.lines < 2 ^ 62 }
         requires lists { HasRoom self.old.limits (scanning self.old) }
         requires short { length (begun_of (reading self.old)) ≤ self.old.limits.line }
         ensures reading { reading self.new ≡ reading self.old }
-        ensures verdict { IfOk result (λ v. v ≡ verdict self.old.limits (self.old.lines + 1) (begun_of (reading self.old))) }
+        ensures parts { self.new.parts ≡ self.old.parts }
+        ensures says { IfOk result (λ x. Says (self.old.lines + 1) (begun_of (reading self.old)) self.old.limits.depth x) }
+        ensures first { IfOk result (λ x. x ≡ Content.Sound → self.old.lines ≡ 0
+            → ShowsTree (begun_of (reading self.old)) self.old.limits.depth (scanning self.new).header.elements) }
+        ensures later { IfOk result (λ x. x ≡ Content.Sound → 0 < self.old.lines
+            → ShowsTree (begun_of (reading self.old)) self.old.limits.depth (scanning self.new).line.elements) }
         ensures lists { JudgesLine self.old.lines (begun_of (reading self.old)) (scanning self.old) (scanning self.new) result }
         ensures memory { OnErr result (WantsTokens (self.old.lines + 1) (begun_of (reading self.old))) }
     {
@@ -140,43 +158,120 @@ impl Framer {
         }
     }
 
+    // Judges the tree of the first line, and puts it to the sink if it is a valid header.
+    fn put_header<S: LineSink>(&mut self, lf: bool, sink: &mut S) -> Result<(), End>
+        requires sound { IsSound (reading self.old) }
+        requires first { self.old.lines ≡ 0 }
+        requires shows { ShowsTree (begun_of (reading self.old)) self.old.limits.depth (scanning self.old).header.elements }
+        ensures counts { S.failures sink.old ≤ S.failures sink.new }
+        ensures cause { IsErrOf result End.WriteFault → HasRisen (S.failures sink.old) (S.failures sink.new) }
+        ensures deals { Deals S.takes S.leaves (tree_verdict (reading self.old).rules (self.old.lines + 1) (held_header (reading self.old)) (tree_of self.old.limits.depth (begun_of (reading self.old))))
+            (next_item (reading self.old) (record { content = begun_of (reading self.old); lf = lf })) (reading self.old) sink.old result (reading self.new) sink.new }
+        ensures forgets { OnOk result (Forgets (scanning self.old) (scanning self.new)) }
+        ensures same { OnErr result (scanning self.new ≡ scanning self.old) }
+        ensures keeps { KeepsFirst (reading self.new) (scanning self.new) self.new.parts }
+    {
+        let doc = Doc::of(self.header.as_slice(), self.header_tokens.as_slice());
+        let header = match check_header(doc, self.query.wants_box()) {
+            Ok(header) => header,
+            Err(finding) => return Err(refused(1, finding)),
+        };
+        if sink.header(&header, lf).is_err() {
+            return Err(End::WriteFault);
+        }
+        let parts = header.parts();
+        self.parts = Some(parts);
+        self.pass(true);
+        Ok(())
+    }
+
+    // Judges the tree of a later line, and puts it to the sink if it is a valid feature.
+    fn put_feature<S: LineSink>(&mut self, lf: bool, sink: &mut S) -> Result<(), End>
+        requires sound { IsSound (reading self.old) }
+        requires room { self.old.lines < 2 ^ 62 }
+        requires later { 0 < self.old.lines }
+        requires shows { ShowsTree (begun_of (reading self.old)) self.old.limits.depth (scanning self.old).line.elements }
+        requires keeps { KeepsFirst (reading self.old) (scanning self.old) self.old.parts }
+        ensures counts { S.failures sink.old ≤ S.failures sink.new }
+        ensures cause { IsErrOf result End.WriteFault → HasRisen (S.failures sink.old) (S.failures sink.new) }
+        ensures deals { Deals S.takes S.leaves (tree_verdict (reading self.old).rules (self.old.lines + 1) (held_header (reading self.old)) (tree_of self.old.limits.depth (begun_of (reading self.old))))
+            (next_item (reading self.old) (record { content = begun_of (reading self.old); lf = lf })) (reading self.old) sink.old result (reading self.new) sink.new }
+        ensures forgets { OnOk result (Forgets (scanning self.old) (scanning self.new)) }
+        ensures same { OnErr result (scanning self.new ≡ scanning self.old) }
+        ensures parts { self.new.parts ≡ self.old.parts }
+    {
+        let Some(parts) = self.parts else {
+            unreachable!()
+        };
+        let first = Doc::of(self.header.as_slice(), self.header_tokens.as_slice());
+        let header = Header::of(first, parts);
+        let doc = Doc::of(self.line.as_slice(), self.line_tokens.as_slice());
+        let feature = match check_feature(doc, &header) {
+            Ok(feature) => feature,
+            Err(finding) => return Err(refused(self.lines + 1, finding)),
+        };
+        if sink.put(&feature, lf).is_err() {
+            return Err(End::WriteFault);
+        }
+        self.pass(true);
+        Ok(())
+    }
+
+    // Judges the tree of the begun line, and puts it to the sink if it is valid.
+    fn put<S: LineSink>(&mut self, lf: bool, sink: &mut S) -> Result<(), End>
+        requires sound { IsSound (reading self.old) }
+        requires room { self.old.lines < 2 ^ 62 }
+        requires first { self.old.lines ≡ 0 → ShowsTree (begun_of (reading self.old)) self.old.limits.depth (scanning self.old).header.elements }
+        requires later { 0 < self.old.lines → ShowsTree (begun_of (reading self.old)) self.old.limits.depth (scanning self.old).line.elements }
+        requires keeps { KeepsFirst (reading self.old) (scanning self.old) self.old.parts }
+        ensures counts { S.failures sink.old ≤ S.failures sink.new }
+        ensures cause { IsErrOf result End.WriteFault → HasRisen (S.failures sink.old) (S.failures sink.new) }
+        ensures deals { Deals S.takes S.leaves (tree_verdict (reading self.old).rules (self.old.lines + 1) (held_header (reading self.old)) (tree_of self.old.limits.depth (begun_of (reading self.old))))
+            (next_item (reading self.old) (record { content = begun_of (reading self.old); lf = lf })) (reading self.old) sink.old result (reading self.new) sink.new }
+        ensures forgets { OnOk result (Forgets (scanning self.old) (scanning self.new)) }
+        ensures same { OnErr result (scanning self.new ≡ scanning self.old) }
+        ensures keeps { KeepsFirst (reading self.new) (scanning self.new) self.new.parts }
+    {
+        if self.lines == 0 {
+            self.put_header(lf, sink)
+        } else {
+            self.put_feature(lf, sink)
+        }
+    }
+
     // Judges the begun line, and puts it to the sink if it is kept.
     fn deal<S: LineSink>(&mut self, lf: bool, sink: &mut S) -> Result<(), End>
         requires sound { IsSound (reading self.old) }
         requires room { self.old.lines < 2 ^ 62 }
         requires lists { HasRoom self.old.limits (scanning self.old) }
         requires short { length (begun_of (reading self.old)) ≤ self.old.limits.line }
+        requires keeps { KeepsFirst (reading self.old) (scanning self.old) self.old.parts }
         ensures counts { S.failures sink.old ≤ S.failures sink.new }
         ensures cause { IsErrOf result End.WriteFault → HasRisen (S.failures sink.old) (S.failures sink.new) }
-        ensures settles { Settles S.takes S.leaves (verdict self.old.limits (self.old.lines + 1) (begun_of (reading self.old)))
-            (record { content = begun_of (reading self.old); lf = lf }) (reading self.old) sink.old result (reading self.new) sink.new }
+        ensures settles { Settles S.takes S.leaves (next_verdict (reading self.old) (begun_of (reading self.old)))
+            (next_item (reading self.old) (record { content = begun_of (reading self.old); lf = lf })) (reading self.old) sink.old result (reading self.new) sink.new }
         ensures room { HasRoom self.old.limits (scanning self.new) }
         ensures rises { Rises (scanning self.old) (scanning self.new) }
         ensures scanned { OnOk result ((cs : List (List ℕ)) → length cs ≡ self.old.lines → Scanned self.old.limits cs (scanning self.old)
             → Scanned self.old.limits (cs ++ begun_of (reading self.old) ∷ []) (scanning self.new)) }
         ensures few { (cs : List (List ℕ)) → length cs ≡ self.old.lines → Scanned self.old.limits cs (scanning self.old)
             → HoldsFew self.old.limits (length (first_of cs (begun_of (reading self.old)))) (scanning self.new) }
+        ensures keeps { KeepsFirst (reading self.new) (scanning self.new) self.new.parts }
     {
-        let Ok(verdict) = self.judge() else {
+        let Ok(content) = self.judge() else {
             return Err(End::Memory);
         };
-        match verdict {
-            Verdict::Refuse { place, reason } => Err(End::Refused {
+        match content {
+            Content::Faulty { place, reason } => Err(End::Refused {
                 line: self.lines + 1,
                 place,
                 reason,
             }),
-            Verdict::Blank => {
+            Content::White => {
                 self.pass(false);
                 Ok(())
             }
-            Verdict::Valid => {
-                if sink.line(self.begun(), lf).is_err() {
-                    return Err(End::WriteFault);
-                }
-                self.pass(true);
-                Ok(())
-            }
+            Content::Sound => self.put(lf, sink),
         }
     }
 
@@ -185,9 +280,11 @@ impl Framer {
         requires sound { IsSound (reading self.old) }
         requires room { self.old.lines < 2 ^ 62 }
         requires lists { HasRoom self.old.limits (scanning self.old) }
+        requires keeps { KeepsFirst (reading self.old) (scanning self.old) self.old.parts }
         requires one { NoLf part.now }
         ensures stays { Stays (reading self.old) (reading self.new) }
         ensures few { self.new.lines ≤ self.old.lines + 1 }
+        ensures keeps { KeepsFirst (reading self.new) (scanning self.new) self.new.parts }
         ensures counts { S.failures sink.old ≤ S.failures sink.new }
         ensures cause { IsErrOf result End.WriteFault → HasRisen (S.failures sink.old) (S.failures sink.new) }
         ensures ok { OnOk result ((p : List ℕ) → Reads (reading self.old) p →
@@ -211,8 +308,10 @@ impl Framer {
         requires sound { IsSound (reading self.old) }
         requires room { self.old.lines + length piece.now < 2 ^ 62 }
         requires lists { HasRoom self.old.limits (scanning self.old) }
+        requires keeps { KeepsFirst (reading self.old) (scanning self.old) self.old.parts }
         ensures stays { Stays (reading self.old) (reading self.new) }
         ensures few { self.new.lines ≤ self.old.lines + length piece.now }
+        ensures keeps { KeepsFirst (reading self.new) (scanning self.new) self.new.parts }
         ensures counts { S.failures sink.old ≤ S.failures sink.new }
         ensures cause { IsErrOf result End.WriteFault → HasRisen (S.failures sink.old) (S.failures sink.new) }
         ensures ok { OnOk result ((p : List ℕ) → Reads (reading self.old) p →
@@ -240,8 +339,10 @@ impl Framer {
         requires sound { IsSound (reading self.old) }
         requires room { self.old.lines < 2 ^ 62 }
         requires lists { HasRoom self.old.limits (scanning self.old) }
+        requires keeps { KeepsFirst (reading self.old) (scanning self.old) self.old.parts }
         ensures stays { Stays (reading self.old) (reading self.new) }
         ensures few { self.new.lines ≤ self.old.lines + 1 }
+        ensures keeps { KeepsFirst (reading self.new) (scanning self.new) self.new.parts }
         ensures counts { S.failures sink.old ≤ S.failures sink.new }
         ensures cause { IsErrOf result End.WriteFault → HasRisen (S.failures sink.old) (S.failures sink.new) }
         ensures finishes { (p : List ℕ) → Reads (reading self.old) p →
@@ -308,5 +409,16 @@ impl Framer {
             tokens: self.header_tokens.peak() as u64 + self.line_tokens.peak() as u64,
             depth: self.opened.peak() as u64,
         }
+    }
+}
+
+// The end that a finding on a line makes.
+fn refused(line: u64, finding: Finding) -> End
+    ensures { result ≡ End.Refused line finding.place finding.reason }
+{
+    End::Refused {
+        line,
+        place: finding.place,
+        reason: finding.reason,
     }
 }

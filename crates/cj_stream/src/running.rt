@@ -3,12 +3,14 @@ ghost use Rattle.std.specs.Prelude.{◌≡◌, ◌↔◌, ℕ, List, [], None, l
 ghost use Rattle.std.specs.Io.{ReadsAtMost};
 ghost use Rattle.std.specs.Io.KnownBytes.{Consumes, IsAtEnd, ReadConsumes};
 ghost use Rattle.cj_stream.specs.Sink.{HasRisen};
-ghost use Rattle.cj_stream.specs.Engine.{StandsFor, limits_of, lines_of, peaks_of};
+ghost use Rattle.cj_stream.specs.Engine.{StandsFor, rules_of, lines_of, peaks_of};
+ghost use Rattle.cj_stream.specs.Query.{rules_for};
 ghost use Rattle.cj_stream.specs.Run.{Runs};
 ghost use Rattle.cj_stream.specs.Device.{given_by};
 
 use crate::ending::End;
 use crate::engine::Engine;
+use crate::query::Query;
 use crate::sink::LineSink;
 use cj_budget::{Limits, NoMemory, Peaks};
 use std::alloc::Global;
@@ -98,9 +100,9 @@ fn drive<R: Read, S: LineSink>(
     requires start { engine.old.taken ≡ 0 }
     requires open { engine.old.ended ≡ None }
     requires stands { StandsFor engine.old [] }
-    ensures limits { limits_of engine.new ≡ limits_of engine.old }
+    ensures rules { rules_of engine.new ≡ rules_of engine.old }
     ensures runs { (r : List ℕ) × Consumes (R.remaining reader.old) (R.remaining reader.new) r
-        × Runs S.takes S.leaves (limits_of engine.old) r (IsAtEnd (R.remaining reader.new)) sink.old sink.new
+        × Runs S.takes S.leaves (rules_of engine.old) r (IsAtEnd (R.remaining reader.new)) sink.old sink.new
         (lines_of engine.new) engine.new.reading.kept (peaks_of engine.new) result }
     ensures cause { result ≡ End.WriteFault → HasRisen (S.failures sink.old) (S.failures sink.new) }
     ensures failed { IsTrue failed.new ↔ (result ≡ End.ReadFault) }
@@ -125,13 +127,14 @@ pub fn run<R: Read, S: LineSink>(
     reader: &mut R,
     sink: &mut S,
     limits: Limits,
+    query: &Query,
 ) -> Outcome
     ensures runs { (r : List ℕ) × Consumes (R.remaining reader.old) (R.remaining reader.new) r
-        × Runs S.takes S.leaves limits r (IsAtEnd (R.remaining reader.new)) sink.old sink.new
+        × Runs S.takes S.leaves (rules_for limits query.now) r (IsAtEnd (R.remaining reader.new)) sink.old sink.new
         result.lines result.kept result.peaks result.ended }
     ensures cause { result.ended ≡ End.WriteFault → HasRisen (S.failures sink.old) (S.failures sink.new) }
 {
-    let mut engine = match Engine::open(alloc, limits) {
+    let mut engine = match Engine::open(alloc, limits, query) {
         Ok(engine) => engine,
         Err(NoMemory) => return Outcome::refused(),
     };

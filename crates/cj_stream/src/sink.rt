@@ -2,9 +2,11 @@
 ghost use Rattle.std.specs.Prelude.{◌≡◌, ◌≤◌, ℕ, OnOk, OnErr};
 ghost use Rattle.std.specs.List.{flat_map};
 ghost use Rattle.std.specs.Io.KnownBytes.{Appends};
-ghost use Rattle.cj_stream.specs.Lines.{Line, raw};
+ghost use Rattle.cj_stream.specs.Item.{Item, raw_item, header_item, feature_item};
+ghost use Rattle.cj_stream.specs.Lines.{raw};
 ghost use Rattle.cj_stream.specs.Sink.{HasRisen, AppendsPart, counted};
 
+use cj_feature::{Feature, Header};
 use std::io::Write;
 use thiserror::Error;
 
@@ -13,23 +15,30 @@ use thiserror::Error;
 #[error("a line could not be written")]
 pub struct WriteFault;
 
-/// What takes lines, one after another.
+/// What takes a header and then features, one after another.
 ///
 /// A law: a fault is answered only where the count of device failures rose in that call.
 pub trait LineSink {
-    /// What one whole line makes of the sink.
-    ghost takes: { Self → Line → Self → Type 0 };
+    /// What one whole item makes of the sink.
+    ghost takes: { Self → Item → Self → Type 0 };
 
     /// What a fault may leave of it.
-    ghost leaves: { Self → Line → Self → Type 0 };
+    ghost leaves: { Self → Item → Self → Type 0 };
 
     /// How often its device has failed.
     ghost failures: { Self → ℕ };
 
-    /// Takes a line: its content, and whether LF ended it.
-    fn line(&mut self, content: &[u8], lf: bool) -> Result<(), WriteFault>
-        ensures ok { OnOk result (takes self.old (record { content = content.now; lf = lf }) self.new) }
-        ensures fault { OnErr result (leaves self.old (record { content = content.now; lf = lf }) self.new) }
+    /// Takes the header, and whether LF ended its line.
+    fn header(&mut self, header: &Header<'_>, lf: bool) -> Result<(), WriteFault>
+        ensures ok { OnOk result (takes self.old (header_item header.now lf) self.new) }
+        ensures fault { OnErr result (leaves self.old (header_item header.now lf) self.new) }
+        ensures cause { OnErr result (HasRisen (failures self.old) (failures self.new)) }
+        ensures counts { failures self.old ≤ failures self.new };
+
+    /// Takes a feature, and whether LF ended its line.
+    fn put(&mut self, feature: &Feature<'_>, lf: bool) -> Result<(), WriteFault>
+        ensures ok { OnOk result (takes self.old (feature_item feature.now lf) self.new) }
+        ensures fault { OnErr result (leaves self.old (feature_item feature.now lf) self.new) }
         ensures cause { OnErr result (HasRisen (failures self.old) (failures self.new)) }
         ensures counts { failures self.old ≤ failures self.new };
 }
@@ -53,6 +62,21 @@ impl<W: Write + Drop> WriteSink<W> {
             writer,
             failures: 0,
         }
+    }
+
+    // Writes a line as it came, and counts a failure.
+    fn write(&mut self, content: &[u8], lf: bool) -> Result<(), WriteFault>
+        ensures ok { OnOk result (Appends (W.contents (writer_of self.old)) (W.contents (writer_of self.new))
+            (raw (record { content = content.now; lf = lf }))) }
+        ensures fault { OnErr result (AppendsPart (W.contents (writer_of self.old)) (W.contents (writer_of self.new))
+            (raw (record { content = content.now; lf = lf }))) }
+        ensures cause { OnErr result (HasRisen (failures_of self.old) (failures_of self.new)) }
+        ensures counts { failures_of self.old ≤ failures_of self.new }
+        ensures counted { failures_of self.new ≡ counted (failures_of self.old) result }
+    {
+        let answer = write_line(&mut self.writer, content, lf);
+        self.failures = count_failure(self.failures, answer);
+        answer
     }
 
     /// The writer, as it is now.
@@ -111,23 +135,29 @@ pub fn write_line<W: Write>(writer: &mut W, content: &[u8], lf: bool) -> Result<
 impl<W: Write + Drop> LineSink for WriteSink<W> {
     ghost use Rattle.cj_stream.specs.WriteSink.{writer_of, failures_of};
 
-    ghost takes = { λ a l b. Appends (W.contents (writer_of a)) (W.contents (writer_of b)) (raw l) };
+    ghost takes = { λ a i b. Appends (W.contents (writer_of a)) (W.contents (writer_of b)) (raw_item i) };
 
-    ghost leaves = { λ a l b. AppendsPart (W.contents (writer_of a)) (W.contents (writer_of b)) (raw l) };
+    ghost leaves = { λ a i b. AppendsPart (W.contents (writer_of a)) (W.contents (writer_of b)) (raw_item i) };
 
     ghost failures = { failures_of };
 
-    fn line(&mut self, content: &[u8], lf: bool) -> Result<(), WriteFault>
-        ensures ok { OnOk result (Appends (W.contents (writer_of self.old)) (W.contents (writer_of self.new))
-            (raw (record { content = content.now; lf = lf }))) }
-        ensures fault { OnErr result (AppendsPart (W.contents (writer_of self.old)) (W.contents (writer_of self.new))
-            (raw (record { content = content.now; lf = lf }))) }
+    fn header(&mut self, header: &Header<'_>, lf: bool) -> Result<(), WriteFault>
+        ensures ok { OnOk result (Appends (W.contents (writer_of self.old)) (W.contents (writer_of self.new)) (raw_item (header_item header.now lf))) }
+        ensures fault { OnErr result (AppendsPart (W.contents (writer_of self.old)) (W.contents (writer_of self.new)) (raw_item (header_item header.now lf))) }
         ensures cause { OnErr result (HasRisen (failures_of self.old) (failures_of self.new)) }
         ensures counts { failures_of self.old ≤ failures_of self.new }
         ensures counted { failures_of self.new ≡ counted (failures_of self.old) result }
     {
-        let answer = write_line(&mut self.writer, content, lf);
-        self.failures = count_failure(self.failures, answer);
-        answer
+        self.write(header.bytes(), lf)
+    }
+
+    fn put(&mut self, feature: &Feature<'_>, lf: bool) -> Result<(), WriteFault>
+        ensures ok { OnOk result (Appends (W.contents (writer_of self.old)) (W.contents (writer_of self.new)) (raw_item (feature_item feature.now lf))) }
+        ensures fault { OnErr result (AppendsPart (W.contents (writer_of self.old)) (W.contents (writer_of self.new)) (raw_item (feature_item feature.now lf))) }
+        ensures cause { OnErr result (HasRisen (failures_of self.old) (failures_of self.new)) }
+        ensures counts { failures_of self.old ≤ failures_of self.new }
+        ensures counted { failures_of self.new ≡ counted (failures_of self.old) result }
+    {
+        self.write(feature.bytes(), lf)
     }
 }

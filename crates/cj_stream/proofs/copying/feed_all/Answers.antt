@@ -1,6 +1,6 @@
 use Rattle.std.proofs.Common.{[], ◌≡◌, ◌+◌, ◌++◌, ◌∙◌, length, take, map, get_or, refl, sym, arith}
 use Rattle.std.proofs.lemmas.List.{length-map}
-use Rattle.cj_stream.specs.Engine.{limits_of, lines_of}
+use Rattle.cj_stream.specs.Engine.{rules_of, lines_of}
 use Rattle.cj_stream.specs.Cut.{joined}
 use Rattle.cj_stream.proofs.JoinedLemmas.{joined-more, joined-short, joined-all}
 use Rattle.cj_stream.proofs.CutLemmas.{unread-told, unread-concludes, TookWhole-left}
@@ -22,9 +22,9 @@ returns-in-Err-clause-runs g c =
     let stands = c.feed.ensures.stands r i.2 in
     rw more (record {
       account = record {
-        bounded = let x = stands.bounded in rw (i.0, c.feed.ensures.limits, i.1) at x;
-        exact = λ h. absurd (told-not_complete (limits_of c.loop-taken.engine) (r ++ piece.now) (lines_of c.feed.new.self) c.in-Err.ended (c.in-Err.ensures.told r i.2 i.0) h);
-        counts = let x = stands.counts in rw (i.0, c.feed.ensures.limits, i.1) at x;
+        bounded = let x = stands.bounded in rw (i.0, c.feed.ensures.rules, i.1) at x;
+        exact = λ h. absurd (told-not_complete (rules_of c.loop-taken.engine) (r ++ piece.now) (lines_of c.feed.new.self) c.in-Err.ended (c.in-Err.ensures.told r i.2 i.0) h);
+        counts = let x = stands.counts in rw (i.0, c.feed.ensures.rules, i.1) at x;
         ends = Ends-fed _ (r ++ piece.now) _ _ c.in-Err.ended (let x = c.in-Err.ensures.told r i.2 i.0 in rw i.1 at x);
       };
       sink =
@@ -42,14 +42,14 @@ returns-in-Err-clause-taken g c =
     let more = joined-more (λ piece. piece.now) c.args.pieces.now k (record { ref_ptr = (0, 0); now = [] }) (omega arith) in
     let x = c.feed.ensures.sink r i.2 i.0 in
     let y = rw (i.1, c.in-Err.ensures.ended) at x in
-    TookWhole-left g.S.LineSink.takes g.S.LineSink.leaves c.loop-taken.engine (limits_of c.args.engine.now) (map (λ piece. piece.now) c.args.pieces.now) k (lines_of c.feed.new.self) c.args.sink.now c.loop-taken.sink c.feed.new.sink c.in-Err.ended i.1 (i.2.going i.0).0 i.3 (rw more y)
+    TookWhole-left g.S.LineSink.takes g.S.LineSink.leaves c.loop-taken.engine (rules_of c.args.engine.now) (map (λ piece. piece.now) c.args.pieces.now) k (lines_of c.feed.new.self) c.args.sink.now c.loop-taken.sink c.feed.new.sink c.in-Err.ended i.1 (i.2.going i.0).0 i.3 (rw more y)
 
 pub returns-in-Err-clause-unread : goal.returns-in-Err-clause-unread
 returns-in-Err-clause-unread g c =
     let i = c.loop-taken.invariant in
     let r = joined (take c.loop-taken.taken (map (λ piece. piece.now) c.args.pieces.now)) in
     let piece = get_or c.args.pieces.now c.loop-taken.taken (record { ref_ptr = (0, 0); now = [] }) in
-    unread-told (limits_of c.loop-taken.engine) (r ++ piece.now) (lines_of c.feed.new.self) c.in-Err.ended (c.in-Err.ensures.told r i.2 i.0)
+    unread-told (rules_of c.loop-taken.engine) (r ++ piece.now) (lines_of c.feed.new.self) c.in-Err.ended (c.in-Err.ensures.told r i.2 i.0)
 
 pub loop-taken-preserved : goal.loop-taken-preserved
 loop-taken-preserved g c =
@@ -59,7 +59,7 @@ loop-taken-preserved g c =
     let r = joined (take k (map (λ piece. piece.now) c.args.pieces.now)) in
     let more = joined-more (λ piece. piece.now) c.args.pieces.now k (record { ref_ptr = (0, 0); now = [] }) (omega arith) in (
       c.in_default.ensures.open,
-      c.feed.ensures.limits ∙ i.1,
+      c.feed.ensures.rules ∙ i.1,
       let x = c.feed.ensures.stands r i.2 in rw more (rw i.0 at x),
       let x = c.feed.ensures.sink r i.2 i.0 in
           let y = rw (i.1, c.in_default.ensures.open) at x in
@@ -78,9 +78,9 @@ returns-clause-runs g c =
     let stands = c.finish.ensures.stands r i.2 in
     rw same (record {
       account = record {
-        bounded = let x = stands.bounded in rw (c.finish.ensures.limits, i.1) at x;
+        bounded = let x = stands.bounded in rw (c.finish.ensures.rules, i.1) at x;
         exact = λ h. let x = c.finish.ensures.exact r i.2 i.0 h in rw i.1 at x;
-        counts = let x = stands.counts in rw (c.finish.ensures.limits, i.1) at x;
+        counts = let x = stands.counts in rw (c.finish.ensures.rules, i.1) at x;
         ends = Ends-finished _ r _ _ c.finish.result all (let x = c.finish.ensures.answer r i.2 i.0 in rw i.1 at x);
       };
       sink =
@@ -102,10 +102,10 @@ returns-clause-taken g c =
     let taken : joined (take (length c.args.pieces.now) (map (λ piece. piece.now) c.args.pieces.now)) ≡ joined (take k (map (λ piece. piece.now) c.args.pieces.now)) = whole ∙ sym all in
     let x = c.finish.ensures.sink r i.2 i.0 in
     let y = rw (i.1, c.finish.ensures.ended) at x in
-    TookWhole-left g.S.LineSink.takes g.S.LineSink.leaves c.loop-taken.engine (limits_of c.args.engine.now) (map (λ piece. piece.now) c.args.pieces.now) (length c.args.pieces.now) (lines_of c.finish.new.self) c.args.sink.now c.loop-taken.sink c.finish.new.sink c.finish.result i.1 (rw taken (i.2.going i.0).0) (rw taken i.3) (rw same y)
+    TookWhole-left g.S.LineSink.takes g.S.LineSink.leaves c.loop-taken.engine (rules_of c.args.engine.now) (map (λ piece. piece.now) c.args.pieces.now) (length c.args.pieces.now) (lines_of c.finish.new.self) c.args.sink.now c.loop-taken.sink c.finish.new.sink c.finish.result i.1 (rw taken (i.2.going i.0).0) (rw taken i.3) (rw same y)
 
 pub returns-clause-unread : goal.returns-clause-unread
 returns-clause-unread g c =
     let i = c.loop-taken.invariant in
     let r = joined (take c.loop-taken.taken (map (λ piece. piece.now) c.args.pieces.now)) in
-    unread-concludes (limits_of c.loop-taken.engine) r (lines_of c.finish.new.self) c.finish.result (c.finish.ensures.answer r i.2 i.0)
+    unread-concludes (rules_of c.loop-taken.engine) r (lines_of c.finish.new.self) c.finish.result (c.finish.ensures.answer r i.2 i.0)

@@ -1,7 +1,7 @@
 use Rattle.std.proofs.Common.{◌++◌, ◌∙◌, length-take, take, refl, ap, arith, Err}
 use Rattle.std.proofs.lemmas.List.{append-nil}
 use Rattle.cj_stream.specs.declared.ending.End.TheVariants.{ReadFault, ReadLimit}
-use Rattle.cj_stream.specs.Engine.{limits_of, lines_of}
+use Rattle.cj_stream.specs.Engine.{rules_of, lines_of}
 use Rattle.cj_stream.proofs.RunLemmas.{Consumes-then, Consumes-kept, Delivers-then, Runs-left, kept_first-same, Ends-finished, Ends-fed, whole-good, HasRisen-after, told-not_complete, fault-not_complete, limit-not_complete}
 use Rattle.std.specs.Prelude.{is_err}
 use Rattle.cj_stream.proofs.CutLemmas.{unread-told, unread-concludes}
@@ -27,9 +27,9 @@ returns-in-Ok-eq0-clause-runs g c =
       let k = Consumes-then _ _ _ r (take c.in-Ok-eq0.field-0 c.read_once.new.buffer) i.5.1 c.in-Ok-eq0.ensures.bytes.0 in rw (c.in-Ok-eq0.field-0-test, append-nil r) at k,
       record {
         account = record {
-          bounded = let k = stands.bounded in rw (c.finish.ensures.limits, i.3) at k;
+          bounded = let k = stands.bounded in rw (c.finish.ensures.rules, i.3) at k;
           exact = λ h. let k = c.finish.ensures.exact r i.5.2 i.2 h in rw i.3 at k;
-          counts = let k = stands.counts in rw (c.finish.ensures.limits, i.3) at k;
+          counts = let k = stands.counts in rw (c.finish.ensures.rules, i.3) at k;
           ends = Ends-finished _ r _ _ c.finish.result (c.in-Ok-eq0.ensures.bytes.1 c.in-Ok-eq0.field-0-test (omega (arith, c.read_once.auto.buffer, i.0))) (let k = c.finish.ensures.answer r i.5.2 i.2 in rw i.3 at k);
         };
         sink =
@@ -53,9 +53,9 @@ returns-in-Err-feed-clause-runs g c =
       Consumes-then _ _ _ r piece i.5.1 c.in-Ok.ensures.bytes.0,
       record {
         account = record {
-          bounded = let k = stands.bounded in rw (i.2, c.feed.ensures.limits, i.3) at k;
-          exact = λ h. absurd (told-not_complete (limits_of e) (r ++ piece) (lines_of c.feed.new.self) c.in-Err-feed.end (c.in-Err-feed.ensures.told r i.5.2 i.2) h);
-          counts = let k = stands.counts in rw (i.2, c.feed.ensures.limits, i.3) at k;
+          bounded = let k = stands.bounded in rw (i.2, c.feed.ensures.rules, i.3) at k;
+          exact = λ h. absurd (told-not_complete (rules_of e) (r ++ piece) (lines_of c.feed.new.self) c.in-Err-feed.end (c.in-Err-feed.ensures.told r i.5.2 i.2) h);
+          counts = let k = stands.counts in rw (i.2, c.feed.ensures.rules, i.3) at k;
           ends = Ends-fed _ (r ++ piece) _ _ c.in-Err-feed.end (let k = c.in-Err-feed.ensures.told r i.5.2 i.2 in rw i.3 at k);
         };
         sink =
@@ -77,7 +77,7 @@ loop-i-preserved g c =
       c.read_once.auto.buffer ∙ i.0,
       omega (arith, c.in_default.ensures.taken, length-take c.in-Ok.n c.read_once.new.buffer, c.read_once.auto.buffer, i.0, i.1),
       c.in_default.ensures.open,
-      c.feed.ensures.limits ∙ i.3,
+      c.feed.ensures.rules ∙ i.3,
       omega (arith, i.4, c.feed.ensures.counts),
       (
         r ++ piece,

@@ -1,4 +1,4 @@
-use Rattle.std.proofs.Common.{◌∷◌, [], ◌++◌, ◌+◌, take, drop, refl, arith}
+use Rattle.std.proofs.Common.{◌∷◌, [], ◌++◌, ◌+◌, take, drop, refl, ap, arith}
 use Rattle.std.proofs.lemmas.Result.{err_from_is_err_and}
 use Rattle.std.proofs.lemmas.List.{append-nil}
 use Rattle.cj_stream.specs.Lines.{closed}
@@ -42,11 +42,11 @@ loop-at-preserved g c =
         λ q reads s.
             let a = i.2 q reads in
             let limits = c.args.self.now.limits in
-            let same = c.loop-at.invariant.0.limits in
+            let same = ap (λ x. x.limits) c.loop-at.invariant.0.rules in
             scanned-then limits c.loop-at.self.limits q i.0 (take k rest ++ 10 ∷ []) (scanning c.take_line.new.self) same
             (c.in_ok-take_line.ensures.scanned (q ++ i.0) a.reads (scanned-under limits c.loop-at.self.limits (closed (q ++ i.0)) (scanning c.loop-at.self) same (i.3 q reads s))),
       ),
-      rw (← c.loop-at.invariant.0.limits) c.take_line.ensures.room,
+      rw (← ap (λ x. x.limits) c.loop-at.invariant.0.rules) c.take_line.ensures.room,
       Rises-then _ _ _ c.loop-at.invariant.5 c.take_line.ensures.rises,
     )
 
@@ -91,7 +91,7 @@ returns-in_err-take_line-clause-held g c =
     let a = i.2 q reads in
     let rest = c.loop-at.rest.now in
     let limits = c.args.self.now.limits in
-    let same = c.loop-at.invariant.0.limits in
+    let same = ap (λ x. x.limits) c.loop-at.invariant.0.rules in
     let held = c.in_err-take_line.ensures.held (q ++ i.0) (drop (c.in-Some.at + 1) rest) a.reads (scanned-under limits c.loop-at.self.limits (closed (q ++ i.0)) (scanning c.loop-at.self) same (i.3 q reads s)) in
     rw i.1 (few-then limits c.loop-at.self.limits q i.0 rest (scanning c.take_line.new.self) same (rw (lf_found rest c.in-Some.at c.in-Some.ensures) held)))
 

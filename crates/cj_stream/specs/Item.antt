@@ -1,0 +1,44 @@
+-- What is put to a sink: a header, or a feature beside its header.
+use Rattle.std.specs.Prelude.{ℕ, List, Bool, ◌==◌, if◌then◌else◌, Option, Some, None, is_some}
+use Rattle.cj_spans.specs.Tree.{Tree, no_items, array}
+use Rattle.cj_spans.specs.Judgement.{Judgement, spelled, broken, sunk}
+use Rattle.cj_spans.proofs.Judgements.{judgement}
+use Rattle.cj_feature.specs.declared.header.Header.{Header}
+use Rattle.cj_feature.specs.declared.feature.Feature.{Feature}
+use Rattle.cj_feature.specs.HeaderView.{header_tree, header_line}
+use Rattle.cj_feature.specs.View.{feature_tree, feature_line, feature_header}
+use Rattle.cj_stream.specs.Lines.{Line, raw}
+
+-- a line, the tree that it spells, and, if it is a feature, the tree of its header
+pub record Item : Type 0 where
+  pub line : Line
+  pub tree : Tree
+  pub header : Option Tree
+
+-- the bytes of an item are those of its line
+abbrev pub raw_item : Item → List ℕ
+raw_item i = raw i.line
+
+-- an item is a feature, or else the header
+abbrev pub is_feature : Item → Bool
+is_feature i = is_some i.header
+
+-- the item that a header is, and the one that a feature is, with or without LF
+abbrev pub header_item : Header → Bool → Item
+header_item h lf = record { line = record { content = header_line h; lf = lf }; tree = header_tree h; header = None }
+
+abbrev pub feature_item : Feature → Bool → Item
+feature_item f lf = record { line = record { content = feature_line f; lf = lf }; tree = feature_tree f; header = Some (feature_header f) }
+
+-- the tree that a content spells under a depth limit, by its one judgement, or an empty array where it spells none
+abbrev pub judged_tree : {c : List ℕ} {depth : ℕ} → Judgement c depth → Tree
+judged_tree (spelled tree json shallow) = tree
+judged_tree (broken place syntax shallow) = array 0 0 no_items
+judged_tree (sunk place deep) = array 0 0 no_items
+
+abbrev pub tree_of : ℕ → List ℕ → Tree
+tree_of depth c = judged_tree (judgement c depth)
+
+-- the item that a line is under a depth limit, by its number and the tree of the header
+abbrev pub item_at : ℕ → ℕ → Tree → Line → Item
+item_at depth number header l = record { line = l; tree = tree_of depth l.content; header = if number == 1 then None else Some header }

@@ -1,0 +1,40 @@
+-- What is told of a line as a text, and what its tokens show.
+use Rattle.std.specs.Prelude.{◌≡◌, ℕ, ◌+◌, ◌<◌, ◌≤◌, List, length, Option, Some}
+use Rattle.cj_spans.specs.declared.token.Token.{Token}
+use Rattle.cj_spans.specs.Tree.{Tree}
+use Rattle.cj_spans.specs.Json.{Json}
+use Rattle.cj_spans.specs.Sound.{AreOf}
+use Rattle.cj_feature.specs.declared.header.parts.HeaderParts.{HeaderParts}
+use Rattle.cj_feature.specs.Shown.{ArePartsOf}
+use Rattle.cj_stream.specs.declared.judge.Content.{Content}
+use Rattle.cj_stream.specs.declared.judge.Content.TheVariants.{Faulty, White, Sound}
+use Rattle.cj_stream.specs.Item.{tree_of}
+use Rattle.cj_stream.specs.Reading.{Reading}
+use Rattle.cj_stream.specs.Scanning.{Scanning}
+use Rattle.cj_stream.specs.Verdict.{Rules, Verdict, Refuse, Blank, verdict_at, tree_verdict}
+
+-- what a content is says this of its verdict
+abbrev pub Decides : Rules → ℕ → Tree → List ℕ → Content → Type 0
+Decides rules number header c (Faulty place reason) = verdict_at rules number header c ≡ Refuse place reason
+Decides rules number header c White = verdict_at rules number header c ≡ Blank
+Decides rules number header c Sound = verdict_at rules number header c ≡ tree_verdict rules number header (tree_of rules.limits.depth c)
+
+-- and it says so under any rules with this depth limit, whatever the header
+abbrev pub Says : ℕ → List ℕ → ℕ → Content → Type 0
+Says number c depth x = (rules : Rules) (header : Tree) → length c ≤ rules.limits.line → rules.limits.depth ≡ depth → Decides rules number header c x
+
+-- the tokens are those of the content, which spells its tree
+pub record ShowsTree (c : List ℕ) (depth : ℕ) (tokens : List Token) : Type 0 where
+  pub tokens_of : AreOf c tokens
+  pub json : Json c (tree_of depth c)
+
+-- what is kept of the header: its tokens, and its parts
+pub record KeepsHeader (c : List ℕ) (depth : ℕ) (tokens : List Token) (parts : Option HeaderParts) : Type 0 where
+  pub shows : ShowsTree c depth tokens
+  pub known : HeaderParts
+  pub kept : parts ≡ Some known
+  pub parts_of : ArePartsOf (tree_of depth c) known
+
+-- once the first line was dealt with, the header is kept
+abbrev pub KeepsFirst : Reading → Scanning → Option HeaderParts → Type 0
+KeepsFirst f s parts = 0 < f.lines → KeepsHeader f.header.elements f.rules.limits.depth s.header.elements parts
