@@ -24,6 +24,7 @@ pub mod laws;
 mod lent;
 mod running;
 mod sink;
+mod source;
 
 pub use copying::{Copied, copy, copy_out, copy_pieces};
 pub use ending::End;
