@@ -1,6 +1,7 @@
 #!/usr/bin/env python3
-"""Runs programs on the same inputs and prints MB/s, the ratio to the twin's time, and the greatest
-resident memory: measure.py PROGRAM TWIN NARROW_TWIN INPUT.."""
+"""Runs programs on the same inputs and prints MB/s, the ratios to the times of the two twins, and the greatest
+resident memory: measure.py PROGRAM TWIN NARROW_TWIN TYPED_TWIN INPUT.., with an empty word for a twin that is not
+there."""
 import os
 import subprocess
 import sys
@@ -30,14 +31,21 @@ def resident_of(words, path):
     return ran.stderr.split()[-1].decode()
 
 
+def ratio(best, name, peer):
+    """The time of one program to that of another, where that was measured."""
+    return f"{best[name] / best[peer]:.2f}" if peer in best else "-"
+
+
 def main():
-    program, twin, narrow, *paths = sys.argv[1:]
+    program, twin, narrow, typed, *paths = sys.argv[1:]
     programs = {"cityseq filter": [program, "filter"], "cat": ["cat"], "wc -l": ["wc", "-l"]}
     if twin:
         programs["Rust twin"] = [twin]
         programs["twin, SSE alone"] = [narrow]
         programs["twin, no JSON"] = [twin, "copy"]
-    print(f"{'input':<16}{'program':<18}{'MB/s':>8}{'of the twin':>13}{'resident KB':>13}")
+    if typed:
+        programs["typed twin"] = [typed]
+    print(f"{'input':<16}{'program':<18}{'MB/s':>8}{'of the twin':>13}{'of typed twin':>15}{'resident KB':>13}")
     for path in paths:
         size = os.path.getsize(path) / 1e6
         best = dict.fromkeys(programs, 1e9)
@@ -45,9 +53,9 @@ def main():
             for name, words in programs.items():
                 best[name] = min(best[name], seconds_of(words, path))
         for name, seconds in best.items():
-            ratio = f"{seconds / best['Rust twin']:.2f}" if twin else "-"
+            ratios = f"{ratio(best, name, 'Rust twin'):>13}{ratio(best, name, 'typed twin'):>15}"
             resident = resident_of(programs[name], path)
-            print(f"{os.path.basename(path):<16}{name:<18}{size / seconds:>8.0f}{ratio:>13}{resident:>13}")
+            print(f"{os.path.basename(path):<16}{name:<18}{size / seconds:>8.0f}{ratios}{resident:>13}")
 
 
 if __name__ == "__main__":

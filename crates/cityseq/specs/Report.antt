@@ -1,5 +1,5 @@
 -- What the program says of an end.
-use Rattle.std.specs.Prelude.{◌≡◌, ℕ, List, [], ◌∷◌, Option, Result, Ok, Err, OnOk, OnErr, codes, decimal}
+use Rattle.std.specs.Prelude.{◌≡◌, ℕ, List, [], ◌∷◌, Option, Some, Result, Ok, Err, OnOk, OnErr, codes, decimal}
 use Rattle.std.specs.Io.KnownBytes.{Appends}
 use Rattle.cj_stream.specs.Cut.{joined}
 use Rattle.cj_stream.specs.Sink.{AppendsPart}
@@ -28,20 +28,16 @@ fault_line ReadLimit = codes "read limit\n"
 fault_line WriteFault = codes "write fault\n"
 fault_line Memory = codes "out of memory\n"
 
--- whether a flush failed, whatever the error
-abbrev pub flushed_by : {E : Type 0} → Result (Unit {0}) E → Result (Unit {0}) Unwritten
-flushed_by (Ok x) = Ok x
-flushed_by (Err e) = Err (record {})
-
 -- the end that is shown of a run that ended so: a write fault where the flush after it failed
 abbrev pub shown_end : Result (Unit {0}) Unwritten → End → End
 shown_end (Ok x) e = e
 shown_end (Err f) e = WriteFault
 
--- a run ended so, and this is shown of it: its end, or a write fault where the flush after it failed; and the line of
--- that end, of which standard error has taken all, or a front where it failed
-pub record Reports (e : End) (shown : Shown) (old new : Option (List ℕ)) : Type 0 where
+-- a run ended so, its output noted this of the flush after it, and this is shown: the run's end, or a write fault where
+-- that flush failed; and the line of that end, of which standard error has taken all, or a front where it failed
+pub record Reports (e : End) (noted : Option (Result (Unit {0}) Unwritten)) (shown : Shown) (old new : Option (List ℕ)) : Type 0 where
   pub flushed : Result (Unit {0}) Unwritten
+  pub told : noted ≡ Some flushed
   pub end : shown.end ≡ shown_end flushed e
   pub whole : OnOk shown.line (Appends old new (fault_line shown.end))
   pub front : OnErr shown.line (AppendsPart old new (fault_line shown.end))

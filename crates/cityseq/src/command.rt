@@ -6,9 +6,11 @@ ghost use Rattle.cj_budget.specs.declared.limits.Peaks.{Peaks};
 ghost use Rattle.cityseq.specs.Command.{usual_limits};
 ghost use Rattle.cityseq.specs.declared.report.Shown.{Shown};
 ghost use Rattle.cj_stream.specs.declared.ending.End.{End};
+ghost use Rattle.cityseq.specs.Output.{output_writer, flush_answer};
 ghost use Rattle.cityseq.specs.Report.{Reports, status_of};
 ghost use Rattle.cj_stream.specs.Run.{Account, Writes};
 
+use crate::output::Output;
 use crate::report::{Shown, WRONG_WORDS, show, status};
 use cj_budget::Limits;
 use cj_stream::copy_out;
@@ -32,17 +34,17 @@ fn usual() -> Limits
 }
 
 /// Copies the kept lines from the reader to `out`, flushes it, and says on `err` how it ended.
-pub fn filter<R: Read, W: Write, E: Write>(
+pub fn filter<R: Read, W: Write + Drop, E: Write>(
     alloc: Global,
     limits: Limits,
     reader: &mut R,
-    out: &mut W,
+    out: &mut Output<W>,
     err: &mut E,
 ) -> Shown
     ensures { (r : List ℕ) × (n features : ℕ) × (peaks : Peaks) × (e : End) × Consumes (R.remaining reader.old) (R.remaining reader.new) r
         × Account limits r (IsAtEnd (R.remaining reader.new)) n features peaks e
-        × Writes limits r e (W.contents out.old) (W.contents out.new)
-        × Reports e result (E.contents err.old) (E.contents err.new) }
+        × Writes limits r e (W.contents (output_writer out.old)) (W.contents (output_writer out.new))
+        × Reports e (flush_answer out.new) result (E.contents err.old) (E.contents err.new) }
 {
     let outcome = copy_out(alloc, reader, out, limits);
     show(out.flush(), outcome.ended, err)
@@ -50,17 +52,17 @@ pub fn filter<R: Read, W: Write, E: Write>(
 
 /// Runs the command that the words ask for, and answers the status; the first word is the program's
 /// name. A failure to write to `err` is ignored.
-pub fn command<R: Read, W: Write, E: Write>(
+pub fn command<R: Read, W: Write + Drop, E: Write>(
     alloc: Global,
     words: &[String],
     reader: &mut R,
-    out: &mut W,
+    out: &mut Output<W>,
     err: &mut E,
 ) -> u8
     ensures filter { AsksFilter (map string_bytes words.now) → (r : List ℕ) × (n features : ℕ) × (peaks : Peaks) × (e : End) × Consumes (R.remaining reader.old) (R.remaining reader.new) r
         × Account usual_limits r (IsAtEnd (R.remaining reader.new)) n features peaks e
-        × Writes usual_limits r e (W.contents out.old) (W.contents out.new)
-        × (shown : Shown) × Reports e shown (E.contents err.old) (E.contents err.new) × (result ≡ status_of shown.end) }
+        × Writes usual_limits r e (W.contents (output_writer out.old)) (W.contents (output_writer out.new))
+        × (shown : Shown) × Reports e (flush_answer out.new) shown (E.contents err.old) (E.contents err.new) × (result ≡ status_of shown.end) }
     ensures other { (AsksFilter (map string_bytes words.now) → ⊥) → (result ≡ 2)
         × (reader.new ≡ reader.old) × (out.new ≡ out.old) × (err.new ≡ err.old) }
 {

@@ -2,15 +2,17 @@
 //! bound, and writes the lines that are kept to standard output.
 //!
 //! `command` tells by the words what is asked for, and runs the engine of `cj_stream` over standard input
-//! and output; `report` says how the run ended.
+//! and output; `output` notes what a flush answers, and `report` says how the run ended.
 #![tactic(auto)]
 
 mod command;
+mod output;
 mod report;
 #[cfg(test)]
 mod tests;
 
 use crate::command::command;
+use crate::output::Output;
 use crate::report::{WRONG_WORDS, status, write_fault_line};
 use cj_stream::End;
 use std::alloc::{AllocError, Global};
@@ -53,9 +55,10 @@ fn perform(rt: &HostRuntime, alloc: Global) -> u8 {
         Err(WordsFault::NoWords) => return WRONG_WORDS,
         Err(WordsFault::Memory) => return out_of_memory(rt),
     };
-    let Ok(mut out) = BufWriter::with_capacity(alloc, OUTPUT_BUFFER, rt.stdout()) else {
+    let Ok(buffer) = BufWriter::with_capacity(alloc, OUTPUT_BUFFER, rt.stdout()) else {
         return out_of_memory(rt);
     };
+    let mut out = Output::new(buffer);
     command(alloc, &words, &mut rt.stdin(), &mut out, &mut rt.stderr())
 }
 

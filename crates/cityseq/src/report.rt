@@ -3,8 +3,10 @@ ghost use Rattle.std.specs.Prelude.{◌≡◌, OnOk, OnErr, map, ◌∷◌, [], 
 ghost use Rattle.std.specs.Io.KnownBytes.{Appends};
 ghost use Rattle.cj_stream.specs.Cut.{joined};
 ghost use Rattle.cj_stream.specs.Sink.{AppendsPart};
-ghost use Rattle.cityseq.specs.Report.{fault_line, flushed_by, shown_end, status_of};
+ghost use Rattle.cityseq.specs.Output.{flushed_by};
+ghost use Rattle.cityseq.specs.Report.{fault_line, shown_end, status_of};
 
+use crate::output::flushed;
 use cj_spans::Reason;
 use cj_stream::{End, WriteFault, write_whole};
 use itoa::Buffer;
@@ -33,16 +35,6 @@ pub fn status(end: End) -> u8
         End::ReadFault | End::ReadLimit => 3,
         End::WriteFault => 4,
         End::Memory => 5,
-    }
-}
-
-// What a flush says by its answer. Each error is a failure.
-fn flushed(answer: io::Result<()>) -> Result<(), WriteFault>
-    ensures { result ≡ flushed_by answer }
-{
-    match answer {
-        Ok(()) => Ok(()),
-        Err(_) => Err(WriteFault),
     }
 }
 
@@ -119,7 +111,7 @@ pub fn show<E: Write>(answer: io::Result<()>, ended: End, err: &mut E) -> Shown
     ensures whole { OnOk result.line (Appends (E.contents err.old) (E.contents err.new) (fault_line result.end)) }
     ensures front { OnErr result.line (AppendsPart (E.contents err.old) (E.contents err.new) (fault_line result.end)) }
 {
-    let end = end_after(flushed(answer), ended);
+    let end = end_after(flushed(&answer), ended);
     Shown {
         end,
         line: write_fault_line(err, end),

@@ -3,6 +3,7 @@ use Rattle.std.specs.Prelude.{◌≡◌, ℕ, List, ◌++◌, map, Option, ℤ, 
 use Rattle.std.specs.List.{flat_map}
 use Rattle.std.specs.Str.{chars}
 use Rattle.std.specs.Iterator.{YieldsFirstBy}
+use Rattle.cj_spans.specs.declared.node.Node.{Node}
 use Rattle.cj_spans.specs.Tree.{Tree}
 use Rattle.cj_spans.specs.Parts.{member_of}
 use Rattle.cj_spans.specs.View.{tree, line_of, items_left, members_left, members_line}
@@ -38,6 +39,13 @@ object_geometries m = items_if (member_of (chars (codes "geometry")) m.1)
 
 unfoldable pub geometries_left : Geometries → List Tree
 geometries_left w = left_of w.items ++ flat_map object_geometries (members_left w.objects)
+
+unfoldable pub geometries_line : Geometries → List ℕ
+geometries_line w = members_line w.objects
+
+-- a step gives the next geometry
+abbrev pub YieldsGeometry : Geometries → Option Node → Geometries → Type 0
+YieldsGeometry s r t = YieldsFirstBy tree geometries_left s r t × (geometries_line t ≡ geometries_line s) × IfSome r (λ n. line_of n ≡ geometries_line s)
 
 -- ---- vertices
 

@@ -36,7 +36,7 @@ impl<'a> Feature<'a> {
     ghost use Rattle.cj_feature.specs.Members.{items_if};
     ghost use Rattle.cj_feature.specs.Typed.{members_if, vertex_of};
     ghost use Rattle.cj_feature.specs.View.{feature_tree, feature_line, feature_header};
-    ghost use Rattle.cj_feature.specs.Walks.{objects_left, objects_line, geometries_left, object_geometries, vertices_left};
+    ghost use Rattle.cj_feature.specs.Walks.{objects_left, objects_line, geometries_left, geometries_line, object_geometries, vertices_left};
 
     /// The feature of a document that has no findings beside this header.
     #[tactic(auto, unfolding(crate::specs::View::feature_tree, crate::specs::View::feature_line, crate::specs::View::feature_header))]
@@ -82,9 +82,10 @@ impl<'a> Feature<'a> {
     }
 
     /// The geometries of all city objects, in order.
-    #[tactic(auto, unfolding(crate::specs::View::feature_tree))]
+    #[tactic(auto, unfolding(crate::specs::View::feature_tree, crate::specs::View::feature_line))]
     pub fn geometries(&self) -> Geometries<'a>
-        ensures { geometries_left result ≡ flat_map object_geometries (members_if (member_of (chars (codes "CityObjects")) (feature_tree self.now))) }
+        ensures geometries { geometries_left result ≡ flat_map object_geometries (members_if (member_of (chars (codes "CityObjects")) (feature_tree self.now))) }
+        ensures line { geometries_line result ≡ feature_line self.now }
     {
         Geometries::over(self.objects_node().members())
     }

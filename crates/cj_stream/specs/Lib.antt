@@ -14,5 +14,6 @@ pub mod Rows
 pub mod Run
 pub mod Scanning
 pub mod Sink
+pub mod Source
 pub mod Verdict
 pub mod WriteSink

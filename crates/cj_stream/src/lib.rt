@@ -27,6 +27,7 @@ mod lent;
 mod query;
 mod running;
 mod sink;
+mod source;
 
 pub use copying::{Copied, copy, copy_out, copy_pieces};
 pub use count::CountSink;

@@ -1,20 +1,19 @@
 //! A whole run, from a reader to a sink.
-ghost use Rattle.std.specs.Prelude.{◌≡◌, ◌↔◌, ℕ, List, [], None, length, false, is_err, IsTrue, IsOk};
-ghost use Rattle.std.specs.Io.{ReadsAtMost};
-ghost use Rattle.std.specs.Io.KnownBytes.{Consumes, IsAtEnd, ReadConsumes};
+ghost use Rattle.std.specs.Prelude.{◌≡◌, ◌↔◌, ℕ, List, [], None, length, false, IsTrue};
+ghost use Rattle.std.specs.Io.KnownBytes.{Consumes, IsAtEnd};
 ghost use Rattle.cj_stream.specs.Sink.{HasRisen};
 ghost use Rattle.cj_stream.specs.Engine.{StandsFor, rules_of, lines_of, peaks_of};
 ghost use Rattle.cj_stream.specs.Query.{rules_for};
 ghost use Rattle.cj_stream.specs.Run.{Runs};
-ghost use Rattle.cj_stream.specs.Device.{given_by};
+ghost use Rattle.cj_stream.specs.Source.{source_reader, source_name, has_failed};
 
 use crate::ending::End;
 use crate::engine::Engine;
 use crate::query::Query;
 use crate::sink::LineSink;
+use crate::source::{ReadFault, Source};
 use cj_budget::{Limits, NoMemory, Peaks};
 use std::alloc::Global;
-use std::io;
 use std::io::Read;
 
 /// The most reads of one run.
@@ -24,10 +23,6 @@ const _: () = prove!(MOST_READS == 1 << 40);
 
 /// The bytes of one read at most.
 const PIECE_LENGTH: usize = 8_192;
-
-/// A read failed.
-#[derive(Clone, Copy, Debug, PartialEq, Eq)]
-struct ReadFault;
 
 /// How a run went.
 #[derive(Clone, Copy, Debug, PartialEq, Eq)]
@@ -60,55 +55,29 @@ impl Outcome {
     }
 }
 
-// What a read says by its answer: how many bytes it gave, or that it failed. Each error is a failure,
-// also `Interrupted`.
-fn bytes_given(answer: io::Result<usize>) -> Result<usize, ReadFault>
-    ensures { result ≡ given_by answer }
-{
-    match answer {
-        Ok(n) => Ok(n),
-        Err(_) => Err(ReadFault),
-    }
-}
-
-// Reads once, and notes whether the read has failed.
-fn read_once<R: Read>(
-    reader: &mut R,
-    buffer: &mut [u8],
-    failed: &mut bool,
-) -> Result<usize, ReadFault>
-    ensures bound { ReadsAtMost result buffer.new }
-    ensures bytes { ReadConsumes (R.remaining reader.old) (R.remaining reader.new) result buffer.new }
-    ensures failed { failed.new ≡ is_err result }
-{
-    let given = bytes_given(reader.read(buffer));
-    *failed = given.is_err();
-    given
-}
-
-// Feeds what the reader gives, by pieces of at most the buffer's length, and finishes at its end. The
+// Feeds what the source gives, by pieces of at most the buffer's length, and finishes at its end. The
 // first read that fails is the end.
 fn drive<R: Read, S: LineSink>(
     engine: &mut Engine,
     buffer: &mut [u8],
-    reader: &mut R,
-    failed: &mut bool,
+    source: &mut Source<'_, R>,
     sink: &mut S,
 ) -> End
     requires piece { length buffer.old ≡ PIECE_LENGTH }
-    requires unfailed { failed.old ≡ false }
+    requires unfailed { has_failed source.old ≡ false }
     requires start { engine.old.taken ≡ 0 }
     requires open { engine.old.ended ≡ None }
     requires stands { StandsFor engine.old [] }
     ensures rules { rules_of engine.new ≡ rules_of engine.old }
-    ensures runs { (r : List ℕ) × Consumes (R.remaining reader.old) (R.remaining reader.new) r
-        × Runs S.takes S.leaves (rules_of engine.old) r (IsAtEnd (R.remaining reader.new)) sink.old sink.new
+    ensures same_reference { source_name source.new ≡ source_name source.old }
+    ensures runs { (r : List ℕ) × Consumes (R.remaining (source_reader source.old)) (R.remaining (source_reader source.new)) r
+        × Runs S.takes S.leaves (rules_of engine.old) r (IsAtEnd (R.remaining (source_reader source.new))) sink.old sink.new
         (lines_of engine.new) engine.new.reading.kept (peaks_of engine.new) result }
     ensures cause { result ≡ End.WriteFault → HasRisen (S.failures sink.old) (S.failures sink.new) }
-    ensures failed { IsTrue failed.new ↔ (result ≡ End.ReadFault) }
+    ensures failed { IsTrue (has_failed source.new) ↔ (result ≡ End.ReadFault) }
 {
     for _i in 0..MOST_READS {
-        match read_once(reader, buffer, failed) {
+        match source.read(buffer) {
             Err(ReadFault) => return End::ReadFault,
             Ok(0) => return engine.finish(sink),
             Ok(n) => {
@@ -139,8 +108,8 @@ pub fn run<R: Read, S: LineSink>(
         Err(NoMemory) => return Outcome::refused(),
     };
     let mut buffer = [0u8; PIECE_LENGTH];
-    let mut failed = false;
-    let ended = drive(&mut engine, &mut buffer, reader, &mut failed, sink);
+    let mut source = Source::new(reader);
+    let ended = drive(&mut engine, &mut buffer, &mut source, sink);
     Outcome {
         lines: engine.lines(),
         kept: engine.kept(),

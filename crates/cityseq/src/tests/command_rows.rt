@@ -3,12 +3,13 @@ use super::calls::{check_bytes, check_number, joined, refused};
 use super::devices::{SlowReader, SlowWriter};
 use super::rows::{FEATURE, HEADER};
 use crate::command::{command, filter};
+use crate::output::Output;
 use crate::report::{status, write_fault_line};
 use cj_budget::Limits;
 use cj_spans::Reason;
 use cj_stream::End;
 use std::alloc::Global;
-use std::io::Read;
+use std::io::{Read, Write};
 use std::process::Abort;
 use std::test::Fail;
 
@@ -39,7 +40,7 @@ fn commanded<R: Read>(alloc: Global, asked: &[&str], reader: &mut R) -> Result<W
     let asked = words(alloc, asked)?;
     let mut out = Vec::new(alloc);
     let mut err = Vec::new(alloc);
-    let status = command(alloc, &asked, reader, &mut out, &mut err);
+    let status = command(alloc, &asked, reader, &mut Output::new(&mut out), &mut err);
     Ok(Written { status, out, err })
 }
 
@@ -78,11 +79,23 @@ fn other_words_are_refused_in_silence(rt: HostRuntime) -> Result<(), Fail> {
     check_other_words(&rt, rt.alloc(), &["cityseq", "filter", "filter"])
 }
 
+// Filters what a reader gives to a writer, and answers the status.
+fn filter_to<W: Write, E: Write>(
+    alloc: Global,
+    limits: Limits,
+    reader: &mut SlowReader,
+    out: &mut W,
+    err: &mut E,
+) -> u8 {
+    let mut out = Output::new(out);
+    status(filter(alloc, limits, reader, &mut out, err).end)
+}
+
 // Filters what a reader gives.
 fn filtered(alloc: Global, limits: Limits, reader: &mut SlowReader) -> Written {
     let mut out = Vec::new(alloc);
     let mut err = Vec::new(alloc);
-    let status = status(filter(alloc, limits, reader, &mut out, &mut err).end);
+    let status = filter_to(alloc, limits, reader, &mut out, &mut err);
     Written { status, out, err }
 }
 
@@ -123,7 +136,7 @@ fn check_write_fault(
     let limits = Limits::new(8_388_608, 64)?;
     let mut err = Vec::new(alloc);
     let mut reader = SlowReader::new(text, 100);
-    let status = status(filter(alloc, limits, &mut reader, &mut out, &mut err).end);
+    let status = filter_to(alloc, limits, &mut reader, &mut out, &mut err);
     let out = out.bytes;
     check_written(
         rt,
@@ -160,7 +173,7 @@ fn check_failing_error(rt: &impl Abort, alloc: Global, fails_at: u64) -> Result<
     let mut err = SlowWriter::new(Vec::new(alloc), 100);
     err.fails_at = fails_at;
     let mut reader = SlowReader::new(b"", 100);
-    let status = status(filter(alloc, limits, &mut reader, &mut out, &mut err).end);
+    let status = filter_to(alloc, limits, &mut reader, &mut out, &mut err);
     check_number(rt, status.into(), 1, "status", fails_at);
     check_bytes(rt, &out, b"", "standard output", fails_at);
     Ok(())

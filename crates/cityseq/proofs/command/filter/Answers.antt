@@ -1,4 +1,4 @@
-use Rattle.cityseq.specs.Report.{flushed_by}
+use Rattle.cityseq.specs.Output.{flushed_by}
 use Rattle.cj_stream.proofs.OutputLemmas.{Writes-kept}
 use Rattle.cityseq.proofs.command.filter.Goals as goal
 
@@ -15,6 +15,7 @@ returns g c =
       Writes-kept c.args.limits e.0 c.copy_out-outcome.result.ended _ _ _ e.3 c.flush.ensures.bytes,
       record {
         flushed = flushed_by c.flush.result;
+        told = c.flush.ensures.noted;
         end = c.show.ensures.end;
         whole = c.show.ensures.whole;
         front = c.show.ensures.front;

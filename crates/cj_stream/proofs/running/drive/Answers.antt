@@ -24,13 +24,13 @@ returns-in-Ok-eq0-clause-runs g c =
     let r = i.5.0 in
     let stands = c.finish.ensures.stands r i.5.2 in (
       r,
-      let k = Consumes-then _ _ _ r (take c.in-Ok-eq0.field-0 c.read_once.new.buffer) i.5.1 c.in-Ok-eq0.ensures.bytes.0 in rw (c.in-Ok-eq0.field-0-test, append-nil r) at k,
+      let k = Consumes-then _ _ _ r (take c.in-Ok-eq0.field-0 c.read.new.buffer) i.5.1 c.in-Ok-eq0.ensures.bytes.0 in rw (c.in-Ok-eq0.field-0-test, append-nil r) at k,
       record {
         account = record {
           bounded = let k = stands.bounded in rw (c.finish.ensures.rules, i.3) at k;
           exact = λ h. let k = c.finish.ensures.exact r i.5.2 i.2 h in rw i.3 at k;
           counts = let k = stands.counts in rw (c.finish.ensures.rules, i.3) at k;
-          ends = Ends-finished _ r _ _ c.finish.result (c.in-Ok-eq0.ensures.bytes.1 c.in-Ok-eq0.field-0-test (omega (arith, c.read_once.auto.buffer, i.0))) (let k = c.finish.ensures.answer r i.5.2 i.2 in rw i.3 at k);
+          ends = Ends-finished _ r _ _ c.finish.result (c.in-Ok-eq0.ensures.bytes.1 c.in-Ok-eq0.field-0-test (omega (arith, c.read.auto.buffer, i.0))) (let k = c.finish.ensures.answer r i.5.2 i.2 in rw i.3 at k);
         };
         sink =
             let k = c.finish.ensures.sink r i.5.2 i.2 in
@@ -46,7 +46,7 @@ pub returns-in-Err-feed-clause-runs : goal.returns-in-Err-feed-clause-runs
 returns-in-Err-feed-clause-runs g c =
     let i = c.loop-i.invariant in
     let r = i.5.0 in
-    let piece = take c.in-Ok.n c.read_once.new.buffer in
+    let piece = take c.in-Ok.n c.read.new.buffer in
     let e = c.loop-i.engine in
     let stands = c.feed.ensures.stands r i.5.2 in (
       r ++ piece,
@@ -72,10 +72,10 @@ pub loop-i-preserved : goal.loop-i-preserved
 loop-i-preserved g c =
     let i = c.loop-i.invariant in
     let r = i.5.0 in
-    let piece = take c.in-Ok.n c.read_once.new.buffer in
+    let piece = take c.in-Ok.n c.read.new.buffer in
     let e = c.loop-i.engine in (
-      c.read_once.auto.buffer ∙ i.0,
-      omega (arith, c.in_default.ensures.taken, length-take c.in-Ok.n c.read_once.new.buffer, c.read_once.auto.buffer, i.0, i.1),
+      c.read.auto.buffer ∙ i.0,
+      omega (arith, c.in_default.ensures.taken, length-take c.in-Ok.n c.read.new.buffer, c.read.auto.buffer, i.0, i.1),
       c.in_default.ensures.open,
       c.feed.ensures.rules ∙ i.3,
       omega (arith, i.4, c.feed.ensures.counts),
@@ -87,19 +87,20 @@ loop-i-preserved g c =
             let j = rw (i.3, c.in_default.ensures.open) at k in
             Delivers-then g.S.LineSink.takes g.S.LineSink.leaves _ r (r ++ piece) _ _ _ _ _ _ (kept_first-same _ (lines_of e) r piece (i.5.2.going i.2).0.lines) i.5.3 j,
       ),
-      c.read_once.ensures.failed ∙ ap is_err c.in-Ok.is,
+      c.read.ensures.failed ∙ ap is_err c.in-Ok.is,
+      c.read.ensures.same_reference ∙ i.7,
     )
 
 -- neither the engine's end nor the end of a piece is a read fault
 pub returns-in-Ok-eq0-clause-failed : goal.returns-in-Ok-eq0-clause-failed
 returns-in-Ok-eq0-clause-failed g c =
     let i = c.loop-i.invariant in
-    unfailed-end _ c.finish.result (c.read_once.ensures.failed ∙ ap is_err c.in-Ok-eq0.is) (unread-concludes _ i.5.0 _ c.finish.result (c.finish.ensures.answer i.5.0 i.5.2 i.2))
+    unfailed-end _ c.finish.result (c.read.ensures.failed ∙ ap is_err c.in-Ok-eq0.is) (unread-concludes _ i.5.0 _ c.finish.result (c.finish.ensures.answer i.5.0 i.5.2 i.2))
 
 pub returns-in-Err-feed-clause-failed : goal.returns-in-Err-feed-clause-failed
 returns-in-Err-feed-clause-failed g c =
     let i = c.loop-i.invariant in
-    unfailed-end _ c.in-Err-feed.end (c.read_once.ensures.failed ∙ ap is_err c.in-Ok.is) (unread-told _ (i.5.0 ++ take c.in-Ok.n c.read_once.new.buffer) _ c.in-Err-feed.end (c.in-Err-feed.ensures.told i.5.0 i.5.2 i.2))
+    unfailed-end _ c.in-Err-feed.end (c.read.ensures.failed ∙ ap is_err c.in-Ok.is) (unread-told _ (i.5.0 ++ take c.in-Ok.n c.read.new.buffer) _ c.in-Err-feed.end (c.in-Err-feed.ensures.told i.5.0 i.5.2 i.2))
 
 pub returns-clause-failed : goal.returns-clause-failed
 returns-clause-failed g c = unfailed-limit _ c.loop-i.invariant.6

@@ -1,10 +1,16 @@
-use Rattle.std.proofs.Common.{◌≡◌, length}
-use Rattle.cj_spans.specs.View.{members_left}
-use Rattle.cj_feature.specs.Walks.{geometries_left}
+use Rattle.std.proofs.Common.{◌≡◌, ◌++◌, length, IfSome}
+use Rattle.std.specs.List.{flat_map}
+use Rattle.cj_spans.specs.View.{items_line, members_left, members_line}
+use Rattle.cj_geometry.specs.Geometry.{left_of}
+use Rattle.cj_feature.specs.Walks.{object_geometries, geometries_left, geometries_line}
 use Rattle.cj_feature.proofs.feature.geometries.GeometriesIterator.next.Given as goal
 
-abbrev pub decreases-loop-self : goal.decreases-loop-self
-decreases-loop-self l = length (members_left l.self.objects)
+abbrev pub decreases-loop-items : goal.decreases-loop-items
+decreases-loop-items l = length (members_left l.objects)
 
-abbrev pub invariant-loop-self : goal.invariant-loop-self
-invariant-loop-self l = geometries_left l.self ≡ geometries_left l.initial.self
+abbrev pub invariant-loop-items : goal.invariant-loop-items
+invariant-loop-items l = record {
+  left : left_of l.items ++ flat_map object_geometries (members_left l.objects) ≡ geometries_left l.initial.self;
+  objects : members_line l.objects ≡ geometries_line l.initial.self;
+  items : IfSome l.items (λ w. items_line w ≡ geometries_line l.initial.self);
+}
