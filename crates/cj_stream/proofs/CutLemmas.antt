@@ -11,7 +11,7 @@ use Rattle.cj_stream.specs.declared.ending.End.{End}
 use Rattle.cj_stream.specs.declared.ending.End.TheVariants.{Complete, Refused, ReadFault, ReadLimit, WriteFault, Memory}
 use Rattle.cj_stream.specs.Item.{Item, raw_item}
 use Rattle.cj_stream.specs.Lines.{Line, NoLf, closed, begun, first_of, ended_line, last_line, lines, whole}
-use Rattle.cj_stream.specs.Verdict.{Rules, verdict, refusal_of, refusal_in, refusal_from, good_from, kept_from, kept, output, ending, judged, long_line}
+use Rattle.cj_stream.specs.Verdict.{Rules, verdict, header_of, refusal_of, refusal_in, refusal_from, good_from, kept_from, kept, output, ending, judged, long_line}
 use Rattle.cj_stream.specs.Cut.{joined, AppendsMore, Copies, TookWhole, IsUnread}
 use Rattle.cj_stream.specs.Engine.{State, rules_of, lines_of, Delivers, Faults, Tells, Concludes}
 use Rattle.cj_stream.specs.Reading.{Reads}
@@ -57,7 +57,7 @@ good-stays rules before (x ∷ xs) ys e h = step (refusal_of (length before + 1)
 -- a line that is too long
 refusal-long : (rules : Rules) (before : List Line) (l : Line) (rest : List Line) → rules.limits.line < length l.content
     → (refusal_from rules before (l ∷ rest) ≡ Some (Refused (length before + 1) rules.limits.line LineTooLong)) × (good_from rules before (l ∷ rest) ≡ [])
-refusal-long rules before l rest long = let v = verdict-long rules _ _ l.content long in (rw v refl, rw v refl)
+refusal-long rules before l rest long = let v = verdict-long rules (length before + 1) (header_of rules before) l.content long in (rw v refl, rw v refl)
 
 module _ (rules : Rules) (q more : List ℕ) (e : End) where
   -- the refusal of what can be judged of a text is that of each text that begins so

@@ -8,13 +8,13 @@ use Rattle.cj_stream.specs.declared.ending.End.{End}
 use Rattle.cj_stream.specs.declared.ending.End.TheVariants.{Complete, Refused, ReadFault, ReadLimit, WriteFault, Memory}
 use Rattle.cj_stream.specs.Lines.{Line, closed, begun, ended_line, last_line, lines, first_content}
 use Rattle.cj_stream.specs.Item.{Item}
-use Rattle.cj_stream.specs.Verdict.{Rules, Refuse, verdict, refusal_in, refusal_from, kept_from, judged, kept_first}
+use Rattle.cj_stream.specs.Verdict.{Rules, Refuse, verdict, refusal_in, kept_from, judged, kept_first}
 use Rattle.cj_budget.specs.Bounded.{IsWithin}
 use Rattle.cj_budget.specs.declared.limits.Peaks.{Peaks}
 use Rattle.cj_stream.specs.Bound.{bytes_bound, IsBelow, IsBounded}
 use Rattle.cj_stream.specs.Scanning.{Scanning, HasRoom, Scanned, HoldsFew}
 use Rattle.cj_stream.specs.Reading.{Reading, IsSound, Reads, kept_closed, begun_of, Advances, IsNext, LacksMemory, HasCause, Stops}
-use Rattle.cj_stream.specs.Engine.{State, StandsFor, Counts, Going, Faults, Delivers, Tells, rules_of, limits_of, held_by, peaks_of}
+use Rattle.cj_stream.specs.Engine.{State, StandsFor, Counts, Going, Faults, Delivers, Tells, limits_of, held_by, peaks_of}
 use Rattle.cj_stream.proofs.LineLemmas.{closed-then, first_content-grows}
 use Rattle.cj_stream.proofs.IsLinesLemmas.{lines-whole}
 use Rattle.cj_stream.proofs.VerdictLemmas.{refusal-append}

@@ -14,7 +14,7 @@ use Rattle.cj_stream.specs.Lines.{Line, closed, begun, begun_after, first_conten
 use Rattle.cj_stream.specs.Item.{Item}
 use Rattle.cj_stream.specs.Verdict.{WantsTokens, Rules, Verdict, Refuse, Blank, Valid, verdict, item_after, refusal_of, is_kept, refusal_in, refusal_from, kept_from, ending, ending_of, kept_first}
 use Rattle.cj_stream.specs.Bound.{bytes_bound, greatest, contents, exact_peaks}
-use Rattle.cj_stream.specs.Reading.{Reading, begun_of, next_verdict, next_item, Deals, Reads, Finishes, FinishesWith, Passes}
+use Rattle.cj_stream.specs.Reading.{Reading, begun_of, next_verdict, next_item, Deals, Settles, Reads, Finishes, FinishesWith, Passes}
 use Rattle.cj_stream.specs.Scanning.{Scanning, Scanned, HasRoom, HoldsFew}
 use Rattle.cj_stream.specs.Engine.{StandsFor, Counts, Faults, Delivers, Concludes, end_of}
 use Rattle.cj_stream.proofs.LineLemmas.{none-from_length, begun_after-empty}
@@ -62,6 +62,12 @@ contents-last (d ∷ cs) c = ap (λ z. d ∷ z) (contents-last cs c)
 pub ok-then : {T E : Type 0} (P Q : Type 0) (r : Result T E) → (P → Q) → OnOk r P → OnOk r Q
 ok-then P Q (Ok x) f h = f h
 ok-then P Q (Err x) f h = h
+
+-- a last line that is not empty was dealt with
+pub finishes-with : {S : Type 0} (takes leaves : S → Item → S → Type 0) (c : List ℕ) (f g : Reading) (s t : S) (r : Result (Unit {0}) End) → 0 < length c
+    → Settles takes leaves (next_verdict f c) (next_item f (record { content = c; lf = false })) f s r g t → FinishesWith takes leaves c f s r g t
+finishes-with takes leaves [] f g s t r some d = absurd (omega arith)
+finishes-with takes leaves (b ∷ c) f g s t r some d = d
 
 -- the lists after a last line was dealt with, and of a text without one
 pub scanned-last : (f : Reading) (p : List ℕ) (a b : Scanning) → Reads f p → 0 < length (begun_of f) → Scanned f.rules.limits (closed p) a

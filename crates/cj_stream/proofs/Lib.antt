@@ -8,6 +8,7 @@ pub mod GoodLemmas
 pub mod IsLinesLemmas
 pub mod JoinedLemmas
 pub mod JudgeLemmas
+pub mod JudgingLemmas
 pub mod KnownLemmas
 pub mod LineLemmas
 pub mod OutputLemmas

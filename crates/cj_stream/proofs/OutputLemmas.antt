@@ -1,5 +1,5 @@
 -- The bytes that a writer gets in a run.
-use Rattle.std.proofs.Common.{◌≡◌, ℕ, ◌+◌, List, [], ◌∷◌, ◌++◌, length, take, drop, Option, Some, None, refl, sym, ap, ◌∙◌, append_assoc}
+use Rattle.std.proofs.Common.{◌≡◌, ℕ, List, [], ◌∷◌, ◌++◌, length, take, drop, Option, Some, None, refl, sym, ap, ◌∙◌, append_assoc}
 use Rattle.std.specs.List.{flat_map}
 use Rattle.std.proofs.lemmas.List.{append-nil}
 use Rattle.std.specs.Io.KnownBytes.{Appends, Keeps}
@@ -113,7 +113,7 @@ module _ {S : Type 0} (contents : S → Option (List ℕ)) (rules : Rules) (r : 
       let next = kept-next_line rules n r fault.0 h.account.counts.good fault.1 fault.2 in
       let k : kept rules r ≡ h.sink.added ++ item_after rules (take n (lines r)) fault.0 ∷ next.0 = next.1 ∙ ap (λ z. z ++ item_after rules (take n (lines r)) fault.0 ∷ next.0) h.sink.kept in
       let front = AppendsPart-after (contents s) (contents h.sink.middle) (contents t) (flat_map raw_item h.sink.added) (raw_item l) (Took-appends contents s h.sink.middle h.sink.added h.sink.took) fault.3 in
-      let all = AppendsPart-front (contents s) (contents t) (flat_map raw_item h.sink.added ++ raw l) (flat_map raw_item next.0) front in
+      let all = AppendsPart-front (contents s) (contents t) (flat_map raw_item h.sink.added ++ raw_item l) (flat_map raw_item next.0) front in
       rw (k, joined-append raw_item h.sink.added (l ∷ next.0)) (rw (append_assoc (flat_map raw_item h.sink.added) (raw_item l) (flat_map raw_item next.0)) at all)
   Writes-runs Memory h =
       let others : List Item = kept_from rules (take n (lines r)) (good_from rules (take n (lines r)) (drop n (lines r))) in

@@ -7,7 +7,7 @@ use Rattle.cj_budget.specs.Limits.{LimitPair}
 use Rattle.cj_spans.specs.declared.reason.Reason.TheVariants.{LineTooLong}
 use Rattle.cj_stream.specs.declared.ending.End.{End}
 use Rattle.cj_stream.specs.declared.ending.End.TheVariants.{Refused, WriteFault, Memory}
-use Rattle.cj_stream.specs.Lines.{Line, lines, closed, begun, ended_line, last_line, NoLf}
+use Rattle.cj_stream.specs.Lines.{lines, closed, begun, ended_line, last_line, NoLf}
 use Rattle.cj_stream.specs.Item.{Item}
 use Rattle.cj_stream.specs.Verdict.{WantsTokens, Rules, Verdict, Refuse, Blank, Valid, verdict, item_after, refusal_of, is_kept, long_line}
 use Rattle.cj_stream.specs.Reading.{Reading, begun_of, next_verdict, next_item, Stores, Passes, Deals, Settles, Reads, kept_closed, Puts, Advances, IsNext, HasCause, Stops}

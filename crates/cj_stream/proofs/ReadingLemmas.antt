@@ -7,8 +7,8 @@ use Rattle.cj_budget.specs.Bounded.{IsWithin}
 use Rattle.cj_stream.specs.Lines.{Line, closed, begun, begun_after, begun_later, ended_line, first_of, first_content, later_of, NoLf}
 use Rattle.std.specs.List.{filter}
 use Rattle.cj_spans.specs.Tree.{Tree}
-use Rattle.cj_stream.specs.Item.{Item, is_feature, tree_of, item_at}
-use Rattle.cj_stream.specs.Verdict.{Rules, Verdict, verdict_at, verdict, header_of, item_after, refusal_of, is_kept, kept_from}
+use Rattle.cj_stream.specs.Item.{Item, is_feature, item_at}
+use Rattle.cj_stream.specs.Verdict.{Rules, verdict_at, verdict, header_of, item_after, refusal_of, is_kept, kept_from}
 use Rattle.cj_stream.specs.Bound.{greatest}
 use Rattle.cj_stream.specs.Reading.{Reading, begun_of, held_header, next_verdict, next_item, Stores, Passes, Reads, kept_closed}
 use Rattle.cj_stream.proofs.LineLemmas.{closed-more, begun-more, closed-lf, begun-lf, first_of-some, first_of-lf, begun_after-some, begun_after-empty, none-from_length}
@@ -161,7 +161,10 @@ count-feature false later i n xs e h = rw (append-nil xs) h
 -- a line after others is a feature, and the first one is none
 after-feature : (rules : Rules) (before : List Line) (l : Line) → is_feature (item_after rules before l) ≡ nat_lt 0 (length before)
 after-feature rules [] l = refl
-after-feature rules (x ∷ xs) l = let no_header : eqb (suc (length xs) + 1) 1 ≡ false = grind (arith, nat_tests) in rw no_header refl
+after-feature rules (x ∷ xs) l =
+    let no_header : eqb (suc (length xs) + 1) 1 ≡ false = grind (arith, nat_tests) in
+    let later : nat_lt 0 (suc (length xs)) ≡ true = grind (arith, nat_tests) in
+    rw (no_header, later) refl
 
 -- the features that are kept, after one line more
 pub kept-next : (f g : Reading) (xs : List Line) (l : Line) (put : Bool) → f.lines ≡ length xs → f.kept ≡ length (filter is_feature (kept_from f.rules [] xs))

@@ -1,5 +1,5 @@
 -- The verdict case by case, and the refusals and kept lines of lines that follow one another.
-use Rattle.std.proofs.Common.{◌≡◌, ℕ, ◌+◌, ◌<◌, ◌≤◌, zero, suc, List, [], ◌∷◌, ◌++◌, Bool, true, false, cond, eqb, ltb, length, map, Option, Some, None, arith, refl, sym, ap, ◌∙◌, append_assoc}
+use Rattle.std.proofs.Common.{◌≡◌, ℕ, ◌+◌, ◌<◌, ◌≤◌, zero, suc, List, [], ◌∷◌, ◌++◌, Bool, true, false, cond, eqb, ltb, length, Option, Some, None, arith, refl, ap, ◌∙◌, append_assoc}
 use Rattle.std.specs.Prelude.{not, ◌&&◌, ◌||◌, nat_lt, if◌then◌else◌, is_some}
 use Rattle.std.specs.List.{list_all}
 use Rattle.std.proofs.lemmas.List.{append-nil}
@@ -19,7 +19,7 @@ use Rattle.cj_spans.specs.Finding.{least, IsLeast}
 use Rattle.cj_spans.proofs.Findings.{least_only, fold_least}
 use Rattle.cj_stream.specs.Lines.{Line}
 use Rattle.cj_stream.specs.Item.{Item}
-use Rattle.cj_stream.specs.Verdict.{Rules, Verdict, Refuse, Blank, Valid, verdict_at, verdict, findings, by_least, tree_verdict, text_verdict, item_after, is_blank_byte, refusal_of, is_kept, refusal_from, kept_from}
+use Rattle.cj_stream.specs.Verdict.{Rules, Refuse, Blank, Valid, verdict_at, verdict, findings, by_least, tree_verdict, text_verdict, item_after, is_blank_byte, refusal_of, is_kept, refusal_from, kept_from}
 use Rattle.cj_stream.proofs.LineLemmas.{not_true}
 
 blank-byte : (b : ℕ) → is_blank_byte b ≡ true → b < 128

@@ -1,5 +1,5 @@
 -- What is told of a line as a text, and what its tokens show.
-use Rattle.std.specs.Prelude.{◌≡◌, ℕ, ◌+◌, ◌<◌, ◌≤◌, List, length, Option, Some}
+use Rattle.std.specs.Prelude.{◌≡◌, ℕ, ◌<◌, ◌≤◌, List, length, Option, Some}
 use Rattle.cj_spans.specs.declared.token.Token.{Token}
 use Rattle.cj_spans.specs.Tree.{Tree}
 use Rattle.cj_spans.specs.Json.{Json}
@@ -11,7 +11,7 @@ use Rattle.cj_stream.specs.declared.judge.Content.TheVariants.{Faulty, White, So
 use Rattle.cj_stream.specs.Item.{tree_of}
 use Rattle.cj_stream.specs.Reading.{Reading}
 use Rattle.cj_stream.specs.Scanning.{Scanning}
-use Rattle.cj_stream.specs.Verdict.{Rules, Verdict, Refuse, Blank, verdict_at, tree_verdict}
+use Rattle.cj_stream.specs.Verdict.{Rules, Refuse, Blank, verdict_at, tree_verdict}
 
 -- what a content is says this of its verdict
 abbrev pub Decides : Rules → ℕ → Tree → List ℕ → Content → Type 0

@@ -1,10 +1,9 @@
 -- Worked rows, which compute.
-use Rattle.std.specs.Prelude.{◌≡◌, ℕ, List, [], ◌∷◌, ◌++◌, take, replicate, codes}
-use Rattle.cj_budget.specs.Limits.{LimitPair}
+use Rattle.std.specs.Prelude.{◌≡◌, false, ℕ, List, [], ◌∷◌, ◌++◌, take, replicate, codes}
 use Rattle.cj_spans.specs.declared.reason.Reason.TheVariants.{NoHeader, LineTooLong, NotUtf8, Syntax, TooDeep}
 use Rattle.cj_stream.specs.declared.ending.End.{End}
-use Rattle.cj_stream.specs.declared.ending.End.TheVariants.{Complete, Refused}
-use Rattle.cj_stream.specs.Verdict.{output, ending}
+use Rattle.cj_stream.specs.declared.ending.End.TheVariants.{Refused}
+use Rattle.cj_stream.specs.Verdict.{Rules, output, ending}
 
 -- a header
 abbrev pub header_row : List ℕ
@@ -14,54 +13,37 @@ header_row = codes "{\"type\":\"CityJSON\",\"version\":\"2.0\",\"transform\":{\"
 abbrev pub feature_row : List ℕ
 feature_row = codes "{\"type\":\"CityJSONFeature\",\"id\":\"b1\",\"CityObjects\":{\"b1\":{\"type\":\"Building\",\"geometry\":[{\"type\":\"MultiSurface\",\"lod\":\"2.2\",\"boundaries\":[[[0,1,2,3]]]}]}},\"vertices\":[[0,0,0],[1000,0,0],[1000,1000,0],[0,1000,0]]}"
 
--- limits that no row but one with many brackets comes to
-abbrev pub wide_limits : LimitPair
-wide_limits = record { line = 8388608; depth = 64 }
+-- limits that no row but one with many brackets comes to, and limits that the header just meets
+abbrev pub wide_rules : Rules
+wide_rules = record { limits = record { line = 8388608; depth = 64 }; with_box = false }
 
--- limits that the feature just meets
-abbrev pub tight_limits : LimitPair
-tight_limits = record { line = 210; depth = 64 }
+abbrev pub tight_rules : Rules
+tight_rules = record { limits = record { line = 140; depth = 64 }; with_box = false }
 
 -- a text ends so, and this is written of it
-abbrev pub Gives : LimitPair → List ℕ → End → List ℕ → Type 0
-Gives limits text e written = (ending limits text ≡ e) × (output limits text ≡ written)
+abbrev pub Gives : Rules → List ℕ → End → List ℕ → Type 0
+Gives rules text e written = (ending rules text ≡ e) × (output rules text ≡ written)
 
--- nothing at all
+-- nothing at all, and a blank first line
 abbrev pub EmptyRow : Type 0
-EmptyRow = Gives wide_limits [] (Refused 1 0 NoHeader) []
+EmptyRow = Gives wide_rules [] (Refused 1 0 NoHeader) [] × Gives wide_rules (10 ∷ []) (Refused 1 0 Syntax) []
 
--- a header and a feature
-abbrev pub WholeRow : Type 0
-WholeRow = let text = header_row ++ 10 ∷ (feature_row ++ 10 ∷ []) in Gives wide_limits text Complete text
-
--- a blank line, and a last line without LF
-abbrev pub BlankRow : Type 0
-BlankRow = Gives wide_limits (header_row ++ 10 ∷ 13 ∷ 10 ∷ feature_row) Complete (header_row ++ 10 ∷ feature_row)
-
--- a line that is one byte too long, with and without LF
+-- a first line that is one byte too long, with and without LF
 abbrev pub LongRow : Type 0
 LongRow =
-    let good = header_row ++ 10 ∷ (feature_row ++ 10 ∷ []) in
-    Gives tight_limits (good ++ (feature_row ++ 32 ∷ [])) (Refused 3 210 LineTooLong) good
-    × Gives tight_limits (good ++ (feature_row ++ 32 ∷ 10 ∷ [])) (Refused 3 210 LineTooLong) good
+    Gives tight_rules (header_row ++ 32 ∷ []) (Refused 1 140 LineTooLong) []
+    × Gives tight_rules (header_row ++ 32 ∷ 10 ∷ []) (Refused 1 140 LineTooLong) []
 
--- a character of three bytes, and what is refused without its last one
+-- a character of three bytes without its last one
 abbrev pub TextRow : Type 0
-TextRow =
-    let front = header_row ++ 10 ∷ codes "{\"a\":\"" in
-    Gives wide_limits (front ++ 226 ∷ 130 ∷ 172 ∷ codes "\"}") Complete (front ++ 226 ∷ 130 ∷ 172 ∷ codes "\"}")
-    × Gives wide_limits (front ++ 226 ∷ 130 ∷ codes "\"}") (Refused 2 6 NotUtf8) (header_row ++ 10 ∷ [])
+TextRow = Gives wide_rules (codes "{\"a\":\"" ++ 226 ∷ 130 ∷ codes "\"}") (Refused 1 6 NotUtf8) []
 
 -- a comma before a brace, and a text that is cut short
 abbrev pub SyntaxRow : Type 0
 SyntaxRow =
-    let front = header_row ++ 10 ∷ [] in
-    Gives wide_limits (front ++ codes "{\"type\":\"CityJSONFeature\",}") (Refused 2 26 Syntax) front
-    × Gives wide_limits (front ++ take 100 feature_row) (Refused 2 100 Syntax) front
+    Gives wide_rules (codes "{\"type\":\"CityJSONFeature\",}") (Refused 1 26 Syntax) []
+    × Gives wide_rules (take 100 feature_row) (Refused 1 100 Syntax) []
 
 -- more brackets than the depth limit allows, and as many but none closed
 abbrev pub DeepRow : Type 0
-DeepRow =
-    let front = header_row ++ 10 ∷ [] in
-    Gives wide_limits (front ++ replicate 65 91) (Refused 2 64 TooDeep) front
-    × Gives wide_limits (front ++ replicate 64 91) (Refused 2 64 Syntax) front
+DeepRow = Gives wide_rules (replicate 65 91) (Refused 1 64 TooDeep) [] × Gives wide_rules (replicate 64 91) (Refused 1 64 Syntax) []

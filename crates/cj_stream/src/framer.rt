@@ -198,7 +198,7 @@ impl<'q> Framer<'q> {
             (next_item (reading self.old) (record { content = begun_of (reading self.old); lf = lf })) (reading self.old) sink.old result (reading self.new) sink.new }
         ensures forgets { OnOk result (Forgets (scanning self.old) (scanning self.new)) }
         ensures same { OnErr result (scanning self.new ≡ scanning self.old) }
-        ensures parts { self.new.parts ≡ self.old.parts }
+        ensures keeps { KeepsFirst (reading self.new) (scanning self.new) self.new.parts }
     {
         let Some(parts) = self.parts else {
             unreachable!()
