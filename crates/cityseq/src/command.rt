@@ -3,7 +3,8 @@ ghost use Rattle.std.specs.Prelude.{◌≡◌, ℕ, List, map, string_bytes};
 ghost use Rattle.cityseq.specs.Command.{AsksFilter};
 ghost use Rattle.std.specs.Io.KnownBytes.{Consumes, IsAtEnd};
 ghost use Rattle.cj_budget.specs.declared.limits.Peaks.{Peaks};
-ghost use Rattle.cityseq.specs.Command.{usual_limits};
+ghost use Rattle.cityseq.specs.Command.{usual_limits, usual_rules};
+ghost use Rattle.cj_stream.specs.Query.{rules_for};
 ghost use Rattle.cityseq.specs.declared.report.Shown.{Shown};
 ghost use Rattle.cj_stream.specs.declared.ending.End.{End};
 ghost use Rattle.cityseq.specs.Output.{output_writer, flush_answer};
@@ -13,7 +14,7 @@ ghost use Rattle.cj_stream.specs.Run.{Account, Writes};
 use crate::output::Output;
 use crate::report::{Shown, WRONG_WORDS, show, status};
 use cj_budget::Limits;
-use cj_stream::copy_out;
+use cj_stream::{Query, copy_out};
 use std::alloc::Global;
 use std::io::{Read, Write};
 
@@ -37,16 +38,17 @@ fn usual() -> Limits
 pub fn filter<R: Read, W: Write + Drop, E: Write>(
     alloc: Global,
     limits: Limits,
+    query: &Query,
     reader: &mut R,
     out: &mut Output<W>,
     err: &mut E,
 ) -> Shown
     ensures { (r : List ℕ) × (n features : ℕ) × (peaks : Peaks) × (e : End) × Consumes (R.remaining reader.old) (R.remaining reader.new) r
-        × Account limits r (IsAtEnd (R.remaining reader.new)) n features peaks e
-        × Writes limits r e (W.contents (output_writer out.old)) (W.contents (output_writer out.new))
+        × Account (rules_for limits query.now) r (IsAtEnd (R.remaining reader.new)) n features peaks e
+        × Writes (rules_for limits query.now) r e (W.contents (output_writer out.old)) (W.contents (output_writer out.new))
         × Reports e (flush_answer out.new) result (E.contents err.old) (E.contents err.new) }
 {
-    let outcome = copy_out(alloc, reader, out, limits);
+    let outcome = copy_out(alloc, reader, out, limits, query);
     show(out.flush(), outcome.ended, err)
 }
 
@@ -60,15 +62,16 @@ pub fn command<R: Read, W: Write + Drop, E: Write>(
     err: &mut E,
 ) -> u8
     ensures filter { AsksFilter (map string_bytes words.now) → (r : List ℕ) × (n features : ℕ) × (peaks : Peaks) × (e : End) × Consumes (R.remaining reader.old) (R.remaining reader.new) r
-        × Account usual_limits r (IsAtEnd (R.remaining reader.new)) n features peaks e
-        × Writes usual_limits r e (W.contents (output_writer out.old)) (W.contents (output_writer out.new))
+        × Account usual_rules r (IsAtEnd (R.remaining reader.new)) n features peaks e
+        × Writes usual_rules r e (W.contents (output_writer out.old)) (W.contents (output_writer out.new))
         × (shown : Shown) × Reports e (flush_answer out.new) shown (E.contents err.old) (E.contents err.new) × (result ≡ status_of shown.end) }
     ensures other { (AsksFilter (map string_bytes words.now) → ⊥) → (result ≡ 2)
         × (reader.new ≡ reader.old) × (out.new ≡ out.old) × (err.new ≡ err.old) }
 {
     match words {
         [_, word] if word.as_str() == "filter" => {
-            status(filter(alloc, usual(), reader, out, err).end)
+            let query = Query::all(alloc);
+            status(filter(alloc, usual(), &query, reader, out, err).end)
         }
         _ => WRONG_WORDS,
     }

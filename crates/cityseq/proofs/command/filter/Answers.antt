@@ -1,3 +1,4 @@
+use Rattle.cj_stream.specs.Query.{rules_for}
 use Rattle.cityseq.specs.Output.{flushed_by}
 use Rattle.cj_stream.proofs.OutputLemmas.{Writes-kept}
 use Rattle.cityseq.proofs.command.filter.Goals as goal
@@ -12,7 +13,7 @@ returns g c =
       c.copy_out-outcome.result.ended,
       e.1,
       e.2,
-      Writes-kept c.args.limits e.0 c.copy_out-outcome.result.ended _ _ _ e.3 c.flush.ensures.bytes,
+      Writes-kept (rules_for c.args.limits c.args.query.now) e.0 c.copy_out-outcome.result.ended _ _ _ e.3 c.flush.ensures.bytes,
       record {
         flushed = flushed_by c.flush.result;
         told = c.flush.ensures.noted;
