@@ -110,7 +110,7 @@ kept-split rules n r h =
     let whole : lines r ≡ take n (lines r) ++ drop n (lines r) = sym (take-append-drop n (lines r)) in
     let g : good_from rules [] (take n (lines r) ++ drop n (lines r)) ≡ take n (lines r) ++ good_from rules (take n (lines r)) (drop n (lines r)) = good-append rules [] xs ys h in
     let k : kept_from rules [] (take n (lines r) ++ good_from rules (take n (lines r)) (drop n (lines r)))
-        ≡ kept_from rules [] (take n (lines r)) ++ kept_from rules (take n (lines r)) (good_from rules (take n (lines r)) (drop n (lines r))) = kept-append rules [] xs (good_from rules xs ys) in
+    ≡ kept_from rules [] (take n (lines r)) ++ kept_from rules (take n (lines r)) (good_from rules (take n (lines r)) (drop n (lines r))) = kept-append rules [] xs (good_from rules xs ys) in
     ap (λ z. kept_from rules [] (good_from rules [] z)) whole ∙ (ap (λ z. kept_from rules [] z) g ∙ k)
 
 drop-next : (ls : List Line) (n : ℕ) (l : Line) → slice_get ls n ≡ Some l → (rest : List Line) × (drop n ls ≡ l ∷ rest)

@@ -210,6 +210,10 @@ impl<'q> Framer<'q> {
             Ok(feature) => feature,
             Err(finding) => return Err(refused(self.lines + 1, finding)),
         };
+        if !self.query.holds(&feature, &header) {
+            self.pass(false);
+            return Ok(());
+        }
         if sink.put(&feature, lf).is_err() {
             return Err(End::WriteFault);
         }

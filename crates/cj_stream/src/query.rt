@@ -1,5 +1,5 @@
 //! What is asked of a stream.
-ghost use Rattle.std.specs.Prelude.{◌≡◌, true};
+ghost use Rattle.std.specs.Prelude.{◌≡◌, true, false};
 ghost use Rattle.cj_stream.specs.Query.{asks_box};
 
 use cj_feature::{Feature, Header};
@@ -11,7 +11,9 @@ pub struct Query {}
 
 impl Query {
     /// Every feature satisfies it. It takes no memory.
-    pub fn all(_alloc: Global) -> Query {
+    pub fn all(_alloc: Global) -> Query
+        ensures no_box { asks_box result ≡ false }
+    {
         Query {}
     }
 

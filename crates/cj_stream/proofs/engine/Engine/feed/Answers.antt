@@ -12,7 +12,7 @@ returns-in-Ok-clause-going g c = λ p st.
     let stands = rw (← c.self.view_is) at st in
     let open_now : c.self.inside.ended ≡ None = none_from_not_some c.self.inside.ended c.in_default.not-Some in
     let reads = (stands.going open_now).0 in
-        let limits = ap (λ x. x.limits) c.take_piece.ensures.stays.rules in
+    let limits = ap (λ x. x.limits) c.take_piece.ensures.stays.rules in
     Going-reads _ (p ++ c.args.piece.now) c.take_piece.ensures.stays.sound (c.in-Ok.ensures.ok p reads).reads
     (scanned-under c.self.inside.framer.limits c.take_piece.new.self.limits (closed (p ++ c.args.piece.now)) (scanning c.take_piece.new.self) limits (c.in-Ok.ensures.scanned p reads (stands.going open_now).1))
 
@@ -21,7 +21,7 @@ returns-in-Ok-clause-stands g c = λ p st.
     let stands = rw (← c.self.view_is) at st in
     let open_now : c.self.inside.ended ≡ None = none_from_not_some c.self.inside.ended c.in_default.not-Some in
     let reads = (stands.going open_now).0 in
-        let limits = ap (λ x. x.limits) c.take_piece.ensures.stays.rules in
+    let limits = ap (λ x. x.limits) c.take_piece.ensures.stays.rules in
     let taken : c.self.inside.taken + length c.args.piece.now ≡ length (p ++ c.args.piece.now) = omega (arith, (stands.going open_now).2, length-append p c.args.piece.now) in
     rw (← c.self.view_is, open_now) (StandsFor-reads (record { reading = reading c.take_piece.new.self; scanning = scanning c.take_piece.new.self; taken = c.self.inside.taken + length c.args.piece.now; ended = None }) (p ++ c.args.piece.now) taken c.take_piece.ensures.stays.sound (rw limits c.take_piece.ensures.room) (c.in-Ok.ensures.ok p reads).reads
     (scanned-under c.self.inside.framer.limits c.take_piece.new.self.limits (closed (p ++ c.args.piece.now)) (scanning c.take_piece.new.self) limits (c.in-Ok.ensures.scanned p reads (stands.going open_now).1)))
@@ -36,7 +36,7 @@ returns-in-Ok-clause-sink g c = λ p st going.
 pub returns-in-Err-clause-stands : goal.returns-in-Err-clause-stands
 returns-in-Err-clause-stands g c = λ p st.
     let stands = rw (← c.self.view_is) at st in
-        let limits = ap (λ x. x.limits) c.take_piece.ensures.stays.rules in
+    let limits = ap (λ x. x.limits) c.take_piece.ensures.stays.rules in
     let open_now : c.self.inside.ended ≡ None = none_from_not_some c.self.inside.ended c.in_default.not-Some in
     let reads = (stands.going open_now).0 in
     rw (← c.self.view_is, open_now) (StandsFor-stops g.S.LineSink.takes g.S.LineSink.leaves (record { reading = reading c.self.inside.framer; scanning = scanning c.self.inside.framer; taken = c.self.inside.taken; ended = c.self.inside.ended })

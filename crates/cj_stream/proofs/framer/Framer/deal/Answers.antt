@@ -36,7 +36,7 @@ returns-in-White-clause-keeps g c =
     let later : 0 < c.args.self.now.lines = omega (arith, b.0) in
     let still : 0 < c.judge.new.self.lines = omega (arith, later, ap (λ x. x.lines) c.judge.ensures.reading) in
     let judged = keeps-same f j (scanning c.args.self.now) (scanning c.judge.new.self) c.args.self.now.parts c.judge.new.self.parts later (ap (λ x. x.header) c.judge.ensures.reading) (ap (λ x. x.rules) c.judge.ensures.reading)
-        (c.judge.ensures.lists.later later).1 c.judge.ensures.parts c.requires.keeps in
+    (c.judge.ensures.lists.later later).1 c.judge.ensures.parts c.requires.keeps in
     keeps-passed _ j (reading c.pass.new.self) (scanning c.judge.new.self) (scanning c.pass.new.self) c.judge.new.self.parts c.pass.new.self.parts still c.pass.ensures.passes c.pass.ensures.forgets c.pass.ensures.parts judged
 
 pub returns-in-Sound-clause-settles : goal.returns-in-Sound-clause-settles
@@ -45,9 +45,9 @@ returns-in-Sound-clause-settles g c =
     let rules = rules_for c.args.self.now.limits c.args.self.now.query.now in
     let says = rw c.in-Sound.is at c.in-Ok.ensures.says in
     let told : next_verdict f (begun_of (reading c.args.self.now)) ≡ tree_verdict rules (c.args.self.now.lines + 1) (held_header (reading c.args.self.now)) (tree_of c.args.self.now.limits.depth (begun_of (reading c.args.self.now))) =
-        says rules (held_header (reading c.args.self.now)) c.requires.short refl in
+    says rules (held_header (reading c.args.self.now)) c.requires.short refl in
     let deals = subst (λ (x : Reading). Deals g.S.LineSink.takes g.S.LineSink.leaves (tree_verdict x.rules (x.lines + 1) (held_header x) (tree_of x.rules.limits.depth (begun_of x)))
-        (next_item x (record { content = begun_of x; lf = c.args.lf })) x c.args.sink.now c.put.result (reading c.put.new.self) c.put.new.sink) c.judge.ensures.reading c.put.ensures.deals in
+    (next_item x (record { content = begun_of x; lf = c.args.lf })) x c.args.sink.now c.put.result (reading c.put.new.self) c.put.new.sink) c.judge.ensures.reading c.put.ensures.deals in
     inl (rw told deals)
 
 pub returns-in-Sound-clause-scanned : goal.returns-in-Sound-clause-scanned

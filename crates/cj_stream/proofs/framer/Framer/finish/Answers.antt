@@ -26,4 +26,4 @@ pub returns-then-not-is_empty-clause-finishes : goal.returns-then-not-is_empty-c
 returns-then-not-is_empty-clause-finishes g c = λ p reads.
     let some : 0 < length (begun_of (reading c.args.self.now)) = rw (← c.begun.ensures.value) (grind (arith, nat_tests)) in
     subst (λ x. FinishesWith g.S.LineSink.takes g.S.LineSink.leaves x (reading c.args.self.now) c.args.sink.now c.deal.result (reading c.deal.new.self) c.deal.new.sink) reads.begun
-        (finishes-with g.S.LineSink.takes g.S.LineSink.leaves (begun_of (reading c.args.self.now)) (reading c.args.self.now) (reading c.deal.new.self) c.args.sink.now c.deal.new.sink c.deal.result some c.deal.ensures.settles)
+    (finishes-with g.S.LineSink.takes g.S.LineSink.leaves (begun_of (reading c.args.self.now)) (reading c.args.self.now) (reading c.deal.new.self) c.args.sink.now c.deal.new.sink c.deal.result some c.deal.ensures.settles)

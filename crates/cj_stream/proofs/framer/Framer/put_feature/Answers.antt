@@ -28,7 +28,7 @@ returns-in-Err-clause-deals g c =
     let header : header_tree c.of-header.result ≡ h = c.of-header.ensures.tree ∙ c.of-first.ensures.only h first in
     let later : eqb (c.args.self.now.lines + 1) 1 ≡ false = let z = c.requires.later in grind (arith, nat_tests) in
     let found : IsLeast (feature_findings h (document c.of-doc.result)) (Some c.in-Err.finding) =
-        subst (λ u. IsLeast (feature_findings u (document c.of-doc.result)) (Some c.in-Err.finding)) header c.in-Err.ensures.verdict in
+    subst (λ u. IsLeast (feature_findings u (document c.of-doc.result)) (Some c.in-Err.finding)) header c.in-Err.ensures.verdict in
     let least : IsLeast (findings rules n (held_header f) t) (Some c.in-Err.finding) =
-        rw later (subst (λ u. IsLeast (feature_findings h u) (Some c.in-Err.finding)) shown found) in
+    rw later (subst (λ u. IsLeast (feature_findings h u) (Some c.in-Err.finding)) shown found) in
     rw (tree-refused rules n (held_header f) t c.in-Err.finding least) (ap Err c.refused.ensures, refl, refl)

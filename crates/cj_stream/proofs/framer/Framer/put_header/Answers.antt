@@ -24,8 +24,8 @@ returns-in-Err-clause-deals g c =
     let shown : t ≡ document c.of-doc.result = sym (c.of-doc.ensures.only t json) in
     let first : eqb (c.args.self.now.lines + 1) 1 ≡ true = let z = c.requires.first in grind (arith, nat_tests) in
     let found : IsLeast (header_findings false (document c.of-doc.result)) (Some c.in-Err.finding) =
-        subst (λ b. IsLeast (header_findings b (document c.of-doc.result)) (Some c.in-Err.finding)) c.wants_box.ensures c.in-Err.ensures.verdict in
+    subst (λ b. IsLeast (header_findings b (document c.of-doc.result)) (Some c.in-Err.finding)) c.wants_box.ensures c.in-Err.ensures.verdict in
     let least : IsLeast (findings rules n (held_header f) t) (Some c.in-Err.finding) =
-        rw first (subst (λ u. IsLeast (header_findings false u) (Some c.in-Err.finding)) (sym shown) found) in
+    rw first (subst (λ u. IsLeast (header_findings false u) (Some c.in-Err.finding)) (sym shown) found) in
     rw (tree-refused rules n (held_header f) t c.in-Err.finding least)
-        (ap Err (c.refused.ensures ∙ ap (λ k. Refused (k + 1) c.in-Err.finding.place c.in-Err.finding.reason) (sym c.requires.first)), refl, refl)
+    (ap Err (c.refused.ensures ∙ ap (λ k. Refused (k + 1) c.in-Err.finding.place c.in-Err.finding.reason) (sym c.requires.first)), refl, refl)
