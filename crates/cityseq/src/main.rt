@@ -1,5 +1,6 @@
 //! The program `cityseq`: it reads a CityJSONSeq stream from standard input, once and within a
-//! bound, and writes the lines that are kept to standard output.
+//! bound, judges each line, and writes the header and the features before the first bad line to standard
+//! output, byte for byte.
 //!
 //! `command` tells by the words what is asked for, and runs the engine of `cj_stream` over standard input
 //! and output; `output` notes what a flush answers, and `report` says how the run ended.

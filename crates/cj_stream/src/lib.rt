@@ -1,8 +1,12 @@
-//! The engine: it reads a CityJSONSeq stream once, within a bound, and puts its kept lines to a sink.
+//! The engine: it reads a CityJSONSeq stream once, within a bound, judges each line, and puts the header
+//! and the features to a sink.
 //!
-//! An [`Engine`] is fed pieces of a stream. Its framer cuts them into lines, each line is judged when it is
-//! whole, and the header and the features that a [`Query`] asks for go to a [`LineSink`]. [`run`] does so with what a reader gives. What the engine
-//! holds are five lists with limits and no other, so it never grows past the bound, whatever comes.
+//! An [`Engine`] is fed pieces of a stream. Its framer cuts them into lines. Each line is judged when it is
+//! whole: as a text, and then by the rules of `cj_feature`, the first line as a header and each later one as
+//! a feature beside it. A valid header and the valid features that a [`Query`] asks for are lent to a
+//! [`LineSink`]; the first line that is not valid is the end. [`run`] does so with what a reader gives. What
+//! the engine holds are five lists with limits, and the six numbers of the header's transform, so it never
+//! grows past the bound, whatever comes.
 //!
 //! ```text
 //! let mut sink = WriteSink::new(writer);
