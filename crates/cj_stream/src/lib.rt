@@ -29,7 +29,7 @@ mod running;
 mod sink;
 mod source;
 
-pub use copying::{Copied, copy, copy_out, copy_pieces};
+pub use copying::{Copied, copy, copy_out, copy_pieces, put_pieces};
 pub use count::CountSink;
 pub use ending::End;
 pub use engine::Engine;
