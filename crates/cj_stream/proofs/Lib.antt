@@ -18,4 +18,5 @@ pub mod ReadingLemmas
 pub mod RunLemmas
 pub mod ScanningLemmas
 pub mod StaysLemmas
+pub mod TallyLemmas
 pub mod VerdictLemmas
