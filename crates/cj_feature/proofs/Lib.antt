@@ -6,3 +6,4 @@ pub mod Typed
 pub mod Valid
 pub mod Values
 pub mod Verdict
+pub mod Worked

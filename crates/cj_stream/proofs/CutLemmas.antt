@@ -1,5 +1,5 @@
 -- A text that comes in pieces.
-use Rattle.std.proofs.Common.{◌≡◌, ℕ, ◌+◌, ◌<◌, ◌≤◌, ◌⊎◌, inl, inr, List, [], ◌∷◌, ◌++◌, Bool, true, false, cond, ltb, length, take, drop, map, Option, Some, None, refl, sym, ap, ◌∙◌, arith, append_assoc}
+use Rattle.std.proofs.Common.{◌≡◌, ℕ, ◌+◌, ◌<◌, ◌≤◌, ◌⊎◌, inl, inr, List, [], ◌∷◌, ◌++◌, Bool, true, false, cond, ltb, length, take, drop, map, Option, Some, None, refl, sym, ap, ◌∙◌, subst, arith, append_assoc}
 use Rattle.std.specs.Prelude.{is_some}
 use Rattle.std.specs.List.{flat_map}
 use Rattle.std.proofs.lemmas.List.{append-nil}
@@ -11,21 +11,22 @@ use Rattle.cj_stream.specs.declared.ending.End.{End}
 use Rattle.cj_stream.specs.declared.ending.End.TheVariants.{Complete, Refused, ReadFault, ReadLimit, WriteFault, Memory}
 use Rattle.cj_stream.specs.Item.{Item, raw_item}
 use Rattle.cj_stream.specs.Lines.{Line, NoLf, closed, begun, first_of, ended_line, last_line, lines, whole}
-use Rattle.cj_stream.specs.Verdict.{Rules, verdict, header_of, refusal_of, refusal_in, refusal_from, good_from, kept_from, kept, output, ending, judged, long_line}
-use Rattle.cj_stream.specs.Cut.{joined, AppendsMore, Copies, TookWhole, IsUnread}
+use Rattle.cj_stream.specs.Verdict.{Rules, verdict, header_of, item_after, refusal_of, refusal_in, refusal_from, good_from, kept_from, kept_first, kept, ending, judged, long_line}
+use Rattle.cj_stream.specs.Cut.{joined, LeavesNext, PutsFront, PutsPieces, AppendsFront, Copies, TookWhole, IsUnread}
 use Rattle.cj_stream.specs.Engine.{State, rules_of, lines_of, Delivers, Faults, Tells, Concludes}
 use Rattle.cj_stream.specs.Reading.{Reads}
 use Rattle.cj_stream.specs.Run.{Runs}
-use Rattle.cj_stream.specs.Sink.{AppendsPart}
-use Rattle.cj_stream.proofs.JoinedLemmas.{joined-cut}
+use Rattle.cj_stream.specs.Sink.{Took, AppendsPart}
+use Rattle.cj_stream.proofs.JoinedLemmas.{joined-cut, joined-next}
 use Rattle.cj_stream.proofs.LineLemmas.{closed-then, begun-then, NoLf-begun, first_content-long}
 use Rattle.cj_stream.proofs.VerdictLemmas.{refusal-append, verdict-long}
-use Rattle.cj_stream.proofs.IsLinesLemmas.{lines-whole}
-use Rattle.cj_stream.proofs.KnownLemmas.{Appends-then, Appends-nothing}
+use Rattle.cj_stream.proofs.IsLinesLemmas.{lines-whole, joined-append}
+use Rattle.cj_stream.proofs.KnownLemmas.{Appends-then, Appends-nothing, AppendsPart-after, AppendsPart-front}
 use Rattle.cj_stream.proofs.ReadingLemmas.{map_lines-append, length-map_lines}
-use Rattle.cj_stream.proofs.GoodLemmas.{good-append, good-all}
-use Rattle.cj_stream.proofs.RunLemmas.{refusal-stays, ending-refused, whole-good}
-use Rattle.cj_stream.proofs.OutputLemmas.{Writes-runs, Took-appends, kept-whole}
+use Rattle.cj_stream.proofs.GoodLemmas.{good-append, good-all, kept-next_line, kept-split}
+use Rattle.cj_stream.proofs.PieceLemmas.{Took-append}
+use Rattle.cj_stream.proofs.RunLemmas.{refusal-stays, ending-refused, kept_first-same, whole-good}
+use Rattle.cj_stream.proofs.OutputLemmas.{Took-appends, Took-split, Took-all, kept-whole}
 use Rattle.cj_stream.proofs.Apart.{none-some}
 
 -- a text that goes on: the lines that LF ended, and those of what had begun
@@ -103,65 +104,125 @@ module _ (rules : Rules) (q more : List ℕ) (e : End) where
 
 -- the ending and the output of a text, where what came first of it was refused
 pub refused-more : (rules : Rules) (q more : List ℕ) (e : End) → refusal_in rules (judged rules.limits q) ≡ Some e
-    → (ending rules (q ++ more) ≡ e) × (output rules (q ++ more) ≡ output rules q)
+    → (ending rules (q ++ more) ≡ e) × (kept rules (q ++ more) ≡ kept rules q)
 unfolding Stays
 refused-more rules q more e k =
     let all = judged-stays rules q more e k in
     let front = judged-stays rules q [] e k in
     let same : good_from rules [] (lines q) ≡ good_from rules [] (map ended_line (closed q)) = let z = front.1 in rw (append-nil q) at z in
-    (ending-refused rules (lines (q ++ more)) e all.0, ap (λ z. flat_map raw_item (kept_from rules [] z)) (all.1 ∙ sym same))
+    (ending-refused rules (lines (q ++ more)) e all.0, ap (λ z. kept_from rules [] z) (all.1 ∙ sym same))
 
--- what a failed step left of a line, in bytes
-module _ {S : Type 0} (contents : S → Option (List ℕ)) (rules : Rules) (q : List ℕ) (n : ℕ) (s t : S) where
-  left-more : (e : End) → Faults (λ a l b. AppendsPart (contents a) (contents b) (raw_item l)) rules q n s t (Some e) → (more : List ℕ) × Appends (contents s) (contents t) more
-  left-more Complete h = ([], rw h (Appends-nothing (contents s)))
-  left-more (Refused number place reason) h = ([], rw h (Appends-nothing (contents s)))
-  left-more ReadFault h = ([], rw h (Appends-nothing (contents s)))
-  left-more ReadLimit h = ([], rw h (Appends-nothing (contents s)))
-  left-more WriteFault h = (h.3.front, h.3.grows)
-  left-more Memory h = ([], rw h (Appends-nothing (contents s)))
+-- what is kept of some pieces, of whose whole lines none is refused, are kept lines of these and the next
+kept-pieces : (rules : Rules) (pieces : List (List ℕ)) (n : ℕ) → refusal_in rules (lines (whole (joined (take n pieces)))) ≡ None
+    → (kept_first rules (length (closed (joined (take n pieces)))) (joined (take n pieces)) ≡ kept rules (whole (joined (take n pieces))))
+    × (kept_first rules (length (closed (joined (take n pieces)))) (joined (take (n + 1) pieces)) ≡ kept rules (whole (joined (take n pieces))))
+kept-pieces rules pieces n good =
+    let q = joined (take n pieces) in
+    let all : length (closed (joined (take n pieces))) ≡ length (lines (whole (joined (take n pieces)))) = sym (ap length (lines-whole q) ∙ length-map_lines (closed q)) in
+    let whole_kept = kept-whole rules (length (closed q)) q good all in
+    let next = joined-next n pieces in
+    let same = kept_first-same rules (length (closed q)) q next.0 refl in
+    (whole_kept, rw next.1 (same ∙ whole_kept))
 
--- the output of the whole lines of the pieces that were wholly taken is there
-whole-taken : {S : Type 0} (contents : S → Option (List ℕ)) (rules : Rules) (pieces : List (List ℕ)) (n count : ℕ) (s t : S) (e : End)
-    → TookWhole (λ a l b. Appends (contents a) (contents b) (raw_item l)) (λ a l b. AppendsPart (contents a) (contents b) (raw_item l)) rules pieces n count s t e
-    → AppendsMore (contents s) (contents t) (output rules (whole (joined (take n pieces))))
-whole-taken contents rules pieces n count s t e h =
-    let r = joined (take n pieces) in
-    let all : length (closed (joined (take n pieces))) ≡ length (lines (whole (joined (take n pieces)))) = sym (ap length (lines-whole r) ∙ length-map_lines (closed r)) in
-    let k : h.before.added ≡ kept rules (whole (joined (take n pieces))) = sym h.before.kept ∙ kept-whole rules (length (closed r)) r h.good all in
-    let more = left-more contents rules (joined (take (n + 1) pieces)) count h.after.middle t e h.after.fault in
-    record {
-      middle = contents h.middle;
-      more = flat_map raw_item h.after.added ++ more.0;
-      first = rw (← k, h.before.fault) (Took-appends contents s h.before.middle h.before.added h.before.took);
-      grows = Appends-then (contents h.middle) (contents h.after.middle) (contents t) (flat_map raw_item h.after.added) more.0 (Took-appends contents h.middle h.after.middle h.after.added h.after.took) more.1;
-    }
+module _ {S : Type 0} (takes leaves : S → Item → S → Type 0) (rules : Rules) (pieces : List (List ℕ)) (n : ℕ) (s t : S) (count features : ℕ) (peaks : Peaks) where
+  abbrev Given : End → Type 0
+  Given e = Runs takes leaves rules (joined (take (n + 1) pieces)) (joined (take (n + 1) pieces) ≡ joined pieces) s t count features peaks e
 
-module _ {S : Type 0} (contents : S → Option (List ℕ)) (rules : Rules) (pieces : List (List ℕ)) (n : ℕ) (s t : S) (count features : ℕ) (peaks : Peaks) where
-  -- what a run over pieces has written
-  pub Copies-runs : (e : End) → Runs (λ a l b. Appends (contents a) (contents b) (raw_item l)) (λ a l b. AppendsPart (contents a) (contents b) (raw_item l)) rules
-      (joined (take (n + 1) pieces)) (joined (take (n + 1) pieces) ≡ joined pieces) s t count features peaks e
-      → TookWhole (λ a l b. Appends (contents a) (contents b) (raw_item l)) (λ a l b. AppendsPart (contents a) (contents b) (raw_item l)) rules pieces n count s t e
-      → IsUnread e → Copies rules pieces n e (contents s) (contents t)
-  Copies-runs Complete h k u =
-      let w = Writes-runs contents rules (joined (take (n + 1) pieces)) _ s t count features peaks Complete h in
-      rw (← h.account.ends.2) (h.account.ends.0, w)
-  Copies-runs (Refused number place reason) h k u = go h.account.ends.2
+  -- what a sink took of the lines that were dealt with before a fault
+  taken : (e : End) → TookWhole takes leaves rules pieces n count s t e → (more : List Item) × (middle : S)
+      × (kept_first rules count (joined (take (n + 1) pieces)) ≡ kept rules (whole (joined (take n pieces))) ++ more)
+      × Took takes s (kept rules (whole (joined (take n pieces))) ++ more) middle × Faults leaves rules (joined (take (n + 1) pieces)) count middle t (Some e)
+  taken e k =
+      let same = kept-pieces rules pieces n k.good in
+      let first : k.before.added ≡ kept rules (whole (joined (take n pieces))) = sym k.before.kept ∙ same.0 in
+      let before = subst (λ z. Took takes s k.before.added z) (sym k.before.fault) k.before.took in (
+        k.after.added,
+        k.after.middle,
+        k.after.kept ∙ ap (λ z. z ++ k.after.added) same.1,
+        rw (← first) (Took-append takes s k.middle k.after.middle k.before.added k.after.added before k.after.took),
+        k.after.fault,
+      )
+
+  -- what a run over pieces has put
+  pub PutsPieces-runs : (e : End) → Given e → TookWhole takes leaves rules pieces n count s t e → IsUnread e → PutsPieces takes leaves rules pieces n e s t
+  PutsPieces-runs Complete h k u = rw (← h.account.ends.2) (h.account.ends.0, Took-all takes leaves rules (joined (take (n + 1) pieces)) count s t Complete h.sink h.sink.fault h.account.ends.1)
+  PutsPieces-runs (Refused number place reason) h k u = go h.account.ends.2
     where
-      w : Appends (contents s) (contents t) (output rules (joined (take (n + 1) pieces)))
-      w = Writes-runs contents rules (joined (take (n + 1) pieces)) _ s t count features peaks (Refused number place reason) h
+      all : Took takes s (kept rules (joined (take (n + 1) pieces))) t
+      all = Took-all takes leaves rules (joined (take (n + 1) pieces)) count s t (Refused number place reason) h.sink h.sink.fault h.account.ends.1
 
-      go : (joined (take (n + 1) pieces) ≡ joined pieces) ⊎ (refusal_in rules (judged rules.limits (joined (take (n + 1) pieces))) ≡ Some (Refused number place reason)) → Copies rules pieces n (Refused number place reason) (contents s) (contents t)
-      go (inl same) = rw (← same) (h.account.ends.0, w)
+      go : (joined (take (n + 1) pieces) ≡ joined pieces) ⊎ (refusal_in rules (judged rules.limits (joined (take (n + 1) pieces))) ≡ Some (Refused number place reason))
+          → PutsPieces takes leaves rules pieces n (Refused number place reason) s t
+      go (inl same) = rw (← same) (h.account.ends.0, all)
       go (inr told) =
           let more = refused-more rules (joined (take (n + 1) pieces)) (joined (drop (n + 1) pieces)) (Refused number place reason) told in
-          let out : output rules (joined (take (n + 1) pieces)) ≡ output rules (joined (take (n + 1) pieces) ++ joined (drop (n + 1) pieces)) = sym more.1 in
-          let v = rw out at w in
-          rw (← joined-cut (n + 1) pieces) (more.0, v)
-  Copies-runs ReadFault h k u = absurd u
-  Copies-runs ReadLimit h k u = absurd u
-  Copies-runs WriteFault h k u = (Writes-runs contents rules (joined (take (n + 1) pieces)) _ s t count features peaks WriteFault h, whole-taken contents rules pieces n count s t WriteFault k)
-  Copies-runs Memory h k u = (Writes-runs contents rules (joined (take (n + 1) pieces)) _ s t count features peaks Memory h, whole-taken contents rules pieces n count s t Memory k)
+          rw (← joined-cut (n + 1) pieces) (more.0, rw more.1 all)
+  PutsPieces-runs ReadFault h k u = absurd u
+  PutsPieces-runs ReadLimit h k u = absurd u
+  PutsPieces-runs WriteFault h k u =
+      let r = joined (take (n + 1) pieces) in
+      let took = taken WriteFault k in
+      let fault = took.4 in
+      let next = kept-next_line rules count r fault.0 h.account.counts.good fault.1 fault.2 in
+      record {
+        more = took.0;
+        others = item_after rules (take count (lines r)) fault.0 ∷ next.0;
+        middle = took.1;
+        front = next.1 ∙ ap (λ z. z ++ item_after rules (take count (lines (joined (take (n + 1) pieces)))) fault.0 ∷ next.0) took.2;
+        took = took.3;
+        left = fault.3;
+      }
+  PutsPieces-runs Memory h k u =
+      let r = joined (take (n + 1) pieces) in
+      let took = taken Memory k in
+      let others : List Item = kept_from rules (take count (lines r)) (good_from rules (take count (lines r)) (drop count (lines r))) in
+      record {
+        more = took.0;
+        others = others;
+        middle = took.1;
+        front = kept-split rules count r h.account.counts.good ∙ ap (λ z. z ++ others) took.2;
+        took = took.3;
+        left = took.4;
+      }
+
+module _ {S : Type 0} (contents : S → Option (List ℕ)) (rules : Rules) (pieces : List (List ℕ)) (n : ℕ) (s t : S) where
+  abbrev writes : S → Item → S → Type 0
+  writes a l b = Appends (contents a) (contents b) (raw_item l)
+
+  abbrev writes_part : S → Item → S → Type 0
+  writes_part a l b = AppendsPart (contents a) (contents b) (raw_item l)
+
+  -- the bytes of what came after a front of what is kept
+  front-bytes : (then : List Item → S → S → Type 0) → ((others : List Item) (a b : S) → then others a b → AppendsPart (contents a) (contents b) (flat_map raw_item others))
+      → PutsFront writes then rules pieces n s t → AppendsFront rules pieces n (contents s) (contents t)
+  front-bytes then bytes h =
+      let first = kept rules (whole (joined (take n pieces))) in
+      let cut = Took-split writes s h.middle first h.more h.took in
+      let left = bytes h.others h.middle t h.left in (
+        rw (h.front, joined-append raw_item (first ++ h.more) h.others) (AppendsPart-after (contents s) (contents h.middle) (contents t) (flat_map raw_item (first ++ h.more)) (flat_map raw_item h.others) (Took-appends contents s h.middle (first ++ h.more) h.took) left),
+        record {
+          middle = contents cut.0;
+          more = flat_map raw_item h.more ++ left.front;
+          first = Took-appends contents s cut.0 first cut.1;
+          grows = Appends-then (contents cut.0) (contents h.middle) (contents t) (flat_map raw_item h.more) left.front (Took-appends contents cut.0 h.middle h.more cut.2) left.grows;
+        },
+      )
+
+  next-bytes : (others : List Item) (a b : S) → LeavesNext writes_part others a b → AppendsPart (contents a) (contents b) (flat_map raw_item others)
+  next-bytes [] a b h = absurd h
+  next-bytes (i ∷ is) a b h = AppendsPart-front (contents a) (contents b) (raw_item i) (flat_map raw_item is) h
+
+  no-bytes : (others : List Item) (a b : S) → b ≡ a → AppendsPart (contents a) (contents b) (flat_map raw_item others)
+  no-bytes others a b h = rw h (record { front = []; rest = flat_map raw_item others; whole = refl; grows = Appends-nothing (contents a) })
+
+  -- a writer that was put the items of pieces
+  pub Copies-puts : (e : End) → PutsPieces writes writes_part rules pieces n e s t → Copies rules pieces n e (contents s) (contents t)
+  Copies-puts Complete h = (h.0, Took-appends contents s t (kept rules (joined pieces)) h.1)
+  Copies-puts (Refused number place reason) h = (h.0, Took-appends contents s t (kept rules (joined pieces)) h.1)
+  Copies-puts ReadFault h = h
+  Copies-puts ReadLimit h = h
+  Copies-puts WriteFault h = front-bytes (LeavesNext writes_part) next-bytes h
+  Copies-puts Memory h = front-bytes (λ others a b. b ≡ a) no-bytes h
 
 pub unread-told : (rules : Rules) (q : List ℕ) (n : ℕ) (e : End) → Tells rules q n e → IsUnread e
 unread-told rules q n Complete h = tt

@@ -13,6 +13,16 @@ joined-cut n ps = sym (joined-append (take n ps) (drop n ps)) ∙ ap joined (tak
 pub joined-all : (n : ℕ) (ps : List (List ℕ)) → length ps ≤ n → joined (take n ps) ≡ joined ps
 joined-all n ps h = ap joined (take_all n ps h)
 
+-- pieces, and at most one more
+pub joined-next : (n : ℕ) (ps : List (List ℕ)) → (more : List ℕ) × (joined (take (n + 1) ps) ≡ joined (take n ps) ++ more)
+joined-next zero [] = ([], refl)
+joined-next zero (x ∷ xs) = (x, append-nil x)
+joined-next (suc n) [] = ([], let next : suc n + 1 ≡ suc (n + 1) = omega arith in rw next refl)
+joined-next (suc n) (x ∷ xs) =
+    let later = joined-next n xs in
+    let next : suc n + 1 ≡ suc (n + 1) = omega arith in
+    (later.0, rw next (ap (λ z. x ++ z) later.1 ∙ sym (append_assoc x (joined (take n xs)) later.0)))
+
 -- one piece more
 pub joined-more : {A : Type 0} (now : A → List ℕ) (xs : List A) (i : ℕ) (d : A) → i < length xs → joined (take (i + 1) (map now xs)) ≡ joined (take i (map now xs)) ++ now (get_or xs i d)
 joined-more now [] i d h = absurd (omega arith)

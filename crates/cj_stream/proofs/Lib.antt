@@ -15,7 +15,9 @@ pub mod OutputLemmas
 pub mod PieceLemmas
 pub mod PieceSlices
 pub mod ReadingLemmas
+pub mod RowLemmas
 pub mod RunLemmas
 pub mod ScanningLemmas
 pub mod StaysLemmas
+pub mod TallyLemmas
 pub mod VerdictLemmas

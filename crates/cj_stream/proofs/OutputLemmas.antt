@@ -8,8 +8,8 @@ use Rattle.cj_stream.specs.declared.ending.End.{End}
 use Rattle.cj_stream.specs.declared.ending.End.TheVariants.{Complete, Refused, ReadFault, ReadLimit, WriteFault, Memory}
 use Rattle.cj_stream.specs.Lines.{lines, whole, closed}
 use Rattle.cj_stream.specs.Item.{Item, raw_item}
-use Rattle.cj_stream.specs.Verdict.{Rules, refusal_in, good_from, kept_from, kept, kept_first, item_after}
-use Rattle.cj_stream.specs.Engine.{Faults}
+use Rattle.cj_stream.specs.Verdict.{Rules, refusal_in, good, good_from, kept_from, kept, kept_first, item_after}
+use Rattle.cj_stream.specs.Engine.{Delivers, Faults}
 use Rattle.cj_stream.specs.Run.{Runs, Writes}
 use Rattle.cj_stream.specs.Sink.{Took, AppendsPart}
 use Rattle.cj_stream.proofs.IsLinesLemmas.{joined-append, lines-whole}
@@ -35,6 +35,18 @@ kept-whole rules n r none e =
     let count : n ≡ length (closed r) = e ∙ (ap length (lines-whole r) ∙ length-map_lines (closed r)) in
     let front = rw (append-nil r) at (kept_first-front rules n r [] count) in
     front ∙ (ap (λ z. kept_from rules [] z) (sym (lines-whole r)) ∙ ap (λ z. kept_from rules [] z) (sym (good-all rules [] (lines (whole r)) none)))
+
+-- steps, taken apart
+pub Took-split : {S : Type 0} (step : S → Item → S → Type 0) (s t : S) (xs ys : List Item) → Took step s (xs ++ ys) t → (m : S) × Took step s xs m × Took step m ys t
+Took-split step s t [] ys h = (s, refl, h)
+Took-split step s t (x ∷ xs) ys h = let later = Took-split step h.0 t xs ys h.2 in (later.0, (h.0, h.1, later.1), later.2)
+
+-- a sink that was given all good lines, and then left as it was
+pub Took-all : {S : Type 0} (takes leaves : S → Item → S → Type 0) (rules : Rules) (r : List ℕ) (n : ℕ) (s t : S) (e : End) (h : Delivers takes leaves rules r 0 n s t (Some e))
+    → t ≡ h.middle → n ≡ length (good rules r) → Took takes s (kept rules r) t
+Took-all takes leaves rules r n s t e h still all =
+    let k : h.added ≡ kept rules r = sym h.kept ∙ kept_first-good rules n r all in
+    rw (← k, still) h.took
 
 -- steps that say less
 Took-less : {S : Type 0} (step less : S → Item → S → Type 0) → ((a : S) (l : Item) (b : S) → step a l b → less a l b) → (s t : S) (ls : List Item) → Took step s ls t → Took less s ls t

@@ -5,14 +5,41 @@ use Rattle.cj_stream.specs.declared.ending.End.{End}
 use Rattle.cj_stream.specs.declared.ending.End.TheVariants.{Complete, Refused, ReadFault, ReadLimit, WriteFault, Memory}
 use Rattle.cj_stream.specs.Lines.{closed, lines, whole}
 use Rattle.cj_stream.specs.Item.{Item}
-use Rattle.cj_stream.specs.Verdict.{Rules, refusal_in, ending, output}
+use Rattle.cj_stream.specs.Verdict.{Rules, refusal_in, kept, ending, output}
 use Rattle.cj_stream.specs.Engine.{Delivers}
-use Rattle.cj_stream.specs.Sink.{AppendsPart}
+use Rattle.cj_stream.specs.Sink.{Took, AppendsPart}
 
 -- the text that pieces are a cut of; pieces may be empty
 abbrev pub joined : List (List ℕ) → List ℕ
 joined [] = []
 joined (piece ∷ pieces) = piece ++ joined pieces
+
+-- what a failed step may leave of a sink, by the first of the items that were to come
+abbrev pub LeavesNext : {S : Type 0} → (S → Item → S → Type 0) → List Item → S → S → Type 0
+LeavesNext leaves [] s t = ⊥
+LeavesNext leaves (i ∷ is) s t = leaves s i t
+
+-- a sink took a front of what is kept of the first n pieces and the next, with all that is kept of the whole lines of
+-- the first n, and then this happened to it, by the items that were to come
+pub record PutsFront {S : Type 0} (takes : S → Item → S → Type 0) (then : List Item → S → S → Type 0) (rules : Rules) (pieces : List (List ℕ)) (n : ℕ) (s t : S) : Type 0 where
+  pub more : List Item
+  pub others : List Item
+  pub middle : S
+  pub front : kept rules (joined (take (n + 1) pieces)) ≡ (kept rules (whole (joined (take n pieces))) ++ more) ++ others
+  pub took : Took takes s (kept rules (whole (joined (take n pieces))) ++ more) middle
+  pub left : then others middle t
+
+-- a sink that was given a cut text: it took what is kept of the whole text, whose ending is the answer; or, after a
+-- fault, a front of it, by the pieces that were given, of which n were wholly taken: a write fault leaves of the sink
+-- what the next step may, and refused memory all
+abbrev pub PutsPieces : {S : Type 0} → (S → Item → S → Type 0) → (S → Item → S → Type 0) → Rules → List (List ℕ) → ℕ → End → S → S → Type 0
+PutsPieces takes leaves rules pieces n Complete s t = (ending rules (joined pieces) ≡ Complete) × Took takes s (kept rules (joined pieces)) t
+PutsPieces takes leaves rules pieces n (Refused number place reason) s t =
+    (ending rules (joined pieces) ≡ Refused number place reason) × Took takes s (kept rules (joined pieces)) t
+PutsPieces takes leaves rules pieces n ReadFault s t = ⊥
+PutsPieces takes leaves rules pieces n ReadLimit s t = ⊥
+PutsPieces takes leaves rules pieces n WriteFault s t = PutsFront takes (LeavesNext leaves) rules pieces n s t
+PutsPieces takes leaves rules pieces n Memory s t = PutsFront takes (λ others a b. b ≡ a) rules pieces n s t
 
 -- the known bytes grow by these, and perhaps by more
 pub record AppendsMore (old new : Option (List ℕ)) (bs : List ℕ) : Type 0 where

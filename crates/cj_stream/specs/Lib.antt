@@ -15,5 +15,6 @@ pub mod Run
 pub mod Scanning
 pub mod Sink
 pub mod Source
+pub mod Tally
 pub mod Verdict
 pub mod WriteSink

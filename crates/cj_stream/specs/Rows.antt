@@ -1,8 +1,8 @@
 -- Worked rows, which compute.
 use Rattle.std.specs.Prelude.{◌≡◌, false, ℕ, List, [], ◌∷◌, ◌++◌, take, replicate, codes}
-use Rattle.cj_spans.specs.declared.reason.Reason.TheVariants.{NoHeader, LineTooLong, NotUtf8, Syntax, TooDeep}
+use Rattle.cj_spans.specs.declared.reason.Reason.TheVariants.{NoHeader, LineTooLong, NotUtf8, Syntax, TooDeep, MissingMember, IdNotFound}
 use Rattle.cj_stream.specs.declared.ending.End.{End}
-use Rattle.cj_stream.specs.declared.ending.End.TheVariants.{Refused}
+use Rattle.cj_stream.specs.declared.ending.End.TheVariants.{Complete, Refused}
 use Rattle.cj_stream.specs.Verdict.{Rules, output, ending}
 
 -- a header
@@ -12,6 +12,16 @@ header_row = codes "{\"type\":\"CityJSON\",\"version\":\"2.0\",\"transform\":{\"
 -- a feature
 abbrev pub feature_row : List ℕ
 feature_row = codes "{\"type\":\"CityJSONFeature\",\"id\":\"b1\",\"CityObjects\":{\"b1\":{\"type\":\"Building\",\"geometry\":[{\"type\":\"MultiSurface\",\"lod\":\"2.2\",\"boundaries\":[[[0,1,2,3]]]}]}},\"vertices\":[[0,0,0],[1000,0,0],[1000,1000,0],[0,1000,0]]}"
+
+-- a small header, a small feature, and one whose id no city object has
+abbrev pub small_header : List ℕ
+small_header = codes "{\"type\":\"CityJSON\",\"version\":\"2.0\",\"transform\":{\"scale\":[1,1,1],\"translate\":[0,0,0]},\"CityObjects\":{},\"vertices\":[]}"
+
+abbrev pub small_feature : List ℕ
+small_feature = codes "{\"type\":\"CityJSONFeature\",\"id\":\"b\",\"CityObjects\":{\"b\":{\"type\":\"Building\"}},\"vertices\":[]}"
+
+abbrev pub lost_feature : List ℕ
+lost_feature = codes "{\"type\":\"CityJSONFeature\",\"id\":\"b\",\"CityObjects\":{\"c\":{\"type\":\"Building\"}},\"vertices\":[]}"
 
 -- limits that no row but one with many brackets comes to, and limits that the header just meets
 abbrev pub wide_rules : Rules
@@ -27,6 +37,26 @@ Gives rules text e written = (ending rules text ≡ e) × (output rules text ≡
 -- nothing at all, and a blank first line
 abbrev pub EmptyRow : Type 0
 EmptyRow = Gives wide_rules [] (Refused 1 0 NoHeader) [] × Gives wide_rules (10 ∷ []) (Refused 1 0 Syntax) []
+
+-- a header and a feature
+abbrev pub WholeRow : Type 0
+WholeRow = let text = small_header ++ 10 ∷ (small_feature ++ 10 ∷ []) in Gives wide_rules text Complete text
+
+-- a blank line, and a last line without LF
+abbrev pub BlankRow : Type 0
+BlankRow = Gives wide_rules (small_header ++ 10 ∷ 13 ∷ 10 ∷ small_feature) Complete (small_header ++ 10 ∷ small_feature)
+
+-- a feature as the first line, and a header as the second
+abbrev pub OrderRow : Type 0
+OrderRow =
+    Gives wide_rules (small_feature ++ 10 ∷ small_header) (Refused 1 0 MissingMember) []
+    × Gives wide_rules (small_header ++ 10 ∷ small_header) (Refused 2 0 MissingMember) (small_header ++ 10 ∷ [])
+
+-- good features before and after a bad one: only those before it are written
+abbrev pub BadRow : Type 0
+BadRow =
+    let good = small_header ++ 10 ∷ (small_feature ++ 10 ∷ []) in
+    Gives wide_rules (good ++ (lost_feature ++ 10 ∷ (small_feature ++ 10 ∷ []))) (Refused 3 31 IdNotFound) good
 
 -- a first line that is one byte too long, with and without LF
 abbrev pub LongRow : Type 0

@@ -1,10 +1,11 @@
 //! Copies of the kept lines to a writer.
 ghost use Rattle.std.specs.Prelude.{◌≡◌, ◌+◌, ◌≤◌, ◌^◌, ℕ, List, [], None, length, map, take};
 ghost use Rattle.std.specs.Io.KnownBytes.{Consumes, IsAtEnd};
-ghost use Rattle.cj_stream.specs.Cut.{joined, Copies, TookWhole, IsUnread};
+ghost use Rattle.cj_stream.specs.Cut.{joined, Copies, PutsPieces, TookWhole, IsUnread};
 ghost use Rattle.cj_stream.specs.Engine.{StandsFor, rules_of, lines_of, peaks_of};
 ghost use Rattle.cj_stream.specs.Query.{rules_for};
 ghost use Rattle.cj_stream.specs.Run.{Account, Runs, Writes};
+ghost use Rattle.cj_stream.specs.Sink.{HasRisen};
 ghost use Rattle.cj_stream.specs.WriteSink.{writer_of};
 
 use crate::ending::End;
@@ -70,6 +71,7 @@ fn feed_all<S: LineSink>(engine: &mut Engine, pieces: &[&[u8]], sink: &mut S) ->
     ensures taken { TookWhole S.takes S.leaves (rules_of engine.old) (map (λ piece. piece.now) pieces.now) result.taken
         (lines_of engine.new) sink.old sink.new result.ended }
     ensures unread { IsUnread result.ended }
+    ensures cause { result.ended ≡ End.WriteFault → HasRisen (S.failures sink.old) (S.failures sink.new) }
 {
     for (taken, piece) in pieces.iter().enumerate() {
         if let Err(ended) = engine.feed(piece, sink) {
@@ -80,6 +82,34 @@ fn feed_all<S: LineSink>(engine: &mut Engine, pieces: &[&[u8]], sink: &mut S) ->
         taken: pieces.len(),
         ended: engine.finish(sink),
     }
+}
+
+/// Puts the kept lines of a text that comes in pieces to a sink. However the text is cut, the sink takes
+/// what is kept of the text, one after another, and the end is its ending, unless a step of the sink
+/// fails or memory is refused: then it took a front of what is kept of the pieces that were given, with
+/// all that is kept of the whole lines of those that were wholly taken.
+pub fn put_pieces<S: LineSink>(
+    alloc: Global,
+    pieces: &[&[u8]],
+    sink: &mut S,
+    limits: Limits,
+    query: &Query,
+) -> Copied
+    requires { length (joined (map (λ piece. piece.now) pieces.now)) ≤ 2 ^ 60 }
+    ensures puts { PutsPieces S.takes S.leaves (rules_for limits query.now) (map (λ piece. piece.now) pieces.now)
+        result.taken result.ended sink.old sink.new }
+    ensures cause { result.ended ≡ End.WriteFault → HasRisen (S.failures sink.old) (S.failures sink.new) }
+{
+    let mut engine = match Engine::open(alloc, limits, query) {
+        Ok(engine) => engine,
+        Err(NoMemory) => {
+            return Copied {
+                taken: 0,
+                ended: End::Memory,
+            };
+        }
+    };
+    feed_all(&mut engine, pieces, sink)
 }
 
 /// Copies the kept lines of a text that comes in pieces to a writer. However the text is cut, the
@@ -97,14 +127,5 @@ pub fn copy_pieces<W: Write + Drop>(
     ensures { Copies (rules_for limits query.now) (map (λ piece. piece.now) pieces.now) result.taken result.ended
         (W.contents (writer_of sink.old)) (W.contents (writer_of sink.new)) }
 {
-    let mut engine = match Engine::open(alloc, limits, query) {
-        Ok(engine) => engine,
-        Err(NoMemory) => {
-            return Copied {
-                taken: 0,
-                ended: End::Memory,
-            };
-        }
-    };
-    feed_all(&mut engine, pieces, sink)
+    put_pieces(alloc, pieces, sink, limits, query)
 }

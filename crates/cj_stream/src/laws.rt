@@ -2,7 +2,7 @@
 ghost use Rattle.std.specs.Prelude.{◌≡◌, List};
 ghost use Rattle.cj_stream.specs.Lines.{Line, lines, whole};
 ghost use Rattle.cj_stream.specs.IsLines.{IsLines, IsWhole};
-ghost use Rattle.cj_stream.specs.Rows.{EmptyRow, LongRow, TextRow, SyntaxRow, DeepRow};
+ghost use Rattle.cj_stream.specs.Rows.{EmptyRow, WholeRow, BlankRow, OrderRow, BadRow, LongRow, TextRow, SyntaxRow, DeepRow};
 
 /// The lines of a text are the one list of contents without LF that gives the text when each is
 /// followed by the LF that ended it; LF ends each but perhaps the last, which is then not empty. A
@@ -18,6 +18,10 @@ pub fn lines_are_the_lines(text: &[u8])
 /// The definitions of a text's ending and output, on small texts whose answers are known.
 pub fn rows_compute()
     ensures empty { EmptyRow }
+    ensures whole { WholeRow }
+    ensures blank { BlankRow }
+    ensures order { OrderRow }
+    ensures bad { BadRow }
     ensures long { LongRow }
     ensures text { TextRow }
     ensures syntax { SyntaxRow }

@@ -22,6 +22,7 @@
 
 mod copying;
 mod count;
+mod counting;
 mod ending;
 mod engine;
 mod framer;
@@ -33,8 +34,9 @@ mod running;
 mod sink;
 mod source;
 
-pub use copying::{Copied, copy, copy_out, copy_pieces};
+pub use copying::{Copied, copy, copy_out, copy_pieces, put_pieces};
 pub use count::CountSink;
+pub use counting::{count_pieces, count_stream};
 pub use ending::End;
 pub use engine::Engine;
 pub use lent::LentSink;

@@ -1,10 +1,10 @@
-use Rattle.std.proofs.Common.{[], ◌≡◌, ◌+◌, ◌++◌, ◌∙◌, length, take, map, get_or, refl, sym, arith}
+use Rattle.std.proofs.Common.{[], ◌≡◌, ◌+◌, ◌++◌, ◌∙◌, length, take, map, get_or, refl, sym, ap, arith, Err}
 use Rattle.std.proofs.lemmas.List.{length-map}
 use Rattle.cj_stream.specs.Engine.{rules_of, lines_of}
 use Rattle.cj_stream.specs.Cut.{joined}
 use Rattle.cj_stream.proofs.JoinedLemmas.{joined-more, joined-short, joined-all}
 use Rattle.cj_stream.proofs.CutLemmas.{unread-told, unread-concludes, TookWhole-left}
-use Rattle.cj_stream.proofs.RunLemmas.{Delivers-then, kept_first-same, Ends-finished, Ends-fed, told-not_complete}
+use Rattle.cj_stream.proofs.RunLemmas.{Delivers-then, kept_first-same, Ends-finished, Ends-fed, HasRisen-after, told-not_complete}
 use Rattle.cj_stream.proofs.copying.feed_all.Goals as goal
 
 pub feed-requires : goal.feed-requires
@@ -51,6 +51,9 @@ returns-in-Err-clause-unread g c =
     let piece = get_or c.args.pieces.now c.loop-taken.taken (record { ref_ptr = (0, 0); now = [] }) in
     unread-told (rules_of c.loop-taken.engine) (r ++ piece.now) (lines_of c.feed.new.self) c.in-Err.ended (c.in-Err.ensures.told r i.2 i.0)
 
+pub returns-in-Err-clause-cause : goal.returns-in-Err-clause-cause
+returns-in-Err-clause-cause g c = λ e. HasRisen-after _ _ _ c.loop-taken.invariant.4 (c.feed.ensures.cause c.loop-taken.invariant.0 (c.in-Err.is ∙ ap Err e))
+
 pub loop-taken-preserved : goal.loop-taken-preserved
 loop-taken-preserved g c =
     let i = c.loop-taken.invariant in
@@ -64,6 +67,7 @@ loop-taken-preserved g c =
       let x = c.feed.ensures.sink r i.2 i.0 in
           let y = rw (i.1, c.in_default.ensures.open) at x in
           rw more (Delivers-then g.S.LineSink.takes g.S.LineSink.leaves _ r (r ++ piece.now) _ _ _ _ _ _ (kept_first-same _ (lines_of c.loop-taken.engine) r piece.now (i.2.going i.0).0.lines) i.3 y),
+      omega (arith, i.4, c.feed.ensures.counts),
     )
 
 pub returns-clause-runs : goal.returns-clause-runs
@@ -109,3 +113,6 @@ returns-clause-unread g c =
     let i = c.loop-taken.invariant in
     let r = joined (take c.loop-taken.taken (map (λ piece. piece.now) c.args.pieces.now)) in
     unread-concludes (rules_of c.loop-taken.engine) r (lines_of c.finish.new.self) c.finish.result (c.finish.ensures.answer r i.2 i.0)
+
+pub returns-clause-cause : goal.returns-clause-cause
+returns-clause-cause g c = λ e. HasRisen-after _ _ _ c.loop-taken.invariant.4 (c.finish.ensures.cause c.loop-taken.invariant.0 e)

@@ -5,12 +5,17 @@ use lib.Utf8.{encode}
 use Rattle.cj_spans.proofs.Judgements.{judgement, over, by_step, by_depth, sinks, at_end, by_end, text_of, no_end, ends_at}
 use Rattle.cj_spans.specs.Text.{text, points_after, first_point, first_width}
 use Rattle.cj_stream.specs.Verdict.{verdict_at}
+use Rattle.cj_stream.proofs.RowLemmas.{whole, blank, order, bad}
 use Rattle.cj_stream.proofs.laws.rows_compute.Goals as goal
 
 pub returns : goal.returns
 unfolding verdict_at is_utf8 chars encode utf8_valid_len judgement over by_step by_depth sinks at_end by_end text_of no_end ends_at text points_after first_point first_width
 returns c = record {
   empty = ((refl, refl), (refl, refl));
+  whole = whole;
+  blank = blank;
+  order = order;
+  bad = bad;
   long = ((refl, refl), (refl, refl));
   text = (refl, refl);
   syntax = ((refl, refl), (refl, refl));

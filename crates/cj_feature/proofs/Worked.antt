@@ -1,0 +1,42 @@
+-- What the rules say of worked headers and features.
+use Rattle.std.proofs.Common.{◌≡◌, [], false, None, Some, refl}
+use Rattle.std.specs.Prelude.{codes}
+use Rattle.std.specs.Str.{chars}
+use Rattle.cj_spans.specs.declared.reason.Reason.TheVariants.{MissingMember, IdNotFound}
+use Rattle.cj_spans.specs.Finding.{least, found_at}
+use Rattle.cj_spans.specs.Json.{atom_at}
+use Rattle.cj_spans.specs.Text.{text, points_after, first_point, first_width}
+use Rattle.cj_spans.specs.Tree.{object, member, no_members}
+use Rattle.cj_geometry.specs.ObjectTypes.{object_types}
+use Rattle.cj_geometry.proofs.Digits.{number-zero, number-one}
+use Rattle.cj_feature.specs.Examples.{Row, row, plain_header, other_id, text as text_at}
+use Rattle.cj_feature.specs.Feature.{feature}
+use Rattle.cj_feature.specs.Header.{header}
+
+-- a feature of one city object
+abbrev pub plain_feature : Row
+plain_feature =
+    row (codes "\"b\":{\"type\":\"Building\"}")
+    (λ line. member (atom_at line 50 53) (object 54 73
+    (member (atom_at line 55 61) (text_at line 62 72) no_members)) no_members)
+
+pub plain_header-valid : header false plain_header ≡ []
+unfolding text points_after first_point first_width chars
+plain_header-valid = simp (number-zero, number-one) refl
+
+pub plain_feature-valid : feature plain_header plain_feature.tree ≡ []
+unfolding text points_after first_point first_width chars object_types
+plain_feature-valid = refl
+
+pub other_id-refused : least None (feature plain_header other_id.tree) ≡ Some (found_at 31 IdNotFound)
+unfolding text points_after first_point first_width chars object_types
+other_id-refused = refl
+
+-- neither a header nor a feature is the other
+pub feature-no_header : least None (header false plain_feature.tree) ≡ Some (found_at 0 MissingMember)
+unfolding text points_after first_point first_width chars object_types
+feature-no_header = refl
+
+pub header-no_feature : least None (feature plain_header plain_header) ≡ Some (found_at 0 MissingMember)
+unfolding text points_after first_point first_width chars object_types
+header-no_feature = refl

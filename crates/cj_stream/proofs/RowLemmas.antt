@@ -1,0 +1,154 @@
+-- Worked rows: the trees of their lines, the verdicts, and what comes of them.
+use Rattle.std.proofs.Common.{◌≡◌, ℕ, ◌≤◌, List, [], ◌∷◌, ◌++◌, length, Bool, false, Option, Some, None, refl, sym, ap, subst, ◌∙◌, lit≤}
+use Rattle.std.specs.Prelude.{IsUtf8, ◌&&◌, nat_lt, codes}
+use Rattle.std.specs.List.{flat_map, list_all}
+use Rattle.std.specs.Str.{is_utf8, chars}
+use Rattle.std.proofs.lemmas.Str.{IsUtf8-from_is_utf8}
+use lib.Utf8.{encode}
+use Rattle.cj_spans.specs.declared.reason.Reason.{Reason}
+use Rattle.cj_spans.specs.declared.reason.Reason.TheVariants.{MissingMember, IdNotFound}
+use Rattle.cj_spans.specs.declared.step.Mode.TheVariants.{After}
+use Rattle.cj_spans.specs.declared.token.Token.{Token}
+use Rattle.cj_spans.specs.Forest.{forest}
+use Rattle.cj_spans.specs.Json.{Json}
+use Rattle.cj_spans.specs.Judgement.{Judgement, spelled, broken, sunk}
+use Rattle.cj_spans.specs.Machine.{State, state, between, settle}
+use Rattle.cj_spans.specs.Preorder.{preorder, spans_of}
+use Rattle.cj_spans.specs.Text.{text, points_after, first_point, first_width}
+use Rattle.cj_spans.specs.Tree.{Tree, nest, object, member, no_members}
+use Rattle.cj_spans.proofs.Forests.{json_shown}
+use Rattle.cj_spans.proofs.Judgements.{judgement, say_same}
+use Rattle.cj_spans.proofs.Lists.{spans_of-flatten}
+use Rattle.cj_spans.proofs.WorkedLines.{after, spells_end}
+use Rattle.cj_feature.specs.Examples.{plain_header, other_id}
+use Rattle.cj_feature.proofs.Worked.{plain_feature, plain_header-valid, plain_feature-valid, other_id-refused, feature-no_header, header-no_feature}
+use Rattle.cj_stream.specs.declared.ending.End.{End}
+use Rattle.cj_stream.specs.declared.ending.End.TheVariants.{Complete, Refused}
+use Rattle.cj_stream.specs.Item.{raw_item, judged_tree, tree_of}
+use Rattle.cj_stream.specs.Lines.{Line, raw, ended_line}
+use Rattle.cj_stream.specs.Rows.{small_header, small_feature, lost_feature, wide_rules, WholeRow, BlankRow, OrderRow, BadRow}
+use Rattle.cj_stream.specs.Verdict.{Rules, Verdict, Refuse, Blank, Valid, is_blank_byte, verdict, verdict_at, text_verdict, by_least, tree_verdict, ending_of, good_from, kept_from}
+use Rattle.cj_stream.proofs.VerdictLemmas.{verdict-json, verdict-blank, tree-valid}
+
+-- ---- trees
+
+first : {A : Type 0} (x y : A) → x ∷ [] ≡ y ∷ [] → x ≡ y
+first x y e = cc
+
+-- a line whose run is known spells the tree that its tokens show
+spelled-tree : (b : List ℕ) (s : State) (us : List Token) (p : ℕ) (t : Tree) → after b (length b) ≡ Some s → settle s ≡ Some (state (between After) [] us (length b) p) → forest b (spans_of us) ≡ t ∷ [] → Json b t
+spelled-tree b s us p t h e f =
+    let z = spells_end b s us p h e in
+    let spans : spans_of us ≡ preorder z.tree = ap spans_of z.tokens ∙ spans_of-flatten 0 z.tree in
+    subst (Json b) (first z.tree t (sym (json_shown b z.tree z.json) ∙ (ap (forest b) (sym spans) ∙ f))) z.json
+
+-- so its judgement has that tree
+module _ {b : List ℕ} {d : ℕ} (t : Tree) (json : Json b t) (shallow : nest t ≤ d) where
+  judged : (j : Judgement b d) → judged_tree j ≡ t
+  judged (spelled u k m) = say_same (spelled u k m) (spelled t json shallow)
+  judged (broken i s m) = absurd (say_same (broken i s m) (spelled t json shallow))
+  judged (sunk i s) = absurd (say_same (sunk i s) (spelled t json shallow))
+
+  by-tree : (rules : Rules) (n : ℕ) (header : Tree) (j : Judgement b d) → text_verdict rules n header j ≡ tree_verdict rules n header t
+  by-tree rules n header (spelled u k m) = ap (tree_verdict rules n header) (say_same (spelled u k m) (spelled t json shallow))
+  by-tree rules n header (broken i s m) = absurd (say_same (broken i s m) (spelled t json shallow))
+  by-tree rules n header (sunk i s) = absurd (say_same (sunk i s) (spelled t json shallow))
+
+pub header_json : Json small_header plain_header
+unfolding forest
+header_json = spelled-tree small_header _ _ _ plain_header refl refl refl
+
+pub feature_json : Json small_feature plain_feature.tree
+unfolding forest
+feature_json = spelled-tree small_feature _ _ _ plain_feature.tree refl refl refl
+
+pub lost_json : Json lost_feature other_id.tree
+unfolding forest
+lost_json = spelled-tree lost_feature _ _ _ other_id.tree refl refl refl
+
+-- ---- verdicts
+
+-- the verdict on a line of this tree
+module _ (n : ℕ) (header : Tree) (c : List ℕ) (t : Tree) (json : Json c t) (shallow : nest t ≤ 64) where
+  sound : length c ≤ 8388608 → IsUtf8 c → nat_lt 1 n && list_all is_blank_byte c ≡ false → verdict_at wide_rules n header c ≡ tree_verdict wide_rules n header t
+  sound short is_text full = verdict-json wide_rules n header c short is_text full ∙ by-tree t json shallow wide_rules n header (judgement c 64)
+
+header_text : IsUtf8 small_header
+unfolding is_utf8 chars encode
+header_text = IsUtf8-from_is_utf8 small_header refl
+
+feature_text : IsUtf8 small_feature
+unfolding is_utf8 chars encode
+feature_text = IsUtf8-from_is_utf8 small_feature refl
+
+lost_text : IsUtf8 lost_feature
+unfolding is_utf8 chars encode
+lost_text = IsUtf8-from_is_utf8 lost_feature refl
+
+-- the tree of the header
+header_tree : tree_of 64 small_header ≡ plain_header
+header_tree = judged plain_header header_json (lit≤ tt) (judgement small_header 64)
+
+header_first : (t : Tree) → verdict_at wide_rules 1 t small_header ≡ Valid
+header_first t = sound 1 t small_header plain_header header_json (lit≤ tt) (lit≤ tt) header_text refl ∙ tree-valid wide_rules 1 t plain_header plain_header-valid
+
+feature_second : verdict_at wide_rules 2 (tree_of 64 small_header) small_feature ≡ Valid
+feature_second =
+    rw header_tree (sound 2 plain_header small_feature plain_feature.tree feature_json (lit≤ tt) (lit≤ tt) feature_text refl ∙ tree-valid wide_rules 2 plain_header plain_feature.tree plain_feature-valid)
+
+feature_third : verdict_at wide_rules 3 (tree_of 64 small_header) small_feature ≡ Valid
+feature_third =
+    rw header_tree (sound 3 plain_header small_feature plain_feature.tree feature_json (lit≤ tt) (lit≤ tt) feature_text refl ∙ tree-valid wide_rules 3 plain_header plain_feature.tree plain_feature-valid)
+
+feature_first : (t : Tree) → verdict_at wide_rules 1 t small_feature ≡ Refuse 0 MissingMember
+feature_first t = sound 1 t small_feature plain_feature.tree feature_json (lit≤ tt) (lit≤ tt) feature_text refl ∙ ap by_least feature-no_header
+
+header_second : verdict_at wide_rules 2 (tree_of 64 small_header) small_header ≡ Refuse 0 MissingMember
+header_second = rw header_tree (sound 2 plain_header small_header plain_header header_json (lit≤ tt) (lit≤ tt) header_text refl ∙ ap by_least header-no_feature)
+
+lost_third : verdict_at wide_rules 3 (tree_of 64 small_header) lost_feature ≡ Refuse 31 IdNotFound
+lost_third = rw header_tree (sound 3 plain_header lost_feature other_id.tree lost_json (lit≤ tt) (lit≤ tt) lost_text refl ∙ ap by_least other_id-refused)
+
+-- ---- lines
+
+module _ (rules : Rules) where
+  -- what is written of some lines
+  abbrev written : List Line → List ℕ
+  written ls = flat_map raw_item (kept_from rules [] (good_from rules [] ls))
+
+  module _ (place : ℕ) (reason : Reason) where
+    first-refused : (l : Line) (rest : List Line) → verdict rules [] l.content ≡ Refuse place reason → (ending_of rules (l ∷ rest) ≡ Refused 1 place reason) × (written (l ∷ rest) ≡ [])
+    first-refused l rest bad = rw bad (refl, refl)
+
+    module _ (h : Line) (valid : verdict rules [] h.content ≡ Valid) where
+      second-refused : (l : Line) (rest : List Line) → verdict rules (h ∷ []) l.content ≡ Refuse place reason → (ending_of rules (h ∷ l ∷ rest) ≡ Refused 2 place reason) × (written (h ∷ l ∷ rest) ≡ raw h ++ [])
+      second-refused l rest bad = rw (valid, bad) (refl, rw valid refl)
+
+      third-refused : (f l : Line) (rest : List Line) → verdict rules (h ∷ []) f.content ≡ Valid → verdict rules (h ∷ f ∷ []) l.content ≡ Refuse place reason
+          → (ending_of rules (h ∷ f ∷ l ∷ rest) ≡ Refused 3 place reason) × (written (h ∷ f ∷ l ∷ rest) ≡ raw h ++ (raw f ++ []))
+      third-refused f l rest good bad = rw (valid, good, bad) (refl, rw (valid, good) refl)
+
+  module _ (h : Line) (valid : verdict rules [] h.content ≡ Valid) where
+    two-good : (f : Line) → verdict rules (h ∷ []) f.content ≡ Valid → (ending_of rules (h ∷ f ∷ []) ≡ Complete) × (written (h ∷ f ∷ []) ≡ raw h ++ (raw f ++ []))
+    two-good f good = rw (valid, good) (refl, rw (valid, good) refl)
+
+    blank-between : (b f : Line) → verdict rules (h ∷ []) b.content ≡ Blank → verdict rules (h ∷ b ∷ []) f.content ≡ Valid
+        → (ending_of rules (h ∷ b ∷ f ∷ []) ≡ Complete) × (written (h ∷ b ∷ f ∷ []) ≡ raw h ++ (raw f ++ []))
+    blank-between b f blank good = rw (valid, blank, good) (refl, rw (valid, blank, good) refl)
+
+-- ---- rows
+
+pub whole : WholeRow
+whole = two-good wide_rules (ended_line small_header) (header_first _) (ended_line small_feature) feature_second
+
+pub blank : BlankRow
+blank = blank-between wide_rules (ended_line small_header) (header_first _) (ended_line (13 ∷ [])) (record { content = small_feature; lf = false }) (verdict-blank wide_rules 2 _ (13 ∷ []) (lit≤ tt) refl) feature_third
+
+pub order : OrderRow
+order = (
+  first-refused wide_rules 0 MissingMember (ended_line small_feature) (record { content = small_header; lf = false } ∷ []) (feature_first _),
+  second-refused wide_rules 0 MissingMember (ended_line small_header) (header_first _) (record { content = small_header; lf = false }) [] header_second,
+)
+
+pub bad : BadRow
+bad = third-refused wide_rules 31 IdNotFound (ended_line small_header) (header_first _) (ended_line small_feature) (ended_line lost_feature) (ended_line small_feature ∷ []) feature_second lost_third

@@ -1,0 +1,91 @@
+-- Counts of what a sink took.
+use Rattle.std.proofs.Common.{◌≡◌, ℕ, ◌+◌, ◌-◌, ◌^◌, ◌≤◌, List, [], ◌∷◌, ◌++◌, length, min, take, drop, Option, Some, None, sym, ap, ◌∙◌, cond, arith}
+use Rattle.std.specs.Prelude.{is_some, not}
+use Rattle.std.specs.List.{filter}
+use Rattle.cj_budget.specs.declared.limits.Peaks.{Peaks}
+use Rattle.cj_spans.specs.Tree.{Tree}
+use Rattle.cj_stream.specs.declared.count.CountSink.{CountSink}
+use Rattle.cj_stream.specs.declared.ending.End.{End}
+use Rattle.cj_stream.specs.declared.ending.End.TheVariants.{Complete, Refused, ReadFault, ReadLimit, WriteFault, Memory}
+use Rattle.cj_stream.specs.CountSink.{Counts, CountsBy}
+use Rattle.cj_stream.specs.Cut.{joined, LeavesNext, PutsPieces}
+use Rattle.cj_stream.specs.Item.{Item, is_feature}
+use Rattle.cj_stream.specs.Lines.{lines, whole}
+use Rattle.cj_stream.specs.Run.{Runs}
+use Rattle.cj_stream.specs.Sink.{Took}
+use Rattle.cj_stream.specs.Tally.{is_header, counts_of, CountsRun, CountsPieces}
+use Rattle.cj_stream.specs.Verdict.{Rules, good_from, kept_from, kept}
+use Rattle.cj_stream.proofs.GoodLemmas.{kept-split}
+use Rattle.cj_stream.proofs.OutputLemmas.{Took-all, kept-whole}
+
+-- both counts are those of another sink
+both : (a b : CountSink) → a.headers ≡ b.headers → a.features ≡ b.features → a ≡ b
+both a b h k =
+    let first : ◌≡◌ {A = CountSink} (record { headers = a.headers; features = a.features }) (record { headers = b.headers; features = a.features }) = ap (λ z. record { headers = z; features = a.features }) h in
+    first ∙ ap (λ z. record { headers = b.headers; features = z }) k
+
+-- a sink that counted some items goes up by them
+counts-more : (a b : CountSink) (is : List Item) → a.headers ≤ 2 ^ 64 - 1 → a.features ≤ 2 ^ 64 - 1 → Took Counts a is b
+    → (b.headers ≡ min (a.headers + length (filter is_header is)) (2 ^ 64 - 1)) × (b.features ≡ min (a.features + length (filter is_feature is)) (2 ^ 64 - 1))
+counts-more a b [] h k took = (omega (arith, h, ap (λ s. s.headers) took), omega (arith, k, ap (λ s. s.features) took))
+counts-more a b (i ∷ is) h k took = step i.header (λ p q. counts-more took.0 b is p q took.2) took.1
+  where
+    step : (o : Option Tree)
+        → (took.0.headers ≤ 2 ^ 64 - 1 → took.0.features ≤ 2 ^ 64 - 1
+        → (b.headers ≡ min (took.0.headers + length (filter is_header is)) (2 ^ 64 - 1)) × (b.features ≡ min (took.0.features + length (filter is_feature is)) (2 ^ 64 - 1)))
+        → CountsBy a o took.0
+        → (b.headers ≡ min (a.headers + length (cond (not (is_some o)) (i ∷ filter is_header is) (filter is_header is))) (2 ^ 64 - 1))
+        × (b.features ≡ min (a.features + length (cond (is_some o) (i ∷ filter is_feature is) (filter is_feature is))) (2 ^ 64 - 1))
+    step None more c =
+        let later = more (omega (arith, c.0)) (omega (arith, c.1, k)) in
+        (omega (arith, later.0, c.0), omega (arith, later.1, c.1))
+    step (Some x) more c =
+        let later = more (omega (arith, c.1, h)) (omega (arith, c.0)) in
+        (omega (arith, later.0, c.1), omega (arith, later.1, c.0))
+
+-- a new sink that counted some items has their counts
+counts-all : (b : CountSink) (is : List Item) → Took Counts (record { headers = 0; features = 0 }) is b → b ≡ counts_of is
+counts-all b is took =
+    let all = counts-more (record { headers = 0; features = 0 }) b is (omega arith) (omega arith) took in
+    both b (counts_of is) (omega (arith, all.0)) (omega (arith, all.1))
+
+module _ (rules : Rules) (r : List ℕ) (at_end : Type 0) (c : CountSink) (n features : ℕ) (peaks : Peaks) where
+  -- what a run has counted, by its end
+  pub CountsRun-runs : (e : End) → Runs Counts (λ a i b. ⊥) rules r at_end (record { headers = 0; features = 0 }) c n features peaks e → CountsRun rules r e c
+  CountsRun-runs Complete h = counts-all c (kept rules r) (Took-all Counts (λ a i b. ⊥) rules r n _ c Complete h.sink h.sink.fault h.account.ends.1)
+  CountsRun-runs (Refused number place reason) h =
+      counts-all c (kept rules r) (Took-all Counts (λ a i b. ⊥) rules r n _ c (Refused number place reason) h.sink h.sink.fault h.account.ends.1)
+  CountsRun-runs ReadFault h =
+      let k : h.sink.added ≡ kept rules (whole r) = sym h.sink.kept ∙ kept-whole rules n r h.account.ends.0 h.account.ends.1 in
+      counts-all c (kept rules (whole r)) (rw (← k, h.sink.fault) h.sink.took)
+  CountsRun-runs ReadLimit h =
+      let k : h.sink.added ≡ kept rules (whole r) = sym h.sink.kept ∙ kept-whole rules n r h.account.ends.0 h.account.ends.1 in
+      counts-all c (kept rules (whole r)) (rw (← k, h.sink.fault) h.sink.took)
+  CountsRun-runs WriteFault h = h.sink.fault.3
+  CountsRun-runs Memory h =
+      let others : List Item = kept_from rules (take n (lines r)) (good_from rules (take n (lines r)) (drop n (lines r))) in
+      record {
+        more = h.sink.added;
+        others = others;
+        front = kept-split rules n r h.account.counts.good ∙ ap (λ z. z ++ others) h.sink.kept;
+        counts = counts-all c h.sink.added (rw h.sink.fault h.sink.took);
+      }
+
+-- what was counted of pieces
+pub CountsPieces-puts : (rules : Rules) (pieces : List (List ℕ)) (n : ℕ) (c : CountSink) (e : End)
+    → PutsPieces Counts (λ a i b. ⊥) rules pieces n e (record { headers = 0; features = 0 }) c → CountsPieces rules pieces n e c
+CountsPieces-puts rules pieces n c Complete h = (h.0, counts-all c (kept rules (joined pieces)) h.1)
+CountsPieces-puts rules pieces n c (Refused number place reason) h = (h.0, counts-all c (kept rules (joined pieces)) h.1)
+CountsPieces-puts rules pieces n c ReadFault h = h
+CountsPieces-puts rules pieces n c ReadLimit h = h
+CountsPieces-puts rules pieces n c WriteFault h = never h.others h.middle h.left
+  where
+    never : (others : List Item) (m : CountSink) → LeavesNext (λ a i b. ⊥) others m c → ⊥
+    never [] m k = k
+    never (i ∷ is) m k = k
+CountsPieces-puts rules pieces n c Memory h = record {
+  more = h.more;
+  others = h.others;
+  front = h.front;
+  counts = counts-all c (kept rules (whole (joined (take n pieces))) ++ h.more) (rw h.left h.took);
+}
