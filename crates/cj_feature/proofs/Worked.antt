@@ -1,12 +1,12 @@
 -- What the rules say of worked headers and features.
-use Rattle.std.proofs.Common.{◌≡◌, [], false, None, Some, refl}
+use Rattle.std.proofs.Common.{◌≡◌, ℕ, List, [], ◌∷◌, ◌++◌, false, None, Some, refl}
 use Rattle.std.specs.Prelude.{codes}
 use Rattle.std.specs.Str.{chars}
 use Rattle.cj_spans.specs.declared.reason.Reason.TheVariants.{MissingMember, IdNotFound}
 use Rattle.cj_spans.specs.Finding.{least, found_at}
 use Rattle.cj_spans.specs.Json.{atom_at}
 use Rattle.cj_spans.specs.Text.{text, points_after, first_point, first_width}
-use Rattle.cj_spans.specs.Tree.{object, member, no_members}
+use Rattle.cj_spans.specs.Tree.{Tree, array, object, no_items, member, no_members}
 use Rattle.cj_geometry.specs.ObjectTypes.{object_types}
 use Rattle.cj_geometry.proofs.Digits.{number-zero, number-one}
 use Rattle.cj_feature.specs.Examples.{Row, row, plain_header, other_id, text as text_at}
@@ -20,6 +20,18 @@ plain_feature =
     (λ line. member (atom_at line 50 53) (object 54 73
     (member (atom_at line 55 61) (text_at line 62 72) no_members)) no_members)
 
+-- the same with a name of three bytes
+abbrev pub euro_line : List ℕ
+euro_line = codes "{\"type\":\"CityJSONFeature\",\"id\":\"" ++ 226 ∷ 130 ∷ 172 ∷ codes "\",\"CityObjects\":{\"" ++ 226 ∷ 130 ∷ 172 ∷ codes "\":{\"type\":\"Building\"}},\"vertices\":[]}"
+
+abbrev pub euro_feature : Tree
+euro_feature =
+    object 0 93 (member (atom_at euro_line 1 7) (text_at euro_line 8 25)
+    (member (atom_at euro_line 26 30) (text_at euro_line 31 36)
+    (member (atom_at euro_line 37 50) (object 51 78 (member (atom_at euro_line 52 57) (object 58 77
+    (member (atom_at euro_line 59 65) (text_at euro_line 66 76) no_members)) no_members))
+    (member (atom_at euro_line 79 89) (array 90 92 no_items) no_members))))
+
 pub plain_header-valid : header false plain_header ≡ []
 unfolding text points_after first_point first_width chars
 plain_header-valid = simp (number-zero, number-one) refl
@@ -27,6 +39,10 @@ plain_header-valid = simp (number-zero, number-one) refl
 pub plain_feature-valid : feature plain_header plain_feature.tree ≡ []
 unfolding text points_after first_point first_width chars object_types
 plain_feature-valid = refl
+
+pub euro_feature-valid : feature plain_header euro_feature ≡ []
+unfolding text points_after first_point first_width chars object_types
+euro_feature-valid = refl
 
 pub other_id-refused : least None (feature plain_header other_id.tree) ≡ Some (found_at 31 IdNotFound)
 unfolding text points_after first_point first_width chars object_types

@@ -1,12 +1,13 @@
 -- Worked rows: the trees of their lines, the verdicts, and what comes of them.
-use Rattle.std.proofs.Common.{◌≡◌, ℕ, ◌≤◌, List, [], ◌∷◌, ◌++◌, length, Bool, false, Option, Some, None, refl, sym, ap, subst, ◌∙◌, lit≤}
-use Rattle.std.specs.Prelude.{IsUtf8, ◌&&◌, nat_lt, codes}
+use Rattle.std.proofs.Common.{◌≡◌, ℕ, ◌≤◌, List, [], ◌∷◌, ◌++◌, length, false, Some, refl, sym, ap, subst, ◌∙◌, lit≤, lit<}
+use Rattle.std.specs.Prelude.{IsUtf8, ◌&&◌, nat_lt, codes, take, replicate}
 use Rattle.std.specs.List.{flat_map, list_all}
 use Rattle.std.specs.Str.{is_utf8, chars}
 use Rattle.std.proofs.lemmas.Str.{IsUtf8-from_is_utf8}
+use Rattle.std.specs.Str.Lossy.{utf8_valid_len}
 use lib.Utf8.{encode}
 use Rattle.cj_spans.specs.declared.reason.Reason.{Reason}
-use Rattle.cj_spans.specs.declared.reason.Reason.TheVariants.{MissingMember, IdNotFound}
+use Rattle.cj_spans.specs.declared.reason.Reason.TheVariants.{LineTooLong, NotUtf8, Syntax, TooDeep, MissingMember, IdNotFound}
 use Rattle.cj_spans.specs.declared.step.Mode.TheVariants.{After}
 use Rattle.cj_spans.specs.declared.token.Token.{Token}
 use Rattle.cj_spans.specs.Forest.{forest}
@@ -14,21 +15,19 @@ use Rattle.cj_spans.specs.Json.{Json}
 use Rattle.cj_spans.specs.Judgement.{Judgement, spelled, broken, sunk}
 use Rattle.cj_spans.specs.Machine.{State, state, between, settle}
 use Rattle.cj_spans.specs.Preorder.{preorder, spans_of}
-use Rattle.cj_spans.specs.Text.{text, points_after, first_point, first_width}
-use Rattle.cj_spans.specs.Tree.{Tree, nest, object, member, no_members}
+use Rattle.cj_spans.specs.Tree.{Tree, nest}
 use Rattle.cj_spans.proofs.Forests.{json_shown}
-use Rattle.cj_spans.proofs.Judgements.{judgement, say_same}
+use Rattle.cj_spans.proofs.Judgements.{judgement, over, by_step, by_depth, sinks, at_end, by_end, text_of, no_end, ends_at, say_same}
 use Rattle.cj_spans.proofs.Lists.{spans_of-flatten}
 use Rattle.cj_spans.proofs.WorkedLines.{after, spells_end}
 use Rattle.cj_feature.specs.Examples.{plain_header, other_id}
-use Rattle.cj_feature.proofs.Worked.{plain_feature, plain_header-valid, plain_feature-valid, other_id-refused, feature-no_header, header-no_feature}
-use Rattle.cj_stream.specs.declared.ending.End.{End}
+use Rattle.cj_feature.proofs.Worked.{plain_feature, euro_feature as euro_tree, euro_feature-valid, plain_header-valid, plain_feature-valid, other_id-refused, feature-no_header, header-no_feature}
 use Rattle.cj_stream.specs.declared.ending.End.TheVariants.{Complete, Refused}
 use Rattle.cj_stream.specs.Item.{raw_item, judged_tree, tree_of}
 use Rattle.cj_stream.specs.Lines.{Line, raw, ended_line}
-use Rattle.cj_stream.specs.Rows.{small_header, small_feature, lost_feature, wide_rules, WholeRow, BlankRow, OrderRow, BadRow}
-use Rattle.cj_stream.specs.Verdict.{Rules, Verdict, Refuse, Blank, Valid, is_blank_byte, verdict, verdict_at, text_verdict, by_least, tree_verdict, ending_of, good_from, kept_from}
-use Rattle.cj_stream.proofs.VerdictLemmas.{verdict-json, verdict-blank, tree-valid}
+use Rattle.cj_stream.specs.Rows.{small_header, small_feature, lost_feature, euro_feature, wide_rules, tight_rules, Gives, WholeRow, BlankRow, OrderRow, BadRow, LongRow}
+use Rattle.cj_stream.specs.Verdict.{Rules, Refuse, Blank, Valid, is_blank_byte, verdict, verdict_at, text_verdict, by_least, tree_verdict, ending_of, good_from, kept_from}
+use Rattle.cj_stream.proofs.VerdictLemmas.{verdict-long, verdict-json, verdict-blank, tree-valid}
 
 -- ---- trees
 
@@ -54,15 +53,19 @@ module _ {b : List ℕ} {d : ℕ} (t : Tree) (json : Json b t) (shallow : nest t
   by-tree rules n header (broken i s m) = absurd (say_same (broken i s m) (spelled t json shallow))
   by-tree rules n header (sunk i s) = absurd (say_same (sunk i s) (spelled t json shallow))
 
-pub header_json : Json small_header plain_header
+header_json : Json small_header plain_header
 unfolding forest
 header_json = spelled-tree small_header _ _ _ plain_header refl refl refl
 
-pub feature_json : Json small_feature plain_feature.tree
+feature_json : Json small_feature plain_feature.tree
 unfolding forest
 feature_json = spelled-tree small_feature _ _ _ plain_feature.tree refl refl refl
 
-pub lost_json : Json lost_feature other_id.tree
+euro_json : Json euro_feature euro_tree
+unfolding forest
+euro_json = spelled-tree euro_feature _ _ _ euro_tree refl refl refl
+
+lost_json : Json lost_feature other_id.tree
 unfolding forest
 lost_json = spelled-tree lost_feature _ _ _ other_id.tree refl refl refl
 
@@ -70,8 +73,11 @@ lost_json = spelled-tree lost_feature _ _ _ other_id.tree refl refl refl
 
 -- the verdict on a line of this tree
 module _ (n : ℕ) (header : Tree) (c : List ℕ) (t : Tree) (json : Json c t) (shallow : nest t ≤ 64) where
-  sound : length c ≤ 8388608 → IsUtf8 c → nat_lt 1 n && list_all is_blank_byte c ≡ false → verdict_at wide_rules n header c ≡ tree_verdict wide_rules n header t
-  sound short is_text full = verdict-json wide_rules n header c short is_text full ∙ by-tree t json shallow wide_rules n header (judgement c 64)
+  abbrev under : ℕ → Rules
+  under line = record { limits = record { line = line; depth = 64 }; with_box = false }
+
+  sound : (line : ℕ) → length c ≤ line → IsUtf8 c → nat_lt 1 n && list_all is_blank_byte c ≡ false → verdict_at (under line) n header c ≡ tree_verdict (under line) n header t
+  sound line short is_text full = verdict-json (under line) n header c short is_text full ∙ by-tree t json shallow (under line) n header (judgement c 64)
 
 header_text : IsUtf8 small_header
 unfolding is_utf8 chars encode
@@ -85,29 +91,68 @@ lost_text : IsUtf8 lost_feature
 unfolding is_utf8 chars encode
 lost_text = IsUtf8-from_is_utf8 lost_feature refl
 
+euro_text : IsUtf8 euro_feature
+unfolding is_utf8 chars encode
+euro_text = IsUtf8-from_is_utf8 euro_feature refl
+
 -- the tree of the header
 header_tree : tree_of 64 small_header ≡ plain_header
 header_tree = judged plain_header header_json (lit≤ tt) (judgement small_header 64)
 
 header_first : (t : Tree) → verdict_at wide_rules 1 t small_header ≡ Valid
-header_first t = sound 1 t small_header plain_header header_json (lit≤ tt) (lit≤ tt) header_text refl ∙ tree-valid wide_rules 1 t plain_header plain_header-valid
+header_first t = sound 1 t small_header plain_header header_json (lit≤ tt) 8388608 (lit≤ tt) header_text refl ∙ tree-valid wide_rules 1 t plain_header plain_header-valid
+
+header_tight : (t : Tree) → verdict_at tight_rules 1 t small_header ≡ Valid
+header_tight t = sound 1 t small_header plain_header header_json (lit≤ tt) 116 (lit≤ tt) header_text refl ∙ tree-valid tight_rules 1 t plain_header plain_header-valid
+
+euro_second : verdict_at wide_rules 2 (tree_of 64 small_header) euro_feature ≡ Valid
+euro_second =
+    rw header_tree (sound 2 plain_header euro_feature euro_tree euro_json (lit≤ tt) 8388608 (lit≤ tt) euro_text refl ∙ tree-valid wide_rules 2 plain_header euro_tree euro_feature-valid)
 
 feature_second : verdict_at wide_rules 2 (tree_of 64 small_header) small_feature ≡ Valid
 feature_second =
-    rw header_tree (sound 2 plain_header small_feature plain_feature.tree feature_json (lit≤ tt) (lit≤ tt) feature_text refl ∙ tree-valid wide_rules 2 plain_header plain_feature.tree plain_feature-valid)
+    rw header_tree (sound 2 plain_header small_feature plain_feature.tree feature_json (lit≤ tt) 8388608 (lit≤ tt) feature_text refl ∙ tree-valid wide_rules 2 plain_header plain_feature.tree plain_feature-valid)
 
 feature_third : verdict_at wide_rules 3 (tree_of 64 small_header) small_feature ≡ Valid
 feature_third =
-    rw header_tree (sound 3 plain_header small_feature plain_feature.tree feature_json (lit≤ tt) (lit≤ tt) feature_text refl ∙ tree-valid wide_rules 3 plain_header plain_feature.tree plain_feature-valid)
+    rw header_tree (sound 3 plain_header small_feature plain_feature.tree feature_json (lit≤ tt) 8388608 (lit≤ tt) feature_text refl ∙ tree-valid wide_rules 3 plain_header plain_feature.tree plain_feature-valid)
 
 feature_first : (t : Tree) → verdict_at wide_rules 1 t small_feature ≡ Refuse 0 MissingMember
-feature_first t = sound 1 t small_feature plain_feature.tree feature_json (lit≤ tt) (lit≤ tt) feature_text refl ∙ ap by_least feature-no_header
+feature_first t = sound 1 t small_feature plain_feature.tree feature_json (lit≤ tt) 8388608 (lit≤ tt) feature_text refl ∙ ap by_least feature-no_header
 
 header_second : verdict_at wide_rules 2 (tree_of 64 small_header) small_header ≡ Refuse 0 MissingMember
-header_second = rw header_tree (sound 2 plain_header small_header plain_header header_json (lit≤ tt) (lit≤ tt) header_text refl ∙ ap by_least header-no_feature)
+header_second = rw header_tree (sound 2 plain_header small_header plain_header header_json (lit≤ tt) 8388608 (lit≤ tt) header_text refl ∙ ap by_least header-no_feature)
 
 lost_third : verdict_at wide_rules 3 (tree_of 64 small_header) lost_feature ≡ Refuse 31 IdNotFound
-lost_third = rw header_tree (sound 3 plain_header lost_feature other_id.tree lost_json (lit≤ tt) (lit≤ tt) lost_text refl ∙ ap by_least other_id-refused)
+lost_third = rw header_tree (sound 3 plain_header lost_feature other_id.tree lost_json (lit≤ tt) 8388608 (lit≤ tt) lost_text refl ∙ ap by_least other_id-refused)
+
+-- what is no JSON text is refused whatever the header
+abbrev cut : List ℕ
+cut = codes "{\"a\":\"" ++ 226 ∷ 130 ∷ codes "\"}"
+
+abbrev comma : List ℕ
+comma = codes "{\"type\":\"CityJSONFeature\",}"
+
+module _ (header : Tree) where
+  cut_second : verdict_at wide_rules 2 header cut ≡ Refuse 6 NotUtf8
+  unfolding verdict_at is_utf8 chars encode utf8_valid_len
+  cut_second = refl
+
+  comma_second : verdict_at wide_rules 2 header comma ≡ Refuse 26 Syntax
+  unfolding verdict_at is_utf8 chars encode judgement over by_step by_depth at_end by_end text_of no_end ends_at
+  comma_second = refl
+
+  short_second : verdict_at wide_rules 2 header (take 80 small_feature) ≡ Refuse 80 Syntax
+  unfolding verdict_at is_utf8 chars encode judgement over by_step by_depth at_end by_end text_of no_end ends_at
+  short_second = refl
+
+  deep_second : verdict_at wide_rules 2 header (replicate 65 91) ≡ Refuse 64 TooDeep
+  unfolding verdict_at is_utf8 chars encode judgement over by_step by_depth sinks at_end by_end text_of no_end ends_at
+  deep_second = refl
+
+  open_second : verdict_at wide_rules 2 header (replicate 64 91) ≡ Refuse 64 Syntax
+  unfolding verdict_at is_utf8 chars encode judgement over by_step by_depth sinks at_end by_end text_of no_end ends_at
+  open_second = refl
 
 -- ---- lines
 
@@ -152,3 +197,46 @@ order = (
 
 pub bad : BadRow
 bad = third-refused wide_rules 31 IdNotFound (ended_line small_header) (header_first _) (ended_line small_feature) (ended_line lost_feature) (ended_line small_feature ∷ []) feature_second lost_third
+
+-- the last line, after the small header
+module _ (c : List ℕ) (place : ℕ) (reason : Reason) where
+  after_header : verdict_at wide_rules 2 (tree_of 64 small_header) c ≡ Refuse place reason → (l : Line) → l.content ≡ c
+      → (ending_of wide_rules (ended_line small_header ∷ l ∷ []) ≡ Refused 2 place reason) × (written wide_rules (ended_line small_header ∷ l ∷ []) ≡ small_header ++ 10 ∷ [])
+  after_header refused l same = second-refused wide_rules place reason (ended_line small_header) (header_first _) l [] (rw same refused)
+
+abbrev open_line : List ℕ → Line
+open_line c = record { content = c; lf = false }
+
+module _ (l : Line) (same : l.content ≡ small_header ++ 32 ∷ []) where
+  long_second : (ending_of tight_rules (ended_line small_header ∷ l ∷ []) ≡ Refused 2 116 LineTooLong) × (written tight_rules (ended_line small_header ∷ l ∷ []) ≡ small_header ++ 10 ∷ [])
+  long_second =
+      second-refused tight_rules 116 LineTooLong (ended_line small_header) (header_tight _) l [] (rw same (verdict-long tight_rules 2 (tree_of 64 small_header) (small_header ++ 32 ∷ []) (lit< tt)))
+
+  long_first : (ending_of tight_rules (l ∷ []) ≡ Refused 1 116 LineTooLong) × (written tight_rules (l ∷ []) ≡ [])
+  long_first = first-refused tight_rules 116 LineTooLong l [] (rw same (verdict-long tight_rules 1 (tree_of 64 []) (small_header ++ 32 ∷ []) (lit< tt)))
+
+pub long : LongRow
+long = (
+  long_first (open_line (small_header ++ 32 ∷ [])) refl,
+  long_first (ended_line (small_header ++ 32 ∷ [])) refl,
+  long_second (open_line (small_header ++ 32 ∷ [])) refl,
+  long_second (ended_line (small_header ++ 32 ∷ [])) refl,
+)
+
+pub euro : Gives wide_rules (small_header ++ 10 ∷ euro_feature) Complete (small_header ++ 10 ∷ euro_feature)
+euro = two-good wide_rules (ended_line small_header) (header_first _) (open_line euro_feature) euro_second
+
+pub cut_after : Gives wide_rules (small_header ++ 10 ∷ cut) (Refused 2 6 NotUtf8) (small_header ++ 10 ∷ [])
+cut_after = after_header _ 6 NotUtf8 (cut_second _) (open_line _) refl
+
+pub comma_after : Gives wide_rules (small_header ++ 10 ∷ comma) (Refused 2 26 Syntax) (small_header ++ 10 ∷ [])
+comma_after = after_header _ 26 Syntax (comma_second _) (open_line _) refl
+
+pub short_after : Gives wide_rules (small_header ++ 10 ∷ take 80 small_feature) (Refused 2 80 Syntax) (small_header ++ 10 ∷ [])
+short_after = after_header _ 80 Syntax (short_second _) (open_line _) refl
+
+pub deep_after : Gives wide_rules (small_header ++ 10 ∷ replicate 65 91) (Refused 2 64 TooDeep) (small_header ++ 10 ∷ [])
+deep_after = after_header _ 64 TooDeep (deep_second _) (open_line _) refl
+
+pub open_after : Gives wide_rules (small_header ++ 10 ∷ replicate 64 91) (Refused 2 64 Syntax) (small_header ++ 10 ∷ [])
+open_after = after_header _ 64 Syntax (open_second _) (open_line _) refl

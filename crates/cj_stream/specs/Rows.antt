@@ -5,14 +5,6 @@ use Rattle.cj_stream.specs.declared.ending.End.{End}
 use Rattle.cj_stream.specs.declared.ending.End.TheVariants.{Complete, Refused}
 use Rattle.cj_stream.specs.Verdict.{Rules, output, ending}
 
--- a header
-abbrev pub header_row : List ℕ
-header_row = codes "{\"type\":\"CityJSON\",\"version\":\"2.0\",\"transform\":{\"scale\":[0.001,0.001,0.001],\"translate\":[1000.0,2000.0,0.0]},\"CityObjects\":{},\"vertices\":[]}"
-
--- a feature
-abbrev pub feature_row : List ℕ
-feature_row = codes "{\"type\":\"CityJSONFeature\",\"id\":\"b1\",\"CityObjects\":{\"b1\":{\"type\":\"Building\",\"geometry\":[{\"type\":\"MultiSurface\",\"lod\":\"2.2\",\"boundaries\":[[[0,1,2,3]]]}]}},\"vertices\":[[0,0,0],[1000,0,0],[1000,1000,0],[0,1000,0]]}"
-
 -- a small header, a small feature, and one whose id no city object has
 abbrev pub small_header : List ℕ
 small_header = codes "{\"type\":\"CityJSON\",\"version\":\"2.0\",\"transform\":{\"scale\":[1,1,1],\"translate\":[0,0,0]},\"CityObjects\":{},\"vertices\":[]}"
@@ -23,12 +15,16 @@ small_feature = codes "{\"type\":\"CityJSONFeature\",\"id\":\"b\",\"CityObjects\
 abbrev pub lost_feature : List ℕ
 lost_feature = codes "{\"type\":\"CityJSONFeature\",\"id\":\"b\",\"CityObjects\":{\"c\":{\"type\":\"Building\"}},\"vertices\":[]}"
 
--- limits that no row but one with many brackets comes to, and limits that the header just meets
+-- the small feature with a name of three bytes
+abbrev pub euro_feature : List ℕ
+euro_feature = codes "{\"type\":\"CityJSONFeature\",\"id\":\"" ++ 226 ∷ 130 ∷ 172 ∷ codes "\",\"CityObjects\":{\"" ++ 226 ∷ 130 ∷ 172 ∷ codes "\":{\"type\":\"Building\"}},\"vertices\":[]}"
+
+-- limits that no row but one with many brackets comes to, and limits that the small header just meets
 abbrev pub wide_rules : Rules
 wide_rules = record { limits = record { line = 8388608; depth = 64 }; with_box = false }
 
 abbrev pub tight_rules : Rules
-tight_rules = record { limits = record { line = 140; depth = 64 }; with_box = false }
+tight_rules = record { limits = record { line = 116; depth = 64 }; with_box = false }
 
 -- a text ends so, and this is written of it
 abbrev pub Gives : Rules → List ℕ → End → List ℕ → Type 0
@@ -58,22 +54,35 @@ BadRow =
     let good = small_header ++ 10 ∷ (small_feature ++ 10 ∷ []) in
     Gives wide_rules (good ++ (lost_feature ++ 10 ∷ (small_feature ++ 10 ∷ []))) (Refused 3 31 IdNotFound) good
 
--- a first line that is one byte too long, with and without LF
+-- a line that is one byte too long, with and without LF: the first, and one after a header that just meets the limit
 abbrev pub LongRow : Type 0
 LongRow =
-    Gives tight_rules (header_row ++ 32 ∷ []) (Refused 1 140 LineTooLong) []
-    × Gives tight_rules (header_row ++ 32 ∷ 10 ∷ []) (Refused 1 140 LineTooLong) []
+    Gives tight_rules (small_header ++ 32 ∷ []) (Refused 1 116 LineTooLong) []
+    × Gives tight_rules (small_header ++ 32 ∷ 10 ∷ []) (Refused 1 116 LineTooLong) []
+    × Gives tight_rules (small_header ++ 10 ∷ (small_header ++ 32 ∷ [])) (Refused 2 116 LineTooLong) (small_header ++ 10 ∷ [])
+    × Gives tight_rules (small_header ++ 10 ∷ (small_header ++ 32 ∷ 10 ∷ [])) (Refused 2 116 LineTooLong) (small_header ++ 10 ∷ [])
 
--- a character of three bytes without its last one
+-- a character of three bytes, and what is refused without its last one
 abbrev pub TextRow : Type 0
-TextRow = Gives wide_rules (codes "{\"a\":\"" ++ 226 ∷ 130 ∷ codes "\"}") (Refused 1 6 NotUtf8) []
+TextRow =
+    let cut = codes "{\"a\":\"" ++ 226 ∷ 130 ∷ codes "\"}" in
+    Gives wide_rules (small_header ++ 10 ∷ euro_feature) Complete (small_header ++ 10 ∷ euro_feature)
+    × Gives wide_rules cut (Refused 1 6 NotUtf8) []
+    × Gives wide_rules (small_header ++ 10 ∷ cut) (Refused 2 6 NotUtf8) (small_header ++ 10 ∷ [])
 
 -- a comma before a brace, and a text that is cut short
 abbrev pub SyntaxRow : Type 0
 SyntaxRow =
-    Gives wide_rules (codes "{\"type\":\"CityJSONFeature\",}") (Refused 1 26 Syntax) []
-    × Gives wide_rules (take 100 feature_row) (Refused 1 100 Syntax) []
+    let comma = codes "{\"type\":\"CityJSONFeature\",}" in
+    Gives wide_rules comma (Refused 1 26 Syntax) []
+    × Gives wide_rules (take 80 small_feature) (Refused 1 80 Syntax) []
+    × Gives wide_rules (small_header ++ 10 ∷ comma) (Refused 2 26 Syntax) (small_header ++ 10 ∷ [])
+    × Gives wide_rules (small_header ++ 10 ∷ take 80 small_feature) (Refused 2 80 Syntax) (small_header ++ 10 ∷ [])
 
 -- more brackets than the depth limit allows, and as many but none closed
 abbrev pub DeepRow : Type 0
-DeepRow = Gives wide_rules (replicate 65 91) (Refused 1 64 TooDeep) [] × Gives wide_rules (replicate 64 91) (Refused 1 64 Syntax) []
+DeepRow =
+    Gives wide_rules (replicate 65 91) (Refused 1 64 TooDeep) []
+    × Gives wide_rules (replicate 64 91) (Refused 1 64 Syntax) []
+    × Gives wide_rules (small_header ++ 10 ∷ replicate 65 91) (Refused 2 64 TooDeep) (small_header ++ 10 ∷ [])
+    × Gives wide_rules (small_header ++ 10 ∷ replicate 64 91) (Refused 2 64 Syntax) (small_header ++ 10 ∷ [])

@@ -5,7 +5,7 @@ use lib.Utf8.{encode}
 use Rattle.cj_spans.proofs.Judgements.{judgement, over, by_step, by_depth, sinks, at_end, by_end, text_of, no_end, ends_at}
 use Rattle.cj_spans.specs.Text.{text, points_after, first_point, first_width}
 use Rattle.cj_stream.specs.Verdict.{verdict_at}
-use Rattle.cj_stream.proofs.RowLemmas.{whole, blank, order, bad}
+use Rattle.cj_stream.proofs.RowLemmas.{whole, blank, order, bad, long, euro, cut_after, comma_after, short_after, deep_after, open_after}
 use Rattle.cj_stream.proofs.laws.rows_compute.Goals as goal
 
 pub returns : goal.returns
@@ -16,8 +16,8 @@ returns c = record {
   blank = blank;
   order = order;
   bad = bad;
-  long = ((refl, refl), (refl, refl));
-  text = (refl, refl);
-  syntax = ((refl, refl), (refl, refl));
-  deep = ((refl, refl), (refl, refl));
+  long = long;
+  text = (euro, (refl, refl), cut_after);
+  syntax = ((refl, refl), (refl, refl), comma_after, short_after);
+  deep = ((refl, refl), (refl, refl), deep_after, open_after);
 }
