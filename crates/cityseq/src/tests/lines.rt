@@ -80,33 +80,34 @@ fn check_steps(rt: &impl Abort, alloc: Global, text: &[u8], wanted: &Wanted) -> 
 }
 
 // Runs over a header, of which a row says this.
-fn check_first(
+fn check_first<'a>(
     rt: &impl Abort,
     alloc: Global,
-    row: &str,
+    row: &'a str,
     line: &str,
-    say: &str,
+    say: &'a str,
 ) -> Result<(), Fail> {
+    let nothing = Vec::new(alloc);
     let text = joined(alloc, &[line.as_bytes(), b"\n"])?;
     let good = say.is_empty();
     let wanted = Wanted {
         row,
         lines: u64::from(good),
         kept: 0,
-        written: if good { &text } else { b"" },
+        written: if good { &text } else { &nothing },
         said: say.as_bytes(),
     };
     check_steps(rt, alloc, &text, &wanted)
 }
 
 // Runs over a line after a header, of which a row says this.
-fn check_later(
+fn check_later<'a>(
     rt: &impl Abort,
     alloc: Global,
     header: &str,
-    row: &str,
+    row: &'a str,
     line: &str,
-    say: &str,
+    say: &'a str,
 ) -> Result<(), Fail> {
     let first = joined(alloc, &[header.as_bytes(), b"\n"])?;
     let text = joined(alloc, &[&first, line.as_bytes(), b"\n"])?;
