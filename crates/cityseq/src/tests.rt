@@ -1,8 +1,9 @@
 //! Tests of what no clause says: worked rows, printed texts, and devices that fail.
 //!
-//! `rows`, `blank_lines`, `long_lines` and `lines` have inputs with their answers, `lent` what a sink
-//! sees of them, `devices` the readers and writers that fail, and `calls` what all tests share. A body
-//! of many asserts is dear to prove, and a call is not: a row is one call of a function that checks it.
+//! `rows`, `blank_lines`, `long_lines`, `lines` and `order` have inputs with their answers, `lent` what a
+//! sink sees of them, `devices` the readers and writers that fail, and `calls` what all tests share. A
+//! body of many asserts is dear to prove, and a call is not: a row is one call of a function that checks
+//! it.
 mod blank_lines;
 mod calls;
 mod command_rows;
@@ -12,4 +13,5 @@ mod faults;
 mod lent;
 mod lines;
 mod long_lines;
+mod order;
 mod rows;

@@ -4,6 +4,7 @@
 //! single bytes.
 use super::calls::{check_bytes, check_number, copied, joined};
 use super::devices::SlowReader;
+use super::rows::FEATURE;
 use crate::report::write_fault_line;
 use cj_budget::Limits;
 use cj_stream::{End, Outcome};
@@ -267,4 +268,22 @@ fn templates(rt: HostRuntime) -> Result<(), Fail> {
     features_meet(&rt, rt.alloc(), TEMPLATES, TREE, rows)?;
     let none = "no template at all | 0 | line 2, byte 139: 28 template index out of range";
     features_meet(&rt, rt.alloc(), HEADER, TREE, none)
+}
+
+// The header's templates stay while lines come and go.
+#[test]
+fn templates_after_other_lines(rt: HostRuntime) -> Result<(), Fail> {
+    let good = filled(rt.alloc(), TREE, "0")?;
+    let bad = filled(rt.alloc(), TREE, "1")?;
+    let good = joined(rt.alloc(), &[FEATURE, b"\n", good.as_bytes(), b"\n"])?;
+    let written = joined(rt.alloc(), &[TEMPLATES.as_bytes(), b"\n", &good, &good])?;
+    let text = joined(rt.alloc(), &[&written, bad.as_bytes(), b"\n", &good])?;
+    let wanted = Wanted {
+        row: "templates after other lines",
+        lines: 5,
+        kept: 4,
+        written: &written,
+        said: b"line 6, byte 139: 28 template index out of range\n",
+    };
+    check_steps(&rt, rt.alloc(), &text, &wanted)
 }
