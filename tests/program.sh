@@ -10,9 +10,14 @@ set -u
 cd "$(dirname "$0")/.." || exit
 
 limit=8388608 # the usual line limit, in bytes
-header='{"type":"CityJSON","version":"2.0"}'
-feature='{"type":"CityJSONFeature","id":"b"}'
 skipped=77    # what a row answers that this system cannot show
+
+# A header, a feature, and a feature of four vertices whose last index is the one given.
+header='{"type":"CityJSON","version":"2.0","transform":{"scale":[1,1,1],"translate":[0,0,0]},"CityObjects":{},"vertices":[]}'
+feature='{"type":"CityJSONFeature","id":"b","CityObjects":{"b":{"type":"Building"}},"vertices":[]}'
+indexed() {
+  lines '{"type":"CityJSONFeature","id":"b1","CityObjects":{"b1":{"type":"Building","geometry":[{"type":"MultiSurface","lod":"2.2","boundaries":[[[0,1,2,'"$1"']]]}]}},"vertices":[[0,0,0],[1000,0,0],[1000,1000,0],[0,1000,0]]}'
+}
 
 scratch=$(mktemp -d)
 trap 'rm -rf "$scratch"' EXIT
@@ -66,11 +71,22 @@ lines() {
   printf '%s\n' "$@"
 }
 
-# Prints the header, and a line of this many bytes, a number of so many digits.
+# Prints a line of this many bytes: these two parts, and between them a number of as many digits as are wanting.
+padded() {
+  printf %s "$2"
+  head -c $(($1 - ${#2} - ${#3})) /dev/zero | tr '\0' 1
+  lines "$3"
+}
+
+# Prints a header of this many bytes.
+long_header() {
+  padded "$1" "${header%\}},\"metadata\":" '}'
+}
+
+# Prints the header, and a feature of this many bytes.
 long_line() {
   lines "$header"
-  head -c "$1" /dev/zero | tr '\0' 1
-  echo
+  padded "$1" "${feature%\}\},*},\"attributes\":" '}},"vertices":[]}'
 }
 
 # ---- what is kept
@@ -95,6 +111,11 @@ row_a_line_as_long_as_the_limit() {
   long_line $limit | answered 0 ''
 }
 
+row_a_header_as_long_as_the_limit() {
+  long_header $limit | run filter
+  long_header $limit | answered 0 ''
+}
+
 # ---- lines that are refused
 
 row_an_empty_input() {
@@ -108,7 +129,7 @@ row_a_line_one_byte_longer_than_the_limit() {
 }
 
 row_a_header_one_byte_longer_than_the_limit() {
-  long_line $((limit + 1)) | tail -n 1 | run filter
+  long_header $((limit + 1)) | run filter
   answered 1 "line 1, byte $limit: 2 line too long" < /dev/null
 }
 
@@ -135,6 +156,41 @@ row_a_blank_first_line() {
 row_65_open_arrays() {
   lines "$header" "$feature" "$(printf '[%.0s' {1..65})" | run filter
   lines "$header" "$feature" | answered 1 'line 3, byte 64: 5 nested too deep'
+}
+
+row_no_header() {
+  lines "$feature" "$header" | run filter
+  answered 1 'line 1, byte 0: 10 member missing' < /dev/null
+}
+
+row_a_header_of_another_version() {
+  lines "${header/2.0/1.1}" "$feature" | run filter
+  answered 1 'line 1, byte 29: 15 wrong version' < /dev/null
+}
+
+row_a_second_header() {
+  lines "$header" "$header" "$feature" | run filter
+  lines "$header" | answered 1 'line 2, byte 0: 10 member missing'
+}
+
+row_a_text_that_is_no_object() {
+  lines "$header" "$feature" '' '[]' "$feature" | run filter
+  lines "$header" "$feature" | answered 1 'line 4, byte 0: 12 wrong kind'
+}
+
+row_an_index_past_the_vertices() {
+  { lines "$header"; indexed 3; indexed 4; indexed 3; } | run filter
+  { lines "$header"; indexed 3; } | answered 1 'line 3, byte 144: 25 vertex index out of range'
+}
+
+row_a_number_in_place_of_an_id() {
+  lines "$header" "${feature/\"b\"/3}" | run filter
+  lines "$header" | answered 1 'line 2, byte 31: 12 wrong kind'
+}
+
+row_a_child_that_is_not_there() {
+  lines "$header" "${feature/\"Building\"/\"Building\",\"children\":[\"q\"]}" | run filter
+  lines "$header" | answered 1 'line 2, byte 85: 21 child not found'
 }
 
 row_64_open_arrays() {
@@ -221,7 +277,7 @@ row_a_full_device_and_nothing_to_write() {
 }
 
 row_a_reader_that_goes_away() {
-  yes "$header" 2> "$scratch/noise" | head -c 10000000 | run_onto filter | head -c 10 > "$scratch/written"
+  { lines "$header"; yes "$feature" | head -c 10000000; } 2> "$scratch/noise" | run_onto filter | head -c 10 > "$scratch/written"
   printf %s "${header:0:10}" | answered 4 'write fault'
 }
 

@@ -1,13 +1,17 @@
 //! Tests of what no clause says: worked rows, printed texts, and devices that fail.
 //!
-//! `rows`, `blank_lines` and `long_lines` have inputs with their answers, `devices` the readers and
-//! writers that fail, and `calls` what all tests share. A body of many asserts is dear to prove, and
-//! a call is not: a row is one call of a function that checks it.
+//! `rows`, `blank_lines`, `long_lines`, `lines` and `order` have inputs with their answers, `lent` what a
+//! sink sees of them, `devices` the readers and writers that fail, and `calls` what all tests share. A
+//! body of many asserts is dear to prove, and a call is not: a row is one call of a function that checks
+//! it.
 mod blank_lines;
 mod calls;
 mod command_rows;
 mod devices;
 mod engine_rows;
 mod faults;
+mod lent;
+mod lines;
 mod long_lines;
+mod order;
 mod rows;

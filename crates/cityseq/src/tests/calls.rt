@@ -3,7 +3,7 @@
 use super::devices::{SlowReader, SlowWriter};
 use cj_budget::{Limits, Peaks};
 use cj_spans::Reason;
-use cj_stream::{End, Engine, LineSink, Outcome, WriteSink, copy, copy_out};
+use cj_stream::{End, Engine, LineSink, Outcome, Query, WriteSink, copy, copy_out};
 use std::alloc::Global;
 use std::process::Abort;
 use std::test::Fail;
@@ -65,7 +65,7 @@ pub fn joined(alloc: Global, parts: &[&[u8]]) -> Result<Vec<u8>, Fail> {
 /// Runs over what a reader gives: the outcome, and what was written.
 pub fn copied(alloc: Global, reader: &mut SlowReader, limits: Limits) -> (Outcome, Vec<u8>) {
     let mut sink = WriteSink::new(Vec::new(alloc));
-    let outcome = copy(alloc, reader, &mut sink, limits);
+    let outcome = copy(alloc, reader, &mut sink, limits, &Query::all(alloc));
     (outcome, sink.into_inner())
 }
 
@@ -76,7 +76,7 @@ pub fn copied_to(
     writer: &mut SlowWriter,
     limits: Limits,
 ) -> Outcome {
-    copy_out(alloc, reader, writer, limits)
+    copy_out(alloc, reader, writer, limits, &Query::all(alloc))
 }
 
 /// Gives a piece to an engine, which has to answer so.

@@ -7,7 +7,7 @@ use crate::output::Output;
 use crate::report::{status, write_fault_line};
 use cj_budget::Limits;
 use cj_spans::Reason;
-use cj_stream::End;
+use cj_stream::{End, Query};
 use std::alloc::Global;
 use std::io::{Read, Write};
 use std::process::Abort;
@@ -87,8 +87,9 @@ fn filter_to<W: Write, E: Write>(
     out: &mut W,
     err: &mut E,
 ) -> u8 {
+    let query = Query::all(alloc);
     let mut out = Output::new(out);
-    status(filter(alloc, limits, reader, &mut out, err).end)
+    status(filter(alloc, limits, &query, reader, &mut out, err).end)
 }
 
 // Filters what a reader gives.
@@ -99,29 +100,52 @@ fn filtered(alloc: Global, limits: Limits, reader: &mut SlowReader) -> Written {
     Written { status, out, err }
 }
 
-// Filters a text of which the header alone is written, since a later line is refused.
-fn check_refused_line(rt: &impl Abort, alloc: Global, limits: Limits, text: &[u8], told: &[u8]) {
-    let written = filtered(alloc, limits, &mut SlowReader::new(text, 100));
-    check_written(rt, &written, 1, b"{}\n", told);
+// Filters a header and a text, of which the header alone is written, since a line is refused.
+fn check_refused_line(
+    rt: &impl Abort,
+    alloc: Global,
+    limits: Limits,
+    text: &[u8],
+    told: &[u8],
+) -> Result<(), Fail> {
+    let header = joined(alloc, &[HEADER, b"\n"])?;
+    let text = joined(alloc, &[&header, text])?;
+    let written = filtered(alloc, limits, &mut SlowReader::new(&text, 100));
+    check_written(rt, &written, 1, &header, told);
+    Ok(())
 }
+
+/// One digit more than the header has bytes.
+const DIGITS: [u8; 141] = [b'1'; 141];
 
 #[test]
 fn a_long_line_and_bytes_that_are_no_text(rt: HostRuntime) -> Result<(), Fail> {
-    let limits = Limits::new(4, 64)?;
-    let long = b"line 2, byte 4: 2 line too long\n";
-    check_refused_line(&rt, rt.alloc(), limits, b"{}\n12345\n{}\n", long);
+    let limits = Limits::new(140, 64)?;
+    let text = joined(rt.alloc(), &[&DIGITS, b"\n{}\n"])?;
+    let long = b"line 2, byte 140: 2 line too long\n";
+    check_refused_line(&rt, rt.alloc(), limits, &text, long)?;
     let bytes = b"line 3, byte 1: 3 not UTF-8\n";
-    check_refused_line(&rt, rt.alloc(), limits, b"{}\n\n1\xff\n{}\n", bytes);
-    Ok(())
+    check_refused_line(&rt, rt.alloc(), limits, b"\n1\xff\n{}\n", bytes)
+}
+
+#[test]
+fn a_line_that_is_no_feature(rt: HostRuntime) -> Result<(), Fail> {
+    let limits = Limits::new(8_388_608, 64)?;
+    let told = b"line 3, byte 0: 10 member missing\n";
+    check_refused_line(&rt, rt.alloc(), limits, b"\n{}\n", told)?;
+    let told = b"line 2, byte 0: 12 wrong kind\n";
+    check_refused_line(&rt, rt.alloc(), limits, b"[]\n{}\n", told)
 }
 
 #[test]
 fn a_read_fault(rt: HostRuntime) -> Result<(), Fail> {
     let limits = Limits::new(8_388_608, 64)?;
-    let mut reader = SlowReader::new(b"{}\n{}\n", 4);
+    let text = joined(rt.alloc(), &[HEADER, b"\n", FEATURE, b"\n"])?;
+    let header = joined(rt.alloc(), &[HEADER, b"\n"])?;
+    let mut reader = SlowReader::new(&text, 200);
     reader.fails_at = 2;
     let written = filtered(rt.alloc(), limits, &mut reader);
-    check_written(&rt, &written, 3, b"{}\n", b"read fault\n");
+    check_written(&rt, &written, 3, &header, b"read fault\n");
     Ok(())
 }
 
@@ -151,18 +175,18 @@ fn check_write_fault(
 #[test]
 fn a_write_fault(rt: HostRuntime) -> Result<(), Fail> {
     let out = SlowWriter::new(Vec::new(rt.alloc()), 0);
-    check_write_fault(&rt, rt.alloc(), b"{}\n", out, b"")
+    check_write_fault(&rt, rt.alloc(), HEADER, out, b"")
 }
 
 fn check_failed_flush(rt: &impl Abort, alloc: Global, text: &[u8]) -> Result<(), Fail> {
-    let mut out = SlowWriter::new(Vec::new(alloc), 100);
+    let mut out = SlowWriter::new(Vec::new(alloc), 1_000);
     out.flush_fails = true;
     check_write_fault(rt, alloc, text, out, text)
 }
 
 #[test]
 fn a_failed_flush_is_a_write_fault(rt: HostRuntime) -> Result<(), Fail> {
-    check_failed_flush(&rt, rt.alloc(), b"{}\n")?;
+    check_failed_flush(&rt, rt.alloc(), HEADER)?;
     check_failed_flush(&rt, rt.alloc(), b"")
 }
 

@@ -1,9 +1,9 @@
 //! Rows of an engine that is called step by step.
 use super::calls::{check_bytes, check_feed, check_finish, check_number, held, joined, refused};
-use super::rows::{FEATURE, HEADER};
+use super::rows::{FEATURE, HEADER, with_last_index};
 use cj_budget::{Limits, Peaks};
 use cj_spans::Reason;
-use cj_stream::{End, Engine, WriteSink};
+use cj_stream::{End, Engine, Query, WriteSink};
 use std::process::Abort;
 use std::test::Fail;
 
@@ -18,9 +18,14 @@ fn check_held(rt: &impl Abort, engine: &Engine, held: Peaks, peaks: Peaks) {
     assert_eq!(rt; engine.peaks(), peaks);
 }
 
-// Takes a text whose third line is too long, and then what comes after an end.
-fn check_end(rt: &impl Abort, engine: &mut Engine, text: &[u8], sink: &mut WriteSink<Vec<u8>>) {
-    let end = refused(3, 210, Reason::LineTooLong);
+// Takes a text whose third line is refused so, and then what comes after an end.
+fn check_end(
+    rt: &impl Abort,
+    engine: &mut Engine,
+    text: &[u8],
+    sink: &mut WriteSink<Vec<u8>>,
+    end: End,
+) {
     check_feed(rt, engine, text, sink, Err(end));
     let held = engine.held();
     let peaks = engine.peaks();
@@ -36,11 +41,59 @@ fn an_end_stays_the_end(rt: HostRuntime) -> Result<(), Fail> {
     let written = joined(rt.alloc(), &[HEADER, b"\n", FEATURE, b"\n"])?;
     let text = joined(rt.alloc(), &[&written, FEATURE, b" \n"])?;
     check_number(&rt, text.len() as u64, 564, "bytes of the text", 0);
-    let mut engine = Engine::open(rt.alloc(), Limits::new(210, 64)?)?;
+    let query = Query::all(rt.alloc());
+    let mut engine = Engine::open(rt.alloc(), Limits::new(210, 64)?, &query)?;
     let mut sink = WriteSink::new(Vec::new(rt.alloc()));
     check_counts(&rt, &engine, 0, 0, 0);
-    check_end(&rt, &mut engine, &text, &mut sink);
+    let end = refused(3, 210, Reason::LineTooLong);
+    check_end(&rt, &mut engine, &text, &mut sink, end);
     check_bytes(&rt, &sink.into_inner(), &written, "an end stays", 0);
+    Ok(())
+}
+
+#[test]
+fn an_end_by_a_finding_stays_the_end(rt: HostRuntime) -> Result<(), Fail> {
+    let line = with_last_index(rt.alloc(), b"4")?;
+    let written = joined(rt.alloc(), &[HEADER, b"\n", FEATURE, b"\n"])?;
+    let text = joined(rt.alloc(), &[&written, &line, b"\n", FEATURE, b"\n"])?;
+    let query = Query::all(rt.alloc());
+    let mut engine = Engine::open(rt.alloc(), Limits::new(8_388_608, 64)?, &query)?;
+    let mut sink = WriteSink::new(Vec::new(rt.alloc()));
+    let end = refused(3, 144, Reason::VertexIndex);
+    check_end(&rt, &mut engine, &text, &mut sink, end);
+    check_bytes(&rt, &sink.into_inner(), &written, "an end stays", 0);
+    Ok(())
+}
+
+// Takes a text by single bytes, of which the one at `last` brings the end, and each later one it again.
+fn check_single_bytes(
+    rt: &impl Abort,
+    engine: &mut Engine,
+    text: &[u8],
+    sink: &mut WriteSink<Vec<u8>>,
+    last: usize,
+    end: End,
+) {
+    for (at, byte) in text.chunks(1).enumerate() {
+        let wanted = if at < last { Ok(()) } else { Err(end) };
+        check_feed(rt, engine, byte, sink, wanted);
+    }
+    check_finish(rt, engine, sink, end);
+    check_finish(rt, engine, sink, end);
+}
+
+#[test]
+fn an_end_stays_by_single_bytes(rt: HostRuntime) -> Result<(), Fail> {
+    let line = with_last_index(rt.alloc(), b"4")?;
+    let written = joined(rt.alloc(), &[HEADER, b"\n", FEATURE, b"\n"])?;
+    let text = joined(rt.alloc(), &[&written, &line, b"\n", FEATURE, b"\n"])?;
+    let query = Query::all(rt.alloc());
+    let mut engine = Engine::open(rt.alloc(), Limits::new(8_388_608, 64)?, &query)?;
+    let mut sink = WriteSink::new(Vec::new(rt.alloc()));
+    let end = refused(3, 144, Reason::VertexIndex);
+    check_single_bytes(&rt, &mut engine, &text, &mut sink, 562, end);
+    check_counts(&rt, &engine, 562, 2, 1);
+    check_bytes(&rt, &sink.into_inner(), &written, "by single bytes", 0);
     Ok(())
 }
 
@@ -61,7 +114,8 @@ fn check_parts(rt: &impl Abort, engine: &mut Engine, sink: &mut WriteSink<Vec<u8
 
 #[test]
 fn what_is_held_is_told(rt: HostRuntime) -> Result<(), Fail> {
-    let mut engine = Engine::open(rt.alloc(), Limits::new(8_388_608, 64)?)?;
+    let query = Query::all(rt.alloc());
+    let mut engine = Engine::open(rt.alloc(), Limits::new(8_388_608, 64)?, &query)?;
     let mut sink = WriteSink::new(Vec::new(rt.alloc()));
     check_parts(&rt, &mut engine, &mut sink);
     Ok(())

@@ -1,11 +1,13 @@
 //! Devices that fail: what is written is a front of the output, and the end says why.
 use super::calls::{
     check_bytes, check_ended, check_feed, check_finish, check_number, copied, copied_to, joined,
+    refused,
 };
 use super::devices::{SlowReader, SlowWriter};
-use super::rows::{FEATURE, HEADER};
+use super::rows::{FEATURE, HEADER, with_last_index};
 use cj_budget::Limits;
-use cj_stream::{End, Engine, LentSink, LineSink, Outcome, WriteFault, WriteSink, copy, run};
+use cj_spans::Reason;
+use cj_stream::{End, Engine, LentSink, LineSink, Outcome, Query, WriteSink, copy, run};
 use std::alloc::Global;
 use std::io::ErrorKind;
 use std::process::Abort;
@@ -18,7 +20,8 @@ fn a_writer_that_takes_five_bytes_and_fails(rt: HostRuntime) -> Result<(), Fail>
     writer.fails_at = 2;
     let mut sink = WriteSink::new(writer);
     let limits = Limits::new(8_388_608, 64)?;
-    let outcome = copy(rt.alloc(), &mut text.as_slice(), &mut sink, limits);
+    let query = Query::all(rt.alloc());
+    let outcome = copy(rt.alloc(), &mut text.as_slice(), &mut sink, limits, &query);
     check_ended(&rt, outcome.ended, End::WriteFault, "five bytes", 0);
     check_number(&rt, outcome.lines, 0, "lines", 0);
     check_bytes(&rt, &sink.into_inner().bytes, b"{\"typ", "five bytes", 0);
@@ -94,7 +97,7 @@ fn a_writer_that_takes_one_byte_and_one_that_takes_none(rt: HostRuntime) -> Resu
 // Runs over a reader up to a fault: the outcome, and what was written.
 fn run_over(alloc: Global, reader: &mut SlowReader, limits: Limits) -> (Outcome, Vec<u8>) {
     let mut sink = WriteSink::new(Vec::new(alloc));
-    let outcome = run(alloc, reader, &mut sink, limits);
+    let outcome = run(alloc, reader, &mut sink, limits, &Query::all(alloc));
     (outcome, sink.into_inner())
 }
 
@@ -147,47 +150,91 @@ fn a_reader_that_fails_in_the_second_line(rt: HostRuntime) -> Result<(), Fail> {
     Ok(())
 }
 
-fn check_fault_stays<S: LineSink>(rt: &impl Abort, engine: &mut Engine, sink: &mut S) {
-    check_feed(rt, engine, b"{}\n", sink, Err(End::WriteFault));
-    check_feed(rt, engine, b"{}\n", sink, Err(End::WriteFault));
-    check_finish(rt, engine, sink, End::WriteFault);
-    check_number(rt, engine.lines(), 0, "lines", 0);
-    assert_eq!(rt; sink.line(b"{}", true), Err(WriteFault));
+// Runs over a text to a sink whose writer may fail.
+fn run_to<S: LineSink>(alloc: Global, text: &[u8], sink: &mut S) -> Result<End, Fail> {
+    let limits = Limits::new(8_388_608, 64)?;
+    let query = Query::all(alloc);
+    let mut reader = SlowReader::new(text, 1_000);
+    Ok(run(alloc, &mut reader, sink, limits, &query).ended)
 }
 
+fn check_fault_stays<S: LineSink>(rt: &impl Abort, engine: &mut Engine, sink: &mut S) {
+    check_feed(rt, engine, HEADER, sink, Ok(()));
+    check_feed(rt, engine, b"\n", sink, Err(End::WriteFault));
+    check_feed(rt, engine, b"\n", sink, Err(End::WriteFault));
+    check_finish(rt, engine, sink, End::WriteFault);
+    check_number(rt, engine.lines(), 0, "lines", 0);
+}
+
+// The engine asks the sink once; another run asks it again.
 #[test]
 fn a_write_fault_stays_the_end(rt: HostRuntime) -> Result<(), Fail> {
     let mut writer = SlowWriter::new(Vec::new(rt.alloc()), 0);
-    let mut engine = Engine::open(rt.alloc(), Limits::new(8_388_608, 64)?)?;
+    let query = Query::all(rt.alloc());
+    let mut engine = Engine::open(rt.alloc(), Limits::new(8_388_608, 64)?, &query)?;
     check_fault_stays(&rt, &mut engine, &mut LentSink::new(&mut writer));
-    check_number(&rt, writer.writes, 2, "writes", 0);
+    check_number(&rt, writer.writes, 1, "writes", 0);
+    let ended = run_to(rt.alloc(), HEADER, &mut LentSink::new(&mut writer))?;
+    check_ended(&rt, ended, End::WriteFault, "another run", 0);
+    check_number(&rt, writer.writes, 2, "writes", 1);
     Ok(())
 }
 
-// Puts a line to a sink whose writer fails in it, and once more. How often a sink's writer failed
+// Runs over a text to a sink whose writer fails in it, and once more. How often a sink's writer failed
 // is seen by contracts alone; what can be seen here is that a failure does not stay.
-fn check_one_failure<S: LineSink>(rt: &impl Abort, sink: &mut S) {
-    assert_eq!(rt; sink.line(b"{}", true), Err(WriteFault));
-    assert_eq!(rt; sink.line(b"[]", true), Ok(()));
-    assert_eq!(rt; sink.line(b"1", false), Ok(()));
+fn check_one_failure<S: LineSink>(
+    rt: &impl Abort,
+    alloc: Global,
+    text: &[u8],
+    sink: &mut S,
+) -> Result<(), Fail> {
+    check_ended(rt, run_to(alloc, text, sink)?, End::WriteFault, "first", 0);
+    check_ended(rt, run_to(alloc, text, sink)?, End::Complete, "second", 0);
+    Ok(())
 }
 
-// A writer that fails at its first write, or at that of LF, and writes this in all.
-fn check_sinks(rt: &impl Abort, alloc: Global, fails_at: u64, wanted: &[u8]) {
-    let mut writer = SlowWriter::new(Vec::new(alloc), 100);
+// A writer that fails at this write, to which `front` was written before, and then the whole text.
+fn check_sinks(
+    rt: &impl Abort,
+    alloc: Global,
+    text: &[u8],
+    fails_at: u64,
+    front: &[u8],
+) -> Result<(), Fail> {
+    let wanted = joined(alloc, &[front, text])?;
+    let mut writer = SlowWriter::new(Vec::new(alloc), 1_000);
     writer.fails_at = fails_at;
-    check_one_failure(rt, &mut LentSink::new(&mut writer));
-    check_bytes(rt, &writer.bytes, wanted, "lent", fails_at);
-    let mut writer = SlowWriter::new(Vec::new(alloc), 100);
+    check_one_failure(rt, alloc, text, &mut LentSink::new(&mut writer))?;
+    check_bytes(rt, &writer.bytes, &wanted, "lent", fails_at);
+    let mut writer = SlowWriter::new(Vec::new(alloc), 1_000);
     writer.fails_at = fails_at;
     let mut sink = WriteSink::new(writer);
-    check_one_failure(rt, &mut sink);
-    check_bytes(rt, &sink.into_inner().bytes, wanted, "owned", fails_at);
+    check_one_failure(rt, alloc, text, &mut sink)?;
+    check_bytes(rt, &sink.into_inner().bytes, &wanted, "owned", fails_at);
+    Ok(())
 }
 
 #[test]
 fn a_sink_takes_lines_after_a_failure(rt: HostRuntime) -> Result<(), Fail> {
-    check_sinks(&rt, rt.alloc(), 1, b"[]\n1");
-    check_sinks(&rt, rt.alloc(), 2, b"{}[]\n1");
+    let header = joined(rt.alloc(), &[HEADER, b"\n"])?;
+    let text = joined(rt.alloc(), &[&header, FEATURE])?;
+    check_sinks(&rt, rt.alloc(), &text, 1, b"")?;
+    check_sinks(&rt, rt.alloc(), &text, 2, HEADER)?;
+    check_sinks(&rt, rt.alloc(), &text, 3, &header)
+}
+
+// A line that is refused for what it says is not put to the sink: its writer fails at the next write.
+#[test]
+fn a_refused_line_is_not_put(rt: HostRuntime) -> Result<(), Fail> {
+    let header = joined(rt.alloc(), &[HEADER, b"\n"])?;
+    let line = with_last_index(rt.alloc(), b"4")?;
+    let text = joined(rt.alloc(), &[&header, &line, b"\n"])?;
+    let mut writer = SlowWriter::new(Vec::new(rt.alloc()), 1_000);
+    writer.fails_at = 3;
+    let ended = run_to(rt.alloc(), &text, &mut LentSink::new(&mut writer))?;
+    let wanted = refused(2, 144, Reason::VertexIndex);
+    check_ended(&rt, ended, wanted, "refused", 0);
+    check_number(&rt, writer.writes, 2, "writes", 0);
+    check_bytes(&rt, &writer.bytes, &header, "refused", 0);
     Ok(())
 }

@@ -1,20 +1,25 @@
 //! Lines longer than one read, given at once and in very many pieces.
 use super::calls::{check_bytes, check_feed, check_finish, check_outcome, held, joined, outcome};
-use super::rows::{FEATURE, HEADER, Wanted, check_run};
+use super::rows::{FEATURE, HEADER, Wanted, attributed, check_run};
 use cj_budget::Limits;
-use cj_stream::{End, Engine, WriteSink};
+use cj_stream::{End, Engine, Query, WriteSink};
 use std::alloc::Global;
 use std::process::Abort;
 use std::test::Fail;
 
-// A header, and a line of this many digits, 1 to 9 in turn.
-fn long_text(alloc: Global, length: usize) -> Result<Vec<u8>, Fail> {
-    let mut text = joined(alloc, &[HEADER, b"\n"])?;
-    for i in 0..length {
-        text.push(b'1' + (i % 9) as u8)?;
+// This many digits, 1 to 9 in turn.
+fn digits(alloc: Global, count: usize) -> Result<Vec<u8>, Fail> {
+    let mut digits = Vec::new(alloc);
+    for i in 0..count {
+        digits.push(b'1' + (i % 9) as u8)?;
     }
-    text.push(b'\n')?;
-    Ok(text)
+    Ok(digits)
+}
+
+// A header, and a feature of this many bytes, of which 232 are no digits of its attribute.
+fn long_text(alloc: Global, length: usize) -> Result<Vec<u8>, Fail> {
+    let line = attributed(alloc, &digits(alloc, length.saturating_sub(232))?)?;
+    joined(alloc, &[HEADER, b"\n", &line, b"\n"])
 }
 
 // Feeds a text by pieces of `step` bytes.
@@ -40,7 +45,8 @@ fn check_pieces(
     step: usize,
     wanted: &Wanted,
 ) -> Result<(), Fail> {
-    let mut engine = Engine::open(alloc, Limits::new(8_388_608, 64)?)?;
+    let query = Query::all(alloc);
+    let mut engine = Engine::open(alloc, Limits::new(8_388_608, 64)?, &query)?;
     let mut sink = WriteSink::new(Vec::new(alloc));
     feed_by(rt, &mut engine, text, step, &mut sink);
     let told = outcome(engine.lines(), engine.kept(), engine.peaks(), End::Complete);
@@ -55,7 +61,7 @@ fn check_pieces(
     Ok(())
 }
 
-// Runs over a header and a line of this many digits, by whole reads and by shorter ones. Feeds them
+// Runs over a header and a feature of this many bytes, by whole reads and by shorter ones. Feeds them
 // in one piece, in one whose LF comes after it, and in pieces of 50 bytes.
 fn check_long_line(rt: &impl Abort, alloc: Global, length: usize) -> Result<(), Fail> {
     let text = long_text(alloc, length)?;
@@ -63,7 +69,7 @@ fn check_long_line(rt: &impl Abort, alloc: Global, length: usize) -> Result<(), 
     let wanted = Wanted {
         name: "long line",
         written: &text,
-        outcome: outcome(2, 1, held(bytes, 22, 3), End::Complete),
+        outcome: outcome(2, 1, held(bytes, 69, 8), End::Complete),
     };
     let limits = Limits::new(8_388_608, 64)?;
     check_run(rt, alloc, &text, 1_000_000, limits, &wanted);

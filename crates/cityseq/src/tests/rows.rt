@@ -5,7 +5,7 @@ use super::calls::{
 use super::devices::SlowReader;
 use cj_budget::{Limits, Peaks};
 use cj_spans::Reason;
-use cj_stream::{End, Outcome, WriteSink, copy_pieces, laws};
+use cj_stream::{End, Outcome, Query, WriteSink, copy_pieces, laws};
 use std::alloc::Global;
 use std::process::Abort;
 use std::test::Fail;
@@ -60,8 +60,10 @@ fn check_cut(
 ) {
     assert!(rt; at <= text.len());
     assert!(rt; text.len() <= 1_000);
+    let query = Query::all(alloc);
     let mut sink = WriteSink::new(Vec::new(alloc));
-    let copied = copy_pieces(alloc, &[&text[..at], &text[at..]], &mut sink, limits);
+    let pieces = [&text[..at], &text[at..]];
+    let copied = copy_pieces(alloc, &pieces, &mut sink, limits, &query);
     check_ended(
         rt,
         copied.ended,
@@ -157,12 +159,18 @@ fn the_greatest_of_later_lines_counts(rt: HostRuntime) -> Result<(), Fail> {
         outcome: outcome(3, 2, held(350, 65, 8), End::Complete),
     };
     check_every_cut(&rt, rt.alloc(), &text, limits, &wanted);
-    let header = Wanted {
+    Ok(())
+}
+
+#[test]
+fn a_header_alone_without_lf(rt: HostRuntime) -> Result<(), Fail> {
+    let limits = Limits::new(8_388_608, 64)?;
+    let wanted = Wanted {
         name: "a header alone",
         written: HEADER,
         outcome: outcome(1, 0, held(140, 21, 3), End::Complete),
     };
-    check_every_cut(&rt, rt.alloc(), HEADER, limits, &header);
+    check_every_cut(&rt, rt.alloc(), HEADER, limits, &wanted);
     Ok(())
 }
 
@@ -315,27 +323,21 @@ fn brackets_past_the_usual_depth_limit(rt: HostRuntime) -> Result<(), Fail> {
     check_refused(&rt, rt.alloc(), &BRACKETS, limits, refusal)
 }
 
-// The feature with an attribute whose text is `character`, put in at byte 150.
-fn attributed(alloc: Global, character: &[u8]) -> Result<Vec<u8>, Fail> {
+/// The feature with an attribute of this text, which begins at byte 170: 22 bytes more and the text.
+pub fn attributed(alloc: Global, text: &[u8]) -> Result<Vec<u8>, Fail> {
+    let front = &FEATURE[..150];
+    let back = &FEATURE[150..];
     joined(
         alloc,
-        &[
-            HEADER,
-            b"\n",
-            &FEATURE[..150],
-            b",\"attributes\":{\"a\":\"",
-            character,
-            b"\"}",
-            &FEATURE[150..],
-            b"\n",
-        ],
+        &[front, b",\"attributes\":{\"a\":\"", text, b"\"}", back],
     )
 }
 
 #[test]
 fn a_character_of_three_bytes(rt: HostRuntime) -> Result<(), Fail> {
     let limits = Limits::new(8_388_608, 64)?;
-    let text = attributed(rt.alloc(), b"\xe2\x82\xac")?;
+    let line = attributed(rt.alloc(), b"\xe2\x82\xac")?;
+    let text = joined(rt.alloc(), &[HEADER, b"\n", &line, b"\n"])?;
     let whole = Wanted {
         name: "three bytes",
         written: &text,
@@ -345,30 +347,96 @@ fn a_character_of_three_bytes(rt: HostRuntime) -> Result<(), Fail> {
     Ok(())
 }
 
-#[test]
-fn two_bytes_of_a_character(rt: HostRuntime) -> Result<(), Fail> {
+// Runs over a header and a line whose character at byte 170 is cut short.
+fn check_cut_character(
+    rt: &impl Abort,
+    alloc: Global,
+    line: &[u8],
+    bytes: u64,
+) -> Result<(), Fail> {
     let limits = Limits::new(8_388_608, 64)?;
-    let broken = attributed(rt.alloc(), b"\xe2\x82")?;
-    let header = joined(rt.alloc(), &[HEADER, b"\n"])?;
+    let header = joined(alloc, &[HEADER, b"\n"])?;
+    let text = joined(alloc, &[&header, line, b"\n"])?;
     let cut = Wanted {
         name: "two of three bytes",
         written: &header,
-        outcome: outcome(1, 0, held(374, 21, 3), refused(2, 170, Reason::NotUtf8)),
+        outcome: outcome(1, 0, held(bytes, 21, 3), refused(2, 170, Reason::NotUtf8)),
     };
-    check_every_cut(&rt, rt.alloc(), &broken, limits, &cut);
-    let ended = joined(
-        rt.alloc(),
-        &[
-            HEADER,
-            b"\n",
-            &FEATURE[..150],
-            b",\"attributes\":{\"a\":\"\xe2\x82\n",
-        ],
-    )?;
-    let short = Wanted {
-        outcome: outcome(1, 0, held(312, 21, 3), refused(2, 170, Reason::NotUtf8)),
-        ..cut
+    check_every_cut(rt, alloc, &text, limits, &cut);
+    Ok(())
+}
+
+#[test]
+fn two_bytes_of_a_character(rt: HostRuntime) -> Result<(), Fail> {
+    let line = attributed(rt.alloc(), b"\xe2\x82")?;
+    check_cut_character(&rt, rt.alloc(), &line, 374)?;
+    assert!(&rt; line.len() > 172);
+    check_cut_character(&rt, rt.alloc(), &line[..172], 312)
+}
+
+/// The feature with this in place of its last index, which stands at byte 144.
+pub fn with_last_index(alloc: Global, index: &[u8]) -> Result<Vec<u8>, Fail> {
+    joined(alloc, &[&FEATURE[..144], index, &FEATURE[145..]])
+}
+
+#[test]
+fn nothing_is_judged_after_a_refused_line(rt: HostRuntime) -> Result<(), Fail> {
+    let limits = Limits::new(8_388_608, 64)?;
+    let line = with_last_index(rt.alloc(), b"4")?;
+    let written = joined(rt.alloc(), &[HEADER, b"\n", FEATURE, b"\n"])?;
+    let text = joined(rt.alloc(), &[&written, &line, b"\n", FEATURE, b"\n"])?;
+    let wanted = Wanted {
+        name: "after a refused line",
+        written: &written,
+        outcome: outcome(2, 1, held(350, 65, 8), refused(3, 144, Reason::VertexIndex)),
     };
-    check_every_cut(&rt, rt.alloc(), &ended, limits, &short);
+    check_every_cut(&rt, rt.alloc(), &text, limits, &wanted);
+    Ok(())
+}
+
+// A line that is refused for what it says is none of the output, also where it has no LF.
+fn check_refused_first(
+    rt: &impl Abort,
+    alloc: Global,
+    text: &[u8],
+    peaks: Peaks,
+    ended: End,
+) -> Result<(), Fail> {
+    let wanted = Wanted {
+        name: "a first line",
+        written: b"",
+        outcome: outcome(0, 0, peaks, ended),
+    };
+    let limits = Limits::new(8_388_608, 64)?;
+    check_every_cut(rt, alloc, text, limits, &wanted);
+    let ended = joined(alloc, &[text, b"\n", HEADER, b"\n"])?;
+    check_run(rt, alloc, &ended, 8_192, limits, &wanted);
+    Ok(())
+}
+
+#[test]
+fn an_older_version(rt: HostRuntime) -> Result<(), Fail> {
+    let line = joined(rt.alloc(), &[&HEADER[..29], b"\"1.1\"", &HEADER[34..]])?;
+    let ended = refused(1, 29, Reason::WrongVersion);
+    check_refused_first(&rt, rt.alloc(), &line, held(140, 21, 3), ended)
+}
+
+#[test]
+fn a_feature_as_first_line(rt: HostRuntime) -> Result<(), Fail> {
+    let ended = refused(1, 0, Reason::MissingMember);
+    check_refused_first(&rt, rt.alloc(), FEATURE, held(210, 44, 8), ended)
+}
+
+#[test]
+fn a_header_as_later_line(rt: HostRuntime) -> Result<(), Fail> {
+    let limits = Limits::new(8_388_608, 64)?;
+    let written = joined(rt.alloc(), &[HEADER, b"\n"])?;
+    let text = joined(rt.alloc(), &[HEADER, b"\n", HEADER, b"\n"])?;
+    let wanted = Wanted {
+        name: "a second header",
+        written: &written,
+        outcome: outcome(1, 0, held(280, 42, 3), refused(2, 0, Reason::MissingMember)),
+    };
+    check_every_cut(&rt, rt.alloc(), &text, limits, &wanted);
     Ok(())
 }

@@ -1,0 +1,181 @@
+//! What a sink is lent: the header, and each feature by itself, with what their lines hold.
+use super::calls::{check_bytes, check_outcome, held, joined, outcome};
+use super::devices::SlowReader;
+use super::rows::{FEATURE, HEADER};
+use cj_budget::Limits;
+use cj_feature::{Feature, Header};
+use cj_stream::{CountSink, End, LineSink, Outcome, Query, WriteFault, run};
+use std::alloc::{AllocError, Global};
+use std::process::Abort;
+use std::test::Fail;
+
+/// A feature of a part and its parent, of which the part alone has geometries, and of three vertices.
+const PARTS: &[u8] =
+    b"{\"type\":\"CityJSONFeature\",\"id\":\"\\u0070\",\"CityObjects\":{\"q\":{\"type\":\"Building\",\"children\":[\"p\"]},\"p\":{\"type\":\"BuildingPart\",\"parents\":[\"q\"],\"geometry\":[{\"type\":\"MultiPoint\",\"lod\":\"0\",\"boundaries\":[2]},{\"type\":\"MultiSurface\",\"lod\":\"1\",\"boundaries\":[[[0,1,2]]]}]}},\"vertices\":[[-1,2,3],[4e0,5.0,6],[7,8,9]]}";
+
+// Notes what it is lent. It never fails: where memory is refused, it notes that it has lost something.
+#[derive(Drop)]
+struct NoteSink {
+    alloc: Global,
+    notes: String,
+    lost: bool,
+}
+
+impl NoteSink {
+    fn note(&mut self, note: Result<String, AllocError>) {
+        let taken = match note {
+            Ok(text) => self.notes.push_str(&text).is_ok(),
+            Err(AllocError) => false,
+        };
+        self.lost = self.lost || !taken;
+    }
+}
+
+// The header's scale and translation, each number by its coefficient and power of ten.
+fn header_note(alloc: Global, header: &Header, lf: bool) -> Result<String, AllocError> {
+    let mut note = String::from_str(alloc, "header")?;
+    for number in header.scale() {
+        let text = format!(in alloc; " {}e{}", number.coefficient(), number.power())?;
+        note.push_str(&text)?;
+    }
+    for number in header.translate() {
+        let text = format!(in alloc; " {}e{}", number.coefficient(), number.power())?;
+        note.push_str(&text)?;
+    }
+    let last = format!(in alloc; " lf {lf}\n")?;
+    note.push_str(&last)?;
+    Ok(note)
+}
+
+// The types of the city objects.
+fn objects_note(alloc: Global, feature: &Feature) -> Result<String, AllocError> {
+    let mut note = String::new(alloc);
+    let mut count = 0u64;
+    for object in feature.objects() {
+        count = count.saturating_add(1);
+        note.push_str(" ")?;
+        note.push_str(object.object_type.name())?;
+    }
+    format!(in alloc; " objects {count}{note}")
+}
+
+// How many geometries there are.
+fn geometries_note(alloc: Global, feature: &Feature) -> Result<String, AllocError> {
+    let mut count = 0u64;
+    for _geometry in feature.geometries() {
+        count = count.saturating_add(1);
+    }
+    format!(in alloc; " geometries {count}")
+}
+
+fn vertices_note(alloc: Global, feature: &Feature) -> Result<String, AllocError> {
+    let mut note = String::from_str(alloc, " vertices")?;
+    for [x, y, z] in feature.vertices() {
+        let text = format!(in alloc; " {x},{y},{z}")?;
+        note.push_str(&text)?;
+    }
+    Ok(note)
+}
+
+// The feature's id as it is spelled, its city objects, geometries and vertices.
+fn feature_note(alloc: Global, feature: &Feature, lf: bool) -> Result<String, AllocError> {
+    let id = String::from_utf8_lossy(alloc, feature.id().bytes())?;
+    let objects = objects_note(alloc, feature)?;
+    let geometries = geometries_note(alloc, feature)?;
+    let vertices = vertices_note(alloc, feature)?;
+    format!(in alloc; "feature {id}{objects}{geometries}{vertices} lf {lf}\n")
+}
+
+impl LineSink for NoteSink {
+    ghost use Rattle.std.specs.Prelude.{⊤};
+
+    ghost takes = { λ a i b. ⊤ };
+
+    ghost leaves = { λ a i b. ⊤ };
+
+    ghost failures = { λ s. 0 };
+
+    fn header(&mut self, header: &Header<'_>, lf: bool) -> Result<(), WriteFault> {
+        self.note(header_note(self.alloc, header, lf));
+        Ok(())
+    }
+
+    fn put(&mut self, feature: &Feature<'_>, lf: bool) -> Result<(), WriteFault> {
+        self.note(feature_note(self.alloc, feature, lf));
+        Ok(())
+    }
+}
+
+// Runs over a text to a sink, by reads of `step` bytes.
+fn run_by<S: LineSink>(
+    alloc: Global,
+    text: &[u8],
+    step: usize,
+    sink: &mut S,
+) -> Result<Outcome, Fail> {
+    let limits = Limits::new(8_388_608, 64)?;
+    let query = Query::all(alloc);
+    let mut reader = SlowReader::new(text, step);
+    Ok(run(alloc, &mut reader, sink, limits, &query))
+}
+
+fn check_notes(
+    rt: &impl Abort,
+    alloc: Global,
+    text: &[u8],
+    step: usize,
+    wanted: &str,
+) -> Result<(), Fail> {
+    let mut sink = NoteSink {
+        alloc,
+        notes: String::new(alloc),
+        lost: false,
+    };
+    let _ = run_by(alloc, text, step, &mut sink)?;
+    assert!(rt; !sink.lost);
+    check_bytes(
+        rt,
+        sink.notes.as_bytes(),
+        wanted.as_bytes(),
+        "notes",
+        step as u64,
+    );
+    Ok(())
+}
+
+/// What is lent of the header and both features.
+const NOTES: &str = r#"header 1e-3 1e-3 1e-3 1e3 2e3 0e0 lf true
+feature "b1" objects 1 Building geometries 1 vertices 0,0,0 1000,0,0 1000,1000,0 0,1000,0 lf true
+feature "\u0070" objects 2 Building BuildingPart geometries 2 vertices -1,2,3 4,5,6 7,8,9 lf false
+"#;
+
+// What is lent of the second feature is of its own line, and not of the first one's.
+#[test]
+fn a_sink_is_lent_the_header_and_each_feature(rt: HostRuntime) -> Result<(), Fail> {
+    let text = joined(rt.alloc(), &[HEADER, b"\n", FEATURE, b"\n", PARTS])?;
+    check_notes(&rt, rt.alloc(), &text, 8_192, NOTES)?;
+    check_notes(&rt, rt.alloc(), &text, 1, NOTES)
+}
+
+#[test]
+fn a_sink_counts_headers_and_features(rt: HostRuntime) -> Result<(), Fail> {
+    let text = joined(
+        rt.alloc(),
+        &[HEADER, b"\n", FEATURE, b"\n\n", FEATURE, b"\n"],
+    )?;
+    let mut sink = CountSink {
+        headers: 0,
+        features: 0,
+    };
+    let told = run_by(rt.alloc(), &text, 100, &mut sink)?;
+    let wanted = outcome(4, 2, held(350, 65, 8), End::Complete);
+    check_outcome(&rt, told, wanted, "counts", 0);
+    assert_eq!(&rt;
+        sink,
+        CountSink {
+            headers: 1,
+            features: 2
+        }
+    );
+    Ok(())
+}
