@@ -1,18 +1,36 @@
 -- The test for a fixed number.
-use Rattle.std.proofs.Common.{◌≡◌, ℕ, ◌*◌, ◌^◌, ◌<◌, true, nat_lt, ℤ, pos, negsuc, neg_ℤ, ◌+ℤ◌, ◌*ℤ◌, refl, arith}
-use Rattle.std.specs.Prelude.{unsigned_abs}
+use Rattle.std.proofs.Common.{◌≡◌, ℕ, ◌*◌, ◌^◌, ◌<◌, Bool, true, false, Option, Some, None, nat_lt, ℤ, pos, negsuc, neg_ℤ, ◌+ℤ◌, ◌*ℤ◌, refl, arith}
+use Rattle.std.specs.Prelude.{unsigned_abs, is_some, ◌↔◌, IsSome}
 use Rattle.std.proofs.lemmas.Int.{ints}
 use Rattle.std.proofs.lemmas.Bool.Decides.{nat_tests}
 use Rattle.cj_decimal.specs.Number.{Number, IsNormal, IsFixed}
 use Rattle.cj_decimal.proofs.Values.{abs_times}
-use Rattle.cj_decimal.proofs.Scales.{units_below, units_same, size_of_units}
-use Rattle.cj_feature.specs.Header.{is_fixed_by, is_fixed}
+use Rattle.cj_decimal.proofs.Scales.{units_below, units_are, units_same, size_of_units}
+use Rattle.cj_feature.specs.Header.{is_fixed_by, is_fixed, units_by, units_of}
 
 below-is : (a b : ℕ) → nat_lt a b ≡ true → a < b
 below-is a b h = grind (arith, nat_tests)
 
 is-below : (a b : ℕ) → a < b → nat_lt a b ≡ true
 is-below a b h = grind (arith, nat_tests)
+
+-- the units of a number that passes the test, and no other number of them
+pub fixed-units : (n : Number) → is_fixed n ≡ true → IsFixed n (units_of n)
+fixed-units n h = go (n.power +ℤ pos 18) refl h
+  where
+    go : (shift : ℤ) → n.power +ℤ pos 18 ≡ shift → is_fixed_by shift n.coefficient ≡ true → IsFixed n (units_by shift n.coefficient)
+    go (pos k) e h =
+        let u = n.coefficient *ℤ pos (10 ^ k) in
+        let small : unsigned_abs u < 10 ^ 36 = omega (arith, abs_times n.coefficient (10 ^ k), below-is (unsigned_abs n.coefficient * 10 ^ k) (10 ^ 36) h) in
+        record { same = units_same n u (neg_ℤ (pos 18)) k (omega (arith, ints, e)) refl; small = small }
+    go (negsuc k) e h = absurd (cc h)
+
+pub units-only : (n : Number) (u : ℤ) → is_fixed n ≡ true → IsFixed n u → u ≡ units_of n
+units-only n u h f = go (n.power +ℤ pos 18) refl h
+  where
+    go : (shift : ℤ) → n.power +ℤ pos 18 ≡ shift → is_fixed_by shift n.coefficient ≡ true → u ≡ units_by shift n.coefficient
+    go (pos k) e h = units_are n u (neg_ℤ (pos 18)) k (omega (arith, ints, e)) f.same
+    go (negsuc k) e h = absurd (cc h)
 
 module _ (n : Number) (normal : IsNormal n) where
   test-of : (shift : ℤ) → n.power +ℤ pos 18 ≡ shift → is_fixed_by shift n.coefficient ≡ true → (u : ℤ) × IsFixed n u
@@ -33,3 +51,12 @@ module _ (n : Number) (normal : IsNormal n) where
 
   pub test-fixed : (u : ℤ) × IsFixed n u → is_fixed n ≡ true
   test-fixed = of-test (n.power +ℤ pos 18) refl
+
+-- the test says whether there are units
+pub test-decides : (n : Number) → IsNormal n → (r : Option ℤ) → (IsSome r ↔ ((u : ℤ) × IsFixed n u)) → is_fixed n ≡ is_some r
+test-decides n normal (Some x) h = test-fixed n normal (h.0 refl)
+test-decides n normal None h = go (is_fixed n) refl
+  where
+    go : (b : Bool) → is_fixed n ≡ b → b ≡ false
+    go true e = let some = h.1 (units_of n, fixed-units n e) in absurd (cc some)
+    go false e = refl

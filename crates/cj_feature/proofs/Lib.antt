@@ -1,4 +1,5 @@
 pub mod Fixed
+pub mod FixedRule
 pub mod Lengths
 pub mod LinkFaults
 pub mod None

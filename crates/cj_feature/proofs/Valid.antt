@@ -1,5 +1,5 @@
 -- What headers and features of no findings have.
-use Rattle.std.proofs.Common.{◌≡◌, [], ◌++◌, false, codes}
+use Rattle.std.proofs.Common.{◌≡◌, [], ◌++◌, Bool, codes}
 use Rattle.std.specs.Str.{chars}
 use Rattle.cj_spans.specs.Tree.{Tree}
 use Rattle.cj_spans.specs.Kinds.{is_text, is_object}
@@ -11,20 +11,20 @@ use Rattle.cj_feature.specs.Header.{three_numbers, transform, header_rules, head
 use Rattle.cj_feature.proofs.None.{none-both, of_kind-none}
 
 -- a transform
-pub has-transform : (t : Tree) → header false t ≡ [] → needs (chars (codes "transform")) (transform false) t ≡ []
-has-transform t valid =
-    let rules : header_rules false t ≡ [] = (of_kind-none (header_rules false) t is_object valid).1 in
+pub has-transform : (b : Bool) (t : Tree) → header b t ≡ [] → needs (chars (codes "transform")) (transform b) t ≡ []
+has-transform b t valid =
+    let rules : header_rules b t ≡ [] = (of_kind-none (header_rules b) t is_object valid).1 in
     (none-both _ _ (none-both _ _ (none-both _ _ (none-both _ _ rules).0).0).0).1
 
 -- and in it three numbers twice
-module _ (u : Tree) (valid : transform false u ≡ []) where
-  rules : distinct u ++ needs (chars (codes "scale")) (three_numbers false) u ++ needs (chars (codes "translate")) (three_numbers false) u ≡ []
-  rules = (of_kind-none (λ v. distinct v ++ needs (chars (codes "scale")) (three_numbers false) v ++ needs (chars (codes "translate")) (three_numbers false) v) u is_object valid).1
+module _ (b : Bool) (u : Tree) (valid : transform b u ≡ []) where
+  rules : distinct u ++ needs (chars (codes "scale")) (three_numbers b) u ++ needs (chars (codes "translate")) (three_numbers b) u ≡ []
+  rules = (of_kind-none (λ v. distinct v ++ needs (chars (codes "scale")) (three_numbers b) v ++ needs (chars (codes "translate")) (three_numbers b) v) u is_object valid).1
 
-  pub has-scale : needs (chars (codes "scale")) (three_numbers false) u ≡ []
+  pub has-scale : needs (chars (codes "scale")) (three_numbers b) u ≡ []
   has-scale = (none-both _ _ (none-both _ _ rules).0).1
 
-  pub has-translate : needs (chars (codes "translate")) (three_numbers false) u ≡ []
+  pub has-translate : needs (chars (codes "translate")) (three_numbers b) u ≡ []
   has-translate = (none-both _ _ rules).1
 
 -- of a feature, an id, city objects and vertices

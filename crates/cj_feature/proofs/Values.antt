@@ -14,7 +14,7 @@ use Rattle.cj_geometry.specs.Rule.{spelling, number_findings, number, whole_by, 
 use Rattle.cj_feature.specs.Shown.{value_by, value_of}
 use Rattle.cj_feature.proofs.None.{of_kind-none}
 
-is-number : (k : Kind) → is_number k ≡ true → k ≡ NumberKind
+pub is-number : (k : Kind) → is_number k ≡ true → k ≡ NumberKind
 is-number Null h = absurd (cc h)
 is-number Truth h = absurd (cc h)
 is-number NumberKind h = refl
@@ -22,7 +22,7 @@ is-number Text h = absurd (cc h)
 is-number Array h = absurd (cc h)
 is-number Object h = absurd (cc h)
 
-same-spelling : (line : List ℕ) (t : Tree) → kind_of t ≡ NumberKind → spelling_of line t ≡ spelling t
+pub same-spelling : (line : List ℕ) (t : Tree) → kind_of t ≡ NumberKind → spelling_of line t ≡ spelling t
 same-spelling line (scalar k a) e = refl
 same-spelling line (array i j ts) e = absurd (cc e)
 same-spelling line (object i j ms) e = absurd (cc e)

@@ -1,5 +1,5 @@
 -- The findings of a header, rule by rule.
-use Rattle.std.specs.Prelude.{ℕ, List, [], ◌∷◌, ◌++◌, ◌*◌, ◌^◌, Bool, true, false, cond, nat_eq, nat_lt, length, Option, ℤ, pos, negsuc, ◌+ℤ◌, unsigned_abs, codes}
+use Rattle.std.specs.Prelude.{ℕ, List, [], ◌∷◌, ◌++◌, ◌*◌, ◌^◌, Bool, true, false, cond, nat_eq, nat_lt, length, Option, ℤ, pos, negsuc, ◌+ℤ◌, ◌*ℤ◌, unsigned_abs, codes}
 use Rattle.std.specs.List.{flat_map}
 use Rattle.std.specs.Str.{chars}
 use Rattle.cj_spans.specs.declared.reason.Reason.{Reason}
@@ -32,6 +32,14 @@ is_fixed_by (negsuc shift) c = false
 
 abbrev pub is_fixed : Number → Bool
 is_fixed n = is_fixed_by (n.power +ℤ pos 18) n.coefficient
+
+-- how many units of 10^-18 it is then
+abbrev pub units_by : ℤ → ℤ → ℤ
+units_by (pos shift) c = c *ℤ pos (10 ^ shift)
+units_by (negsuc shift) c = pos 0
+
+abbrev pub units_of : Number → ℤ
+units_of n = units_by (n.power +ℤ pos 18) n.coefficient
 
 -- a number in range that is not fixed, by its class
 abbrev pub fixed_findings : {s : List ℕ} → Tree → Class s → List Finding

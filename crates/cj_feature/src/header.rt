@@ -42,15 +42,16 @@ pub(crate) fn templates_in(header: Doc) -> Templates
 }
 
 impl<'a> Header<'a> {
-    ghost use Rattle.cj_feature.specs.Shown.{transform_values};
-    ghost use Rattle.cj_feature.specs.HeaderView.{header_tree, header_line};
+    ghost use Rattle.cj_feature.specs.Shown.{transform_values, maps_if, parts_box};
+    ghost use Rattle.cj_feature.specs.HeaderView.{header_tree, header_line, has_box};
 
     /// The header of this document again, where its parts came from it.
-    #[tactic(auto, unfolding(crate::specs::HeaderView::header_tree, crate::specs::HeaderView::header_line))]
+    #[tactic(auto, unfolding(crate::specs::HeaderView::header_tree, crate::specs::HeaderView::header_line, crate::specs::HeaderView::has_box, crate::specs::Shown::parts_box))]
     pub fn of(doc: Doc<'a>, parts: HeaderParts) -> Header<'a>
         requires { ArePartsOf (document doc) parts }
         ensures tree { header_tree result ≡ document doc.entry }
         ensures line { header_line result ≡ document_line doc.entry }
+        ensures with_box { has_box result ≡ parts_box parts }
     {
         Header { doc, parts }
     }
@@ -89,11 +90,14 @@ impl<'a> Header<'a> {
         self.doc
     }
 
-    /// The maps of the x and y axes, where the header was checked with a box.
+    /// The maps of the x and y axes from whole numbers to coordinates, where the header was checked with
+    /// a box.
+    #[tactic(auto, unfolding(crate::specs::HeaderView::header_tree, crate::specs::HeaderView::has_box))]
     pub fn affine(&self) -> Option<[Affine; 2]>
-        ensures { result ≡ None }
+        ensures { result ≡ maps_if (has_box self.now) (header_tree self.now) }
     {
-        None
+        let parts = self.parts;
+        parts.maps
     }
 
     /// The line's content.
@@ -105,9 +109,10 @@ impl<'a> Header<'a> {
     }
 
     /// What [`Header::of`] makes the same header of.
-    #[tactic(auto, unfolding(crate::specs::HeaderView::header_tree, crate::specs::HeaderView::header_line))]
+    #[tactic(auto, unfolding(crate::specs::HeaderView::header_tree, crate::specs::HeaderView::has_box, crate::specs::Shown::parts_box))]
     pub fn parts(&self) -> HeaderParts
-        ensures { ArePartsOf (header_tree self.now) result }
+        ensures parts { ArePartsOf (header_tree self.now) result }
+        ensures with_box { parts_box result ≡ has_box self.now }
     {
         self.parts
     }

@@ -7,7 +7,7 @@ ghost use Rattle.cj_spans.specs.Parts.{members_of};
 ghost use Rattle.cj_decimal.specs.Number.{Number, IsNormal, IsWhole, IsFixed};
 ghost use Rattle.cj_decimal.specs.Spelling.{IsValue};
 ghost use Rattle.cj_geometry.specs.Rule.{spelling, whole_of};
-ghost use Rattle.cj_feature.specs.Header.{is_fixed};
+ghost use Rattle.cj_feature.specs.Header.{is_fixed, units_of};
 ghost use Rattle.cj_feature.specs.Links.{links};
 ghost use Rattle.cj_feature.specs.Relations.{IsLinkFault};
 ghost use Rattle.cj_feature.specs.Shown.{value_of};
@@ -19,9 +19,11 @@ pub fn links_are_the_links()
 {}
 
 /// The test for a fixed number in the rule on a transform beside a box is right: it answers true for
-/// the numbers in normal form that are whole numbers of units of 10^-18, below 10^18 in size.
+/// the numbers in normal form that are whole numbers of units of 10^-18, below 10^18 in size; and the
+/// maps of the axes go by these units.
 pub fn fixed_numbers_are_fixed()
-    ensures { (n : Number) → IsNormal n → (IsTrue (is_fixed n) ↔ ((u : ℤ) × IsFixed n u)) }
+    ensures fixed { (n : Number) → IsNormal n → (IsTrue (is_fixed n) ↔ ((u : ℤ) × IsFixed n u)) }
+    ensures units { (n : Number) → IsTrue (is_fixed n) → IsFixed n (units_of n) }
 {}
 
 /// The numbers that headers and features show are the values of their spellings.

@@ -36,10 +36,10 @@ fn tokens_of(rt: &impl Abort, alloc: Global, line: &[u8]) -> Bounded<Token>
     tokens
 }
 
-/// The finding of a line that is judged as a header.
-fn header_finding(rt: &impl Abort, alloc: Global, line: &[u8]) -> Option<Finding> {
+/// The finding of a line that is judged as a header, for a box or for none.
+fn header_finding(rt: &impl Abort, alloc: Global, line: &[u8], with_box: bool) -> Option<Finding> {
     let tokens = tokens_of(rt, alloc, line);
-    match check_header(Doc::of(line, tokens.as_slice()), false) {
+    match check_header(Doc::of(line, tokens.as_slice()), with_box) {
         Ok(_) => None,
         Err(finding) => Some(finding),
     }
@@ -110,6 +110,23 @@ fn line_of(
     unmarked(alloc, &line, want)
 }
 
+/// Each row of the table, as a header for a box or for none, has the finding that it wants.
+fn headers_judged(
+    rt: &impl Abort,
+    alloc: Global,
+    with_box: bool,
+    pattern: &str,
+    rows: &str,
+) -> Result<(), AllocError> {
+    for row in rows.trim().lines() {
+        let (line, want) = line_of(rt, alloc, pattern, row)?;
+        let found = header_finding(rt, alloc, line.as_bytes(), with_box);
+        let found = finding_text(alloc, found)?;
+        assert_eq!(rt; found.as_str(), want.as_str(), "{row}");
+    }
+    Ok(())
+}
+
 /// Each row of the table, as a header, has the finding that it wants.
 fn headers_meet(
     rt: &impl Abort,
@@ -117,12 +134,17 @@ fn headers_meet(
     pattern: &str,
     rows: &str,
 ) -> Result<(), AllocError> {
-    for row in rows.trim().lines() {
-        let (line, want) = line_of(rt, alloc, pattern, row)?;
-        let found = finding_text(alloc, header_finding(rt, alloc, line.as_bytes()))?;
-        assert_eq!(rt; found.as_str(), want.as_str(), "{row}");
-    }
-    Ok(())
+    headers_judged(rt, alloc, false, pattern, rows)
+}
+
+/// Each row of the table, as a header for a box, has the finding that it wants.
+fn boxed_headers_meet(
+    rt: &impl Abort,
+    alloc: Global,
+    pattern: &str,
+    rows: &str,
+) -> Result<(), AllocError> {
+    headers_judged(rt, alloc, true, pattern, rows)
 }
 
 /// Each row of the table, as a feature beside this header, has the finding that it wants.

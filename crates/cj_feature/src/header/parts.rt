@@ -1,5 +1,5 @@
 //! What is read of a header once.
-use cj_decimal::Decimal;
+use cj_decimal::{Affine, Decimal};
 
 /// What is read of a header once and for all. It borrows nothing, so that it can be kept beside a copy
 /// of the line and its tokens.
@@ -7,4 +7,6 @@ use cj_decimal::Decimal;
 pub struct HeaderParts {
     pub(crate) scale: [Decimal; 3],
     pub(crate) translate: [Decimal; 3],
+    pub(crate) with_box: bool,
+    pub(crate) maps: Option<[Affine; 2]>,
 }

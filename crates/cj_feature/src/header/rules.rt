@@ -1,20 +1,21 @@
 //! The rules on headers, one after another.
-ghost use Rattle.std.specs.Prelude.{◌≡◌, false, codes};
+ghost use Rattle.std.specs.Prelude.{◌≡◌, [], cond, codes};
 ghost use Rattle.std.specs.Str.{chars};
-ghost use Rattle.cj_spans.specs.declared.reason.Reason.TheVariants.{NotThree};
+ghost use Rattle.cj_spans.specs.declared.reason.Reason.TheVariants.{NotThree, TransformNotFixed};
 ghost use Rattle.cj_spans.specs.Finding.{least};
 ghost use Rattle.cj_spans.specs.View.{tree};
-ghost use Rattle.cj_geometry.specs.Rule.{needs, may_have, number, of_length};
+ghost use Rattle.cj_geometry.specs.Rule.{one, needs, may_have, number, of_length};
 ghost use Rattle.cj_geometry.specs.Geometry.{count_of};
-ghost use Rattle.cj_spans.specs.Parts.{member_of};
-ghost use Rattle.cj_feature.specs.Header.{three_numbers, transform, no_members, empty_object, empty_array, template_vertices, template_list, geometry_templates, header};
+ghost use Rattle.cj_spans.specs.Parts.{items_of, member_of};
+ghost use Rattle.cj_feature.specs.Header.{fixed, first_two, three_numbers, transform, no_members, empty_object, empty_array, template_vertices, template_list, geometry_templates, header};
 
 use crate::member::{check_name_member, count_member};
+use cj_decimal::Decimal;
 use cj_geometry::rule::{
     add, check_array, check_length, check_names, check_number, check_object, needed,
 };
 use cj_geometry::{Templates, check_geometry};
-use cj_spans::{Least, Node, Reason};
+use cj_spans::{Kind, Least, Node, Reason};
 
 /// The value is an array of three numbers.
 fn check_three_numbers(node: Node, found: &mut Least)
@@ -26,32 +27,77 @@ fn check_three_numbers(node: Node, found: &mut Least)
     }
 }
 
+/// The value is a number out of range, or a multiple of 10^-18 below 10^18 in size.
+fn check_fixed(node: Node, found: &mut Least)
+    ensures { found.new ≡ least found.old (fixed (tree node.entry)) }
+{
+    if is_unfixed(node) {
+        add(node, Reason::TransformNotFixed, found);
+    }
+}
+
+/// Whether the value is a number in range that is no multiple of 10^-18, or 10^18 or more in size.
+fn is_unfixed(node: Node) -> bool
+    ensures { fixed (tree node.entry) ≡ cond result (one TransformNotFixed (tree node.entry)) [] }
+{
+    match node.kind() {
+        Kind::Number => match Decimal::read(node.bytes()) {
+            Ok(number) => number.fixed18().is_none(),
+            Err(_) => false,
+        },
+        _ => false,
+    }
+}
+
+/// The first two of the values are fixed.
+fn check_first_two(node: Node, found: &mut Least)
+    ensures { found.new ≡ least found.old (first_two fixed (items_of (tree node.entry))) }
+{
+    let mut items = node.items();
+    if let Some(x) = items.next() {
+        check_fixed(x, found);
+    }
+    if let Some(y) = items.next() {
+        check_fixed(y, found);
+    }
+}
+
+/// The value is an array of three numbers, of which with a box the first two are fixed.
+fn check_axes(node: Node, with_box: bool, found: &mut Least)
+    ensures { found.new ≡ least found.old (three_numbers with_box (tree node.entry)) }
+{
+    check_three_numbers(node, found);
+    if with_box {
+        check_first_two(node, found);
+    }
+}
+
 /// The object has a member of this name, which is an array of three numbers.
-fn check_three_numbers_member(object: Node, name: &str, found: &mut Least)
-    ensures { found.new ≡ least found.old (needs (chars name.now) (three_numbers false) (tree object.entry)) }
+fn check_axes_member(object: Node, name: &str, with_box: bool, found: &mut Least)
+    ensures { found.new ≡ least found.old (needs (chars name.now) (three_numbers with_box) (tree object.entry)) }
 {
     if let Some(value) = needed(object, name, found) {
-        check_three_numbers(value, found);
+        check_axes(value, with_box, found);
     }
 }
 
 /// The value is an object of a scale and a translation.
-fn check_transform(node: Node, found: &mut Least)
-    ensures { found.new ≡ least found.old (transform false (tree node.entry)) }
+fn check_transform(node: Node, with_box: bool, found: &mut Least)
+    ensures { found.new ≡ least found.old (transform with_box (tree node.entry)) }
 {
     if check_object(node, found) {
         check_names(node, found);
-        check_three_numbers_member(node, "scale", found);
-        check_three_numbers_member(node, "translate", found);
+        check_axes_member(node, "scale", with_box, found);
+        check_axes_member(node, "translate", with_box, found);
     }
 }
 
 /// The header has a transform.
-fn check_transform_member(object: Node, found: &mut Least)
-    ensures { found.new ≡ least found.old (needs (chars (codes "transform")) (transform false) (tree object.entry)) }
+fn check_transform_member(object: Node, with_box: bool, found: &mut Least)
+    ensures { found.new ≡ least found.old (needs (chars (codes "transform")) (transform with_box) (tree object.entry)) }
 {
     if let Some(value) = needed(object, "transform", found) {
-        check_transform(value, found);
+        check_transform(value, with_box, found);
     }
 }
 
@@ -154,15 +200,15 @@ fn check_templates_member(object: Node, found: &mut Least)
     }
 }
 
-/// The value is a header, where there is no box.
-pub fn check_root(node: Node, found: &mut Least)
-    ensures { found.new ≡ least found.old (header false (tree node.entry)) }
+/// The value is a header, for a box or for none.
+pub fn check_root(node: Node, with_box: bool, found: &mut Least)
+    ensures { found.new ≡ least found.old (header with_box (tree node.entry)) }
 {
     if check_object(node, found) {
         check_names(node, found);
         check_name_member(node, "type", "CityJSON", Reason::WrongType, found);
         check_name_member(node, "version", "2.0", Reason::WrongVersion, found);
-        check_transform_member(node, found);
+        check_transform_member(node, with_box, found);
         check_no_objects_member(node, found);
         check_no_vertices_member(node, found);
         check_templates_member(node, found);

@@ -1,5 +1,5 @@
 //! Headers, rule by rule.
-use super::headers_meet;
+use super::{boxed_headers_meet, headers_meet};
 use std::test::Fail;
 
 #[test]
@@ -141,6 +141,46 @@ fn translations(rt: HostRuntime) -> Result<(), Fail> {
         four numbers | ^[1,1,1,1] | 17 not three items
         a truth | [^true,1,1] | 12 wrong kind
         a power too small | [1,^1e-1000001,1] | 13 number out of range
+        "#,
+    )?;
+    Ok(())
+}
+
+#[test]
+fn scales_beside_a_box(rt: HostRuntime) -> Result<(), Fail> {
+    boxed_headers_meet(
+        &rt,
+        rt.alloc(),
+        r#"{"type":"CityJSON","version":"2.0","transform":{"scale":_,"translate":[0,0,0]},"CityObjects":{},"vertices":[]}"#,
+        r#"
+        numbers of either sign | [0.001,-0.001,0] | none
+        the greatest and the least | [999999999999999999.999999999999999999,1e-18,1] | none
+        zero of any power | [0e1000000,-0.0,1] | none
+        a power too small | [^1e-19,1,1] | 30 transform not fixed
+        a number too great | [1,^1e18,1] | 30 transform not fixed
+        one too great below zero | [1,^-1e18,1] | 30 transform not fixed
+        both, of which the first counts | [^1e-19,1e18,1] | 30 transform not fixed
+        the third is free | [1,1,1e-19] | none
+        a number out of range | [^1e1000001,1,1] | 13 number out of range
+        a text, and a number too great | [^"1",1e18,1] | 12 wrong kind
+        a number too great, and a text | [^1e18,"1",1] | 30 transform not fixed
+        one number alone | ^[1e-19] | 17 not three items
+        "#,
+    )?;
+    Ok(())
+}
+
+#[test]
+fn translations_beside_a_box(rt: HostRuntime) -> Result<(), Fail> {
+    boxed_headers_meet(
+        &rt,
+        rt.alloc(),
+        r#"{"type":"CityJSON","version":"2.0","transform":{"scale":[0.001,0.001,0.001],"translate":_},"CityObjects":{},"vertices":[]}"#,
+        r#"
+        three numbers | [1000.0,2000.0,0.0] | none
+        a power too small | [1e-19,2000.0,0.0] | 89 30 transform not fixed
+        the second | [1000.0,^1e-19,0.0] | 30 transform not fixed
+        the third is free | [1000.0,2000.0,1e-19] | none
         "#,
     )?;
     Ok(())

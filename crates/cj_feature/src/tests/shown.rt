@@ -6,7 +6,7 @@ ghost use Rattle.cj_feature.specs.HeaderView.{header_tree};
 use super::templates::TEMPLATES;
 use super::{HEADER, tokens_of};
 use crate::{Feature, Header, check_feature, check_header};
-use cj_decimal::Decimal;
+use cj_decimal::{Decimal, Fixed18};
 use cj_geometry::lod_of;
 use cj_spans::Doc;
 use std::alloc::{AllocError, Global};
@@ -76,6 +76,58 @@ fn a_header_of_its_parts_shows_the_same(rt: HostRuntime) -> Result<(), Fail> {
     let (text, second) = header_texts(&rt, rt.alloc(), HEADER.as_bytes())?;
     assert_eq!(&rt; text.as_str(), want);
     assert_eq!(&rt; second.as_str(), want);
+    Ok(())
+}
+
+/// How the maps of a header take a whole number on each axis, beside a number.
+fn compared(
+    rt: &impl Abort,
+    alloc: Global,
+    header: &Header,
+    vertex: [i64; 2],
+    point: [&str; 2],
+) -> Result<String, AllocError> {
+    let [x, y] = header.affine().expect(rt, "a box");
+    assert!(rt; vertex[0] >= 0 && vertex[0] < 1_000_000);
+    assert!(rt; vertex[1] >= 0 && vertex[1] < 1_000_000);
+    let east = x.compare(vertex[0], fixed(rt, point[0]));
+    let north = y.compare(vertex[1], fixed(rt, point[1]));
+    format!(in alloc; "{east:?} {north:?}")
+}
+
+/// A number that a box may have.
+fn fixed(rt: &impl Abort, spelling: &str) -> Fixed18 {
+    match Decimal::read(spelling.as_bytes()) {
+        Ok(number) => number.fixed18().expect(rt, "a fixed number"),
+        Err(_) => panic!(rt; "no number"),
+    }
+}
+
+/// How the maps of the usual header take a vertex, beside a point.
+fn vertex_text(
+    rt: &impl Abort,
+    alloc: Global,
+    vertex: [i64; 2],
+    point: [&str; 2],
+) -> Result<String, AllocError> {
+    let tokens = tokens_of(rt, alloc, HEADER.as_bytes());
+    match check_header(Doc::of(HEADER.as_bytes(), tokens.as_slice()), true) {
+        Ok(header) => compared(rt, alloc, &header, vertex, point),
+        Err(_) => panic!(rt; "no header"),
+    }
+}
+
+#[test]
+fn a_header_for_a_box_maps_vertices(rt: HostRuntime) -> Result<(), Fail> {
+    let same = vertex_text(&rt, rt.alloc(), [1_000, 0], ["1001", "2000"])?;
+    assert_eq!(&rt; same.as_str(), "Equal Equal");
+    let apart = vertex_text(
+        &rt,
+        rt.alloc(),
+        [1_000, 1],
+        ["1001.000000000000000001", "2000"],
+    )?;
+    assert_eq!(&rt; apart.as_str(), "Less Greater");
     Ok(())
 }
 

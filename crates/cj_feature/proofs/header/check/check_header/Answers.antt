@@ -1,5 +1,4 @@
-use Rattle.std.proofs.Common.{◌∙◌, sym, ap, Some}
-use Rattle.cj_spans.specs.Finding.{least}
+use Rattle.std.proofs.Common.{◌∙◌, Some}
 use Rattle.cj_spans.specs.View.{document}
 use Rattle.cj_feature.specs.Header.{header}
 use Rattle.cj_feature.proofs.Verdict.{only-findings}
@@ -9,5 +8,4 @@ pub returns-in-Some-clause-verdict : goal.returns-in-Some-clause-verdict
 returns-in-Some-clause-verdict c =
     let d = document c.args.doc in
     let checked = rw c.root-root.ensures.tree at c.check_root.ensures in
-    only-findings (header c.args.with_box d) c.new-found.result (Some c.in-Some.finding) c.new-found.ensures
-    (c.in-Some.ensures.held ∙ checked ∙ ap (λ b. least c.new-found.result (header b d)) (sym c.requires))
+    only-findings (header c.args.with_box d) c.new-found.result (Some c.in-Some.finding) c.new-found.ensures (c.in-Some.ensures.held ∙ checked)

@@ -1,24 +1,38 @@
-use Rattle.std.proofs.Common.{false, codes, Some, None, refl}
+use Rattle.std.proofs.Common.{true, codes, Some, refl}
 use Rattle.std.specs.Str.{chars}
 use Rattle.cj_spans.specs.View.{tree}
 use Rattle.cj_feature.specs.Header.{transform}
-use Rattle.cj_feature.proofs.None.{is-there, then-none}
+use Rattle.cj_feature.proofs.FixedRule.{needs-three, axes-fixed}
+use Rattle.cj_feature.proofs.None.{then-none}
 use Rattle.cj_feature.proofs.Valid.{has-transform, has-scale, has-translate}
 use Rattle.cj_feature.proofs.header.reading.read_parts.Goals as goal
 
-pub read_three_member-requires : goal.read_three_member-requires
-read_three_member-requires c =
+pub read_three_member-scale-requires : goal.read_three_member-scale-requires
+read_three_member-scale-requires c =
     let n = tree c.args.root in
     let u = tree c.in-Some.transform in
-    has-scale u (then-none (transform false) n (chars (codes "transform")) (has-transform n c.requires) (Some u) c.in-Some.ensures.value u refl)
+    let b = c.args.with_box in
+    needs-three (chars (codes "scale")) u b (has-scale b u (then-none (transform b) n (chars (codes "transform")) (has-transform b n c.requires) (Some u) c.in-Some.ensures.value u refl))
 
-pub read_three_member-requires-in-Some : goal.read_three_member-requires-in-Some
-read_three_member-requires-in-Some c =
+pub read_three_member-translate-requires : goal.read_three_member-translate-requires
+read_three_member-translate-requires c =
     let n = tree c.args.root in
     let u = tree c.in-Some.transform in
-    has-translate u (then-none (transform false) n (chars (codes "transform")) (has-transform n c.requires) (Some u) c.in-Some.ensures.value u refl)
+    let b = c.args.with_box in
+    needs-three (chars (codes "translate")) u b (has-translate b u (then-none (transform b) n (chars (codes "transform")) (has-transform b n c.requires) (Some u) c.in-Some.ensures.value u refl))
 
-pub unreachable-requires : goal.unreachable-requires
-unreachable-requires c =
+pub map_axes-requires-clause-scale : goal.map_axes-requires-clause-scale
+map_axes-requires-clause-scale c =
     let n = tree c.args.root in
-    is-there (transform false) n (chars (codes "transform")) (has-transform n c.requires) None c.in-None.ensures.value refl
+    let u = tree c.in-Some.transform in
+    let valid = rw c.if-with_box.true at c.requires in
+    axes-fixed (chars (codes "scale")) u c.read_three_member-scale.result
+    (has-scale true u (then-none (transform true) n (chars (codes "transform")) (has-transform true n valid) (Some u) c.in-Some.ensures.value u refl)) c.read_three_member-scale.ensures
+
+pub map_axes-requires-clause-translate : goal.map_axes-requires-clause-translate
+map_axes-requires-clause-translate c =
+    let n = tree c.args.root in
+    let u = tree c.in-Some.transform in
+    let valid = rw c.if-with_box.true at c.requires in
+    axes-fixed (chars (codes "translate")) u c.read_three_member-translate.result
+    (has-translate true u (then-none (transform true) n (chars (codes "transform")) (has-transform true n valid) (Some u) c.in-Some.ensures.value u refl)) c.read_three_member-translate.ensures

@@ -1,4 +1,4 @@
-use Rattle.std.proofs.Common.{sym, false, codes, ◌++◌}
+use Rattle.std.proofs.Common.{sym, codes, ◌++◌}
 use Rattle.std.specs.Str.{chars}
 use Rattle.cj_spans.specs.declared.reason.Reason.TheVariants.{WrongType, WrongVersion}
 use Rattle.cj_spans.specs.View.{tree}
@@ -15,11 +15,11 @@ returns-then-check_object c =
     let o = c.check_object.new.found in
     let type_rule = has_member_named (chars (codes "type")) WrongType (chars (codes "CityJSON")) n in
     let version = has_member_named (chars (codes "version")) WrongVersion (chars (codes "2.0")) n in
-    let map = needs (chars (codes "transform")) (transform false) n in
+    let map = needs (chars (codes "transform")) (transform c.args.with_box) n in
     let objects = needs (chars (codes "CityObjects")) empty_object n in
     let vertices = needs (chars (codes "vertices")) empty_array n in
     let templates = may_have (chars (codes "geometry-templates")) geometry_templates n in
     let three = least-three o _ _ _ (distinct n) type_rule version c.check_names.ensures c.check_name_member.ensures c.check_name_member-then-check_object.ensures in
     let five = least-three o _ _ _ (distinct n ++ type_rule ++ version) map objects three c.check_transform_member.ensures c.check_no_objects_member.ensures in
     let seven = least-three o _ _ _ (distinct n ++ type_rule ++ version ++ map ++ objects) vertices templates five c.check_no_vertices_member.ensures c.check_templates_member.ensures in
-    of_kind-then is_object (header_rules false) n _ _ _ (sym c.if-check_object.ensures.is) c.check_object.ensures.found seven
+    of_kind-then is_object (header_rules c.args.with_box) n _ _ _ (sym c.if-check_object.ensures.is) c.check_object.ensures.found seven

@@ -1,0 +1,12 @@
+use Rattle.cj_spans.specs.declared.reason.Reason.TheVariants.{NotThree}
+use Rattle.cj_spans.specs.Parts.{items_of}
+use Rattle.cj_spans.specs.View.{tree}
+use Rattle.cj_spans.proofs.Findings.{least-two}
+use Rattle.cj_geometry.specs.Rule.{number, of_length}
+use Rattle.cj_feature.specs.Header.{fixed, first_two}
+use Rattle.cj_feature.proofs.header.rules.check_axes.Goals as goal
+
+pub returns-then-with_box : goal.returns-then-with_box
+returns-then-with_box c =
+    let n = tree c.args.node in
+    rw c.if-with_box.true (least-two c.args.found.now c.check_three_numbers.new.found c.check_first_two.new.found (of_length NotThree 3 number n) (first_two fixed (items_of n)) c.check_three_numbers.ensures c.check_first_two.ensures)
