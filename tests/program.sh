@@ -294,6 +294,16 @@ row_less_memory_than_a_line_takes() {
   lines "$header" | answered 5 'out of memory'
 }
 
+# ---- the example for embedders
+
+# It is tried with no proof, as that takes a minute whatever is proved: `examples/embed/run.sh` proves it.
+row_the_example_counts() {
+  head -n 3 examples/sample.city.jsonl > "$scratch/stream"
+  examples/embed/run.sh --try "$scratch/stream" > "$scratch/written" 2> "$scratch/noise"
+  echo $? > "$scratch/status"
+  lines 'buildings 2, geometries 17' | answered 0 '' || { cat "$scratch/noise"; false; }
+}
+
 # Runs a row, and counts it.
 try() {
   row=${1#row_}

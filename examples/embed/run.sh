@@ -35,15 +35,16 @@ copy_library() {
 
 mkdir -p "$work/crates"
 log=$PWD/$work/log
-# a crates.txt below the top stops the gate, so it stays for the run alone
-trap "rm -f '$PWD/$work/crates.txt'" EXIT
+# below the top it stops the gate, so it stays for the run alone
+listed=$PWD/$work/crates.txt
+trap 'rm -f "$listed"' EXIT
 $is_try || (cd crates/cj_stream && rt lib > "$log" 2>&1) || { cat "$log" >&2; exit 3; }
 for library in $libraries; do
   copy_library "$library"
   grep "^$library:" crates.txt
-done > "$work/crates.txt"
+done > "$listed"
 copy_parts examples/embed "$work/crates/embed" src specs proofs
-echo 'embed: cj_budget cj_feature cj_spans cj_stream' >> "$work/crates.txt"
+echo 'embed: cj_budget cj_feature cj_spans cj_stream' >> "$listed"
 cd "$work/crates/embed"
 if $is_try; then
   rt try < "$input"
