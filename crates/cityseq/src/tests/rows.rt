@@ -370,8 +370,9 @@ fn check_cut_character(
 fn two_bytes_of_a_character(rt: HostRuntime) -> Result<(), Fail> {
     let line = attributed(rt.alloc(), b"\xe2\x82")?;
     check_cut_character(&rt, rt.alloc(), &line, 374)?;
-    assert!(&rt; line.len() > 172);
-    check_cut_character(&rt, rt.alloc(), &line[..172], 312)
+    let front = &FEATURE[..150];
+    let line = joined(rt.alloc(), &[front, b",\"attributes\":{\"a\":\"\xe2\x82"])?;
+    check_cut_character(&rt, rt.alloc(), &line, 312)
 }
 
 /// The feature with this in place of its last index, which stands at byte 144.
