@@ -37,7 +37,7 @@ copy_library() {
 # crate that crates.txt names alone.
 rename() {
   local file
-  find "$work/crates/embed" -name "*$1" -not -path '*/out/*' | while read -r file; do
+  find "$work"/crates/embed/{src,specs,proofs} -name "*$1" | while read -r file; do
     mv "$file" "${file%"$1"}$2"
   done
 }
