@@ -10,6 +10,7 @@ set -euo pipefail
 cd "$(dirname "$0")/.."
 megabytes=${1:-12}
 work=out/rules
+trap 'rm -f "$work/crates.txt"' EXIT # below the top it stops the gate
 mkdir -p "$work/crates/rules_times/src"
 for crate in cj_budget cj_decimal cj_spans cj_geometry cj_feature; do
   rm -rf "$work/crates/$crate"

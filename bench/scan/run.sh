@@ -8,6 +8,7 @@ set -euo pipefail
 cd "$(dirname "$0")/.."
 megabytes=${1:-24}
 work=out/scan
+trap 'rm -f "$work/crates.txt"' EXIT # below the top it stops the gate
 mkdir -p "$work/crates/scan_times/src"
 
 cat > out/cargo.toml <<'CONFIG'
