@@ -74,7 +74,7 @@ lost_json = spelled-tree lost_feature _ _ _ other_id.tree refl refl refl
 -- the verdict on a line of this tree
 module _ (n : ℕ) (header : Tree) (c : List ℕ) (t : Tree) (json : Json c t) (shallow : nest t ≤ 64) where
   abbrev under : ℕ → Rules
-  under line = record { limits = record { line = line; depth = 64 }; with_box = false }
+  under line = record { limits = record { line = line; depth = 64 }; asked = everything }
 
   sound : (line : ℕ) → length c ≤ line → IsUtf8 c → nat_lt 1 n && list_all is_blank_byte c ≡ false → verdict_at (under line) n header c ≡ tree_verdict (under line) n header t
   sound line short is_text full = verdict-json (under line) n header c short is_text full ∙ by-tree t json shallow (under line) n header (judgement c 64)

@@ -5,9 +5,10 @@ use Rattle.cj_spans.specs.Tree.{Tree}
 use Rattle.cj_spans.specs.Json.{Json}
 use Rattle.cj_spans.specs.Sound.{AreOf}
 use Rattle.cj_feature.specs.declared.header.parts.HeaderParts.{HeaderParts}
-use Rattle.cj_feature.specs.Shown.{ArePartsOf}
+use Rattle.cj_feature.specs.Shown.{ArePartsOf, parts_box}
 use Rattle.cj_stream.specs.declared.judge.Content.{Content}
 use Rattle.cj_stream.specs.declared.judge.Content.TheVariants.{Faulty, White, Sound}
+use Rattle.cj_stream.specs.Asked.{asks_box}
 use Rattle.cj_stream.specs.Item.{tree_of}
 use Rattle.cj_stream.specs.Reading.{Reading}
 use Rattle.cj_stream.specs.Scanning.{Scanning}
@@ -28,13 +29,14 @@ pub record ShowsTree (c : List ℕ) (depth : ℕ) (tokens : List Token) : Type 0
   pub tokens_of : AreOf c tokens
   pub json : Json c (tree_of depth c)
 
--- what is kept of the header: its tokens, and its parts
-pub record KeepsHeader (c : List ℕ) (depth : ℕ) (tokens : List Token) (parts : Option HeaderParts) : Type 0 where
-  pub shows : ShowsTree c depth tokens
+-- what is kept of the header: its tokens, and its parts, read for a box where one is asked for
+pub record KeepsHeader (c : List ℕ) (rules : Rules) (tokens : List Token) (parts : Option HeaderParts) : Type 0 where
+  pub shows : ShowsTree c rules.limits.depth tokens
   pub known : HeaderParts
   pub kept : parts ≡ Some known
-  pub parts_of : ArePartsOf (tree_of depth c) known
+  pub parts_of : ArePartsOf (tree_of rules.limits.depth c) known
+  pub for_box : parts_box known ≡ asks_box rules.asked
 
 -- once the first line was dealt with, the header is kept
 abbrev pub KeepsFirst : Reading → Scanning → Option HeaderParts → Type 0
-KeepsFirst f s parts = 0 < f.lines → KeepsHeader f.header.elements f.rules.limits.depth s.header.elements parts
+KeepsFirst f s parts = 0 < f.lines → KeepsHeader f.header.elements f.rules s.header.elements parts

@@ -1,3 +1,4 @@
+pub mod Asked
 pub mod Bound
 pub mod CountSink
 pub mod Cut

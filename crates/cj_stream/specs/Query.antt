@@ -1,13 +1,24 @@
--- What is asked of a stream.
-use Rattle.std.specs.Prelude.{Bool, false}
+-- What contracts see of a query.
+use Rattle.std.specs.Prelude.{ℕ, List, Option, map, option_map, vec_items, string_bytes}
 use Rattle.cj_budget.specs.Limits.{LimitPair}
 use Rattle.cj_stream.specs.declared.query.Query.{Query}
+use Rattle.cj_stream.specs.declared.query.bounds.Bounds.{Bounds}
+use Rattle.cj_stream.specs.Asked.{Asked, Box}
 use Rattle.cj_stream.specs.Verdict.{Rules}
 
--- whether there is a box
-abbrev pub asks_box : Query → Bool
-asks_box q = false
+-- the box of these bounds
+abbrev pub box_of : Bounds → Box
+box_of b = record { min_x = b.min_x; min_y = b.min_y; max_x = b.max_x; max_y = b.max_y }
+
+-- what a query asks
+unfoldable pub asked : Query → Asked
+asked q = record {
+  ids = option_map (λ texts. map string_bytes (vec_items texts)) q.ids;
+  types = q.types;
+  lods = option_map (λ texts. map string_bytes (vec_items texts)) q.lods;
+  box = option_map box_of q.bounds;
+}
 
 -- what lines are judged by under limits and for a query
 abbrev pub rules_for : LimitPair → Query → Rules
-rules_for limits q = record { limits = limits; with_box = asks_box q }
+rules_for limits q = record { limits = limits; asked = asked q }

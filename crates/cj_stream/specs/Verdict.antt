@@ -15,18 +15,21 @@ use Rattle.cj_feature.specs.Header.{header as header_findings}
 use Rattle.cj_feature.specs.Feature.{feature as feature_findings}
 use Rattle.cj_stream.specs.declared.ending.End.{End}
 use Rattle.cj_stream.specs.declared.ending.End.TheVariants.{Complete, Refused}
+use Rattle.cj_stream.specs.Asked.{Asked, asks_box, holds}
 use Rattle.cj_stream.specs.Lines.{Line, lines, closed, begun, ended_line, last_line}
 use Rattle.cj_stream.specs.Item.{Item, raw_item, is_feature, tree_of, item_at}
 
--- what lines are judged by: the limits, and whether there is a box
+-- what lines are judged by: the limits, and what is asked of features
 pub record Rules : Type 0 where
   pub limits : LimitPair
-  pub with_box : Bool
+  pub asked : Asked
 
--- a line is refused at a byte of its content for a reason, or blank, or valid
+-- a line is refused at a byte of its content for a reason, or blank, or a valid feature that is not asked for, or valid
+-- and to be kept
 pub data Verdict : Type 0 where
   Refuse : ℕ → Reason → Verdict
   Blank : Verdict
+  Unasked : Verdict
   Valid : Verdict
 
 -- space, tab and CR
@@ -44,16 +47,20 @@ pub record WantsTokens (number : ℕ) (content : List ℕ) : Type 0 where
 
 -- the findings of the tree of a line: of a header on the first line, and of a feature beside the header on a later one
 abbrev pub findings : Rules → ℕ → Tree → Tree → List Finding
-findings rules number header t = if number == 1 then header_findings rules.with_box t else feature_findings header t
+findings rules number header t = if number == 1 then header_findings (asks_box rules.asked) t else feature_findings header t
 
--- the verdict by the least of some findings
-abbrev pub by_least : Option Finding → Verdict
-by_least None = Valid
-by_least (Some f) = Refuse f.place f.reason
+-- a header is asked for, and a feature that satisfies what is asked
+abbrev pub is_asked : Rules → ℕ → Tree → Tree → Bool
+is_asked rules number header t = number == 1 || holds rules.asked header t
+
+-- the verdict by the least of some findings; where there is none, by whether the tree is asked for
+abbrev pub by_least : Bool → Option Finding → Verdict
+by_least wanted None = if wanted then Valid else Unasked
+by_least wanted (Some f) = Refuse f.place f.reason
 
 -- the verdict on a line of this tree
 abbrev pub tree_verdict : Rules → ℕ → Tree → Tree → Verdict
-tree_verdict rules number header t = by_least (least None (findings rules number header t))
+tree_verdict rules number header t = by_least (is_asked rules number header t) (least None (findings rules number header t))
 
 -- the verdict on bytes of UTF-8, by what they are as a JSON text under a depth limit
 abbrev pub text_verdict : {c : List ℕ} {depth : ℕ} → Rules → ℕ → Tree → Judgement c depth → Verdict
@@ -92,12 +99,14 @@ item_after rules before l = item_at rules.limits.depth (length before + 1) (head
 abbrev pub refusal_of : ℕ → Verdict → Option End
 refusal_of number (Refuse place reason) = Some (Refused number place reason)
 refusal_of number Blank = None
+refusal_of number Unasked = None
 refusal_of number Valid = None
 
--- a valid line is kept
+-- a valid line that is asked for is kept
 abbrev pub is_kept : Verdict → Bool
 is_kept (Refuse place reason) = false
 is_kept Blank = false
+is_kept Unasked = false
 is_kept Valid = true
 
 -- the first refusal among lines that come after others
@@ -113,7 +122,7 @@ good_from rules before [] = []
 good_from rules before (l ∷ ls) =
     if is_some (refusal_of (length before + 1) (verdict rules before l.content)) then [] else l ∷ good_from rules (before ++ l ∷ []) ls
 
--- the items of the lines that are neither refused nor blank
+-- the items of the lines that are kept: the header, and each feature that satisfies what is asked
 abbrev pub kept_from : Rules → List Line → List Line → List Item
 kept_from rules before [] = []
 kept_from rules before (l ∷ ls) =

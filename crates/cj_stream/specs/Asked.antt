@@ -1,0 +1,106 @@
+-- What may be asked of features, and which features satisfy it.
+use Rattle.std.specs.Prelude.{ℕ, List, Bool, true, false, ◌&&◌, Option, Some, None, ℤ, pos, int_le, get_or, unwrap_or, map, codes}
+use Rattle.std.specs.List.{list_any, flat_map}
+use Rattle.std.specs.Str.{chars}
+use Rattle.cj_decimal.specs.Affine.{AffineMap, image}
+use Rattle.cj_spans.specs.Tree.{Tree}
+use Rattle.cj_spans.specs.Parts.{member_of, has_text}
+use Rattle.cj_geometry.specs.Lod.{lod}
+use Rattle.cj_geometry.specs.ObjectTypes.{ObjectRow}
+use Rattle.cj_feature.specs.Feature.{templates_of}
+use Rattle.cj_feature.specs.Members.{items_if}
+use Rattle.cj_feature.specs.Shown.{maps_of}
+use Rattle.cj_feature.specs.Typed.{type_row, members_if, vertex_of}
+use Rattle.cj_feature.specs.Walks.{object_geometries}
+
+-- a box in the plane, in units of 10^-18
+pub record Box : Type 0 where
+  pub min_x : ℤ
+  pub min_y : ℤ
+  pub max_x : ℤ
+  pub max_y : ℤ
+
+-- The parts that may be set: texts of ids, the types of city objects, texts of LoDs, and a box. The types are told by a
+-- flag for each row of their table. Texts are in UTF-8.
+pub record Asked : Type 0 where
+  pub ids : Option (List (List ℕ))
+  pub types : Option (List Bool)
+  pub lods : Option (List (List ℕ))
+  pub box : Option Box
+
+-- no part is set
+abbrev pub everything : Asked
+everything = record { ids = None; types = None; lods = None; box = None }
+
+-- a test of a part holds, or the part is not set
+abbrev pub if_set : {X : Type 0} → (X → Bool) → Option X → Bool
+if_set test None = true
+if_set test (Some x) = test x
+
+-- there is a value, and the test holds of it
+abbrev pub there_is : {X : Type 0} → (X → Bool) → Option X → Bool
+there_is test None = false
+there_is test (Some x) = test x
+
+-- the tree is one of these texts
+abbrev pub is_one_of : List (List ℕ) → Tree → Bool
+is_one_of texts t = list_any (λ s. has_text (chars s) t) texts
+
+-- ---- ids, types and LoDs of a feature
+
+-- its id is one of these
+abbrev pub has_id : List (List ℕ) → Tree → Bool
+has_id ids t = there_is (is_one_of ids) (member_of (chars (codes "id")) t)
+
+-- its city objects, with their names
+abbrev pub objects_of : Tree → List (Tree × Tree)
+objects_of t = members_if (member_of (chars (codes "CityObjects")) t)
+
+-- the type of some city object is one of these
+abbrev pub has_type : List Bool → Tree → Bool
+has_type types t = list_any (λ m. there_is (λ (r : ObjectRow). get_or types r.number false) (type_row m.1)) (objects_of t)
+
+-- the LoD of some geometry is one of these; an instance has that of its template, which the header has
+abbrev pub has_lod : List (List ℕ) → Tree → Tree → Bool
+has_lod lods header t = list_any (λ g. there_is (is_one_of lods) (lod (templates_of header) g)) (flat_map object_geometries (objects_of t))
+
+-- ---- the box
+
+-- the vertices of a feature
+abbrev pub vertices_of : Tree → List (List (Option ℤ))
+vertices_of t = map vertex_of (items_if (member_of (chars (codes "vertices")) t))
+
+-- the map of an axis: 0 is x, and 1 is y
+abbrev pub axis_map : Tree → ℕ → AffineMap
+axis_map header axis = get_or (maps_of header) axis (record { scale = pos 0; shift = pos 0 })
+
+-- the coordinate of a vertex on an axis, v * scale + translate, in units of 10^-18
+abbrev pub coordinate : Tree → ℕ → List (Option ℤ) → ℤ
+coordinate header axis v = image (axis_map header axis) (unwrap_or (get_or v axis None) (pos 0))
+
+-- some vertex is at most there, or at least there, on an axis
+abbrev pub some_at_most : Tree → Tree → ℕ → ℤ → Bool
+some_at_most header t axis end = list_any (λ v. int_le (coordinate header axis v) end) (vertices_of t)
+
+abbrev pub some_at_least : Tree → Tree → ℕ → ℤ → Bool
+some_at_least header t axis end = list_any (λ v. int_le end (coordinate header axis v)) (vertices_of t)
+
+-- some vertices are at most at the greater ends of the box, and some at least at its lesser ends
+abbrev pub is_in : Box → Tree → Tree → Bool
+is_in box header t =
+    some_at_most header t 0 box.max_x && some_at_least header t 0 box.min_x
+    && some_at_most header t 1 box.max_y && some_at_least header t 1 box.min_y
+
+-- ---- the whole
+
+-- a feature beside this header satisfies what is asked: each part that is set holds
+unfoldable pub holds : Asked → Tree → Tree → Bool
+holds asked header t =
+    if_set (λ ids. has_id ids t) asked.ids
+    && if_set (λ types. has_type types t) asked.types
+    && if_set (λ lods. has_lod lods header t) asked.lods
+    && if_set (λ box. is_in box header t) asked.box
+
+-- whether there is a box
+abbrev pub asks_box : Asked → Bool
+asks_box asked = there_is (λ box. true) asked.box
