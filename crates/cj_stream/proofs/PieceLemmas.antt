@@ -181,6 +181,9 @@ module _ {S : Type 0} (takes leaves : S → Item → S → Type 0) where
   Stops-unstored_last f s p part e reads n u = stopped f s p part e reads
       (Unstored-cause f s p part (p ++ part) false e reads u (λ some. next-begun f.lines p part n some reads.lines) (λ long. IsNext-long f.rules.limits p part n long))
 
+  good-bad : (r : Result (Unit {0}) End) (e : End) → r ≡ Ok tt → r ≡ Err e → ⊥
+  good-bad r e x y = cc
+
   -- a line that has begun, and was not dealt with: g has read p, whose last bytes they are
   undealt : (g h : Reading) (s t : S) (p part more : List ℕ) (v : Verdict) (r : Result (Unit {0}) End) (e : End) → NoLf part → Reads g (p ++ part) → begun_of g ≡ begun p ++ part
       → next_verdict g (begun_of g) ≡ v → Deals takes leaves v (next_item g (ended_line (begun_of g))) g s r h t → r ≡ Err e
@@ -189,11 +192,8 @@ module _ {S : Type 0} (takes leaves : S → Item → S → Type 0) where
       let same : e ≡ Refused (g.lines + 1) place reason = cc in
       let told = sym (next-verdict g (p ++ part) reads (begun_of g)) ∙ is in
       (d.1, rw same (ended_line (begun p ++ part), IsNext-ended g.rules.limits p part more n, refl, rw b at told, d.2))
-  undealt g h s t p part more Blank r e n reads b is d err = absurd (clash r d.0 err)
-  undealt g h s t p part more Unasked r e n reads b is d err = absurd (clash r d.0 err)
-    where
-      clash : (r : Result (Unit {0}) End) → r ≡ Ok tt → r ≡ Err e → ⊥
-      clash r x y = cc
+  undealt g h s t p part more Blank r e n reads b is d err = absurd (good-bad r e d.0 err)
+  undealt g h s t p part more Unasked r e n reads b is d err = absurd (good-bad r e d.0 err)
   undealt g h s t p part more Valid (Ok x) e n reads b is d err = absurd (clash err)
     where
       clash : ◌≡◌ {A = Result (Unit {0}) End} (Ok x) (Err e) → ⊥

@@ -1,5 +1,5 @@
 -- Worked rows: the trees of their lines, the verdicts, and what comes of them.
-use Rattle.std.proofs.Common.{◌≡◌, ℕ, ◌≤◌, List, [], ◌∷◌, ◌++◌, length, false, Some, refl, sym, ap, subst, ◌∙◌, lit≤, lit<}
+use Rattle.std.proofs.Common.{true, ◌≡◌, ℕ, ◌≤◌, List, [], ◌∷◌, ◌++◌, length, false, Some, refl, sym, ap, subst, ◌∙◌, lit≤, lit<}
 use Rattle.std.specs.Prelude.{IsUtf8, ◌&&◌, nat_lt, codes, take, replicate}
 use Rattle.std.specs.List.{flat_map, list_all}
 use Rattle.std.specs.Str.{is_utf8, chars}
@@ -26,7 +26,8 @@ use Rattle.cj_stream.specs.declared.ending.End.TheVariants.{Complete, Refused}
 use Rattle.cj_stream.specs.Item.{raw_item, judged_tree, tree_of}
 use Rattle.cj_stream.specs.Lines.{Line, raw, ended_line}
 use Rattle.cj_stream.specs.Rows.{small_header, small_feature, lost_feature, euro_feature, wide_rules, tight_rules, Gives, WholeRow, BlankRow, OrderRow, BadRow, LongRow}
-use Rattle.cj_stream.specs.Verdict.{Rules, Refuse, Blank, Valid, is_blank_byte, verdict, verdict_at, text_verdict, by_least, tree_verdict, ending_of, good_from, kept_from}
+use Rattle.cj_stream.specs.Asked.{everything, holds}
+use Rattle.cj_stream.specs.Verdict.{Rules, is_asked, Refuse, Blank, Valid, is_blank_byte, verdict, verdict_at, text_verdict, by_least, tree_verdict, ending_of, good_from, kept_from}
 use Rattle.cj_stream.proofs.VerdictLemmas.{verdict-long, verdict-json, verdict-blank, tree-valid}
 
 -- ---- trees
@@ -71,6 +72,11 @@ lost_json = spelled-tree lost_feature _ _ _ other_id.tree refl refl refl
 
 -- ---- verdicts
 
+-- where nothing is asked, each feature satisfies it
+holds-everything : (header t : Tree) → holds everything header t ≡ true
+unfolding holds
+holds-everything header t = refl
+
 -- the verdict on a line of this tree
 module _ (n : ℕ) (header : Tree) (c : List ℕ) (t : Tree) (json : Json c t) (shallow : nest t ≤ 64) where
   abbrev under : ℕ → Rules
@@ -100,31 +106,31 @@ header_tree : tree_of 64 small_header ≡ plain_header
 header_tree = judged plain_header header_json (lit≤ tt) (judgement small_header 64)
 
 header_first : (t : Tree) → verdict_at wide_rules 1 t small_header ≡ Valid
-header_first t = sound 1 t small_header plain_header header_json (lit≤ tt) 8388608 (lit≤ tt) header_text refl ∙ tree-valid wide_rules 1 t plain_header plain_header-valid
+header_first t = sound 1 t small_header plain_header header_json (lit≤ tt) 8388608 (lit≤ tt) header_text refl ∙ tree-valid wide_rules 1 t plain_header plain_header-valid refl
 
 header_tight : (t : Tree) → verdict_at tight_rules 1 t small_header ≡ Valid
-header_tight t = sound 1 t small_header plain_header header_json (lit≤ tt) 116 (lit≤ tt) header_text refl ∙ tree-valid tight_rules 1 t plain_header plain_header-valid
+header_tight t = sound 1 t small_header plain_header header_json (lit≤ tt) 116 (lit≤ tt) header_text refl ∙ tree-valid tight_rules 1 t plain_header plain_header-valid refl
 
 euro_second : verdict_at wide_rules 2 (tree_of 64 small_header) euro_feature ≡ Valid
 euro_second =
-    rw header_tree (sound 2 plain_header euro_feature euro_tree euro_json (lit≤ tt) 8388608 (lit≤ tt) euro_text refl ∙ tree-valid wide_rules 2 plain_header euro_tree euro_feature-valid)
+    rw header_tree (sound 2 plain_header euro_feature euro_tree euro_json (lit≤ tt) 8388608 (lit≤ tt) euro_text refl ∙ tree-valid wide_rules 2 plain_header euro_tree euro_feature-valid (holds-everything plain_header euro_tree))
 
 feature_second : verdict_at wide_rules 2 (tree_of 64 small_header) small_feature ≡ Valid
 feature_second =
-    rw header_tree (sound 2 plain_header small_feature plain_feature.tree feature_json (lit≤ tt) 8388608 (lit≤ tt) feature_text refl ∙ tree-valid wide_rules 2 plain_header plain_feature.tree plain_feature-valid)
+    rw header_tree (sound 2 plain_header small_feature plain_feature.tree feature_json (lit≤ tt) 8388608 (lit≤ tt) feature_text refl ∙ tree-valid wide_rules 2 plain_header plain_feature.tree plain_feature-valid (holds-everything plain_header plain_feature.tree))
 
 feature_third : verdict_at wide_rules 3 (tree_of 64 small_header) small_feature ≡ Valid
 feature_third =
-    rw header_tree (sound 3 plain_header small_feature plain_feature.tree feature_json (lit≤ tt) 8388608 (lit≤ tt) feature_text refl ∙ tree-valid wide_rules 3 plain_header plain_feature.tree plain_feature-valid)
+    rw header_tree (sound 3 plain_header small_feature plain_feature.tree feature_json (lit≤ tt) 8388608 (lit≤ tt) feature_text refl ∙ tree-valid wide_rules 3 plain_header plain_feature.tree plain_feature-valid (holds-everything plain_header plain_feature.tree))
 
 feature_first : (t : Tree) → verdict_at wide_rules 1 t small_feature ≡ Refuse 0 MissingMember
-feature_first t = sound 1 t small_feature plain_feature.tree feature_json (lit≤ tt) 8388608 (lit≤ tt) feature_text refl ∙ ap by_least feature-no_header
+feature_first t = sound 1 t small_feature plain_feature.tree feature_json (lit≤ tt) 8388608 (lit≤ tt) feature_text refl ∙ ap (by_least true) feature-no_header
 
 header_second : verdict_at wide_rules 2 (tree_of 64 small_header) small_header ≡ Refuse 0 MissingMember
-header_second = rw header_tree (sound 2 plain_header small_header plain_header header_json (lit≤ tt) 8388608 (lit≤ tt) header_text refl ∙ ap by_least header-no_feature)
+header_second = rw header_tree (sound 2 plain_header small_header plain_header header_json (lit≤ tt) 8388608 (lit≤ tt) header_text refl ∙ ap (by_least (is_asked wide_rules 2 plain_header plain_header)) header-no_feature)
 
 lost_third : verdict_at wide_rules 3 (tree_of 64 small_header) lost_feature ≡ Refuse 31 IdNotFound
-lost_third = rw header_tree (sound 3 plain_header lost_feature other_id.tree lost_json (lit≤ tt) 8388608 (lit≤ tt) lost_text refl ∙ ap by_least other_id-refused)
+lost_third = rw header_tree (sound 3 plain_header lost_feature other_id.tree lost_json (lit≤ tt) 8388608 (lit≤ tt) lost_text refl ∙ ap (by_least (is_asked wide_rules 3 plain_header other_id.tree)) other_id-refused)
 
 -- what is no JSON text is refused whatever the header
 abbrev cut : List ℕ

@@ -1,0 +1,4 @@
+use Rattle.cj_stream.proofs.query.holding.has_id.Goals as goal
+
+pub returns : goal.returns
+returns c = ?

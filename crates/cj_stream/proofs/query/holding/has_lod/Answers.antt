@@ -1,0 +1,4 @@
+use Rattle.cj_stream.proofs.query.holding.has_lod.Goals as goal
+
+pub returns : goal.returns
+returns c = ?
