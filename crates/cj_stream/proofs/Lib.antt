@@ -5,6 +5,7 @@ pub mod DeviceLemmas
 pub mod EngineLemmas
 pub mod FinishLemmas
 pub mod GoodLemmas
+pub mod HeadlineLemmas
 pub mod IsLinesLemmas
 pub mod JoinedLemmas
 pub mod JudgeLemmas

@@ -1,6 +1,7 @@
 //! Copies of the kept lines to a writer.
 ghost use Rattle.std.specs.Prelude.{◌≡◌, ◌+◌, ◌≤◌, ◌^◌, ℕ, List, [], None, length, map, take};
 ghost use Rattle.std.specs.Io.KnownBytes.{Consumes, IsAtEnd};
+ghost use Rattle.cj_stream.specs.Bound.{IsBounded};
 ghost use Rattle.cj_stream.specs.Cut.{joined, Copies, PutsPieces, TookWhole, IsUnread};
 ghost use Rattle.cj_stream.specs.Engine.{StandsFor, rules_of, lines_of, peaks_of};
 ghost use Rattle.cj_stream.specs.Query.{rules_for};
@@ -14,7 +15,7 @@ use crate::lent::LentSink;
 use crate::query::Query;
 use crate::running::{Outcome, run};
 use crate::sink::{LineSink, WriteSink};
-use cj_budget::{Limits, NoMemory};
+use cj_budget::{Limits, NoMemory, Peaks};
 use std::alloc::Global;
 use std::io::{Read, Write};
 
@@ -55,6 +56,8 @@ pub struct Copied {
     /// The pieces that were wholly taken. Where a line ended the copy, it is the next one at which it
     /// did, if there is one.
     pub taken: usize,
+    /// The most that was held.
+    pub peaks: Peaks,
     /// How it ended.
     pub ended: End,
 }
@@ -67,7 +70,7 @@ fn feed_all<S: LineSink>(engine: &mut Engine, pieces: &[&[u8]], sink: &mut S) ->
     requires short { length (joined (map (λ piece. piece.now) pieces.now)) ≤ 2 ^ 60 }
     ensures runs { let given = joined (take (result.taken + 1) (map (λ piece. piece.now) pieces.now)) in
         Runs S.takes S.leaves (rules_of engine.old) given (given ≡ joined (map (λ piece. piece.now) pieces.now))
-        sink.old sink.new (lines_of engine.new) engine.new.reading.kept (peaks_of engine.new) result.ended }
+        sink.old sink.new (lines_of engine.new) engine.new.reading.kept result.peaks result.ended }
     ensures taken { TookWhole S.takes S.leaves (rules_of engine.old) (map (λ piece. piece.now) pieces.now) result.taken
         (lines_of engine.new) sink.old sink.new result.ended }
     ensures unread { IsUnread result.ended }
@@ -75,12 +78,18 @@ fn feed_all<S: LineSink>(engine: &mut Engine, pieces: &[&[u8]], sink: &mut S) ->
 {
     for (taken, piece) in pieces.iter().enumerate() {
         if let Err(ended) = engine.feed(piece, sink) {
-            return Copied { taken, ended };
+            return Copied {
+                taken,
+                peaks: engine.peaks(),
+                ended,
+            };
         }
     }
+    let ended = engine.finish(sink);
     Copied {
         taken: pieces.len(),
-        ended: engine.finish(sink),
+        peaks: engine.peaks(),
+        ended,
     }
 }
 
@@ -99,12 +108,14 @@ pub fn put_pieces<S: LineSink>(
     ensures puts { PutsPieces S.takes S.leaves (rules_for limits query.now) (map (λ piece. piece.now) pieces.now)
         result.taken result.ended sink.old sink.new }
     ensures cause { result.ended ≡ End.WriteFault → HasRisen (S.failures sink.old) (S.failures sink.new) }
+    ensures held { IsBounded limits (joined (take (result.taken + 1) (map (λ piece. piece.now) pieces.now))) result.peaks }
 {
     let mut engine = match Engine::open(alloc, limits, query) {
         Ok(engine) => engine,
         Err(NoMemory) => {
             return Copied {
                 taken: 0,
+                peaks: Peaks::default(),
                 ended: End::Memory,
             };
         }
@@ -124,8 +135,9 @@ pub fn copy_pieces<W: Write + Drop>(
     query: &Query,
 ) -> Copied
     requires { length (joined (map (λ piece. piece.now) pieces.now)) ≤ 2 ^ 60 }
-    ensures { Copies (rules_for limits query.now) (map (λ piece. piece.now) pieces.now) result.taken result.ended
+    ensures copies { Copies (rules_for limits query.now) (map (λ piece. piece.now) pieces.now) result.taken result.ended
         (W.contents (writer_of sink.old)) (W.contents (writer_of sink.new)) }
+    ensures held { IsBounded limits (joined (take (result.taken + 1) (map (λ piece. piece.now) pieces.now))) result.peaks }
 {
     put_pieces(alloc, pieces, sink, limits, query)
 }

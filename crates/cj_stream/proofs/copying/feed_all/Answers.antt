@@ -20,7 +20,7 @@ returns-in-Err-clause-runs g c =
     let r = joined (take k (map (λ piece. piece.now) c.args.pieces.now)) in
     let more = joined-more (λ piece. piece.now) c.args.pieces.now k (record { ref_ptr = (0, 0); now = [] }) (omega arith) in
     let stands = c.feed.ensures.stands r i.2 in
-    rw more (record {
+    rw (more, c.peaks.ensures) (record {
       account = record {
         bounded = let x = stands.bounded in rw (i.0, c.feed.ensures.rules, i.1) at x;
         exact = λ h. absurd (told-not_complete (rules_of c.loop-taken.engine) (r ++ piece.now) (lines_of c.feed.new.self) c.in-Err.ended (c.in-Err.ensures.told r i.2 i.0) h);
@@ -79,17 +79,17 @@ returns-clause-runs g c =
     let all = joined-all k pieces (omega (arith, length-map c.args.pieces.now (λ piece. piece.now))) in
     let given = joined-all (length c.args.pieces.now + 1) pieces (omega (arith, length-map c.args.pieces.now (λ piece. piece.now))) in
     let same : joined (take (length c.args.pieces.now + 1) (map (λ piece. piece.now) c.args.pieces.now)) ≡ joined (take k (map (λ piece. piece.now) c.args.pieces.now)) = given ∙ sym all in
-    let stands = c.finish.ensures.stands r i.2 in
-    rw same (record {
+    let stands = c.finish-ended.ensures.stands r i.2 in
+    rw (same, c.peaks-2.ensures) (record {
       account = record {
-        bounded = let x = stands.bounded in rw (c.finish.ensures.rules, i.1) at x;
-        exact = λ h. let x = c.finish.ensures.exact r i.2 i.0 h in rw i.1 at x;
-        counts = let x = stands.counts in rw (c.finish.ensures.rules, i.1) at x;
-        ends = Ends-finished _ r _ _ c.finish.result all (let x = c.finish.ensures.answer r i.2 i.0 in rw i.1 at x);
+        bounded = let x = stands.bounded in rw (c.finish-ended.ensures.rules, i.1) at x;
+        exact = λ h. let x = c.finish-ended.ensures.exact r i.2 i.0 h in rw i.1 at x;
+        counts = let x = stands.counts in rw (c.finish-ended.ensures.rules, i.1) at x;
+        ends = Ends-finished _ r _ _ c.finish-ended.result all (let x = c.finish-ended.ensures.answer r i.2 i.0 in rw i.1 at x);
       };
       sink =
-          let x = c.finish.ensures.sink r i.2 i.0 in
-          let y = rw (i.1, c.finish.ensures.ended) at x in
+          let x = c.finish-ended.ensures.sink r i.2 i.0 in
+          let y = rw (i.1, c.finish-ended.ensures.ended) at x in
           Delivers-then g.S.LineSink.takes g.S.LineSink.leaves _ r r _ _ _ _ _ _ refl i.3 y;
     })
 
@@ -104,15 +104,15 @@ returns-clause-taken g c =
     let whole = joined-all (length c.args.pieces.now) pieces (omega (arith, length-map c.args.pieces.now (λ piece. piece.now))) in
     let same : joined (take (length c.args.pieces.now + 1) (map (λ piece. piece.now) c.args.pieces.now)) ≡ joined (take k (map (λ piece. piece.now) c.args.pieces.now)) = given ∙ sym all in
     let taken : joined (take (length c.args.pieces.now) (map (λ piece. piece.now) c.args.pieces.now)) ≡ joined (take k (map (λ piece. piece.now) c.args.pieces.now)) = whole ∙ sym all in
-    let x = c.finish.ensures.sink r i.2 i.0 in
-    let y = rw (i.1, c.finish.ensures.ended) at x in
-    TookWhole-left g.S.LineSink.takes g.S.LineSink.leaves c.loop-taken.engine (rules_of c.args.engine.now) (map (λ piece. piece.now) c.args.pieces.now) (length c.args.pieces.now) (lines_of c.finish.new.self) c.args.sink.now c.loop-taken.sink c.finish.new.sink c.finish.result i.1 (rw taken (i.2.going i.0).0) (rw taken i.3) (rw same y)
+    let x = c.finish-ended.ensures.sink r i.2 i.0 in
+    let y = rw (i.1, c.finish-ended.ensures.ended) at x in
+    TookWhole-left g.S.LineSink.takes g.S.LineSink.leaves c.loop-taken.engine (rules_of c.args.engine.now) (map (λ piece. piece.now) c.args.pieces.now) (length c.args.pieces.now) (lines_of c.finish-ended.new.self) c.args.sink.now c.loop-taken.sink c.finish-ended.new.sink c.finish-ended.result i.1 (rw taken (i.2.going i.0).0) (rw taken i.3) (rw same y)
 
 pub returns-clause-unread : goal.returns-clause-unread
 returns-clause-unread g c =
     let i = c.loop-taken.invariant in
     let r = joined (take c.loop-taken.taken (map (λ piece. piece.now) c.args.pieces.now)) in
-    unread-concludes (rules_of c.loop-taken.engine) r (lines_of c.finish.new.self) c.finish.result (c.finish.ensures.answer r i.2 i.0)
+    unread-concludes (rules_of c.loop-taken.engine) r (lines_of c.finish-ended.new.self) c.finish-ended.result (c.finish-ended.ensures.answer r i.2 i.0)
 
 pub returns-clause-cause : goal.returns-clause-cause
-returns-clause-cause g c = λ e. HasRisen-after _ _ _ c.loop-taken.invariant.4 (c.finish.ensures.cause c.loop-taken.invariant.0 e)
+returns-clause-cause g c = λ e. HasRisen-after _ _ _ c.loop-taken.invariant.4 (c.finish-ended.ensures.cause c.loop-taken.invariant.0 e)
