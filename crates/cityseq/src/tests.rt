@@ -1,6 +1,6 @@
 //! Tests of what no clause says: worked rows, printed texts, and devices that fail.
 //!
-//! `rows`, `blank_lines`, `long_lines`, `lines` and `order` have inputs with their answers, `lent` what a
+//! `rows`, `blank_lines`, `long_lines`, `lines`, `order` and `queries` have inputs with their answers, `lent` what a
 //! sink sees of them, `devices` the readers and writers that fail, and `calls` what all tests share. A
 //! body of many asserts is dear to prove, and a call is not: a row is one call of a function that checks
 //! it.
@@ -14,4 +14,5 @@ mod lent;
 mod lines;
 mod long_lines;
 mod order;
+mod queries;
 mod rows;

@@ -1,0 +1,451 @@
+//! Rows of queries: which features are kept of a stream.
+use super::calls::{check_bytes, check_ended, check_number, joined, refused};
+use super::devices::SlowReader;
+use super::rows::{FEATURE, HEADER};
+use cj_budget::Limits;
+use cj_spans::Reason;
+use cj_stream::{End, Outcome, Query, QueryFault, WriteSink, copy};
+use std::alloc::Global;
+use std::process::Abort;
+use std::test::Fail;
+
+/// The parts of a query, as a user gives them.
+#[derive(Clone, Copy)]
+struct Parts<'a> {
+    ids: Option<&'a [&'a str]>,
+    types: Option<&'a [&'a str]>,
+    lods: Option<&'a [&'a str]>,
+    bounds: Option<&'a str>,
+}
+
+/// No part is set.
+const ALL: Parts = Parts {
+    ids: None,
+    types: None,
+    lods: None,
+    bounds: None,
+};
+
+// A query by ids, by types, by LoDs and by a box.
+const fn by_ids<'a>(ids: &'a [&'a str]) -> Parts<'a> {
+    Parts {
+        ids: Some(ids),
+        ..ALL
+    }
+}
+
+const fn by_types<'a>(types: &'a [&'a str]) -> Parts<'a> {
+    Parts {
+        types: Some(types),
+        ..ALL
+    }
+}
+
+const fn by_lods<'a>(lods: &'a [&'a str]) -> Parts<'a> {
+    Parts {
+        lods: Some(lods),
+        ..ALL
+    }
+}
+
+const fn by_box(bounds: &str) -> Parts<'_> {
+    Parts {
+        bounds: Some(bounds),
+        ..ALL
+    }
+}
+
+fn set_ids(query: &mut Query, ids: &[&str]) -> Result<(), QueryFault> {
+    query.start_ids();
+    for id in ids {
+        query.add_id(id)?;
+    }
+    Ok(())
+}
+
+fn set_types(query: &mut Query, types: &[&str]) -> Result<(), QueryFault> {
+    query.start_types();
+    for name in types {
+        query.add_type(name)?;
+    }
+    Ok(())
+}
+
+fn set_lods(query: &mut Query, lods: &[&str]) -> Result<(), QueryFault> {
+    query.start_lods();
+    for lod in lods {
+        query.add_lod(lod)?;
+    }
+    Ok(())
+}
+
+// The query of these parts.
+fn query_of(alloc: Global, parts: &Parts) -> Result<Query, QueryFault> {
+    let mut query = Query::all(alloc);
+    if let Some(ids) = parts.ids {
+        set_ids(&mut query, ids)?;
+    }
+    if let Some(types) = parts.types {
+        set_types(&mut query, types)?;
+    }
+    if let Some(lods) = parts.lods {
+        set_lods(&mut query, lods)?;
+    }
+    if let Some(bounds) = parts.bounds {
+        query.bbox(bounds)?;
+    }
+    Ok(query)
+}
+
+// Runs over a text: the outcome, and what was written.
+fn kept_of(alloc: Global, text: &[u8], limits: Limits, query: &Query) -> (Outcome, Vec<u8>) {
+    let mut reader = SlowReader::new(text, 8_192);
+    let mut sink = WriteSink::new(Vec::new(alloc));
+    let outcome = copy(alloc, &mut reader, &mut sink, limits, query);
+    (outcome, sink.into_inner())
+}
+
+/// A header and a feature beside it.
+#[derive(Clone, Copy)]
+struct Pair<'a> {
+    header: &'a [u8],
+    feature: &'a [u8],
+}
+
+const USUAL: Pair = Pair {
+    header: HEADER,
+    feature: FEATURE,
+};
+
+// Runs over a header and a feature, of which the feature has to be kept or not.
+fn check_keeps(
+    rt: &impl Abort,
+    alloc: Global,
+    pair: Pair,
+    parts: &Parts,
+    keeps: bool,
+    row: &str,
+) -> Result<(), Fail> {
+    let header = joined(alloc, &[pair.header, b"\n"])?;
+    let text = joined(alloc, &[&header, pair.feature, b"\n"])?;
+    let query = query_of(alloc, parts)?;
+    let limits = Limits::new(8_388_608, 64)?;
+    let (outcome, written) = kept_of(alloc, &text, limits, &query);
+    check_ended(rt, outcome.ended, End::Complete, row, 0);
+    check_number(rt, outcome.lines, 2, row, 1);
+    check_number(rt, outcome.kept, keeps.into(), row, 2);
+    check_bytes(rt, &written, if keeps { &text } else { &header }, row, 3);
+    Ok(())
+}
+
+// Runs over a header and a feature, of which one is refused.
+fn check_refused(
+    rt: &impl Abort,
+    alloc: Global,
+    pair: Pair,
+    parts: &Parts,
+    end: End,
+) -> Result<(), Fail> {
+    let text = joined(alloc, &[pair.header, b"\n", pair.feature, b"\n"])?;
+    let query = query_of(alloc, parts)?;
+    let limits = Limits::new(8_388_608, 64)?;
+    let (outcome, _) = kept_of(alloc, &text, limits, &query);
+    check_ended(rt, outcome.ended, end, "refused", 0);
+    Ok(())
+}
+
+#[test]
+fn by_id_type_and_lod(rt: HostRuntime) -> Result<(), Fail> {
+    for (parts, keeps, row) in [
+        (by_ids(&["b1"]), true, "its id"),
+        (by_ids(&["b2"]), false, "another id"),
+        (by_ids(&["b2", "b1"]), true, "one of two ids"),
+        (by_ids(&[]), false, "no id"),
+        (by_ids(&["b"]), false, "a front of its id"),
+        (by_lods(&["2.2"]), true, "its LoD"),
+        (by_lods(&["2"]), false, "a front of its LoD"),
+        (by_lods(&["2.20"]), false, "an equal number"),
+        (by_lods(&[]), false, "no LoD"),
+        (by_types(&["Building"]), true, "its type"),
+        (by_types(&["Bridge", "Building"]), true, "one of two types"),
+        (by_types(&["BuildingPart"]), false, "another type"),
+        (by_types(&[]), false, "no type"),
+    ] {
+        check_keeps(&rt, rt.alloc(), USUAL, &parts, keeps, row)?;
+    }
+    Ok(())
+}
+
+#[test]
+fn by_box_of_the_usual_feature(rt: HostRuntime) -> Result<(), Fail> {
+    for (bounds, keeps) in [
+        ("1001,2001,1005,2005", true),
+        ("1001.000000000000000001,2001,1005,2005", false),
+        ("1001,2001.000000000000000001,1005,2005", false),
+        ("0,0,1000,2000", true),
+        ("0,0,999.999999999999999999,2000", false),
+        ("0,0,1000,1999.999999999999999999", false),
+        ("1000.5,2000.5,1000.5,2000.5", true),
+        ("-5,0,5000,5000", true),
+        ("1.0005e3,2000.5,1.0006e3,2000.6", true),
+    ] {
+        check_keeps(&rt, rt.alloc(), USUAL, &by_box(bounds), keeps, bounds)?;
+    }
+    Ok(())
+}
+
+// The first scale is below 0, so x runs from 999 to 1000; and then it is 0, so x is 1000 throughout.
+#[test]
+fn by_box_under_other_scales(rt: HostRuntime) -> Result<(), Fail> {
+    let turned = Pair {
+        header: b"{\"type\":\"CityJSON\",\"version\":\"2.0\",\"transform\":{\"scale\":[-0.001,0.001,0.001],\"translate\":[1000.0,2000.0,0.0]},\"CityObjects\":{},\"vertices\":[]}",
+        feature: FEATURE,
+    };
+    let flat = Pair {
+        header: b"{\"type\":\"CityJSON\",\"version\":\"2.0\",\"transform\":{\"scale\":[0,0.001,0.001],\"translate\":[1000.0,2000.0,0.0]},\"CityObjects\":{},\"vertices\":[]}",
+        feature: FEATURE,
+    };
+    for (pair, bounds, keeps) in [
+        (turned, "999,2000,999,2000", true),
+        (turned, "1000.5,2000,1001,2001", false),
+        (turned, "998,2000,998.999999999999999999,2001", false),
+        (flat, "1000,2000,1000,2000", true),
+        (flat, "1000.000000000000000001,2000,1001,2001", false),
+    ] {
+        check_keeps(&rt, rt.alloc(), pair, &by_box(bounds), keeps, bounds)?;
+    }
+    Ok(())
+}
+
+// The greatest scale and the greatest numbers of vertices: the coordinates have 36 digits.
+#[test]
+fn by_box_of_great_numbers(rt: HostRuntime) -> Result<(), Fail> {
+    let header = b"{\"type\":\"CityJSON\",\"version\":\"2.0\",\"transform\":{\"scale\":[999999999999999999,999999999999999999,1],\"translate\":[0,0,0]},\"CityObjects\":{},\"vertices\":[]}";
+    let far = Pair {
+        header,
+        feature: b"{\"type\":\"CityJSONFeature\",\"id\":\"b\",\"CityObjects\":{\"b\":{\"type\":\"Building\"}},\"vertices\":[[999999999999999999,0,0]]}",
+    };
+    let wide = Pair {
+        header,
+        feature: b"{\"type\":\"CityJSONFeature\",\"id\":\"b\",\"CityObjects\":{\"b\":{\"type\":\"Building\"}},\"vertices\":[[-999999999999999999,0,0],[999999999999999999,0,0]]}",
+    };
+    let parts = by_box("0,0,999999999999999999,0");
+    check_keeps(&rt, rt.alloc(), far, &parts, false, "far")?;
+    check_keeps(&rt, rt.alloc(), wide, &parts, true, "wide")
+}
+
+// A translation that is no multiple of 10^-18 is refused with a box alone.
+#[test]
+fn a_box_needs_fixed_numbers(rt: HostRuntime) -> Result<(), Fail> {
+    let fine = Pair {
+        header: b"{\"type\":\"CityJSON\",\"version\":\"2.0\",\"transform\":{\"scale\":[0.001,0.001,0.001],\"translate\":[1e-19,2000.0,0.0]},\"CityObjects\":{},\"vertices\":[]}",
+        feature: FEATURE,
+    };
+    let end = refused(1, 89, Reason::TransformNotFixed);
+    check_refused(&rt, rt.alloc(), fine, &by_box("0,0,1,1"), end)?;
+    check_keeps(&rt, rt.alloc(), fine, &ALL, true, "no box")
+}
+
+// A feature without vertices is in no box.
+#[test]
+fn by_box_without_vertices(rt: HostRuntime) -> Result<(), Fail> {
+    let bare = Pair {
+        header: HEADER,
+        feature: b"{\"type\":\"CityJSONFeature\",\"id\":\"b\",\"CityObjects\":{\"b\":{\"type\":\"Building\"}},\"vertices\":[]}",
+    };
+    let all = by_box("-1e17,-1e17,1e17,1e17");
+    check_keeps(&rt, rt.alloc(), bare, &all, false, "no vertices")?;
+    check_keeps(&rt, rt.alloc(), bare, &by_lods(&["2.2"]), false, "no LoD")?;
+    check_keeps(&rt, rt.alloc(), bare, &by_ids(&["b"]), true, "its id")
+}
+
+// Texts are compared with their escapes undone, and a comma in one is a letter as others are.
+#[test]
+fn by_texts_with_escapes(rt: HostRuntime) -> Result<(), Fail> {
+    let escaped = Pair {
+        header: HEADER,
+        feature: b"{\"type\":\"CityJSONFeature\",\"id\":\"\\u0061,\\u20ac\",\"CityObjects\":{\"a,\xe2\x82\xac\":{\"type\":\"\\u0042uilding\",\"geometry\":[{\"type\":\"MultiPoint\",\"lod\":\"\\u0032.2\",\"boundaries\":[]}]}},\"vertices\":[]}",
+    };
+    for (parts, keeps, row) in [
+        (by_ids(&["a,€"]), true, "its id"),
+        (by_ids(&["a", "€"]), false, "parts of its id"),
+        (by_ids(&["\\u0061,\\u20ac"]), false, "its spelling"),
+        (by_lods(&["2.2"]), true, "its LoD"),
+        (by_lods(&["\\u0032.2"]), false, "the LoD's spelling"),
+        (by_types(&["Building"]), true, "its type"),
+    ] {
+        check_keeps(&rt, rt.alloc(), escaped, &parts, keeps, row)?;
+    }
+    Ok(())
+}
+
+/// A header with one template, of LoD 1.
+const TEMPLATES: &[u8] = b"{\"type\":\"CityJSON\",\"version\":\"2.0\",\"transform\":{\"scale\":[0.001,0.001,0.001],\"translate\":[1000.0,2000.0,0.0]},\"CityObjects\":{},\"vertices\":[],\"geometry-templates\":{\"templates\":[{\"type\":\"MultiSurface\",\"lod\":\"1\",\"boundaries\":[[[0,1,2]]]}],\"vertices-templates\":[[0.0,0.0,0.0],[1.0,0.0,0.0],[0.0,1.0,0.0]]}}";
+
+/// A tree that is an instance of the first template, and one of the second.
+const TREE: &[u8] = b"{\"type\":\"CityJSONFeature\",\"id\":\"b\",\"CityObjects\":{\"b\":{\"type\":\"SolitaryVegetationObject\",\"geometry\":[{\"type\":\"GeometryInstance\",\"template\":0,\"boundaries\":[0],\"transformationMatrix\":[1,0,0,0,0,1,0,0,0,0,1,0,0,0,0,1]}]}},\"vertices\":[[0,0,0]]}";
+
+const SECOND: &[u8] = b"{\"type\":\"CityJSONFeature\",\"id\":\"b\",\"CityObjects\":{\"b\":{\"type\":\"SolitaryVegetationObject\",\"geometry\":[{\"type\":\"GeometryInstance\",\"template\":1,\"boundaries\":[0],\"transformationMatrix\":[1,0,0,0,0,1,0,0,0,0,1,0,0,0,0,1]}]}},\"vertices\":[[0,0,0]]}";
+
+// An instance has the LoD of its template, and no other.
+#[test]
+fn by_the_lod_of_a_template(rt: HostRuntime) -> Result<(), Fail> {
+    let tree = Pair {
+        header: TEMPLATES,
+        feature: TREE,
+    };
+    let second = Pair {
+        header: TEMPLATES,
+        feature: SECOND,
+    };
+    let lost = Pair {
+        header: HEADER,
+        feature: TREE,
+    };
+    let end = refused(2, 139, Reason::TemplateIndex);
+    check_keeps(&rt, rt.alloc(), tree, &by_lods(&["1"]), true, "its LoD")?;
+    check_keeps(&rt, rt.alloc(), tree, &by_lods(&["2"]), false, "another")?;
+    check_refused(&rt, rt.alloc(), second, &by_lods(&["1"]), end)?;
+    check_refused(&rt, rt.alloc(), lost, &by_lods(&["1"]), end)
+}
+
+// What a part may be: not set, empty, one that the usual feature has, or one that it has not.
+fn texts<'a>(state: u32, has: &'a [&'a str], lacks: &'a [&'a str]) -> Option<&'a [&'a str]> {
+    match state {
+        0 => None,
+        1 => Some(&[]),
+        2 => Some(has),
+        _ => Some(lacks),
+    }
+}
+
+fn bounds(state: u32) -> Option<&'static str> {
+    match state {
+        0 => None,
+        1 => Some("0,0,1,1"),
+        2 => Some("1000,2000,1000,2000"),
+        _ => Some("2000,2000,2001,2001"),
+    }
+}
+
+// The feature satisfies each part, or the part is not set.
+fn is_kept(state: u32) -> bool {
+    state == 0 || state == 2
+}
+
+// Each part in each state, beside each state of each other part.
+#[test]
+fn each_part_has_to_hold(rt: HostRuntime) -> Result<(), Fail> {
+    for states in 0..256_u32 {
+        let (id, kind, lod, place) = (
+            states % 4,
+            states / 4 % 4,
+            states / 16 % 4,
+            states / 64 % 4,
+        );
+        let parts = Parts {
+            ids: texts(id, &["b1"], &["b2"]),
+            types: texts(kind, &["Building"], &["Road"]),
+            lods: texts(lod, &["2.2"], &["2"]),
+            bounds: bounds(place),
+        };
+        let keeps = is_kept(id) && is_kept(kind) && is_kept(lod) && is_kept(place);
+        check_keeps(&rt, rt.alloc(), USUAL, &parts, keeps, "parts")?;
+    }
+    Ok(())
+}
+
+// Compares what a setter answered.
+fn check_fault(
+    rt: &impl Abort,
+    got: Result<(), QueryFault>,
+    wanted: Result<(), QueryFault>,
+    row: &str,
+) {
+    assert_eq!(rt; got, wanted, "{row}");
+}
+
+// Runs over the usual header and feature, which has to be kept or not.
+fn check_query(
+    rt: &impl Abort,
+    alloc: Global,
+    query: &Query,
+    keeps: bool,
+    row: &str,
+) -> Result<(), Fail> {
+    let text = joined(alloc, &[HEADER, b"\n", FEATURE, b"\n"])?;
+    let limits = Limits::new(8_388_608, 64)?;
+    let (outcome, _) = kept_of(alloc, &text, limits, query);
+    check_number(rt, outcome.kept, keeps.into(), row, 0);
+    Ok(())
+}
+
+// A type that is not known is refused, and changes nothing.
+#[test]
+fn an_unknown_type(rt: HostRuntime) -> Result<(), Fail> {
+    let mut query = Query::all(rt.alloc());
+    check_fault(&rt, query.add_type("Building"), Ok(()), "Building");
+    check_query(&rt, rt.alloc(), &query, true, "Building")?;
+    let unknown = Err(QueryFault::UnknownTypeName);
+    check_fault(&rt, query.add_type("+Shed"), unknown, "+Shed");
+    check_query(&rt, rt.alloc(), &query, true, "after +Shed")?;
+    query.start_types();
+    check_query(&rt, rt.alloc(), &query, false, "no type")
+}
+
+// A box that is refused leaves the one before it.
+fn check_box(
+    rt: &impl Abort,
+    alloc: Global,
+    query: &mut Query,
+    text: &str,
+    fault: QueryFault,
+) -> Result<(), Fail> {
+    check_fault(rt, query.bbox(text), Err(fault), text);
+    assert!(rt; query.wants_box());
+    check_query(rt, alloc, query, true, text)
+}
+
+#[test]
+fn boxes_that_are_refused(rt: HostRuntime) -> Result<(), Fail> {
+    let mut query = Query::all(rt.alloc());
+    check_fault(&rt, query.bbox("1000,2000,1001,2001"), Ok(()), "a box");
+    for (text, fault) in [
+        ("1,2,3", QueryFault::BadBox),
+        ("1,2,3,4,5", QueryFault::BadBox),
+        ("", QueryFault::BadBox),
+        ("1, 2,3,4", QueryFault::BadBox),
+        ("01,2,3,4", QueryFault::BadBox),
+        ("1e18,0,2,x", QueryFault::BadBox),
+        ("1e18,0,2e18,1", QueryFault::BoxRange),
+        ("1e-19,0,1,1", QueryFault::BoxRange),
+        ("3,0,1e99,1", QueryFault::BoxRange),
+        ("3,0,1,1", QueryFault::EmptyBox),
+        ("0,1.000000000000000001,1,1", QueryFault::EmptyBox),
+    ] {
+        check_box(&rt, rt.alloc(), &mut query, text, fault)?;
+    }
+    Ok(())
+}
+
+// A part that is set anew begins empty; a text that is added to a part that is not set is its first.
+#[test]
+fn parts_are_set_anew(rt: HostRuntime) -> Result<(), Fail> {
+    let mut query = Query::all(rt.alloc());
+    check_fault(&rt, query.add_id("b2"), Ok(()), "b2");
+    check_query(&rt, rt.alloc(), &query, false, "b2")?;
+    check_fault(&rt, query.add_id("b1"), Ok(()), "b1");
+    check_query(&rt, rt.alloc(), &query, true, "b2 and b1")?;
+    query.start_ids();
+    check_query(&rt, rt.alloc(), &query, false, "no id")?;
+    check_fault(&rt, query.add_id("b1"), Ok(()), "b1");
+    check_fault(&rt, query.add_lod("2"), Ok(()), "2");
+    check_query(&rt, rt.alloc(), &query, false, "b1 and 2")?;
+    query.start_lods();
+    check_fault(&rt, query.add_lod("2.2"), Ok(()), "2.2");
+    check_query(&rt, rt.alloc(), &query, true, "b1 and 2.2")?;
+    check_fault(&rt, query.bbox("0,0,1,1"), Ok(()), "away");
+    check_query(&rt, rt.alloc(), &query, false, "away")?;
+    check_fault(&rt, query.bbox("0,0,1e4,1e4"), Ok(()), "around");
+    check_query(&rt, rt.alloc(), &query, true, "around")
+}
