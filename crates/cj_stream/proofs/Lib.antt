@@ -1,5 +1,6 @@
 pub mod Apart
 pub mod BlankLemmas
+pub mod BoxLemmas
 pub mod CutLemmas
 pub mod DeviceLemmas
 pub mod EngineLemmas

@@ -4,6 +4,7 @@ pub mod CountSink
 pub mod Cut
 pub mod Device
 pub mod Engine
+pub mod Extent
 pub mod Headline
 pub mod IsLines
 pub mod Item

@@ -1,28 +1,66 @@
 //! Whether a feature has one of some ids, types or LoDs.
 ghost use Rattle.std.specs.Prelude.{◌≡◌, map, string_bytes};
+ghost use Rattle.cj_spans.specs.View.{tree};
+ghost use Rattle.cj_geometry.specs.Given.{given};
+ghost use Rattle.cj_geometry.specs.Lod.{lod as lod_in};
 ghost use Rattle.cj_feature.specs.HeaderView.{header_tree};
 ghost use Rattle.cj_feature.specs.View.{feature_tree};
-ghost use Rattle.cj_stream.specs.Asked.{has_id as asked_id, has_type as asked_type, has_lod as asked_lod};
+ghost use Rattle.cj_stream.specs.Asked.{there_is, is_one_of as is_one, has_id as asked_id, has_type as asked_type, has_lod as asked_lod};
 
 use cj_feature::{Feature, Header};
+use cj_geometry::{Templates, lod_of};
+use cj_spans::Node;
+
+/// Whether a node is one of these texts.
+fn is_one_of(texts: &[String], node: Node) -> bool
+    ensures { result ≡ is_one (map string_bytes texts.now) (tree node.entry) }
+{
+    for text in texts {
+        if node.text_is(text.as_str()) {
+            return true;
+        }
+    }
+    false
+}
 
 /// Whether the id of a feature is one of these.
 pub fn has_id(ids: &[String], feature: &Feature) -> bool
     ensures { result ≡ asked_id (map string_bytes ids.now) (feature_tree feature.now) }
 {
-    ids.is_empty()
+    is_one_of(ids, feature.id())
 }
 
 /// Whether the type of some city object is one of these.
 pub fn has_type(types: &[bool; 33], feature: &Feature) -> bool
     ensures { result ≡ asked_type types.now (feature_tree feature.now) }
 {
-    types.is_empty()
+    for object in feature.objects() {
+        if types[object.object_type.number() as usize] {
+            return true;
+        }
+    }
+    false
+}
+
+/// Whether the LoD of a geometry is one of these.
+fn has_one(lods: &[String], geometry: Node, templates: Templates) -> bool
+    ensures { result ≡ there_is (is_one (map string_bytes lods.now)) (lod_in (given templates.entry) (tree geometry.entry)) }
+{
+    match lod_of(geometry, templates) {
+        Some(lod) => is_one_of(lods, lod),
+        None => false,
+    }
 }
 
 /// Whether the LoD of some geometry is one of these. An instance has that of its template.
 pub fn has_lod(lods: &[String], feature: &Feature, header: &Header) -> bool
     ensures { result ≡ asked_lod (map string_bytes lods.now) (header_tree header.now) (feature_tree feature.now) }
 {
-    lods.is_empty()
+    let templates = header.templates();
+    for geometry in feature.geometries() {
+        if has_one(lods, geometry, templates) {
+            return true;
+        }
+    }
+    false
 }

@@ -1,0 +1,267 @@
+-- Of the numbers that a map brings to at most or at least an end, the least or the greatest is one.
+use Rattle.std.proofs.Common.{◌≡◌, ℕ, zero, suc, ◌+◌, ◌*◌, ◌<◌, ◌≤◌, ◌^◌, List, [], ◌∷◌, length, map, get_or, Bool, true, false, cond, ◌&&◌, ◌||◌, ◌⊎◌, inl, inr, Option, Some, None, ℤ, pos, negsuc, ◌+ℤ◌, ◌*ℤ◌, ◌≤ℤ◌, int_le, int_lt, unsigned_abs, IfSome, refl, sym, ap, ◌∙◌, arith}
+use Rattle.std.specs.Int.{int_min, int_max}
+use Rattle.std.specs.List.{fold, list_any}
+use Rattle.std.proofs.Math.Nat.{mul-le-mul_right}
+use Rattle.std.specs.Int.{w64, cast_signed, cast_unsigned}
+use Rattle.std.proofs.lemmas.Int.{to_z-of_z, fits_signed_from_abs}
+use Rattle.std.proofs.lemmas.Int.{ints, fold-int_min_bounds, fold-int_max_bounds}
+use Rattle.cj_decimal.specs.Affine.{AffineMap, image}
+use Rattle.std.specs.Option.{unwrap_or}
+use Rattle.std.specs.Ordering.{int_cmp, is_le, is_ge}
+use Rattle.std.specs.declared.cmp.Ordering.{Ordering}
+use Rattle.std.specs.declared.cmp.Ordering.TheVariants.{Less, Equal, Greater}
+use Rattle.cj_spans.specs.Tree.{Tree}
+use Rattle.cj_spans.specs.Kinds.{is_number}
+use Rattle.cj_spans.specs.Parts.{kind_of, items_of}
+use Rattle.cj_decimal.specs.Class.{Class, no_number, out_of_range, not_whole, whole}
+use Rattle.cj_decimal.proofs.Classes.{class}
+use Rattle.cj_geometry.specs.Rule.{spelling, whole_by, whole_of}
+use Rattle.cj_feature.specs.Shown.{maps_of}
+use Rattle.cj_feature.specs.Typed.{vertex_of}
+use Rattle.cj_stream.specs.declared.query.extent.Range.{Range}
+use Rattle.cj_stream.specs.Asked.{Box, axis_map, vertices_of, some_at_most, some_at_least, is_in}
+use Rattle.cj_stream.specs.Extent.{number_on, alone, widened, range_of, meets, IsSmall}
+use borrow.Author.Differences.{up, down, product_is}
+
+-- ---- a map keeps the order of numbers, or turns it
+
+product_rises : (s : ℕ) (v w : ℤ) → v ≤ℤ w → (v *ℤ pos s) ≤ℤ (w *ℤ pos s)
+product_rises s v w h =
+    let below : up v + down w ≤ up w + down v = omega (arith, ints) in
+    omega (arith, ints, product_is v (pos s), product_is w (pos s), mul-le-mul_right {m = up v + down w} {n = up w + down v} s below)
+
+product_falls : (s : ℕ) (v w : ℤ) → v ≤ℤ w → (w *ℤ negsuc s) ≤ℤ (v *ℤ negsuc s)
+product_falls s v w h =
+    let below : up v + down w ≤ up w + down v = omega (arith, ints) in
+    omega (arith, ints, product_is v (negsuc s), product_is w (negsuc s), mul-le-mul_right {m = up v + down w} {n = up w + down v} (suc s) below)
+
+image_rises : (m : AffineMap) (s : ℕ) (v w : ℤ) → m.scale ≡ pos s → v ≤ℤ w → image m v ≤ℤ image m w
+image_rises m s v w e h =
+    let product : (v *ℤ m.scale) ≤ℤ (w *ℤ m.scale) = rw e (product_rises s v w h) in
+    omega (arith, ints)
+
+image_falls : (m : AffineMap) (s : ℕ) (v w : ℤ) → m.scale ≡ negsuc s → v ≤ℤ w → image m w ≤ℤ image m v
+image_falls m s v w e h =
+    let product : (w *ℤ m.scale) ≤ℤ (v *ℤ m.scale) = rw e (product_falls s v w h) in
+    omega (arith, ints)
+
+-- ---- a test that goes one way passes at an end, if it passes anywhere
+
+-- what passes makes each smaller number pass, or each greater one
+abbrev pub Falls : (ℤ → Bool) → Type 0
+Falls test = (v w : ℤ) → v ≤ℤ w → test w ≡ true → test v ≡ true
+
+abbrev pub Rises : (ℤ → Bool) → Type 0
+Rises test = (v w : ℤ) → v ≤ℤ w → test v ≡ true → test w ≡ true
+
+or_left : (a b : Bool) → (b ≡ true → a ≡ true) → (a || b) ≡ a
+or_left true b h = refl
+or_left false true h = sym (h refl)
+or_left false false h = refl
+
+or_right : (a b : Bool) → (a ≡ true → b ≡ true) → (a || b) ≡ b
+or_right true b h = sym (h refl)
+or_right false b h = refl
+
+or_assoc : (a b c : Bool) → ((a || b) || c) ≡ (a || (b || c))
+or_assoc true b c = refl
+or_assoc false b c = refl
+
+or_false : (a : Bool) → (a || false) ≡ a
+or_false true = refl
+or_false false = refl
+
+module _ (test : ℤ → Bool) where
+  less_of_two : Falls test → (x y : ℤ) → test (int_min x y) ≡ (test x || test y)
+  less_of_two falls x y = by_order (int_lt y x) refl
+    where
+      by_order : (b : Bool) → int_lt y x ≡ b → test (cond b y x) ≡ (test x || test y)
+      by_order true e = sym (or_right (test x) (test y) (falls y x (omega (arith, ints))))
+      by_order false e = sym (or_left (test x) (test y) (falls x y (omega (arith, ints))))
+
+  greater_of_two : Rises test → (x y : ℤ) → test (int_max x y) ≡ (test x || test y)
+  greater_of_two rises x y = by_order (int_lt y x) refl
+    where
+      by_order : (b : Bool) → int_lt y x ≡ b → test (cond b x y) ≡ (test x || test y)
+      by_order true e = sym (or_left (test x) (test y) (rises y x (omega (arith, ints))))
+      by_order false e = sym (or_right (test x) (test y) (rises x y (omega (arith, ints))))
+
+  least_tells : Falls test → (x : ℤ) (xs : List ℤ) → test (fold int_min x xs) ≡ list_any test (x ∷ xs)
+  least_tells falls x [] = sym (or_false (test x))
+  least_tells falls x (y ∷ ys) = least_tells falls (int_min x y) ys ∙ ap (λ b. b || list_any test ys) (less_of_two falls x y) ∙ or_assoc (test x) (test y) (list_any test ys)
+
+  greatest_tells : Rises test → (x : ℤ) (xs : List ℤ) → test (fold int_max x xs) ≡ list_any test (x ∷ xs)
+  greatest_tells rises x [] = sym (or_false (test x))
+  greatest_tells rises x (y ∷ ys) = greatest_tells rises (int_max x y) ys ∙ ap (λ b. b || list_any test ys) (greater_of_two rises x y) ∙ or_assoc (test x) (test y) (list_any test ys)
+
+  in_order : (x : ℤ) (xs : List ℤ) → fold int_min x xs ≤ℤ fold int_max x xs
+  in_order x xs =
+      let low = (fold-int_min_bounds x xs _ refl).0 in
+      let high = (fold-int_max_bounds x xs _ refl).0 in
+      omega (arith, ints, low, high)
+
+  ends_tell : (Falls test ⊎ Rises test) → (x : ℤ) (xs : List ℤ) → (test (fold int_min x xs) || test (fold int_max x xs)) ≡ list_any test (x ∷ xs)
+  ends_tell (inl falls) x xs = or_left _ _ (falls _ _ (in_order x xs)) ∙ least_tells falls x xs
+  ends_tell (inr rises) x xs = or_right _ _ (rises _ _ (in_order x xs)) ∙ greatest_tells rises x xs
+
+-- ---- a map brings some number to an end, or past it, where it brings the least or the greatest there
+
+one_way_below : (m : AffineMap) (end : ℤ) → Falls (λ v. int_le (image m v) end) ⊎ Rises (λ v. int_le (image m v) end)
+one_way_below m end = by_sign m.scale refl
+  where
+    by_sign : (s : ℤ) → m.scale ≡ s → Falls (λ v. int_le (image m v) end) ⊎ Rises (λ v. int_le (image m v) end)
+    by_sign (pos s) e = inl (λ v w h passes. let image_is = image_rises m s v w e h in grind (arith, ints))
+    by_sign (negsuc s) e = inr (λ v w h passes. let image_is = image_falls m s v w e h in grind (arith, ints))
+
+one_way_above : (m : AffineMap) (end : ℤ) → Falls (λ v. int_le end (image m v)) ⊎ Rises (λ v. int_le end (image m v))
+one_way_above m end = by_sign m.scale refl
+  where
+    by_sign : (s : ℤ) → m.scale ≡ s → Falls (λ v. int_le end (image m v)) ⊎ Rises (λ v. int_le end (image m v))
+    by_sign (pos s) e = inr (λ v w h passes. let image_is = image_rises m s v w e h in grind (arith, ints))
+    by_sign (negsuc s) e = inl (λ v w h passes. let image_is = image_falls m s v w e h in grind (arith, ints))
+
+pub at_most-ends : (m : AffineMap) (end x : ℤ) (xs : List ℤ) → (int_le (image m (fold int_min x xs)) end || int_le (image m (fold int_max x xs)) end) ≡ list_any (λ v. int_le (image m v) end) (x ∷ xs)
+at_most-ends m end x xs = ends_tell (λ v. int_le (image m v) end) (one_way_below m end) x xs
+
+pub at_least-ends : (m : AffineMap) (end x : ℤ) (xs : List ℤ) → (int_le end (image m (fold int_min x xs)) || int_le end (image m (fold int_max x xs))) ≡ list_any (λ v. int_le end (image m v)) (x ∷ xs)
+at_least-ends m end x xs = ends_tell (λ v. int_le end (image m v)) (one_way_above m end) x xs
+
+-- of any numbers that have a range
+pub at_most-range : (m : AffineMap) (end : ℤ) (r : Range) (ns : List ℤ) → range_of ns ≡ Some r → (int_le (image m r.least) end || int_le (image m r.greatest) end) ≡ list_any (λ n. int_le (image m n) end) ns
+at_most-range m end r [] e = absurd (cc e)
+at_most-range m end r (n ∷ ns) e =
+    let same : widened (alone n) ns ≡ r = cc e in
+    rw (← same) (at_most-ends m end n ns)
+
+pub at_least-range : (m : AffineMap) (end : ℤ) (r : Range) (ns : List ℤ) → range_of ns ≡ Some r → (int_le end (image m r.least) || int_le end (image m r.greatest)) ≡ list_any (λ n. int_le end (image m n)) ns
+at_least-range m end r [] e = absurd (cc e)
+at_least-range m end r (n ∷ ns) e =
+    let same : widened (alone n) ns ≡ r = cc e in
+    rw (← same) (at_least-ends m end n ns)
+
+-- where there are none, none is brought anywhere
+pub none_meets : (m : AffineMap) (low high : ℤ) (ns : List ℤ) → range_of ns ≡ None → meets m low high ns ≡ false
+none_meets m low high [] e = refl
+none_meets m low high (n ∷ ns) e = absurd (cc e)
+
+-- ---- how the code asks whether a number is at most, or at least, at an end
+
+le_told : (x y : ℤ) → is_le (int_cmp x y) ≡ int_le x y
+le_told x y = by_order (int_lt x y) (int_lt y x) refl refl
+  where
+    by_order : (less more : Bool) → int_lt x y ≡ less → int_lt y x ≡ more → is_le (cond less Less (cond more Greater Equal)) ≡ int_le x y
+    by_order true more e f = grind (arith, ints)
+    by_order false true e f = grind (arith, ints)
+    by_order false false e f = grind (arith, ints)
+
+ge_told : (x y : ℤ) → is_ge (int_cmp x y) ≡ int_le y x
+ge_told x y = by_order (int_lt x y) (int_lt y x) refl refl
+  where
+    by_order : (less more : Bool) → int_lt x y ≡ less → int_lt y x ≡ more → is_ge (cond less Less (cond more Greater Equal)) ≡ int_le y x
+    by_order true more e f = grind (arith, ints)
+    by_order false true e f = grind (arith, ints)
+    by_order false false e f = grind (arith, ints)
+
+-- of a number that went to bits and back
+pub at_most_told : (m : AffineMap) (v end : ℤ) (r : Ordering) → unsigned_abs v < 10 ^ 18 → r ≡ int_cmp (image m (cast_signed w64 (cast_unsigned w64 v))) end → is_le r ≡ int_le (image m v) end
+at_most_told m v end r small e =
+    let same = to_z-of_z w64 v (fits_signed_from_abs w64 v (omega arith)) in
+    ap is_le (e ∙ ap (λ x. int_cmp (image m x) end) same) ∙ le_told (image m v) end
+
+pub at_least_told : (m : AffineMap) (v end : ℤ) (r : Ordering) → unsigned_abs v < 10 ^ 18 → r ≡ int_cmp (image m (cast_signed w64 (cast_unsigned w64 v))) end → is_ge r ≡ int_le end (image m v)
+at_least_told m v end r small e =
+    let same = to_z-of_z w64 v (fits_signed_from_abs w64 v (omega arith)) in
+    ap is_ge (e ∙ ap (λ x. int_cmp (image m x) end) same) ∙ ge_told (image m v) end
+
+-- the second tells it where the first does not
+pub or_second : (a b c d : Bool) → a ≡ b → b ≡ false → c ≡ d → c ≡ (a || d)
+or_second a b c d e f g = rw (e, f) g
+
+-- ---- the numbers of vertices
+
+whole_small : {s : List ℕ} (c : Class s) → unsigned_abs (unwrap_or (whole_by c) (pos 0)) < 10 ^ 18
+whole_small (no_number n) = omega arith
+whole_small (out_of_range n) = omega arith
+whole_small (not_whole v value range n) = omega arith
+whole_small (whole v w value range is) = is.small
+
+of_small : (number : Bool) (t : Tree) → unsigned_abs (unwrap_or (cond number (whole_by (class (spelling t))) None) (pos 0)) < 10 ^ 18
+of_small true t = whole_small (class (spelling t))
+of_small false t = omega arith
+
+number_small : (axis : ℕ) (ts : List Tree) → unsigned_abs (number_on axis (map whole_of ts)) < 10 ^ 18
+number_small axis [] = omega arith
+number_small zero (t ∷ ts) = of_small (is_number (kind_of t)) t
+number_small (suc axis) (t ∷ ts) = number_small axis ts
+
+least_small : (axis : ℕ) (n : ℤ) (ts : List Tree) → unsigned_abs n < 10 ^ 18 → unsigned_abs (fold int_min n (map (number_on axis) (map vertex_of ts))) < 10 ^ 18
+least_small axis n [] h = h
+least_small axis n (t ∷ ts) h = least_small axis (int_min n (number_on axis (vertex_of t))) ts (of_two (int_lt (number_on axis (vertex_of t)) n))
+  where
+    of_two : (less : Bool) → unsigned_abs (cond less (number_on axis (vertex_of t)) n) < 10 ^ 18
+    of_two true = number_small axis (items_of t)
+    of_two false = h
+
+greatest_small : (axis : ℕ) (n : ℤ) (ts : List Tree) → unsigned_abs n < 10 ^ 18 → unsigned_abs (fold int_max n (map (number_on axis) (map vertex_of ts))) < 10 ^ 18
+greatest_small axis n [] h = h
+greatest_small axis n (t ∷ ts) h = greatest_small axis (int_max n (number_on axis (vertex_of t))) ts (of_two (int_lt (number_on axis (vertex_of t)) n))
+  where
+    of_two : (less : Bool) → unsigned_abs (cond less n (number_on axis (vertex_of t))) < 10 ^ 18
+    of_two true = h
+    of_two false = number_small axis (items_of t)
+
+-- so their least and greatest are small
+pub range_small : (axis : ℕ) (r : Range) (ts : List Tree) → range_of (map (number_on axis) (map vertex_of ts)) ≡ Some r → IsSmall r
+range_small axis r [] e = absurd (cc e)
+range_small axis r (t ∷ ts) e =
+    let first = number_on axis (vertex_of t) in
+    let same : widened (alone first) (map (number_on axis) (map vertex_of ts)) ≡ r = cc e in
+    rw (← same) (record { least = least_small axis first ts (number_small axis (items_of t)); greatest = greatest_small axis first ts (number_small axis (items_of t)) })
+
+-- ---- the box, by the numbers on each axis
+
+any-numbers : (test : ℤ → Bool) (axis : ℕ) (vs : List (List (Option ℤ))) → list_any (λ v. test (number_on axis v)) vs ≡ list_any test (map (number_on axis) vs)
+any-numbers test axis [] = refl
+any-numbers test axis (v ∷ vs) = ap (λ b. test (number_on axis v) || b) (any-numbers test axis vs)
+
+and_assoc : (a b c d : Bool) → (a && b && c && d) ≡ ((a && b) && (c && d))
+and_assoc true true c d = refl
+and_assoc true false c d = refl
+and_assoc false b c d = refl
+
+pub box-numbers : (box : Box) (header t : Tree) → is_in box header t ≡ (meets (axis_map header 0) box.min_x box.max_x (map (number_on 0) (vertices_of t)) && meets (axis_map header 1) box.min_y box.max_y (map (number_on 1) (vertices_of t)))
+box-numbers box header t =
+    let x = axis_map header 0 in
+    let y = axis_map header 1 in
+    let vs = vertices_of t in
+    let west = any-numbers (λ n. int_le (image x n) box.max_x) 0 vs in
+    let east = any-numbers (λ n. int_le box.min_x (image x n)) 0 vs in
+    let south = any-numbers (λ n. int_le (image y n) box.max_y) 1 vs in
+    let north = any-numbers (λ n. int_le box.min_y (image y n)) 1 vs in
+    and_assoc (some_at_most header t 0 box.max_x) (some_at_least header t 0 box.min_x) (some_at_most header t 1 box.max_y) (some_at_least header t 1 box.min_y) ∙ cc
+
+-- within the list, what is answered beyond it does not matter
+same_map : (maps : List AffineMap) (axis : ℕ) (d e : AffineMap) → axis < length maps → get_or maps axis d ≡ get_or maps axis e
+same_map [] axis d e h = absurd (omega arith)
+same_map (m ∷ maps) zero d e h = refl
+same_map (m ∷ maps) (suc axis) d e h = same_map maps axis d e (omega arith)
+
+-- what is told of any numbers of a range is so of those on an axis
+pub axis_told : (header t : Tree) (axis : ℕ) (maps : List AffineMap) (d : AffineMap) (low high : ℤ) (r : Range) (vs : List (List (Option ℤ))) (told : Bool)
+    → maps ≡ maps_of header → axis < length maps → vs ≡ vertices_of t → Some r ≡ range_of (map (number_on axis) vs)
+    → ((ns : List ℤ) → range_of ns ≡ Some r → told ≡ meets (get_or maps axis d) low high ns)
+    → told ≡ meets (axis_map header axis) low high (map (number_on axis) (vertices_of t))
+axis_told header t axis maps d low high r vs told are within shown range tells =
+    let map_is : get_or maps axis d ≡ axis_map header axis = same_map maps axis d (record { scale = pos 0; shift = pos 0 }) within ∙ ap (λ ms. get_or ms axis (record { scale = pos 0; shift = pos 0 })) are in
+    tells (map (number_on axis) vs) (sym range) ∙ ap (λ m. meets m low high (map (number_on axis) vs)) map_is ∙ ap (λ us. meets (axis_map header axis) low high (map (number_on axis) us)) shown
+
+-- two tests, of which the first is known
+pub and_second : (a b c d : Bool) → a ≡ b → a ≡ true → c ≡ d → c ≡ (b && d)
+and_second a b c d e f g = rw (← e, f) g
+
+pub and_first : (a b d : Bool) → a ≡ b → a ≡ false → a ≡ (b && d)
+and_first a b d e f = rw (← e, f) refl
+
+pub and_none : (b d : Bool) → b ≡ false → false ≡ (b && d)
+and_none b d e = rw e refl

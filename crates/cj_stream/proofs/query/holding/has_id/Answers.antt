@@ -1,4 +1,0 @@
-use Rattle.cj_stream.proofs.query.holding.has_id.Goals as goal
-
-pub returns : goal.returns
-returns c = ?
