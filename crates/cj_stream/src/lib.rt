@@ -40,6 +40,6 @@ pub use counting::{count_pieces, count_stream};
 pub use ending::End;
 pub use engine::Engine;
 pub use lent::LentSink;
-pub use query::Query;
+pub use query::{Query, QueryFault};
 pub use running::{Outcome, run};
 pub use sink::{LineSink, WriteFault, WriteSink, write_whole};
