@@ -7,7 +7,7 @@ use Rattle.cj_spans.specs.Text.{are_same}
 use Rattle.cj_spans.specs.Tree.{Tree}
 use Rattle.cj_spans.specs.Parts.{text_of, has_text}
 use Rattle.cj_geometry.proofs.Texts.{text-is}
-use Rattle.cj_geometry.specs.ObjectTypes.{ObjectRow, first_level, object_types, row_in, row_of, row_at}
+use Rattle.cj_geometry.specs.ObjectTypes.{ObjectRow, first_level, object_types, row_in, row_of, row_named_in, row_at}
 
 pub count : length object_types ≡ 33
 unfolding object_types
@@ -45,14 +45,23 @@ pub row-none : (t : Tree) → row_in (drop 33 object_types) t ≡ None
 unfolding object_types
 row-none t = refl
 
+pub named-next : (n : ℕ) (s : List ℕ) → n < 33 → row_named_in (drop n object_types) s ≡ cond (bytes_eq s (row_at n).name) (Some (row_at n)) (row_named_in (drop (n + 1) object_types) s)
+named-next n s small =
+    let within : n < length object_types = omega (arith, count) in
+    rw (drop-cons object_types n (first_level [] 0) within, add-one) refl
+
+pub named-none : (s : List ℕ) → row_named_in (drop 33 object_types) s ≡ None
+unfolding object_types
+named-none s = refl
+
 -- ---- names are distinct
 
 -- the row, of these, of the type of this name
-abbrev row_named : List ObjectRow → List ℕ → Option ObjectRow
-row_named [] s = None
-row_named (r ∷ rs) s = cond (are_same s (chars r.name)) (Some r) (row_named rs s)
+abbrev row_with : List ObjectRow → List ℕ → Option ObjectRow
+row_with [] s = None
+row_with (r ∷ rs) s = cond (are_same s (chars r.name)) (Some r) (row_with rs s)
 
-of-text : (rs : List ObjectRow) (s : List ℕ) (t : Tree) → text_of t ≡ Some s → row_in rs t ≡ row_named rs s
+of-text : (rs : List ObjectRow) (s : List ℕ) (t : Tree) → text_of t ≡ Some s → row_in rs t ≡ row_with rs s
 of-text [] s t h = refl
 of-text (r ∷ rs) s t h = rw (h, of-text rs s t h) refl
 
@@ -80,13 +89,13 @@ same-row (Some r) q h =
     let number = eqb-true r.number q.number others.1 in
     λ i. Some (record { name = name i; is_second = level i; number = number i })
 
-each-named : agree_below (λ k. is_row (row_named object_types (chars (row_at k).name)) (row_at k)) always 33 ≡ true
+each-named : agree_below (λ k. is_row (row_with object_types (chars (row_at k).name)) (row_at k)) always 33 ≡ true
 unfolding object_types always chars
 each-named = refl
 
-is-named : (n : ℕ) → n < 33 → row_named object_types (chars (row_at n).name) ≡ Some (row_at n)
+is-named : (n : ℕ) → n < 33 → row_with object_types (chars (row_at n).name) ≡ Some (row_at n)
 unfolding always
-is-named n small = same-row (row_named object_types (chars (row_at n).name)) (row_at n) (agree_below_at (λ k. is_row (row_named object_types (chars (row_at k).name)) (row_at k)) always 33 n each-named small)
+is-named n small = same-row (row_with object_types (chars (row_at n).name)) (row_at n) (agree_below_at (λ k. is_row (row_with object_types (chars (row_at k).name)) (row_at k)) always 33 n each-named small)
 
 -- ---- the type of a name
 

@@ -1,6 +1,6 @@
 -- The types of city objects (CityJSON 2.0, section 2) with their levels (own: these names and levels are the profile).
 use Rattle.std.specs.Prelude.{ℕ, List, [], ◌∷◌, get_or, Bool, true, false, codes, cond, Option, Some, None}
-use Rattle.std.specs.Str.{chars}
+use Rattle.std.specs.Str.{chars, bytes_eq}
 use Rattle.cj_spans.specs.Tree.{Tree}
 use Rattle.cj_spans.specs.Parts.{has_text}
 
@@ -62,6 +62,15 @@ row_in (r ∷ rs) t = cond (has_text (chars r.name) t) (Some r) (row_in rs t)
 -- the row of the type whose name is the tree's text; none for any other tree
 abbrev pub row_of : Tree → Option ObjectRow
 row_of t = row_in object_types t
+
+-- the row, of these, of the type of this name, in UTF-8
+abbrev pub row_named_in : List ObjectRow → List ℕ → Option ObjectRow
+row_named_in [] s = None
+row_named_in (r ∷ rs) s = cond (bytes_eq s r.name) (Some r) (row_named_in rs s)
+
+-- the row of the type of this name; none for any other text
+abbrev pub row_named : List ℕ → Option ObjectRow
+row_named s = row_named_in object_types s
 
 -- the row of a number
 abbrev pub row_at : ℕ → ObjectRow

@@ -4,7 +4,7 @@ ghost use Rattle.std.specs.Str.{chars};
 ghost use Rattle.cj_spans.specs.Tree.{Tree};
 ghost use Rattle.cj_spans.specs.Parts.{has_text};
 ghost use Rattle.cj_spans.specs.View.{tree};
-ghost use Rattle.cj_geometry.specs.ObjectTypes.{row_of, row_at};
+ghost use Rattle.cj_geometry.specs.ObjectTypes.{row_of, row_named, row_at};
 
 use cj_spans::Node;
 use std::marker::Model;
@@ -83,6 +83,18 @@ impl ObjectType {
     {
         for number in 0..TYPES {
             if node.text_is(name_at(number)) {
+                return Some(ObjectType { number });
+            }
+        }
+        None
+    }
+
+    /// The type of this name, as the table spells it; None for any other text.
+    pub fn named(name: &str) -> Option<ObjectType>
+        ensures { option_map row_at result ≡ row_named name.now }
+    {
+        for number in 0..TYPES {
+            if name == name_at(number) {
                 return Some(ObjectType { number });
             }
         }

@@ -1,5 +1,7 @@
 pub mod Asked
+pub mod Asking
 pub mod Bound
+pub mod BoxText
 pub mod CountSink
 pub mod Cut
 pub mod Device

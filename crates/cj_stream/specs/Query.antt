@@ -1,5 +1,5 @@
 -- What contracts see of a query.
-use Rattle.std.specs.Prelude.{ℕ, List, Option, map, option_map, vec_items, string_bytes}
+use Rattle.std.specs.Prelude.{ℕ, List, Option, map, option_map, vec_items, string_bytes, Vec, String}
 use Rattle.cj_budget.specs.Limits.{LimitPair}
 use Rattle.cj_stream.specs.declared.query.Query.{Query}
 use Rattle.cj_stream.specs.declared.query.bounds.Bounds.{Bounds}
@@ -10,12 +10,16 @@ use Rattle.cj_stream.specs.Verdict.{Rules}
 abbrev pub box_of : Bounds → Box
 box_of b = record { min_x = b.min_x; min_y = b.min_y; max_x = b.max_x; max_y = b.max_y }
 
+-- the texts of a part
+abbrev pub texts_of : {A B : Type 0} → Option (Vec (String A) B) → Option (List (List ℕ))
+texts_of part = option_map (λ texts. map string_bytes (vec_items texts)) part
+
 -- what a query asks
 unfoldable pub asked : Query → Asked
 asked q = record {
-  ids = option_map (λ texts. map string_bytes (vec_items texts)) q.ids;
+  ids = texts_of q.ids;
   types = q.types;
-  lods = option_map (λ texts. map string_bytes (vec_items texts)) q.lods;
+  lods = texts_of q.lods;
   box = option_map box_of q.bounds;
 }
 

@@ -42,6 +42,6 @@ pub use ending::End;
 pub use engine::Engine;
 pub use lent::LentSink;
 pub use promise::headline;
-pub use query::Query;
+pub use query::{Query, QueryFault};
 pub use running::{Outcome, run};
 pub use sink::{LineSink, WriteFault, WriteSink, write_whole};

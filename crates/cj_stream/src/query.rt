@@ -1,17 +1,26 @@
 //! What is asked of a stream.
-ghost use Rattle.std.specs.Prelude.{◌≡◌};
+ghost use Rattle.std.specs.Prelude.{◌≡◌, Some, Ok, Err, [], IfErr, OnOk, OnErr, MatchOption, MatchResult};
 ghost use Rattle.cj_feature.specs.HeaderView.{header_tree, has_box};
 ghost use Rattle.cj_feature.specs.View.{feature_tree};
 ghost use Rattle.cj_stream.specs.Asked.{everything, if_set, asks_box, has_id as asked_id, has_type as asked_type, has_lod as asked_lod, is_in as in_box, holds as satisfies};
+ghost use Rattle.cj_geometry.specs.ObjectTypes.{row_named};
+ghost use Rattle.cj_stream.specs.Asking.{no_types, with_id, with_lod, with_type, with_box};
+ghost use Rattle.cj_stream.specs.BoxText.{box_text};
 ghost use Rattle.cj_stream.specs.Query.{asked};
+ghost use Rattle.cj_stream.specs.declared.query.fault.QueryFault.TheVariants.{Memory, UnknownTypeName};
 
 mod bounds;
 mod extent;
+mod fault;
 mod holding;
+mod texts;
 
 use bounds::Bounds;
 use cj_feature::{Feature, Header};
+use cj_geometry::ObjectType;
+pub use fault::QueryFault;
 use std::alloc::Global;
+use texts::add_text;
 
 /// How many types of city objects there are.
 const TYPES: usize = 33;
@@ -47,6 +56,100 @@ impl Query {
         ensures { result ≡ asks_box (asked self.now) }
     {
         self.bounds.is_some()
+    }
+
+    /// Sets the part on ids to no id, whatever it was. It takes no memory.
+    #[tactic(auto, unfolding(crate::specs::Query::asked))]
+    pub fn start_ids(&mut self)
+        ensures { asked self.new ≡ record (asked self.old) { ids = Some [] } }
+    {
+        self.ids = Some(Vec::new(self.alloc));
+    }
+
+    /// Sets the part on types to no type, whatever it was. It takes no memory.
+    #[tactic(auto, unfolding(crate::specs::Query::asked))]
+    pub fn start_types(&mut self)
+        ensures { asked self.new ≡ record (asked self.old) { types = Some no_types } }
+    {
+        self.types = Some([false; TYPES]);
+    }
+
+    /// Sets the part on LoDs to no LoD, whatever it was. It takes no memory.
+    #[tactic(auto, unfolding(crate::specs::Query::asked))]
+    pub fn start_lods(&mut self)
+        ensures { asked self.new ≡ record (asked self.old) { lods = Some [] } }
+    {
+        self.lods = Some(Vec::new(self.alloc));
+    }
+
+    /// Adds an id to the part on ids: a feature holds there whose `id` is one of them. A refusal
+    /// changes nothing.
+    ///
+    /// # Errors
+    ///
+    /// `Memory` where none was granted.
+    #[tactic(auto, unfolding(crate::specs::Query::asked))]
+    pub fn add_id(&mut self, id: &str) -> Result<(), QueryFault>
+        ensures ok { OnOk result (asked self.new ≡ with_id id.now (asked self.old)) }
+        ensures err { OnErr result (asked self.new ≡ asked self.old) }
+        ensures memory { IfErr result (λ fault. fault ≡ Memory) }
+    {
+        add_text(self.alloc, &mut self.ids, id)
+    }
+
+    /// Adds a type to the part on types, by its name (CityJSON 2.0, section 2): a feature holds there of
+    /// which some city object has one of them. A refusal changes nothing. It takes no memory.
+    ///
+    /// # Errors
+    ///
+    /// `UnknownTypeName` where no type has this name.
+    #[tactic(auto, unfolding(crate::specs::Query::asked))]
+    pub fn add_type(&mut self, name: &str) -> Result<(), QueryFault>
+        ensures { MatchOption (row_named name.now)
+            ((result ≡ Err UnknownTypeName) × (asked self.new ≡ asked self.old))
+            (λ row. (result ≡ Ok tt) × (asked self.new ≡ with_type row.number (asked self.old))) }
+    {
+        let Some(object_type) = ObjectType::named(name) else {
+            return Err(QueryFault::UnknownTypeName);
+        };
+        let mut types = self.types.unwrap_or([false; TYPES]);
+        types[object_type.number() as usize] = true;
+        self.types = Some(types);
+        Ok(())
+    }
+
+    /// Adds a level of detail to the part on LoDs: a feature holds there of which some geometry has one
+    /// of them as its `lod` (CityJSON 2.0, section 3). A refusal changes nothing.
+    ///
+    /// # Errors
+    ///
+    /// `Memory` where none was granted.
+    #[tactic(auto, unfolding(crate::specs::Query::asked))]
+    pub fn add_lod(&mut self, lod: &str) -> Result<(), QueryFault>
+        ensures ok { OnOk result (asked self.new ≡ with_lod lod.now (asked self.old)) }
+        ensures err { OnErr result (asked self.new ≡ asked self.old) }
+        ensures memory { IfErr result (λ fault. fault ≡ Memory) }
+    {
+        add_text(self.alloc, &mut self.lods, lod)
+    }
+
+    /// Sets the box, in place of an earlier one, to that of a text `minx,miny,maxx,maxy`: four numbers as
+    /// JSON spells them (RFC 8259, section 6), with commas between them and nothing else. A refusal
+    /// changes nothing. It takes no memory.
+    ///
+    /// # Errors
+    ///
+    /// The first of these: `BadBox` where the text is not of this form; `BoxRange` where a number is out
+    /// of range, no multiple of 10^-18, or 10^18 or more in size; `EmptyBox` where a least edge is above
+    /// the greatest on its axis.
+    #[tactic(auto, unfolding(crate::specs::Query::asked))]
+    pub fn bbox(&mut self, text: &str) -> Result<(), QueryFault>
+        ensures { MatchResult (box_text text.now)
+            (λ box. (result ≡ Ok tt) × (asked self.new ≡ with_box box (asked self.old)))
+            (λ fault. (result ≡ Err fault) × (asked self.new ≡ asked self.old)) }
+    {
+        self.bounds = Some(Bounds::read(text)?);
+        Ok(())
     }
 
     /// Whether a feature satisfies it, beside the header of its stream. The parts are tried cheapest

@@ -124,3 +124,23 @@ fn texts_and_other_values(rt: HostRuntime) -> Result<(), Fail> {
     )?;
     Ok(())
 }
+
+const NAMES: &str = r#"
+    Bridge | 0 first Bridge
+    TINRelief | 11 first TINRelief
+    TunnelPart | 32 second TunnelPart
+    TinRelief | none
+    +Shed | none
+    Building Part | none
+    BuildingParts | none
+    "#;
+
+#[test]
+fn types_by_their_names(rt: HostRuntime) -> Result<(), Fail> {
+    for row in NAMES.trim().lines() {
+        let (name, want) = row.split_once('|').expect(&rt, "two cells");
+        let found = shown(rt.alloc(), ObjectType::named(name.trim()))?;
+        assert_eq!(&rt; found.as_str(), want.trim(), "{row}");
+    }
+    Ok(())
+}
