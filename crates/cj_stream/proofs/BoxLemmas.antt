@@ -1,23 +1,22 @@
 -- Of the numbers that a map brings to at most or at least an end, the least or the greatest is one.
-use Rattle.std.proofs.Common.{◌≡◌, ℕ, zero, suc, ◌+◌, ◌*◌, ◌<◌, ◌≤◌, ◌^◌, List, [], ◌∷◌, length, map, get_or, Bool, true, false, cond, ◌&&◌, ◌||◌, ◌⊎◌, inl, inr, Option, Some, None, ℤ, pos, negsuc, ◌+ℤ◌, ◌*ℤ◌, ◌≤ℤ◌, int_le, int_lt, unsigned_abs, IfSome, refl, sym, ap, ◌∙◌, arith}
-use Rattle.std.specs.Int.{int_min, int_max}
+use Rattle.std.proofs.Common.{◌≡◌, ℕ, zero, suc, ◌+◌, ◌<◌, ◌≤◌, ◌^◌, List, [], ◌∷◌, length, map, get_or, Bool, true, false, cond, ◌&&◌, ◌||◌, ◌⊎◌, inl, inr, Option, Some, None, ℤ, pos, negsuc, ◌*ℤ◌, ◌≤ℤ◌, int_le, int_lt, unsigned_abs, refl, sym, ap, ◌∙◌, arith}
+use Rattle.std.specs.Int.{int_min, int_max, w64, cast_signed, cast_unsigned}
 use Rattle.std.specs.List.{fold, list_any}
-use Rattle.std.proofs.Math.Nat.{mul-le-mul_right}
-use Rattle.std.specs.Int.{w64, cast_signed, cast_unsigned}
-use Rattle.std.proofs.lemmas.Int.{to_z-of_z, fits_signed_from_abs}
-use Rattle.std.proofs.lemmas.Int.{ints, fold-int_min_bounds, fold-int_max_bounds}
-use Rattle.cj_decimal.specs.Affine.{AffineMap, image}
 use Rattle.std.specs.Option.{unwrap_or}
 use Rattle.std.specs.Ordering.{int_cmp, is_le, is_ge}
 use Rattle.std.specs.declared.cmp.Ordering.{Ordering}
 use Rattle.std.specs.declared.cmp.Ordering.TheVariants.{Less, Equal, Greater}
+use Rattle.std.proofs.Math.Nat.{mul-le-mul_right}
+use Rattle.std.proofs.lemmas.List.{get_or_default}
+use Rattle.std.proofs.lemmas.Int.{ints, to_z-of_z, fits_signed_from_abs, fold-int_min_bounds, fold-int_max_bounds}
+use Rattle.cj_decimal.specs.Affine.{AffineMap, image}
 use Rattle.cj_spans.specs.Tree.{Tree}
 use Rattle.cj_spans.specs.Kinds.{is_number}
 use Rattle.cj_spans.specs.Parts.{kind_of, items_of}
 use Rattle.cj_decimal.specs.Class.{Class, no_number, out_of_range, not_whole, whole}
 use Rattle.cj_decimal.proofs.Classes.{class}
 use Rattle.cj_geometry.specs.Rule.{spelling, whole_by, whole_of}
-use Rattle.cj_feature.specs.Shown.{maps_of}
+use Rattle.cj_feature.specs.Shown.{maps_of, maps_if}
 use Rattle.cj_feature.specs.Typed.{vertex_of}
 use Rattle.cj_stream.specs.declared.query.extent.Range.{Range}
 use Rattle.cj_stream.specs.Asked.{Box, axis_map, vertices_of, some_at_most, some_at_least, is_in}
@@ -241,11 +240,13 @@ box-numbers box header t =
     let north = any-numbers (λ n. int_le box.min_y (image y n)) 1 vs in
     and_assoc (some_at_most header t 0 box.max_x) (some_at_least header t 0 box.min_x) (some_at_most header t 1 box.max_y) (some_at_least header t 1 box.min_y) ∙ cc
 
--- within the list, what is answered beyond it does not matter
-same_map : (maps : List AffineMap) (axis : ℕ) (d e : AffineMap) → axis < length maps → get_or maps axis d ≡ get_or maps axis e
-same_map [] axis d e h = absurd (omega arith)
-same_map (m ∷ maps) zero d e h = refl
-same_map (m ∷ maps) (suc axis) d e h = same_map maps axis d e (omega arith)
+-- the maps that a header shows with a box are those of its tree
+pub maps_shown : (with_box : Bool) (header : Tree) (shown : Option (List AffineMap)) (maps : List AffineMap) → with_box ≡ true → shown ≡ maps_if with_box header → shown ≡ Some maps → maps ≡ maps_of header
+maps_shown true header shown maps is e f = same maps (maps_of header) (sym f ∙ e)
+  where
+    same : (a b : List AffineMap) → Some a ≡ Some b → a ≡ b
+    same a b h = cc
+maps_shown false header shown maps is e f = absurd (cc is)
 
 -- what is told of any numbers of a range is so of those on an axis
 pub axis_told : (header t : Tree) (axis : ℕ) (maps : List AffineMap) (d : AffineMap) (low high : ℤ) (r : Range) (vs : List (List (Option ℤ))) (told : Bool)
@@ -253,7 +254,7 @@ pub axis_told : (header t : Tree) (axis : ℕ) (maps : List AffineMap) (d : Affi
     → ((ns : List ℤ) → range_of ns ≡ Some r → told ≡ meets (get_or maps axis d) low high ns)
     → told ≡ meets (axis_map header axis) low high (map (number_on axis) (vertices_of t))
 axis_told header t axis maps d low high r vs told are within shown range tells =
-    let map_is : get_or maps axis d ≡ axis_map header axis = same_map maps axis d (record { scale = pos 0; shift = pos 0 }) within ∙ ap (λ ms. get_or ms axis (record { scale = pos 0; shift = pos 0 })) are in
+    let map_is : get_or maps axis d ≡ axis_map header axis = get_or_default maps axis d (record { scale = pos 0; shift = pos 0 }) within ∙ ap (λ ms. get_or ms axis (record { scale = pos 0; shift = pos 0 })) are in
     tells (map (number_on axis) vs) (sym range) ∙ ap (λ m. meets m low high (map (number_on axis) vs)) map_is ∙ ap (λ us. meets (axis_map header axis) low high (map (number_on axis) us)) shown
 
 -- two tests, of which the first is known

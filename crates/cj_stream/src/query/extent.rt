@@ -56,8 +56,8 @@ impl Range {
         map.compare(self.least, end).is_ge() || map.compare(self.greatest, end).is_ge()
     }
 
-    /// Whether a map brings numbers of this range to the two ends or between them, or to both sides. The
-    /// least and the greatest tell it, since a map keeps the order of numbers or turns it.
+    /// Whether the map brings some number of those of this range to at most `high`, and some to at least
+    /// `low`. The least and the greatest tell it, since a map keeps the order of numbers or turns it.
     fn meets(self, map: &Affine, low: Fixed18, high: Fixed18) -> bool
         requires { IsSmall self }
         ensures { (ns : List ℤ) → range_of ns ≡ Some self → result ≡ meets map.now low high ns }
@@ -80,9 +80,8 @@ impl Extent {
         ensures y { option_map (λ e. e.y) result ≡ range_of (map (number_on 1) (vertices_left vertices.entry)) }
     {
         let mut left = vertices;
-        let first = match left.next() {
-            Some(vertex) => vertex,
-            None => return None,
+        let Some(first) = left.next() else {
+            return None;
         };
         let mut x = Range::alone(first[0]);
         let mut y = Range::alone(first[1]);

@@ -1,12 +1,11 @@
-use Rattle.std.proofs.Common.{◌≡◌, ◌∙◌, ◌<◌, length, map, ap, sym, rules, arith}
-use Rattle.cj_feature.specs.HeaderView.{header_tree}
-use Rattle.cj_feature.specs.Shown.{maps_of, maps_if}
+use Rattle.std.proofs.Common.{◌≡◌, ◌∙◌, length, map, sym, rules, arith}
+use Rattle.cj_feature.specs.HeaderView.{header_tree, has_box}
 use Rattle.cj_feature.specs.View.{feature_tree}
 use Rattle.cj_feature.specs.Walks.{vertices_left}
 use Rattle.cj_stream.specs.Query.{box_of}
 use Rattle.cj_stream.specs.Asked.{axis_map, vertices_of}
 use Rattle.cj_stream.specs.Extent.{number_on, meets}
-use Rattle.cj_stream.proofs.BoxLemmas.{range_small, none_meets, axis_told, box-numbers, and_second, and_first, and_none}
+use Rattle.cj_stream.proofs.BoxLemmas.{range_small, none_meets, maps_shown, axis_told, box-numbers, and_second, and_first, and_none}
 use Rattle.cj_stream.proofs.query.extent.is_in.Goals as goal
 
 pub meets-requires : goal.meets-requires
@@ -20,7 +19,7 @@ returns-then-meets c =
     let header = header_tree c.args.header.now in
     let t = feature_tree c.args.feature.now in
     let box = box_of c.args.bounds.now in
-    let maps : c.in-Some.maps ≡ maps_of (header_tree c.args.header.now) = cc (ap (λ b. maps_if b (header_tree c.args.header.now)) c.requires) in
+    let maps = maps_shown (has_box c.args.header.now) header c.affine.result c.in-Some.maps c.requires c.affine.ensures c.in-Some.is in
     let two : length c.in-Some.maps ≡ 2 = search rules in
     let x = axis_told header t 0 c.in-Some.maps c.index-maps-0.result box.min_x box.max_x c.in-Some-of.extent.x (vertices_left c.vertices.result) c.meets.result maps (omega arith) c.vertices.ensures c.in-Some-of.ensures.x c.meets.ensures in
     let y = axis_told header t 1 c.in-Some.maps c.index-maps-1.result box.min_y box.max_y c.in-Some-of.extent.y (vertices_left c.vertices.result) c.meets-then-meets.result maps (omega arith) c.vertices.ensures c.in-Some-of.ensures.y c.meets-then-meets.ensures in
@@ -31,7 +30,7 @@ returns-else-meets c =
     let header = header_tree c.args.header.now in
     let t = feature_tree c.args.feature.now in
     let box = box_of c.args.bounds.now in
-    let maps : c.in-Some.maps ≡ maps_of (header_tree c.args.header.now) = cc (ap (λ b. maps_if b (header_tree c.args.header.now)) c.requires) in
+    let maps = maps_shown (has_box c.args.header.now) header c.affine.result c.in-Some.maps c.requires c.affine.ensures c.in-Some.is in
     let two : length c.in-Some.maps ≡ 2 = search rules in
     let x = axis_told header t 0 c.in-Some.maps c.index-maps-0.result box.min_x box.max_x c.in-Some-of.extent.x (vertices_left c.vertices.result) c.meets.result maps (omega arith) c.vertices.ensures c.in-Some-of.ensures.x c.meets.ensures in
     and_first _ _ (meets (axis_map header 1) box.min_y box.max_y (map (number_on 1) (vertices_of t))) x c.if-meets.false ∙ sym (box-numbers box header t)
