@@ -1,5 +1,6 @@
 pub mod Apart
 pub mod BlankLemmas
+pub mod BoxRowLemmas
 pub mod BoxTextLemmas
 pub mod CutLemmas
 pub mod DeviceLemmas
