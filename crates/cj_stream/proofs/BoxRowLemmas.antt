@@ -1,5 +1,5 @@
 -- Small texts whose boxes are known, computed.
-use Rattle.std.proofs.Common.{◌≡◌, ℕ, List, Bool, true, false, Some, Ok, Err, ℤ, pos, neg_ℤ, refl, arith, lit<}
+use Rattle.std.proofs.Common.{◌≡◌, ℕ, List, true, false, Some, pos, neg_ℤ, refl, arith, lit<}
 use Rattle.std.specs.Prelude.{codes}
 use Rattle.std.proofs.lemmas.Int.{ints}
 use Rattle.cj_decimal.specs.Number.{Number, number, SameValue, IsNormal, IsInRange}
@@ -7,9 +7,9 @@ use Rattle.cj_decimal.specs.Spelling.{number_of}
 use Rattle.cj_decimal.specs.Reading.{is_number as spells_number, written_of, digits_front, digits_rest, begins, is_empty, begins_digit, body, is_int, is_frac, frac_digits, after_frac, exp_digits, is_whole_digits, is_exp, exp_value}
 use Rattle.cj_decimal.proofs.Classes.{class}
 use Rattle.cj_decimal.proofs.Grammar.{spells_test, test_spells}
-use Rattle.cj_decimal.proofs.Normal.{zero_same, zero_normal}
+use Rattle.cj_decimal.proofs.Normal.{zero_normal}
 use Rattle.cj_feature.specs.Shown.{value_by}
-use Rattle.cj_stream.specs.BoxText.{is_number, box_text}
+use Rattle.cj_stream.specs.BoxText.{is_number}
 use Rattle.cj_stream.specs.BoxRows.{BoxRow, FieldRows, RangeRows, EmptyRow, OrderRows}
 use Rattle.cj_stream.proofs.BoxTextLemmas.{in-class, no-class}
 

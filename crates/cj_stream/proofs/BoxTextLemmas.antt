@@ -1,6 +1,6 @@
 -- What reading a box goes by: the fields that come one after another, the number of each, and the answer.
 use Rattle.std.proofs.Common.{◌≡◌, ℕ, List, [], ◌∷◌, Bool, true, false, Option, Some, None, Result, Ok, Err, ℤ, Bor, refl, sym, ap, ◌∙◌, ◌++◌, append_assoc, append-nil}
-use Rattle.std.specs.Prelude.{◌&&◌, if◌then◌else◌, not, length, is_some, IfSome, IsSome, ◌↔◌}
+use Rattle.std.specs.Prelude.{if◌then◌else◌, IfSome, IsSome, ◌↔◌}
 use Rattle.std.specs.Iterator.{AlwaysYields}
 use Rattle.std.specs.Str.Iter.{split_steps}
 use Rattle.std.specs.Str.Pattern.{FindsChar}
@@ -14,7 +14,7 @@ use Rattle.cj_feature.specs.Header.{is_fixed, units_of}
 use Rattle.cj_feature.specs.Shown.{value_by}
 use Rattle.cj_feature.proofs.Fixed.{test-decides, units-only}
 use Rattle.cj_stream.specs.Asked.{Box}
-use Rattle.cj_stream.specs.BoxText.{fields, is_number_by, is_number, is_edge, edge, is_empty, are_four_numbers, box_of_fields, box_text}
+use Rattle.cj_stream.specs.BoxText.{fields, is_number_by, is_number, is_edge, edge, is_empty, box_text}
 use Rattle.cj_stream.specs.declared.query.fault.QueryFault.{QueryFault}
 use Rattle.cj_stream.specs.declared.query.fault.QueryFault.TheVariants.{BadBox, BoxRange, EmptyBox}
 
