@@ -1,6 +1,6 @@
 -- What reading a box goes by: the fields that come one after another, the number of each, and the answer.
-use Rattle.std.proofs.Common.{◌≡◌, ℕ, List, [], ◌∷◌, Bool, true, false, Option, Some, None, Result, Ok, Err, ℤ, Bor, refl, sym, ap}
-use Rattle.std.specs.Prelude.{◌&&◌, if◌then◌else◌, not, length, is_some, IfSome, IsSome, ◌↔◌}
+use Rattle.std.proofs.Common.{◌≡◌, ℕ, List, [], ◌∷◌, Bool, true, false, Option, Some, None, Result, Ok, Err, ℤ, Bor, refl, sym, ap, ◌∙◌, ◌++◌, append_assoc, append-nil}
+use Rattle.std.specs.Prelude.{if◌then◌else◌, IfSome, IsSome, ◌↔◌}
 use Rattle.std.specs.Iterator.{AlwaysYields}
 use Rattle.std.specs.Str.Iter.{split_steps}
 use Rattle.std.specs.Str.Pattern.{FindsChar}
@@ -14,7 +14,7 @@ use Rattle.cj_feature.specs.Header.{is_fixed, units_of}
 use Rattle.cj_feature.specs.Shown.{value_by}
 use Rattle.cj_feature.proofs.Fixed.{test-decides, units-only}
 use Rattle.cj_stream.specs.Asked.{Box}
-use Rattle.cj_stream.specs.BoxText.{fields, is_number_by, is_number, is_edge, edge, is_empty, are_four_numbers, box_of_fields, box_text}
+use Rattle.cj_stream.specs.BoxText.{fields, is_number_by, is_number, is_edge, edge, is_empty, box_text}
 use Rattle.cj_stream.specs.declared.query.fault.QueryFault.{QueryFault}
 use Rattle.cj_stream.specs.declared.query.fault.QueryFault.TheVariants.{BadBox, BoxRange, EmptyBox}
 
@@ -29,18 +29,31 @@ abbrev pub Gives : Split ℕ → List (List ℕ) → Type 0
 Gives s fs = AlwaysYields steps (λ x. x.now) s fs
 
 module _ (s t : Split ℕ) where
-  pub next-some : (fs : List (List ℕ)) (x : Bor (List ℕ)) → Gives s fs → steps s (Some x) t → (rest : List (List ℕ)) × (fs ≡ x.now ∷ rest) × Gives t rest
+  next-some : (fs : List (List ℕ)) (x : Bor (List ℕ)) → Gives s fs → steps s (Some x) t → (rest : List (List ℕ)) × (fs ≡ x.now ∷ rest) × Gives t rest
   next-some [] x h k = absurd (h x t k)
   next-some (y ∷ ys) x h k = (ys, ap (λ z. z ∷ ys) (sym (h.1 x t k).0), (h.1 x t k).1)
 
-  pub next-none : (fs : List (List ℕ)) → Gives s fs → steps s None t → fs ≡ []
+  next-none : (fs : List (List ℕ)) → Gives s fs → steps s None t → fs ≡ []
   next-none [] h k = refl
   next-none (y ∷ ys) h k = absurd (h.0 t k)
+
+-- of these fields the front ones came, and the iterator gives the rest
+abbrev pub Came : List (List ℕ) → List (List ℕ) → Split ℕ → Type 0
+Came fs front s = (rest : List (List ℕ)) × (fs ≡ front ++ rest) × Gives s rest
+
+module _ (fs front : List (List ℕ)) (s t : Split ℕ) (came : Came fs front s) where
+  pub came-some : (x : Bor (List ℕ)) → steps s (Some x) t → Came fs (front ++ x.now ∷ []) t
+  came-some x k =
+      let next = next-some s t came.0 x came.2 k in
+      (next.0, came.1 ∙ ap (λ z. front ++ z) next.1 ∙ sym (append_assoc front (x.now ∷ []) next.0), next.2)
+
+  pub came-none : steps s None t → fs ≡ front
+  came-none k = came.1 ∙ ap (λ z. front ++ z) (next-none s t came.0 came.2 k) ∙ append-nil front
 
 -- ---- the number of a field
 
 module _ (s : List ℕ) where
-  in-class : (u : Number) → IsValue s u → IsInRange u → (c : Class s) → (is_number_by c ≡ true) × (value_by c ≡ Some u)
+  pub in-class : (u : Number) → IsValue s u → IsInRange u → (c : Class s) → (is_number_by c ≡ true) × (value_by c ≡ Some u)
   in-class u is range (no_number n) = absurd (n (value_is_number s u is))
   in-class u is range (out_of_range n) = absurd (not_both s (u, is, range) n)
   in-class u is range (not_whole v value inside n) = (refl, ap Some ((has_one_value s).one v u value is))
@@ -52,7 +65,7 @@ module _ (s : List ℕ) where
   out-class o (not_whole v value inside n) = absurd (not_both s (v, value, inside) o)
   out-class o (whole v w value inside n) = absurd (not_both s (v, value, inside) o)
 
-  no-class : ¬ IsNumber s → (c : Class s) → is_number_by c ≡ false
+  pub no-class : ¬ IsNumber s → (c : Class s) → is_number_by c ≡ false
   no-class none (no_number n) = refl
   no-class none (out_of_range o) = absurd (none (value_is_number s o.0 o.1))
   no-class none (not_whole v value inside n) = absurd (none (value_is_number s v value))

@@ -1,6 +1,7 @@
 pub mod Apart
 pub mod BlankLemmas
 pub mod BoxLemmas
+pub mod BoxRowLemmas
 pub mod BoxTextLemmas
 pub mod CutLemmas
 pub mod DeviceLemmas

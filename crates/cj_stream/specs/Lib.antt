@@ -1,6 +1,7 @@
 pub mod Asked
 pub mod Asking
 pub mod Bound
+pub mod BoxRows
 pub mod BoxText
 pub mod CountSink
 pub mod Cut

@@ -20,6 +20,7 @@
 //! ```
 #![tactic(auto)]
 
+pub mod box_laws;
 mod copying;
 mod count;
 mod counting;

@@ -1,5 +1,5 @@
 //! The box of a query.
-ghost use Rattle.std.specs.Prelude.{◌≡◌, ◌∷◌, [], Some, None, Ok, Err, if◌then◌else◌, MatchOption, MatchResult, length, ◌≢◌};
+ghost use Rattle.std.specs.Prelude.{◌≡◌, ◌∷◌, [], Some, None, Ok, Err, if◌then◌else◌, MatchOption, MatchResult, length, ◌≢◌, int_lt};
 ghost use Rattle.cj_stream.specs.BoxText.{fields, is_number, is_edge, edge, box_text};
 ghost use Rattle.cj_stream.specs.Query.{box_of};
 ghost use Rattle.cj_stream.specs.declared.query.fault.QueryFault.TheVariants.{BadBox};
@@ -44,6 +44,13 @@ fn read_edge(field: &str) -> Result<Option<Fixed18>, QueryFault>
     }
 }
 
+/// Whether an edge is below another.
+fn is_below(edge: Fixed18, other: Fixed18) -> bool
+    ensures { result ≡ int_lt edge other }
+{
+    edge.units() < other.units()
+}
+
 impl Bounds {
     /// Reads a box, `minx,miny,maxx,maxy`.
     pub fn read(text: &str) -> Result<Bounds, QueryFault>
@@ -62,7 +69,7 @@ impl Bounds {
         else {
             return Err(QueryFault::BoxRange);
         };
-        if min_x.units() > max_x.units() || min_y.units() > max_y.units() {
+        if is_below(max_x, min_x) || is_below(max_y, min_y) {
             return Err(QueryFault::EmptyBox);
         }
         Ok(Bounds {
