@@ -5,7 +5,7 @@ use super::calls::{
 use super::devices::SlowReader;
 use cj_budget::{Limits, Peaks};
 use cj_spans::Reason;
-use cj_stream::{End, Outcome, Query, WriteSink, copy_pieces, laws};
+use cj_stream::{End, Outcome, Query, WriteSink, box_laws, copy_pieces, laws};
 use std::alloc::Global;
 use std::process::Abort;
 use std::test::Fail;
@@ -99,6 +99,7 @@ fn no_line_at_all(rt: HostRuntime) -> Result<(), Fail> {
     check_every_cut(&rt, rt.alloc(), b"", limits, &wanted);
     laws::lines_are_the_lines(b"");
     laws::rows_compute();
+    box_laws::boxes_compute();
     Ok(())
 }
 
