@@ -1,5 +1,5 @@
 -- Worked rows, which compute.
-use Rattle.std.specs.Prelude.{◌≡◌, false, ℕ, List, [], ◌∷◌, ◌++◌, take, replicate, codes}
+use Rattle.std.specs.Prelude.{◌≡◌, ℕ, List, [], ◌∷◌, ◌++◌, take, replicate, codes}
 use Rattle.cj_spans.specs.declared.reason.Reason.TheVariants.{NoHeader, LineTooLong, NotUtf8, Syntax, TooDeep, MissingMember, IdNotFound}
 use Rattle.cj_stream.specs.declared.ending.End.{End}
 use Rattle.cj_stream.specs.declared.ending.End.TheVariants.{Complete, Refused}

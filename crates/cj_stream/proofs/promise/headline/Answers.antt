@@ -1,6 +1,5 @@
 use Rattle.std.proofs.Common.{map}
 use Rattle.cj_stream.specs.Query.{rules_for}
-use Rattle.cj_stream.specs.WriteSink.{writer_of}
 use Rattle.cj_stream.proofs.HeadlineLemmas.{Copies-writes, Copies-ends}
 use Rattle.cj_stream.proofs.promise.headline.Goals as goal
 
