@@ -58,7 +58,8 @@ impl Query {
         self.bounds.is_some()
     }
 
-    /// Sets the part on ids to no id, whatever it was. It takes no memory.
+    /// Sets the part on ids to no id, whatever it was: no feature holds there until one is added. It
+    /// takes no memory.
     #[tactic(auto, unfolding(crate::specs::Query::asked))]
     pub fn start_ids(&mut self)
         ensures { asked self.new ≡ record (asked self.old) { ids = Some [] } }
@@ -66,7 +67,8 @@ impl Query {
         self.ids = Some(Vec::new(self.alloc));
     }
 
-    /// Sets the part on types to no type, whatever it was. It takes no memory.
+    /// Sets the part on types to no type, whatever it was: no feature holds there until one is added. It
+    /// takes no memory.
     #[tactic(auto, unfolding(crate::specs::Query::asked))]
     pub fn start_types(&mut self)
         ensures { asked self.new ≡ record (asked self.old) { types = Some no_types } }
@@ -74,7 +76,8 @@ impl Query {
         self.types = Some([false; TYPES]);
     }
 
-    /// Sets the part on LoDs to no LoD, whatever it was. It takes no memory.
+    /// Sets the part on LoDs to no LoD, whatever it was: no feature holds there until one is added. It
+    /// takes no memory.
     #[tactic(auto, unfolding(crate::specs::Query::asked))]
     pub fn start_lods(&mut self)
         ensures { asked self.new ≡ record (asked self.old) { lods = Some [] } }

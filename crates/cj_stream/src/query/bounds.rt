@@ -52,7 +52,8 @@ fn is_below(edge: Fixed18, other: Fixed18) -> bool
 }
 
 impl Bounds {
-    /// Reads a box, `minx,miny,maxx,maxy`.
+    /// Reads a box, `minx,miny,maxx,maxy`. Its faults come in this order: `BadBox`, `BoxRange`,
+    /// `EmptyBox`.
     pub fn read(text: &str) -> Result<Bounds, QueryFault>
         ensures { MatchResult result
             (λ bounds. box_text text.now ≡ Ok (box_of bounds))
