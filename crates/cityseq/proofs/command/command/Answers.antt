@@ -1,6 +1,7 @@
 use Rattle.std.proofs.Common.{◌≡◌, ℕ, ◌<◌, ◌≤◌, List, [], ◌∷◌, length, get_or, map, ap, sym, ◌∙◌, arith, rules}
 use Rattle.std.specs.Prelude.{codes, string_bytes}
-use Rattle.cityseq.specs.Command.{AsksFilter}
+use Rattle.cityseq.specs.Command.{AsksFilter, usual_limits, usual_rules}
+use Rattle.cj_stream.specs.Query.{rules_for}
 use Rattle.cityseq.proofs.command.command.Goals as goal
 
 -- two words, of which the second is `filter`
@@ -17,5 +18,6 @@ returns-in-len2-clause-other g c =
 
 pub returns-in-len2-clause-filter : goal.returns-in-len2-clause-filter
 returns-in-len2-clause-filter g c = λ asked.
-    let e = rw c.usual.ensures at c.filter.ensures in
+    let rules : rules_for usual_limits c.all-query.result ≡ usual_rules = ap (λ a. record { limits = usual_limits; asked = a }) c.all-query.ensures.all in
+    let e = rw (c.usual.ensures, rules) at c.filter.ensures in
     (e.0, e.1, e.2, e.3, e.4, e.5, e.6, e.7, c.filter.result, e.8, c.status.ensures)
