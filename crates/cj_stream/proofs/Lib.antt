@@ -1,5 +1,6 @@
 pub mod Apart
 pub mod BlankLemmas
+pub mod Counted
 pub mod CutLemmas
 pub mod DeviceLemmas
 pub mod EngineLemmas
@@ -15,10 +16,12 @@ pub mod LineLemmas
 pub mod OutputLemmas
 pub mod PieceLemmas
 pub mod PieceSlices
+pub mod Ranges
 pub mod ReadingLemmas
 pub mod RowLemmas
 pub mod RunLemmas
 pub mod ScanningLemmas
 pub mod StaysLemmas
 pub mod TallyLemmas
+pub mod TallySinkLemmas
 pub mod VerdictLemmas

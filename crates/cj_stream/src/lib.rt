@@ -34,6 +34,7 @@ mod query;
 mod running;
 mod sink;
 mod source;
+mod tally;
 
 pub use copying::{Copied, copy, copy_out, copy_pieces, put_pieces};
 pub use count::CountSink;
@@ -45,3 +46,4 @@ pub use promise::headline;
 pub use query::Query;
 pub use running::{Outcome, run};
 pub use sink::{LineSink, WriteFault, WriteSink, write_whole};
+pub use tally::TallySink;
