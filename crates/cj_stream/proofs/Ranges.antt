@@ -33,11 +33,11 @@ end before e n x has (inr same) = subst (λ (y : ℤ). Contains (before ++ n ∷
 -- a range and one more number
 Widens-next : (least greatest low high n : ℤ) → (low ≡ least) ⊎ (low ≡ n) → low ≤ℤ least → low ≤ℤ n
     → (high ≡ greatest) ⊎ (high ≡ n) → greatest ≤ℤ high → n ≤ℤ high → Widens (Some (least, greatest)) (n ∷ []) (Some (low, high))
-Widens-next least greatest low high n l l1 l2 h h1 h2 before is =
-    ( end before least n low is.0 l
-    , end before greatest n high is.1 h
-    , All-append (Within low high) before (n ∷ []) (All-weaker (Within least greatest) (Within low high) (λ x k. (omega (arith, ints, k.0, l1), omega (arith, ints, k.1, h1))) before is.2) (All-cons (Within low high) n [] (l2, h2) (All-nil (Within low high)))
-    )
+Widens-next least greatest low high n l l1 l2 h h1 h2 before is = (
+  end before least n low is.0 l,
+  end before greatest n high is.1 h,
+  All-append (Within low high) before (n ∷ []) (All-weaker (Within least greatest) (Within low high) (λ x k. (omega (arith, ints, k.0, l1), omega (arith, ints, k.1, h1))) before is.2) (All-cons (Within low high) n [] (l2, h2) (All-nil (Within low high))),
+)
 
 -- of two numbers one is the least, and one the greatest
 least-one : (a n : ℤ) (b : Bool) → int_lt n a ≡ b → (cond b n a ≡ a) ⊎ (cond b n a ≡ n)

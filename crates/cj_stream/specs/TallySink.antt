@@ -1,14 +1,19 @@
 -- What contracts see of a tally, what an item makes of it, and which tally some items have.
-use Rattle.std.specs.Prelude.{◌≡◌, ℕ, ◌+◌, ◌<◌, ◌≤◌, List, [], ◌∷◌, ◌++◌, Option, Some, None, ℤ, get_or, map, option_map, codes, replicate}
+use Rattle.std.specs.Prelude.{◌≡◌, ℕ, ◌+◌, ◌<◌, ◌≤◌, List, [], ◌∷◌, ◌++◌, Option, Some, None, ℤ, get_or, map, option_map, codes, replicate, take}
 use Rattle.std.specs.List.{filter, last_or}
 use Rattle.std.specs.Str.{chars}
 use Rattle.cj_spans.specs.Tree.{Tree}
 use Rattle.cj_decimal.specs.Number.{Number}
 use Rattle.cj_feature.specs.Shown.{transform_values}
+use Rattle.cj_stream.specs.declared.ending.End.{End}
+use Rattle.cj_stream.specs.declared.ending.End.TheVariants.{Complete, Refused, ReadFault, ReadLimit, WriteFault, Memory}
 use Rattle.cj_stream.specs.CountSink.{one_more}
+use Rattle.cj_stream.specs.Cut.{joined}
 use Rattle.cj_stream.specs.Item.{Item, is_feature}
+use Rattle.cj_stream.specs.Lines.{whole}
 use Rattle.cj_stream.specs.Tally.{is_header, tally}
 use Rattle.cj_stream.specs.Tallied.{capped, how_often, type_numbers, lod_classes, numbers_on, IsRange, over_features}
+use Rattle.cj_stream.specs.Verdict.{Rules, kept, ending}
 
 -- how many features there are; how many city objects of each type, by its number, and how many geometries of each LoD
 -- class; the least and the greatest number of a vertex on each axis; and the numbers of the header's transform
@@ -78,3 +83,33 @@ pub record IsTallyOf (is : List Item) (t : Tally) : Type 0 where
   pub ranges : (axis : ℕ) → axis < 3 → IsRange (over_features (λ header. numbers_on axis) is) (get_or t.ranges axis None)
   pub scale : option_map (map Some) t.scale ≡ last_shown (codes "scale") is
   pub translate : option_map (map Some) t.translate ≡ last_shown (codes "translate") is
+
+-- ---- streams
+
+-- the tally of a front of some items, with all of these
+pub record TalliesFront (items first : List Item) (t : Tally) : Type 0 where
+  pub more : List Item
+  pub others : List Item
+  pub front : items ≡ (first ++ more) ++ others
+  pub tally : IsTallyOf (first ++ more) t
+
+-- the tally of what is kept of the bytes r that a run read, by its end; of their whole lines where a read failed, and
+-- of a front where memory was refused. A tally never fails.
+abbrev pub TalliesRun : Rules → List ℕ → End → Tally → Type 0
+TalliesRun rules r Complete t = IsTallyOf (kept rules r) t
+TalliesRun rules r (Refused number place reason) t = IsTallyOf (kept rules r) t
+TalliesRun rules r ReadFault t = IsTallyOf (kept rules (whole r)) t
+TalliesRun rules r ReadLimit t = IsTallyOf (kept rules (whole r)) t
+TalliesRun rules r WriteFault t = ⊥
+TalliesRun rules r Memory t = TalliesFront (kept rules r) [] t
+
+-- the tally of what is kept of a cut text, whose ending is the answer; or, where memory was refused, of a front of the
+-- pieces that were given, of which n were wholly taken
+abbrev pub TalliesPieces : Rules → List (List ℕ) → ℕ → End → Tally → Type 0
+TalliesPieces rules pieces n Complete t = (ending rules (joined pieces) ≡ Complete) × IsTallyOf (kept rules (joined pieces)) t
+TalliesPieces rules pieces n (Refused number place reason) t =
+    (ending rules (joined pieces) ≡ Refused number place reason) × IsTallyOf (kept rules (joined pieces)) t
+TalliesPieces rules pieces n ReadFault t = ⊥
+TalliesPieces rules pieces n ReadLimit t = ⊥
+TalliesPieces rules pieces n WriteFault t = ⊥
+TalliesPieces rules pieces n Memory t = TalliesFront (kept rules (joined (take (n + 1) pieces))) (kept rules (whole (joined (take n pieces)))) t

@@ -35,6 +35,7 @@ mod running;
 mod sink;
 mod source;
 mod tally;
+mod tallying;
 
 pub use copying::{Copied, copy, copy_out, copy_pieces, put_pieces};
 pub use count::CountSink;
@@ -47,3 +48,4 @@ pub use query::Query;
 pub use running::{Outcome, run};
 pub use sink::{LineSink, WriteFault, WriteSink, write_whole};
 pub use tally::TallySink;
+pub use tallying::{tally_pieces, tally_stream};
