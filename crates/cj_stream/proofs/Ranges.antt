@@ -1,6 +1,6 @@
 -- Ranges that are widened.
-use Rattle.std.proofs.Common.{◌≡◌, ℕ, List, [], ◌∷◌, ◌++◌, length, Option, Some, None, sym, ap, subst, refl, ◌∙◌, arith, append_assoc, ℤ, ◌≤ℤ◌, inl, inr, Bool, true, false, cond, get_or, map, pos, zero, suc}
-use Rattle.std.specs.Prelude.{All, Contains, ◌⊎◌, int_lt}
+use Rattle.std.proofs.Common.{◌≡◌, ℕ, List, [], ◌∷◌, ◌++◌, Option, Some, None, sym, ap, subst, refl, ◌∙◌, arith, append_assoc, ℤ, ◌≤ℤ◌, inl, inr, Bool, true, false, cond, get_or, map, pos, zero, suc}
+use Rattle.std.specs.Prelude.{Contains, ◌⊎◌, int_lt}
 use Rattle.std.specs.Int.{int_min, int_max}
 use Rattle.std.proofs.lemmas.Int.{ints}
 use Rattle.std.proofs.lemmas.List.{append-nil}
@@ -64,7 +64,7 @@ Widens-ends least greatest n =
     Widens-next least greatest (int_min least n) (int_max greatest n) n (least-one least n (int_lt n least) refl) low.0 low.1 (greatest-one greatest n (int_lt n greatest) refl) high.0 high.1
 
 -- the number of a vertex that is whole
-pub number_on-some : (axis : ℕ) (v : List ℤ) → number_on axis (map Some v) ≡ get_or v axis (pos 0)
+number_on-some : (axis : ℕ) (v : List ℤ) → number_on axis (map Some v) ≡ get_or v axis (pos 0)
 number_on-some axis [] = refl
 number_on-some zero (x ∷ xs) = refl
 number_on-some (suc axis) (x ∷ xs) = number_on-some axis xs

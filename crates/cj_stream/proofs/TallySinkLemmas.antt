@@ -1,7 +1,7 @@
 -- Tallies of what a sink took.
-use Rattle.std.proofs.Common.{◌≡◌, ℕ, ◌+◌, ◌-◌, ◌^◌, ◌<◌, ◌≤◌, List, [], ◌∷◌, ◌++◌, length, min, take, drop, get_or, map, Option, Some, None, ℤ, sym, ap, subst, refl, ◌∙◌, cond, zero, suc, arith, length-append}
+use Rattle.std.proofs.Common.{◌≡◌, ℕ, ◌+◌, ◌-◌, ◌^◌, ◌<◌, ◌≤◌, List, [], ◌∷◌, ◌++◌, length, take, drop, get_or, map, Option, Some, None, ℤ, sym, ap, subst, refl, ◌∙◌, cond, zero, suc, arith, length-append}
 use Rattle.std.specs.Prelude.{is_some, not, nat_eq, option_map, codes, replicate}
-use Rattle.std.specs.List.{filter, flat_map, last_or}
+use Rattle.std.specs.List.{filter, last_or}
 use Rattle.std.specs.Str.{chars}
 use Rattle.std.proofs.lemmas.List.Elements.{filter-append}
 use Rattle.cj_budget.specs.declared.limits.Peaks.{Peaks}
@@ -17,7 +17,7 @@ use Rattle.cj_stream.specs.Run.{Runs}
 use Rattle.cj_stream.specs.Sink.{Took}
 use Rattle.cj_stream.specs.Tally.{is_header}
 use Rattle.cj_stream.specs.Tallied.{capped, how_often, type_numbers, lod_classes, numbers_on, beside, over_features}
-use Rattle.cj_stream.specs.TallySink.{Tally, no_tally, RisesBy, Widens, Shows, TalliesBy, Tallies, IsTallyOf, TalliesRun, TalliesPieces}
+use Rattle.cj_stream.specs.TallySink.{Tally, no_tally, Widens, Shows, TalliesBy, Tallies, IsTallyOf, TalliesRun, TalliesPieces}
 use Rattle.cj_stream.specs.Verdict.{Rules, good_from, kept_from, kept}
 use Rattle.cj_stream.proofs.GoodLemmas.{kept-split}
 use Rattle.cj_stream.proofs.OutputLemmas.{Took-all, kept-whole}

@@ -1,4 +1,4 @@
-use Rattle.std.proofs.Common.{◌≡◌, refl}
+use Rattle.std.proofs.Common.{refl}
 use Rattle.cj_stream.proofs.tally.TallySinkLineSink.put.Goals as goal
 
 pub returns-clause-ok : goal.returns-clause-ok

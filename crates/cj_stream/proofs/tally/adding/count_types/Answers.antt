@@ -1,10 +1,9 @@
 use Rattle.std.proofs.Common.{◌∷◌, sym, ap, ◌∙◌, map, arith}
 use Rattle.cj_spans.specs.Tree.{Tree}
 use Rattle.cj_feature.specs.Typed.{type_row}
-use Rattle.cj_feature.specs.View.{feature_tree}
 use Rattle.cj_feature.specs.Walks.{objects_left}
-use Rattle.cj_stream.specs.Tallied.{row_number, type_numbers}
-use Rattle.cj_stream.proofs.Counted.{Counting, Counting-start, Counting-step, Counting-end}
+use Rattle.cj_stream.specs.Tallied.{row_number}
+use Rattle.cj_stream.proofs.Counted.{Counting-start, Counting-step, Counting-end}
 use Rattle.cj_stream.proofs.tally.adding.count_types.Goals as goal
 
 pub loop-object-init : goal.loop-object-init

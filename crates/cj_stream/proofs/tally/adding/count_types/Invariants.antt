@@ -1,4 +1,4 @@
-use Rattle.std.proofs.Common.{◌≡◌, ◌<◌, ◌≤◌, ◌-◌, ◌^◌, ℕ, ◌+◌, get_or, length, map}
+use Rattle.std.proofs.Common.{map}
 use Rattle.cj_feature.specs.Typed.{type_row}
 use Rattle.cj_feature.specs.View.{feature_tree}
 use Rattle.cj_feature.specs.Walks.{objects_left}

@@ -1,9 +1,9 @@
-use Rattle.std.proofs.Common.{rules, to_z, of_z, w64, pos, ◌≡◌, ℕ, ◌<◌, ◌∷◌, [], List, map, get_or, None, Some, Option, ℤ, sym, ap, ◌∙◌, suc, zero, arith}
+use Rattle.std.proofs.Common.{rules, to_z, of_z, w64, pos, ◌≡◌, ℕ, ◌<◌, ◌∷◌, [], List, map, get_or, None, Option, ℤ, ap, ◌∙◌, suc, zero, arith}
 use Rattle.cj_stream.specs.Tallied.{number_on, numbers_on}
 use Rattle.cj_stream.specs.TallySink.{Widens}
 use Rattle.cj_feature.specs.View.{feature_tree}
 use Rattle.cj_feature.specs.Walks.{vertices_left}
-use Rattle.cj_stream.proofs.Ranges.{Widening, Widening-start, Widening-step, Widening-end, numbers-first}
+use Rattle.cj_stream.proofs.Ranges.{Widening-start, Widening-step, Widening-end, numbers-first}
 use Rattle.cj_stream.proofs.tally.adding.widen_all.Goals as goal
 
 pub loop-x-init : goal.loop-x-init

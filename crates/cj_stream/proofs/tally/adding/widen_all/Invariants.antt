@@ -1,8 +1,7 @@
-use Rattle.std.proofs.Common.{◌≡◌, ◌<◌, ℕ, ◌+◌, get_or, map, None, Option, ℤ}
+use Rattle.std.proofs.Common.{map}
 use Rattle.cj_feature.specs.View.{feature_tree}
 use Rattle.cj_feature.specs.Walks.{vertices_left}
 use Rattle.cj_stream.specs.Tallied.{number_on, numbers_on}
-use Rattle.cj_stream.specs.TallySink.{Widens}
 use Rattle.cj_stream.proofs.Ranges.{Widening}
 use Rattle.cj_stream.proofs.tally.adding.widen_all.Given as goal
 
