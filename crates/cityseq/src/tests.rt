@@ -1,7 +1,7 @@
 //! Tests of what no clause says: worked rows, printed texts, and devices that fail.
 //!
-//! `rows`, `blank_lines`, `long_lines`, `lines`, `order` and `queries` have inputs with their answers, `lent` what a
-//! sink sees of them, `devices` the readers and writers that fail, and `calls` what all tests share. A
+//! `rows`, `blank_lines`, `long_lines`, `lines`, `order` and `queries` have inputs with their answers, `lent` and
+//! `tally` what sinks see of them, `devices` the readers and writers that fail, and `calls` what all tests share. A
 //! body of many asserts is dear to prove, and a call is not: a row is one call of a function that checks
 //! it.
 mod blank_lines;
@@ -16,3 +16,4 @@ mod long_lines;
 mod order;
 mod queries;
 mod rows;
+mod tally;

@@ -3,6 +3,7 @@ pub mod BlankLemmas
 pub mod BoxLemmas
 pub mod BoxRowLemmas
 pub mod BoxTextLemmas
+pub mod Counted
 pub mod CutLemmas
 pub mod DeviceLemmas
 pub mod EngineLemmas
@@ -18,10 +19,12 @@ pub mod LineLemmas
 pub mod OutputLemmas
 pub mod PieceLemmas
 pub mod PieceSlices
+pub mod Ranges
 pub mod ReadingLemmas
 pub mod RowLemmas
 pub mod RunLemmas
 pub mod ScanningLemmas
 pub mod StaysLemmas
 pub mod TallyLemmas
+pub mod TallySinkLemmas
 pub mod VerdictLemmas

@@ -21,6 +21,8 @@ pub mod Run
 pub mod Scanning
 pub mod Sink
 pub mod Source
+pub mod Tallied
 pub mod Tally
+pub mod TallySink
 pub mod Verdict
 pub mod WriteSink

@@ -35,6 +35,8 @@ mod query;
 mod running;
 mod sink;
 mod source;
+mod tally;
+mod tallying;
 
 pub use copying::{Copied, copy, copy_out, copy_pieces, put_pieces};
 pub use count::CountSink;
@@ -46,3 +48,5 @@ pub use promise::headline;
 pub use query::{Query, QueryFault};
 pub use running::{Outcome, run};
 pub use sink::{LineSink, WriteFault, WriteSink, write_whole};
+pub use tally::TallySink;
+pub use tallying::{tally_pieces, tally_stream};

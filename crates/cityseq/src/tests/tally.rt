@@ -1,0 +1,207 @@
+//! What is tallied of a stream.
+use super::calls::{check_bytes, joined};
+use super::devices::SlowReader;
+use super::rows::FEATURE;
+use cj_budget::Limits;
+use cj_feature::{Feature, Header};
+use cj_stream::{LineSink, Query, TallySink, WriteFault, run, tally_pieces, tally_stream};
+use std::alloc::{AllocError, Global};
+use std::process::Abort;
+use std::test::Fail;
+
+/// A header with a template whose LoD has the class 3.
+const TEMPLATES: &str =
+    r#"{"type":"CityJSON","version":"2.0","transform":{"scale":[0.001,0.001,0.002],"translate":[1000.0,2000.0,0.0]},"CityObjects":{},"vertices":[],"geometry-templates":{"templates":[{"type":"MultiSurface","lod":"\u0033.1","boundaries":[[[0,1,2]]]}],"vertices-templates":[[0.0,0.0,0.0],[1.0,0.0,0.0],[0.0,1.0,0.0]]}}"#;
+
+/// A feature with an instance of the template, and with LoDs of the classes 4 and other.
+const TREE: &str =
+    r#"{"type":"CityJSONFeature","id":"t","CityObjects":{"t":{"type":"SolitaryVegetationObject","geometry":[{"type":"GeometryInstance","template":0,"boundaries":[0],"transformationMatrix":[1,0,0,0,0,1,0,0,0,0,1,0,0,0,0,1]},{"type":"MultiPoint","lod":"\u0034.2","boundaries":[0]},{"type":"MultiPoint","lod":"5","boundaries":[0]},{"type":"MultiPoint","lod":"","boundaries":[0]}]},"p":{"type":"BuildingPart","parents":["b"]},"b":{"type":"Building","children":["p"]}},"vertices":[[-1,2e1,3.0],[0,0,-7]]}"#;
+
+/// What is tallied of this header, the feature of the rows, and that one.
+const TALLY: &str = "features 2
+lods 0 0 1 1 1 2
+-1 to 1000
+0 to 1000
+-7 to 3
+1e-3 1e-3 2e-3
+1e3 2e3 0e0
+";
+
+/// How many city objects there were of the type of each one, after its feature.
+const TYPES: &str = " 1 1 1 2";
+
+/// What is tallied of nothing.
+const NOTHING: &str = "features 0\nlods 0 0 0 0 0 0\n";
+
+// The counts by class, on a line.
+fn add_lods(alloc: Global, tally: &TallySink, text: &mut String) -> Result<(), AllocError> {
+    text.push_str("lods")?;
+    for class in 0u8..6 {
+        let count = format!(in alloc; " {}", tally.by_lod(class))?;
+        text.push_str(&count)?;
+    }
+    text.push_str("\n")
+}
+
+// The range of each axis that has one, on a line.
+fn add_ranges(alloc: Global, tally: &TallySink, text: &mut String) -> Result<(), AllocError> {
+    for axis in 0usize..3 {
+        if let Some((least, greatest)) = tally.range(axis) {
+            let line = format!(in alloc; "{least} to {greatest}\n")?;
+            text.push_str(&line)?;
+        }
+    }
+    Ok(())
+}
+
+// The numbers of the transform.
+fn add_transform(alloc: Global, tally: &TallySink, text: &mut String) -> Result<(), AllocError> {
+    if let Some([x, y, z]) = tally.scale() {
+        let line = format!(in alloc;
+            "{}e{} {}e{} {}e{}\n",
+            x.coefficient(),
+            x.power(),
+            y.coefficient(),
+            y.power(),
+            z.coefficient(),
+            z.power()
+        )?;
+        text.push_str(&line)?;
+    }
+    if let Some([x, y, z]) = tally.translate() {
+        let line = format!(in alloc;
+            "{}e{} {}e{} {}e{}\n",
+            x.coefficient(),
+            x.power(),
+            y.coefficient(),
+            y.power(),
+            z.coefficient(),
+            z.power()
+        )?;
+        text.push_str(&line)?;
+    }
+    Ok(())
+}
+
+// A tally as a text.
+fn report(alloc: Global, tally: &TallySink) -> Result<String, AllocError> {
+    let mut text = format!(in alloc; "features {}\n", tally.features())?;
+    add_lods(alloc, tally, &mut text)?;
+    add_ranges(alloc, tally, &mut text)?;
+    add_transform(alloc, tally, &mut text)?;
+    Ok(text)
+}
+
+// The header, the feature of the rows, and the one with an instance.
+fn sample(alloc: Global) -> Result<Vec<u8>, Fail> {
+    joined(
+        alloc,
+        &[
+            TEMPLATES.as_bytes(),
+            b"\n",
+            FEATURE,
+            b"\n",
+            TREE.as_bytes(),
+            b"\n",
+        ],
+    )
+}
+
+// Tallies, and notes after each feature how many city objects there are of the type of each of its own. It
+// never fails: where memory is refused, it notes that it has lost something.
+#[derive(Drop)]
+struct TypesSink {
+    alloc: Global,
+    tally: TallySink,
+    notes: String,
+    lost: bool,
+}
+
+fn types_note(alloc: Global, tally: &TallySink, feature: &Feature) -> Result<String, AllocError> {
+    let mut notes = String::new(alloc);
+    for object in feature.objects() {
+        let note = format!(in alloc; " {}", tally.by_type(object.object_type))?;
+        notes.push_str(&note)?;
+    }
+    Ok(notes)
+}
+
+impl LineSink for TypesSink {
+    ghost use Rattle.std.specs.Prelude.{⊤};
+
+    ghost takes = { λ a i b. ⊤ };
+
+    ghost leaves = { λ a i b. ⊤ };
+
+    ghost failures = { λ s. 0 };
+
+    fn header(&mut self, _header: &Header<'_>, _lf: bool) -> Result<(), WriteFault> {
+        Ok(())
+    }
+
+    fn put(&mut self, feature: &Feature<'_>, lf: bool) -> Result<(), WriteFault> {
+        self.lost = self.lost || self.tally.put(feature, lf).is_err();
+        let taken = match types_note(self.alloc, &self.tally, feature) {
+            Ok(text) => self.notes.push_str(&text).is_ok(),
+            Err(AllocError) => false,
+        };
+        self.lost = self.lost || !taken;
+        Ok(())
+    }
+}
+
+// Tallies the text cut in two at this place.
+fn check_cut(rt: &impl Abort, alloc: Global, text: &[u8], at: usize) -> Result<(), Fail> {
+    assert!(rt; at <= text.len());
+    assert!(rt; text.len() <= 10_000);
+    let limits = Limits::new(8_388_608, 64)?;
+    let query = Query::all(alloc);
+    let pieces = [&text[..at], &text[at..]];
+    let (tally, _) = tally_pieces(alloc, &pieces, limits, &query);
+    let told = report(alloc, &tally)?;
+    check_bytes(rt, told.as_bytes(), TALLY.as_bytes(), "pieces", at as u64);
+    Ok(())
+}
+
+#[test]
+fn a_stream_is_tallied(rt: HostRuntime) -> Result<(), Fail> {
+    let text = sample(rt.alloc())?;
+    let limits = Limits::new(8_388_608, 64)?;
+    let query = Query::all(rt.alloc());
+    let mut reader = SlowReader::new(&text, 100);
+    let (tally, _) = tally_stream(rt.alloc(), &mut reader, limits, &query);
+    let told = report(rt.alloc(), &tally)?;
+    check_bytes(&rt, told.as_bytes(), TALLY.as_bytes(), "stream", 0);
+    Ok(())
+}
+
+#[test]
+fn pieces_are_tallied(rt: HostRuntime) -> Result<(), Fail> {
+    let text = sample(rt.alloc())?;
+    check_cut(&rt, rt.alloc(), &text, 300)
+}
+
+#[test]
+fn nothing_is_tallied(rt: HostRuntime) -> Result<(), Fail> {
+    let told = report(rt.alloc(), &TallySink::new())?;
+    check_bytes(&rt, told.as_bytes(), NOTHING.as_bytes(), "nothing", 0);
+    Ok(())
+}
+
+#[test]
+fn city_objects_are_tallied_by_type(rt: HostRuntime) -> Result<(), Fail> {
+    let text = sample(rt.alloc())?;
+    let limits = Limits::new(8_388_608, 64)?;
+    let query = Query::all(rt.alloc());
+    let mut reader = SlowReader::new(&text, 100);
+    let mut sink = TypesSink {
+        alloc: rt.alloc(),
+        tally: TallySink::new(),
+        notes: String::new(rt.alloc()),
+        lost: false,
+    };
+    let _ = run(rt.alloc(), &mut reader, &mut sink, limits, &query);
+    assert!(&rt; !sink.lost);
+    check_bytes(&rt, sink.notes.as_bytes(), TYPES.as_bytes(), "types", 0);
+    Ok(())
+}

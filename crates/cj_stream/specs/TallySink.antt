@@ -1,0 +1,115 @@
+-- What contracts see of a tally, what an item makes of it, and which tally some items have.
+use Rattle.std.specs.Prelude.{◌≡◌, ℕ, ◌+◌, ◌<◌, ◌≤◌, List, [], ◌++◌, Option, Some, None, ℤ, get_or, map, option_map, codes, replicate, take}
+use Rattle.std.specs.List.{filter, last_or}
+use Rattle.std.specs.Str.{chars}
+use Rattle.cj_spans.specs.Tree.{Tree}
+use Rattle.cj_decimal.specs.Number.{Number}
+use Rattle.cj_feature.specs.Shown.{transform_values}
+use Rattle.cj_stream.specs.declared.ending.End.{End}
+use Rattle.cj_stream.specs.declared.ending.End.TheVariants.{Complete, Refused, ReadFault, ReadLimit, WriteFault, Memory}
+use Rattle.cj_stream.specs.CountSink.{one_more}
+use Rattle.cj_stream.specs.Cut.{joined}
+use Rattle.cj_stream.specs.Item.{Item, is_feature}
+use Rattle.cj_stream.specs.Lines.{whole}
+use Rattle.cj_stream.specs.Tally.{is_header, tally}
+use Rattle.cj_stream.specs.Tallied.{capped, how_often, type_numbers, lod_classes, numbers_on, IsRange, over_features}
+use Rattle.cj_stream.specs.Verdict.{Rules, kept, ending}
+
+-- how many features there are; how many city objects of each type, by its number, and how many geometries of each LoD
+-- class; the least and the greatest number of a vertex on each axis; and the numbers of the header's transform
+pub record Tally : Type 0 where
+  pub features : ℕ
+  pub types : List ℕ
+  pub lods : List ℕ
+  pub ranges : List (Option (ℤ × ℤ))
+  pub scale : Option (List Number)
+  pub translate : Option (List Number)
+
+-- the tally of nothing
+abbrev pub no_tally : Tally
+no_tally = record { features = 0; types = replicate 33 0; lods = replicate 6 0; ranges = replicate 3 None; scale = None; translate = None }
+
+-- ---- one item
+
+-- each count below a size goes up by how often its number is among these
+abbrev pub RisesBy : ℕ → List ℕ → List ℕ → List ℕ → Type 0
+RisesBy size old ns new = (n : ℕ) → n < size → get_or new n 0 ≡ capped (get_or old n 0 + how_often n ns)
+
+-- a range of some numbers becomes the range of them and these
+abbrev pub Widens : Option (ℤ × ℤ) → List ℤ → Option (ℤ × ℤ) → Type 0
+Widens old ns new = (before : List ℤ) → IsRange before old → IsRange (before ++ ns) new
+
+-- numbers of the transform are those that a header of this tree shows
+abbrev pub Shows : List ℕ → Tree → Option (List Number) → Type 0
+Shows name t numbers = option_map (map Some) numbers ≡ Some (transform_values (chars name) t)
+
+-- a header is shown, and the counts stay
+pub record TalliesHeader (a : Tally) (t : Tree) (b : Tally) : Type 0 where
+  pub features : b.features ≡ a.features
+  pub types : b.types ≡ a.types
+  pub lods : b.lods ≡ a.lods
+  pub ranges : b.ranges ≡ a.ranges
+  pub scale : Shows (codes "scale") t b.scale
+  pub translate : Shows (codes "translate") t b.translate
+
+-- a feature beside its header is counted, and the transform stays
+pub record TalliesFeature (a : Tally) (header t : Tree) (b : Tally) : Type 0 where
+  pub features : b.features ≡ one_more a.features
+  pub types : RisesBy 33 a.types (type_numbers t) b.types
+  pub lods : RisesBy 6 a.lods (lod_classes header t) b.lods
+  pub ranges : (axis : ℕ) → axis < 3 → Widens (get_or a.ranges axis None) (numbers_on axis t) (get_or b.ranges axis None)
+  pub scale : b.scale ≡ a.scale
+  pub translate : b.translate ≡ a.translate
+
+abbrev pub TalliesBy : Tally → Option Tree → Tree → Tally → Type 0
+TalliesBy a None t b = TalliesHeader a t b
+TalliesBy a (Some header) t b = TalliesFeature a header t b
+
+-- what an item makes of a tally
+abbrev pub Tallies : Tally → Item → Tally → Type 0
+Tallies a i b = TalliesBy a i.header i.tree b
+
+-- ---- some items
+
+-- what the last header of some items shows
+abbrev pub last_shown : List ℕ → List Item → Option (List (Option Number))
+last_shown name is = last_or None (map (λ i. transform_values (chars name) i.tree) (filter is_header is))
+
+-- the tally of some items; counts stop at the greatest u64
+pub record IsTallyOf (is : List Item) (t : Tally) : Type 0 where
+  pub features : t.features ≡ tally is_feature is
+  pub types : (n : ℕ) → n < 33 → get_or t.types n 0 ≡ capped (how_often n (over_features (λ header f. type_numbers f) is))
+  pub lods : (class : ℕ) → class ≤ 5 → get_or t.lods class 0 ≡ capped (how_often class (over_features lod_classes is))
+  pub ranges : (axis : ℕ) → axis < 3 → IsRange (over_features (λ header. numbers_on axis) is) (get_or t.ranges axis None)
+  pub scale : option_map (map Some) t.scale ≡ last_shown (codes "scale") is
+  pub translate : option_map (map Some) t.translate ≡ last_shown (codes "translate") is
+
+-- ---- streams
+
+-- the tally of a front of some items, with all of these
+pub record TalliesFront (items first : List Item) (t : Tally) : Type 0 where
+  pub more : List Item
+  pub others : List Item
+  pub front : items ≡ (first ++ more) ++ others
+  pub tally : IsTallyOf (first ++ more) t
+
+-- the tally of what is kept of the bytes r that a run read, by its end; of their whole lines where a read failed, and
+-- of a front where memory was refused. A tally never fails.
+abbrev pub TalliesRun : Rules → List ℕ → End → Tally → Type 0
+TalliesRun rules r Complete t = IsTallyOf (kept rules r) t
+TalliesRun rules r (Refused number place reason) t = IsTallyOf (kept rules r) t
+TalliesRun rules r ReadFault t = IsTallyOf (kept rules (whole r)) t
+TalliesRun rules r ReadLimit t = IsTallyOf (kept rules (whole r)) t
+TalliesRun rules r WriteFault t = ⊥
+TalliesRun rules r Memory t = TalliesFront (kept rules r) [] t
+
+-- the tally of what is kept of a cut text, whose ending is the answer; or, where memory was refused, of a front of the
+-- pieces that were given, of which n were wholly taken
+abbrev pub TalliesPieces : Rules → List (List ℕ) → ℕ → End → Tally → Type 0
+TalliesPieces rules pieces n Complete t = (ending rules (joined pieces) ≡ Complete) × IsTallyOf (kept rules (joined pieces)) t
+TalliesPieces rules pieces n (Refused number place reason) t =
+    (ending rules (joined pieces) ≡ Refused number place reason) × IsTallyOf (kept rules (joined pieces)) t
+TalliesPieces rules pieces n ReadFault t = ⊥
+TalliesPieces rules pieces n ReadLimit t = ⊥
+TalliesPieces rules pieces n WriteFault t = ⊥
+TalliesPieces rules pieces n Memory t = TalliesFront (kept rules (joined (take (n + 1) pieces))) (kept rules (whole (joined (take n pieces)))) t

@@ -1,0 +1,124 @@
+//! A sink that tallies.
+ghost use Rattle.std.specs.Prelude.{◌≡◌, ◌<◌, ◌≤◌, ℕ, None, OnOk, OnErr, get_or};
+ghost use Rattle.cj_geometry.specs.ObjectTypes.{row_at};
+ghost use Rattle.cj_stream.specs.Item.{header_item, feature_item};
+ghost use Rattle.cj_stream.specs.Sink.{HasRisen};
+ghost use Rattle.cj_stream.specs.TallySink.{no_tally};
+
+mod adding;
+
+use crate::sink::{LineSink, WriteFault};
+use adding::{count_lods, count_types, widen_all};
+use cj_decimal::Decimal;
+use cj_feature::{Feature, Header};
+use cj_geometry::ObjectType;
+use std::marker::Model;
+
+/// Tallies what is kept of a stream: its features, their city objects by type, their geometries by LoD
+/// class, and the least and the greatest number of their vertices on each axis; and keeps the numbers of
+/// the header's transform. At 2^64 - 1 a count stays. It takes no memory.
+#[derive(Clone, Copy, Debug)]
+pub struct TallySink {
+    features: u64,
+    types: [u64; 33],
+    lods: [u64; 6],
+    ranges: [Option<(i64, i64)>; 3],
+    scale: Option<[Decimal; 3]>,
+    translate: Option<[Decimal; 3]>,
+}
+
+impl Model for TallySink {
+    ghost use Rattle.cj_stream.specs.TallySink.{Tally};
+
+    ghost Value = { Tally };
+
+    ghost view = { λ s. record { features = s.features; types = s.types; lods = s.lods; ranges = s.ranges; scale = s.scale; translate = s.translate } };
+
+    ghost inverse = { λ t. record { features = t.features; types = t.types; lods = t.lods; ranges = t.ranges; scale = t.scale; translate = t.translate } };
+}
+
+impl TallySink {
+    /// The tally of nothing.
+    pub fn new() -> TallySink
+        ensures { result ≡ no_tally }
+    {
+        TallySink {
+            features: 0,
+            types: [0; 33],
+            lods: [0; 6],
+            ranges: [None; 3],
+            scale: None,
+            translate: None,
+        }
+    }
+
+    /// How many features it took.
+    pub fn features(&self) -> u64
+        ensures { result ≡ self.now.features }
+    {
+        self.features
+    }
+
+    /// How many city objects of its features have this type.
+    pub fn by_type(&self, object_type: ObjectType) -> u64
+        ensures { result ≡ get_or self.now.types (row_at object_type).number 0 }
+    {
+        self.types[object_type.number() as usize]
+    }
+
+    /// How many geometries of its features have an LoD of this class: 0 to 4 for a text that begins with
+    /// `0` to `4`, and 5 for any other and for none. An instance has the LoD of its template.
+    pub fn by_lod(&self, class: u8) -> u64
+        requires { class ≤ 5 }
+        ensures { result ≡ get_or self.now.lods class 0 }
+    {
+        self.lods[class as usize]
+    }
+
+    /// The least and the greatest number of a vertex of its features on an axis, as it stands there, if
+    /// there is a vertex: 0 is x, 1 is y, and 2 is z.
+    pub fn range(&self, axis: usize) -> Option<(i64, i64)>
+        requires { axis < 3 }
+        ensures { result ≡ get_or self.now.ranges axis None }
+    {
+        self.ranges[axis]
+    }
+
+    /// What each axis of a vertex is multiplied by, if it took a header (CityJSON 2.0, section 4).
+    pub fn scale(&self) -> Option<[Decimal; 3]>
+        ensures { result ≡ self.now.scale }
+    {
+        self.scale
+    }
+
+    /// What is then added to each axis of a vertex, if it took a header.
+    pub fn translate(&self) -> Option<[Decimal; 3]>
+        ensures { result ≡ self.now.translate }
+    {
+        self.translate
+    }
+}
+
+impl LineSink for TallySink {
+    ghost use Rattle.cj_stream.specs.TallySink.{Tallies};
+
+    ghost takes = { Tallies };
+
+    ghost leaves = { λ a i b. ⊥ };
+
+    ghost failures = { λ s. 0 };
+
+    fn header(&mut self, header: &Header<'_>, _lf: bool) -> Result<(), WriteFault> {
+        self.scale = Some(header.scale());
+        self.translate = Some(header.translate());
+        Ok(())
+    }
+
+    fn put(&mut self, feature: &Feature<'_>, _lf: bool) -> Result<(), WriteFault> {
+        self.features = self.features.saturating_add(1);
+        count_types(&mut self.types, feature);
+        count_lods(&mut self.lods, feature);
+        self.ranges = widen_all(self.ranges, feature);
+        Ok(())
+    }
+}

@@ -1,0 +1,76 @@
+//! What a feature adds to a tally.
+ghost use Rattle.std.specs.Prelude.{◌≡◌, ◌∷◌, [], ◌<◌, ℕ, get_or, None, option_map};
+ghost use Rattle.cj_spans.specs.View.{tree};
+ghost use Rattle.cj_feature.specs.View.{feature_tree, feature_header};
+ghost use Rattle.cj_stream.specs.Tallied.{class_of as lod_class, type_numbers, lod_classes, numbers_on};
+ghost use Rattle.cj_stream.specs.TallySink.{RisesBy, Widens};
+
+use cj_feature::Feature;
+use cj_geometry::lod_of;
+use cj_spans::Node;
+
+/// The class of an LoD that does not begin with `0` to `4`, and of none.
+const OTHER: usize = 5;
+
+/// The first characters of the other classes, from `0` to `4`.
+const FIRST: u32 = 48;
+
+const LAST: u32 = 52;
+
+/// The class of an LoD, if there is one.
+fn class_of(lod: Option<Node>) -> usize
+    ensures class { result ≡ lod_class (option_map tree lod.entry) }
+    ensures below { result < 6 }
+{
+    match lod {
+        Some(node) => match node.first_code() {
+            Some(code) if code >= FIRST && code <= LAST => (code - FIRST) as usize,
+            _ => OTHER,
+        },
+        None => OTHER,
+    }
+}
+
+/// Counts the city objects of a feature by their types.
+pub fn count_types(counts: &mut [u64; 33], feature: &Feature)
+    ensures { RisesBy 33 counts.old (type_numbers (feature_tree feature.now)) counts.new }
+{
+    for object in feature.objects() {
+        let number = object.object_type.number() as usize;
+        counts[number] = counts[number].saturating_add(1);
+    }
+}
+
+/// Counts the geometries of a feature by the classes of their LoDs.
+pub fn count_lods(counts: &mut [u64; 6], feature: &Feature)
+    ensures { RisesBy 6 counts.old (lod_classes (feature_header feature.now) (feature_tree feature.now)) counts.new }
+{
+    let templates = feature.templates();
+    for geometry in feature.geometries() {
+        let class = class_of(lod_of(geometry, templates));
+        counts[class] = counts[class].saturating_add(1);
+    }
+}
+
+/// The range of some numbers and one more.
+fn widened(range: Option<(i64, i64)>, number: i64) -> Option<(i64, i64)>
+    ensures { Widens range (number ∷ []) result }
+{
+    match range {
+        Some((least, greatest)) => Some((least.min(number), greatest.max(number))),
+        None => Some((number, number)),
+    }
+}
+
+/// The ranges of the numbers on each axis, with those of the vertices of a feature.
+pub fn widen_all(ranges: [Option<(i64, i64)>; 3], feature: &Feature) -> [Option<(i64, i64)>; 3]
+    ensures { (axis : ℕ) → axis < 3 → Widens (get_or ranges axis None) (numbers_on axis (feature_tree feature.now)) (get_or result axis None) }
+{
+    let [mut on_x, mut on_y, mut on_z] = ranges;
+    for [x, y, z] in feature.vertices() {
+        on_x = widened(on_x, x);
+        on_y = widened(on_y, y);
+        on_z = widened(on_z, z);
+    }
+    [on_x, on_y, on_z]
+}
