@@ -220,7 +220,8 @@ fn by_box_under_other_scales(rt: HostRuntime) -> Result<(), Fail> {
 // The greatest scale and the greatest numbers of vertices: the coordinates have 36 digits.
 #[test]
 fn by_box_of_great_numbers(rt: HostRuntime) -> Result<(), Fail> {
-    let header = b"{\"type\":\"CityJSON\",\"version\":\"2.0\",\"transform\":{\"scale\":[999999999999999999,999999999999999999,1],\"translate\":[0,0,0]},\"CityObjects\":{},\"vertices\":[]}";
+    let header =
+        b"{\"type\":\"CityJSON\",\"version\":\"2.0\",\"transform\":{\"scale\":[999999999999999999,999999999999999999,1],\"translate\":[0,0,0]},\"CityObjects\":{},\"vertices\":[]}";
     let far = Pair {
         header,
         feature: b"{\"type\":\"CityJSONFeature\",\"id\":\"b\",\"CityObjects\":{\"b\":{\"type\":\"Building\"}},\"vertices\":[[999999999999999999,0,0]]}",
@@ -280,12 +281,15 @@ fn by_texts_with_escapes(rt: HostRuntime) -> Result<(), Fail> {
 }
 
 /// A header with one template, of LoD 1.
-const TEMPLATES: &[u8] = b"{\"type\":\"CityJSON\",\"version\":\"2.0\",\"transform\":{\"scale\":[0.001,0.001,0.001],\"translate\":[1000.0,2000.0,0.0]},\"CityObjects\":{},\"vertices\":[],\"geometry-templates\":{\"templates\":[{\"type\":\"MultiSurface\",\"lod\":\"1\",\"boundaries\":[[[0,1,2]]]}],\"vertices-templates\":[[0.0,0.0,0.0],[1.0,0.0,0.0],[0.0,1.0,0.0]]}}";
+const TEMPLATES: &[u8] =
+    b"{\"type\":\"CityJSON\",\"version\":\"2.0\",\"transform\":{\"scale\":[0.001,0.001,0.001],\"translate\":[1000.0,2000.0,0.0]},\"CityObjects\":{},\"vertices\":[],\"geometry-templates\":{\"templates\":[{\"type\":\"MultiSurface\",\"lod\":\"1\",\"boundaries\":[[[0,1,2]]]}],\"vertices-templates\":[[0.0,0.0,0.0],[1.0,0.0,0.0],[0.0,1.0,0.0]]}}";
 
 /// A tree that is an instance of the first template, and one of the second.
-const TREE: &[u8] = b"{\"type\":\"CityJSONFeature\",\"id\":\"b\",\"CityObjects\":{\"b\":{\"type\":\"SolitaryVegetationObject\",\"geometry\":[{\"type\":\"GeometryInstance\",\"template\":0,\"boundaries\":[0],\"transformationMatrix\":[1,0,0,0,0,1,0,0,0,0,1,0,0,0,0,1]}]}},\"vertices\":[[0,0,0]]}";
+const TREE: &[u8] =
+    b"{\"type\":\"CityJSONFeature\",\"id\":\"b\",\"CityObjects\":{\"b\":{\"type\":\"SolitaryVegetationObject\",\"geometry\":[{\"type\":\"GeometryInstance\",\"template\":0,\"boundaries\":[0],\"transformationMatrix\":[1,0,0,0,0,1,0,0,0,0,1,0,0,0,0,1]}]}},\"vertices\":[[0,0,0]]}";
 
-const SECOND: &[u8] = b"{\"type\":\"CityJSONFeature\",\"id\":\"b\",\"CityObjects\":{\"b\":{\"type\":\"SolitaryVegetationObject\",\"geometry\":[{\"type\":\"GeometryInstance\",\"template\":1,\"boundaries\":[0],\"transformationMatrix\":[1,0,0,0,0,1,0,0,0,0,1,0,0,0,0,1]}]}},\"vertices\":[[0,0,0]]}";
+const SECOND: &[u8] =
+    b"{\"type\":\"CityJSONFeature\",\"id\":\"b\",\"CityObjects\":{\"b\":{\"type\":\"SolitaryVegetationObject\",\"geometry\":[{\"type\":\"GeometryInstance\",\"template\":1,\"boundaries\":[0],\"transformationMatrix\":[1,0,0,0,0,1,0,0,0,0,1,0,0,0,0,1]}]}},\"vertices\":[[0,0,0]]}";
 
 // An instance has the LoD of its template, and no other.
 #[test]
@@ -337,12 +341,7 @@ fn is_kept(state: u32) -> bool {
 #[test]
 fn each_part_has_to_hold(rt: HostRuntime) -> Result<(), Fail> {
     for states in 0..256_u32 {
-        let (id, kind, lod, place) = (
-            states % 4,
-            states / 4 % 4,
-            states / 16 % 4,
-            states / 64 % 4,
-        );
+        let (id, kind, lod, place) = (states % 4, states / 4 % 4, states / 16 % 4, states / 64 % 4);
         let parts = Parts {
             ids: texts(id, &["b1"], &["b2"]),
             types: texts(kind, &["Building"], &["Road"]),
