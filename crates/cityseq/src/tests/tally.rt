@@ -23,8 +23,12 @@ lods 0 0 1 1 1 2
 -1 to 1000
 0 to 1000
 -7 to 3
-1e-3 1e-3 2e-3
-1e3 2e3 0e0
+1e-3
+1e-3
+2e-3
+1e3
+2e3
+0e0
 ";
 
 /// How many city objects there were of the type of each one, after its feature.
@@ -54,31 +58,19 @@ fn add_ranges(alloc: Global, tally: &TallySink, text: &mut String) -> Result<(),
     Ok(())
 }
 
-// The numbers of the transform.
+// The numbers of the transform, if there is one.
 fn add_transform(alloc: Global, tally: &TallySink, text: &mut String) -> Result<(), AllocError> {
-    if let Some([x, y, z]) = tally.scale() {
-        let line = format!(in alloc;
-            "{}e{} {}e{} {}e{}\n",
-            x.coefficient(),
-            x.power(),
-            y.coefficient(),
-            y.power(),
-            z.coefficient(),
-            z.power()
-        )?;
-        text.push_str(&line)?;
+    if let Some(numbers) = tally.scale() {
+        for number in numbers {
+            let part = format!(in alloc; "{}e{}\n", number.coefficient(), number.power())?;
+            text.push_str(&part)?;
+        }
     }
-    if let Some([x, y, z]) = tally.translate() {
-        let line = format!(in alloc;
-            "{}e{} {}e{} {}e{}\n",
-            x.coefficient(),
-            x.power(),
-            y.coefficient(),
-            y.power(),
-            z.coefficient(),
-            z.power()
-        )?;
-        text.push_str(&line)?;
+    if let Some(numbers) = tally.translate() {
+        for number in numbers {
+            let part = format!(in alloc; "{}e{}\n", number.coefficient(), number.power())?;
+            text.push_str(&part)?;
+        }
     }
     Ok(())
 }
