@@ -4,7 +4,7 @@
     make_stream.py usual|spread|tiny|huge|text|linked MEGABYTES
 
 usual: features of 5 to 125 KB, about 4 bytes a JSON token, as city models have them;
-spread: the same, each of 60 features in a square of its own, one beside the other along x;
+spread: the same, each of 60 features in a square of 100 m of its own, one beside the other along x;
 tiny: features of about 300 bytes; huge: features of about 6 MB; text: features of 2 to 30 KB, most of
 it long attributes of which half of the letters are not ASCII; linked: features of 10,000 city objects,
 one parent and its children, at least one line. The same arguments give the same bytes."""
@@ -15,13 +15,13 @@ HEADER = ('{"type":"CityJSON","version":"2.0","transform":{"scale":[0.001,0.001,
           '"translate":[84616.468,447422.999,-0.452]},"CityObjects":{},"vertices":[]}\n')
 
 
-def feature(rng, number, vertices, left=0):
-    """A building with one solid over this many vertices, in a square that begins there."""
+def feature(rng, number, vertices, left=0, side=1000000):
+    """A building with one solid over this many vertices, in a square of this side that begins there."""
     surfaces = ",".join(
         "[[{},{},{}]]".format(*(rng.randrange(vertices) for _ in range(3))) for _ in range(vertices * 2))
     values = ",".join(str(rng.randrange(3)) for _ in range(vertices * 2))
     points = ",".join(
-        f"[{left + rng.randrange(1000000)},{rng.randrange(1000000)},{rng.randrange(30000)}]" for _ in range(vertices))
+        f"[{left + rng.randrange(side)},{rng.randrange(side)},{rng.randrange(30000)}]" for _ in range(vertices))
     return (f'{{"type":"CityJSONFeature","id":"b{number}","CityObjects":{{"b{number}":{{"type":"Building",'
             f'"attributes":{{"year":{rng.randrange(1500, 2024)},"street":"Grachtenstraße {number}"}},'
             f'"geometry":[{{"type":"Solid","lod":"2.2","boundaries":[[{surfaces}]],"semantics":{{"surfaces":'
@@ -79,7 +79,8 @@ def main():
     elif shape == "usual":
         lines = [feature(rng, i, rng.randrange(5000, 125000) // VERTEX).encode() for i in range(60)]
     elif shape == "spread":
-        lines = [feature(rng, i, rng.randrange(5000, 125000) // VERTEX, i * 1000000).encode() for i in range(60)]
+        lines = [feature(rng, i, rng.randrange(5000, 125000) // VERTEX, i * 100000, 100000).encode()
+                 for i in range(60)]
     elif shape == "text":
         lines = [text(rng, i).encode() for i in range(200)]
     elif shape == "huge":
