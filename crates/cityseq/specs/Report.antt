@@ -6,8 +6,12 @@ use Rattle.cj_stream.specs.Sink.{AppendsPart}
 use Rattle.cityseq.specs.declared.report.Shown.{Shown}
 use Rattle.cj_stream.specs.declared.sink.WriteFault.{WriteFault as Unwritten}
 use Rattle.cj_spans.specs.Reason.{code_of, words_of}
+use Rattle.cj_stream.specs.declared.query.fault.QueryFault.{QueryFault}
+use Rattle.cj_stream.specs.declared.query.fault.QueryFault.TheVariants.{Memory as NoMemory, UnknownTypeName, BadBox, BoxRange, EmptyBox}
 use Rattle.cj_stream.specs.declared.ending.End.{End}
 use Rattle.cj_stream.specs.declared.ending.End.TheVariants.{Complete, Refused, ReadFault, ReadLimit, WriteFault, Memory}
+
+-- ---- ends of runs
 
 -- the status of the program
 abbrev pub status_of : End → ℕ
@@ -27,6 +31,22 @@ fault_line ReadFault = codes "read fault\n"
 fault_line ReadLimit = codes "read limit\n"
 fault_line WriteFault = codes "write fault\n"
 fault_line Memory = codes "out of memory\n"
+
+-- what stands on standard error of a query that cannot be asked
+abbrev pub query_line : QueryFault → List ℕ
+query_line NoMemory = fault_line Memory
+query_line UnknownTypeName = codes "unknown object type\n"
+query_line BadBox = codes "bad box\n"
+query_line BoxRange = codes "box number out of range\n"
+query_line EmptyBox = codes "empty box\n"
+
+-- the status then
+abbrev pub status_of_query : QueryFault → ℕ
+status_of_query NoMemory = status_of Memory
+status_of_query UnknownTypeName = 2
+status_of_query BadBox = 2
+status_of_query BoxRange = 2
+status_of_query EmptyBox = 2
 
 -- the end that is shown of a run that ended so: a write fault where the flush after it failed
 abbrev pub shown_end : Result (Unit {0}) Unwritten → End → End

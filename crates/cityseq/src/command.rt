@@ -1,78 +1,106 @@
 //! The command line.
-ghost use Rattle.std.specs.Prelude.{◌≡◌, ℕ, List, map, string_bytes};
-ghost use Rattle.cityseq.specs.Command.{AsksFilter};
+ghost use Rattle.std.specs.Prelude.{◌≡◌, ◌×◌, ◌⊎◌, ℕ, List};
 ghost use Rattle.std.specs.Io.KnownBytes.{Consumes, IsAtEnd};
-ghost use Rattle.cj_budget.specs.declared.limits.Peaks.{Peaks};
-ghost use Rattle.cityseq.specs.Command.{usual_limits, usual_rules};
-ghost use Rattle.cj_stream.specs.Query.{rules_for};
-ghost use Rattle.cityseq.specs.declared.report.Shown.{Shown};
-ghost use Rattle.cj_stream.specs.declared.ending.End.{End};
 ghost use Rattle.cityseq.specs.Output.{output_writer, flush_answer};
-ghost use Rattle.cityseq.specs.Report.{Reports, status_of};
-ghost use Rattle.cj_stream.specs.Run.{Account, Writes};
+ghost use Rattle.cityseq.specs.Performed.{Performs, Tells};
+ghost use Rattle.cityseq.specs.declared.ask.Ask.{Ask};
 
+use crate::ask::{Ask, end_of_text, perform};
+use crate::asking::query_of;
 use crate::output::Output;
-use crate::report::{Shown, WRONG_WORDS, show, status};
-use cj_budget::Limits;
-use cj_stream::{Query, copy_out};
+use crate::report::{WRONG_WORDS, query_status, show, status, write_fault_line, write_query_fault};
+use crate::words::{limits_of, read_words, texts_of};
+use cj_budget::LimitFault;
+use cj_stream::{End, QueryFault, write_whole};
+use clap::error::ErrorKind;
+use clap::{ArgMatches, Error};
 use std::alloc::Global;
 use std::io::{Read, Write};
 
-/// The line limit where none is given: 8 MiB.
-const USUAL_LINE: u64 = 8_388_608;
+/// Why nothing is done with the stream.
+#[derive(Drop)]
+enum NoAsk {
+    /// The words are wrong, or they ask for help.
+    Words(Error),
+    /// A limit is out of its range.
+    Limits(LimitFault),
+    /// The query cannot be asked.
+    Query(QueryFault),
+}
 
-/// The depth limit where none is given.
-const USUAL_DEPTH: u64 = 64;
-
-/// The limits where none are given.
-fn usual() -> Limits
-    ensures { result ≡ usual_limits }
-{
-    match Limits::new(USUAL_LINE, USUAL_DEPTH) {
+// What a command asks for.
+fn ask_of(alloc: Global, name: &str, matches: &ArgMatches) -> Result<Ask, NoAsk> {
+    let limits = match limits_of(matches) {
         Ok(limits) => limits,
-        Err(_) => unreachable!(),
+        Err(fault) => return Err(NoAsk::Limits(fault)),
+    };
+    match name {
+        "check" => Ok(Ask::Check(limits)),
+        "info" => Ok(Ask::Info(limits)),
+        _ => match query_of(alloc, &texts_of(matches)) {
+            Ok(query) => Ok(Ask::Filter(limits, query)),
+            Err(fault) => Err(NoAsk::Query(fault)),
+        },
     }
 }
 
-/// Copies the kept lines from the reader to `out`, flushes it, and says on `err` how it ended.
-pub fn filter<R: Read, W: Write + Drop, E: Write>(
-    alloc: Global,
-    limits: Limits,
-    query: &Query,
-    reader: &mut R,
-    out: &mut Output<W>,
-    err: &mut E,
-) -> Shown
-    ensures { (r : List ℕ) × (n features : ℕ) × (peaks : Peaks) × (e : End) × Consumes (R.remaining reader.old) (R.remaining reader.new) r
-        × Account (rules_for limits query.now) r (IsAtEnd (R.remaining reader.new)) n features peaks e
-        × Writes (rules_for limits query.now) r e (W.contents (output_writer out.old)) (W.contents (output_writer out.new))
-        × Reports e (flush_answer out.new) result (E.contents err.old) (E.contents err.new) }
-{
-    let outcome = copy_out(alloc, reader, out, limits, query);
-    show(out.flush(), outcome.ended, err)
+// What the words ask for.
+fn read_ask(alloc: Global, words: &[String]) -> Result<Ask, NoAsk> {
+    match read_words(alloc, words) {
+        Ok(matches) => match matches.subcommand() {
+            Some((name, options)) => ask_of(alloc, name, options),
+            None => unreachable!(),
+        },
+        Err(error) => Err(NoAsk::Words(error)),
+    }
 }
 
-/// Runs the command that the words ask for, and answers the status; the first word is the program's
-/// name. A failure to write to `err` is ignored.
+// Says that memory was refused, and answers the status of that.
+fn out_of_memory<E: Write>(err: &mut E) -> u8 {
+    let _ = write_fault_line(err, End::Memory);
+    status(End::Memory)
+}
+
+// Writes the help that was asked for to `out`, or what is wrong with the words to `err`.
+fn tell<W: Write + Drop, E: Write>(
+    alloc: Global,
+    error: &Error,
+    out: &mut Output<W>,
+    err: &mut E,
+) -> u8 {
+    if error.kind() == ErrorKind::OutOfMemory {
+        return out_of_memory(err);
+    }
+    let Ok(text) = format!(in alloc; "{error}") else {
+        return out_of_memory(err);
+    };
+    if error.use_stderr() {
+        let _ = write_whole(err, text.as_bytes());
+        return WRONG_WORDS;
+    }
+    let told = end_of_text(write_whole(out, text.as_bytes()));
+    status(show(out.flush(), told, err).end)
+}
+
+/// Does what the words ask for, and answers the status; the first word is the program's name. Where they
+/// are wrong or ask for help, nothing is read. A failure to write to `err` is ignored.
 pub fn command<R: Read, W: Write + Drop, E: Write>(
     alloc: Global,
     words: &[String],
     reader: &mut R,
     out: &mut Output<W>,
     err: &mut E,
-) -> u8
-    ensures filter { AsksFilter (map string_bytes words.now) → (r : List ℕ) × (n features : ℕ) × (peaks : Peaks) × (e : End) × Consumes (R.remaining reader.old) (R.remaining reader.new) r
-        × Account usual_rules r (IsAtEnd (R.remaining reader.new)) n features peaks e
-        × Writes usual_rules r e (W.contents (output_writer out.old)) (W.contents (output_writer out.new))
-        × (shown : Shown) × Reports e (flush_answer out.new) shown (E.contents err.old) (E.contents err.new) × (result ≡ status_of shown.end) }
-    ensures other { (AsksFilter (map string_bytes words.now) → ⊥) → (result ≡ 2)
-        × (reader.new ≡ reader.old) × (out.new ≡ out.old) × (err.new ≡ err.old) }
-{
-    match words {
-        [_, word] if word.as_str() == "filter" => {
-            let query = Query::all(alloc);
-            status(filter(alloc, usual(), &query, reader, out, err).end)
+) -> u8 {
+    match read_ask(alloc, words) {
+        Ok(ask) => perform(alloc, &ask, reader, out, err),
+        Err(NoAsk::Words(error)) => tell(alloc, &error, out, err),
+        Err(NoAsk::Query(fault)) => {
+            let _ = write_query_fault(err, fault);
+            query_status(fault)
         }
-        _ => WRONG_WORDS,
+        Err(NoAsk::Limits(fault)) => {
+            let _ = writeln!(err, "{fault}");
+            WRONG_WORDS
+        }
     }
 }

@@ -6,11 +6,15 @@
 //! and output; `output` notes what a flush answers, and `report` says how the run ended.
 #![tactic(auto)]
 
+mod ask;
+mod asking;
 mod command;
 mod output;
 mod report;
+mod summary;
 #[cfg(test)]
 mod tests;
+mod words;
 
 use crate::command::command;
 use crate::output::Output;

@@ -4,11 +4,11 @@ ghost use Rattle.std.specs.Io.KnownBytes.{Appends};
 ghost use Rattle.cj_stream.specs.Cut.{joined};
 ghost use Rattle.cj_stream.specs.Sink.{AppendsPart};
 ghost use Rattle.cityseq.specs.Output.{flushed_by};
-ghost use Rattle.cityseq.specs.Report.{fault_line, shown_end, status_of};
+ghost use Rattle.cityseq.specs.Report.{fault_line, query_line, shown_end, status_of, status_of_query};
 
 use crate::output::flushed;
 use cj_spans::Reason;
-use cj_stream::{End, WriteFault, write_whole};
+use cj_stream::{End, QueryFault, WriteFault, write_whole};
 use itoa::Buffer;
 use std::io;
 use std::io::Write;
@@ -38,6 +38,19 @@ pub fn status(end: End) -> u8
     }
 }
 
+/// The status of the program where a query cannot be asked.
+pub fn query_status(fault: QueryFault) -> u8
+    ensures { result ≡ status_of_query fault }
+{
+    match fault {
+        QueryFault::Memory => status(End::Memory),
+        QueryFault::UnknownTypeName
+        | QueryFault::BadBox
+        | QueryFault::BoxRange
+        | QueryFault::EmptyBox => WRONG_WORDS,
+    }
+}
+
 // The end that is shown of a run, by what came of the flush after it.
 fn end_after(flushed: Result<(), WriteFault>, ended: End) -> End
     ensures { result ≡ shown_end flushed ended }
@@ -48,8 +61,8 @@ fn end_after(flushed: Result<(), WriteFault>, ended: End) -> End
     }
 }
 
-// Writes these parts, one after another.
-fn write_parts<W: Write>(writer: &mut W, parts: &[&[u8]]) -> Result<(), WriteFault>
+/// Writes these parts, one after another.
+pub fn write_parts<W: Write>(writer: &mut W, parts: &[&[u8]]) -> Result<(), WriteFault>
     ensures ok { OnOk result (Appends (W.contents writer.old) (W.contents writer.new) (joined (map (λ part. part.now) parts.now))) }
     ensures fault { OnErr result (AppendsPart (W.contents writer.old) (W.contents writer.new) (joined (map (λ part. part.now) parts.now))) }
 {
@@ -101,6 +114,20 @@ pub fn write_fault_line<W: Write>(err: &mut W, end: End) -> Result<(), WriteFaul
         End::ReadLimit => write_whole(err, b"read limit\n"),
         End::WriteFault => write_whole(err, b"write fault\n"),
         End::Memory => write_whole(err, b"out of memory\n"),
+    }
+}
+
+/// Writes the line that a query has on standard error that cannot be asked.
+pub fn write_query_fault<W: Write>(err: &mut W, fault: QueryFault) -> Result<(), WriteFault>
+    ensures ok { OnOk result (Appends (W.contents err.old) (W.contents err.new) (query_line fault)) }
+    ensures fault { OnErr result (AppendsPart (W.contents err.old) (W.contents err.new) (query_line fault)) }
+{
+    match fault {
+        QueryFault::Memory => write_fault_line(err, End::Memory),
+        QueryFault::UnknownTypeName => write_whole(err, b"unknown object type\n"),
+        QueryFault::BadBox => write_whole(err, b"bad box\n"),
+        QueryFault::BoxRange => write_whole(err, b"box number out of range\n"),
+        QueryFault::EmptyBox => write_whole(err, b"empty box\n"),
     }
 }
 

@@ -1,10 +1,10 @@
 //! The types of city objects (CityJSON 2.0, section 2).
-ghost use Rattle.std.specs.Prelude.{◌≡◌, ◌<◌, ℕ, Some, true, option_map};
+ghost use Rattle.std.specs.Prelude.{◌≡◌, ◌<◌, ℕ, Some, true, map, option_map};
 ghost use Rattle.std.specs.Str.{chars};
 ghost use Rattle.cj_spans.specs.Tree.{Tree};
 ghost use Rattle.cj_spans.specs.Parts.{has_text};
 ghost use Rattle.cj_spans.specs.View.{tree};
-ghost use Rattle.cj_geometry.specs.ObjectTypes.{row_of, row_named, row_at};
+ghost use Rattle.cj_geometry.specs.ObjectTypes.{object_types, row_of, row_named, row_at};
 
 use cj_spans::Node;
 use std::marker::Model;
@@ -76,6 +76,17 @@ fn name_at(number: u8) -> &'static str
 }
 
 impl ObjectType {
+    /// All types, in the order of the table.
+    pub fn all() -> [ObjectType; 33]
+        ensures { map row_at result ≡ object_types }
+    {
+        let mut types = [ObjectType { number: 0 }; 33];
+        for number in 0..TYPES {
+            types[number as usize] = ObjectType { number };
+        }
+        types
+    }
+
     /// The type whose name is the text of this node; None for any other node. Texts are compared by
     /// code points, with the escapes undone (RFC 8259, sections 7 and 8.3).
     pub fn of(node: Node) -> Option<ObjectType>

@@ -1,0 +1,48 @@
+-- What the options of `filter` ask for.
+use Rattle.std.specs.Prelude.{ℕ, List, [], ◌∷◌, Bool, true, Option, Some, None, Result, Ok, Err, slice_set, option_map, option_and_then}
+use Rattle.cj_geometry.specs.ObjectTypes.{ObjectRow, row_named}
+use Rattle.cj_stream.specs.Asked.{Asked, Box}
+use Rattle.cj_stream.specs.Asking.{no_types}
+use Rattle.cj_stream.specs.BoxText.{fields, box_text}
+use Rattle.cj_stream.specs.declared.query.fault.QueryFault.{QueryFault}
+use Rattle.cj_stream.specs.declared.query.fault.QueryFault.TheVariants.{UnknownTypeName}
+
+-- the texts of the options that were given
+pub record Texts : Type 0 where
+  pub ids : Option (List ℕ)
+  pub types : Option (List ℕ)
+  pub lods : Option (List ℕ)
+  pub box : Option (List ℕ)
+
+-- these flags, and those of the types of these names; none where a name is no type's
+abbrev pub flags_with : List (List ℕ) → List Bool → Option (List Bool)
+flags_with [] flags = Some flags
+flags_with (name ∷ names) flags = option_and_then (λ (row : ObjectRow). flags_with names (slice_set flags row.number true)) (row_named name)
+
+-- the types that an option asks for: their names stand between its commas
+abbrev pub types_or_fault : Option (List Bool) → Result (Option (List Bool)) QueryFault
+types_or_fault None = Err UnknownTypeName
+types_or_fault (Some flags) = Ok (Some flags)
+
+abbrev pub types_asked : Option (List ℕ) → Result (Option (List Bool)) QueryFault
+types_asked None = Ok None
+types_asked (Some text) = types_or_fault (flags_with (fields text) no_types)
+
+-- the box that an option asks for
+abbrev pub box_or_fault : Result Box QueryFault → Result (Option Box) QueryFault
+box_or_fault (Ok box) = Ok (Some box)
+box_or_fault (Err fault) = Err fault
+
+abbrev pub box_asked : Option (List ℕ) → Result (Option Box) QueryFault
+box_asked None = Ok None
+box_asked (Some text) = box_or_fault (box_text text)
+
+-- what is asked with these ids and LoDs, types and a box; the first refusal of the last two, if there is one
+abbrev pub asked_with : Option (List (List ℕ)) → Option (List (List ℕ)) → Result (Option (List Bool)) QueryFault → Result (Option Box) QueryFault → Result Asked QueryFault
+asked_with ids lods (Err fault) box = Err fault
+asked_with ids lods (Ok types) (Err fault) = Err fault
+asked_with ids lods (Ok types) (Ok box) = Ok (record { ids = ids; types = types; lods = lods; box = box })
+
+-- what the texts ask for: ids, types and LoDs are what stands between the commas, be it nothing
+abbrev pub asked_by : Texts → Result Asked QueryFault
+asked_by t = asked_with (option_map fields t.ids) (option_map fields t.lods) (types_asked t.types) (box_asked t.box)

@@ -1,0 +1,81 @@
+-- What the program does of what it is asked.
+use Rattle.std.specs.Prelude.{◌≡◌, ◌⊎◌, ℕ, List, Option, Result, Ok, Err, length}
+use Rattle.std.specs.List.{filter}
+use Rattle.std.specs.Io.KnownBytes.{Appends, Keeps, Consumes, IsAtEnd}
+use Rattle.cj_budget.specs.Limits.{LimitPair}
+use Rattle.cj_budget.specs.declared.limits.Peaks.{Peaks}
+use Rattle.cj_stream.specs.Asked.{everything}
+use Rattle.cj_stream.specs.Bound.{exact_peaks}
+use Rattle.cj_stream.specs.Item.{is_feature}
+use Rattle.cj_stream.specs.Query.{rules_for}
+use Rattle.cj_stream.specs.Run.{Account, Writes}
+use Rattle.cj_stream.specs.Sink.{AppendsPart}
+use Rattle.cj_stream.specs.TallySink.{Tally, IsTallyOf}
+use Rattle.cj_stream.specs.Verdict.{Rules, good, kept}
+use Rattle.cj_stream.specs.declared.ending.End.{End}
+use Rattle.cj_stream.specs.declared.ending.End.TheVariants.{Complete, Refused, ReadFault, ReadLimit, WriteFault, Memory}
+use Rattle.cj_stream.specs.declared.sink.WriteFault.{WriteFault as Unwritten}
+use Rattle.cityseq.specs.Report.{Reports, status_of}
+use Rattle.cityseq.specs.Summary.{check_text, report}
+use Rattle.cityseq.specs.declared.ask.Ask.{Ask}
+use Rattle.cityseq.specs.declared.ask.Ask.TheVariants.{Check, Filter, Info}
+use Rattle.cityseq.specs.declared.report.Shown.{Shown}
+
+-- ---- texts of our own
+
+-- the end that is told after a complete run, by what came of writing a text
+abbrev pub end_of_text : Result (Unit {0}) Unwritten → End
+end_of_text (Ok x) = Complete
+end_of_text (Err fault) = WriteFault
+
+-- After a run that ended so a text is written where the run is complete, and nothing otherwise. What is told is the
+-- run's end; or a write fault where a write of the text failed, and then a front of it was written.
+abbrev pub Says : List ℕ → End → End → Option (List ℕ) → Option (List ℕ) → Type 0
+Says text Complete told old new = ((told ≡ Complete) × Appends old new text) ⊎ ((told ≡ WriteFault) × AppendsPart old new text)
+Says text (Refused line place reason) told old new = (told ≡ Refused line place reason) × Keeps old new
+Says text ReadFault told old new = (told ≡ ReadFault) × Keeps old new
+Says text ReadLimit told old new = (told ≡ ReadLimit) × Keeps old new
+Says text WriteFault told old new = (told ≡ WriteFault) × Keeps old new
+Says text Memory told old new = (told ≡ Memory) × Keeps old new
+
+-- of the bytes r: how many good lines they have, and how many features
+abbrev pub SaysCheck : Rules → List ℕ → End → End → Option (List ℕ) → Option (List ℕ) → Type 0
+SaysCheck rules r e told old new =
+    Says (check_text (length (good rules r)) (length (filter is_feature (kept rules r)))) e told old new
+
+-- of the bytes r: how many good lines they have, their tally, and what was held at most
+record SaysReport (rules : Rules) (r : List ℕ) (e told : End) (old new : Option (List ℕ)) : Type 0 where
+  pub tally : Tally
+  pub counted : e ≡ Complete → IsTallyOf (kept rules r) tally
+  pub says : Says (report (length (good rules r)) tally (exact_peaks rules.limits r)) e told old new
+
+-- ---- what is asked
+
+-- the rules that lines are judged by
+abbrev pub all_under : LimitPair → Rules
+all_under limits = record { limits = limits; asked = everything }
+
+abbrev pub rules_of_ask : Ask → Rules
+rules_of_ask (Check limits) = all_under limits
+rules_of_ask (Filter limits query) = rules_for limits query
+rules_of_ask (Info limits) = all_under limits
+
+-- what is written of the bytes r, of which a run ended so, and the end that is told of it
+abbrev pub Answers : Ask → List ℕ → End → End → Option (List ℕ) → Option (List ℕ) → Type 0
+Answers (Check limits) r e told old new = SaysCheck (all_under limits) r e told old new
+Answers (Filter limits query) r e told old new = (told ≡ e) × Writes (rules_for limits query) r e old new
+Answers (Info limits) r e told old new = SaysReport (all_under limits) r e told old new
+
+-- What is asked was done with bytes r that were read: the account of the run over them; what standard output has got;
+-- what the flush answered, and standard error has got; and the status.
+record Performs (ask : Ask) (r : List ℕ) (at_end : Type 0) (status : ℕ) (old_out new_out : Option (List ℕ)) (flushed : Option (Result (Unit {0}) Unwritten)) (old_err new_err : Option (List ℕ)) : Type 0 where
+  pub lines : ℕ
+  pub features : ℕ
+  pub peaks : Peaks
+  pub ended : End
+  pub told : End
+  pub shown : Shown
+  pub account : Account (rules_of_ask ask) r at_end lines features peaks ended
+  pub answers : Answers ask r ended told old_out new_out
+  pub reports : Reports told flushed shown old_err new_err
+  pub status : status ≡ status_of shown.end

@@ -1,0 +1,90 @@
+//! What the program can be asked to do, and how it does it.
+ghost use Rattle.std.specs.Prelude.{◌≡◌, ℕ, List};
+ghost use Rattle.std.specs.Io.KnownBytes.{Consumes, IsAtEnd};
+ghost use Rattle.cj_budget.specs.declared.limits.Peaks.{Peaks};
+ghost use Rattle.cj_stream.specs.Asked.{everything};
+ghost use Rattle.cj_stream.specs.Query.{rules_for};
+ghost use Rattle.cj_stream.specs.Run.{Account, Writes};
+ghost use Rattle.cj_stream.specs.Verdict.{Rules};
+ghost use Rattle.cj_stream.specs.declared.ending.End.{End};
+ghost use Rattle.cityseq.specs.Output.{output_writer, flush_answer};
+ghost use Rattle.cityseq.specs.Performed.{all_under, end_of_text as told_after, Performs, SaysCheck, SaysReport};
+ghost use Rattle.cityseq.specs.Report.{Reports, status_of};
+
+use crate::output::Output;
+use crate::report::{Shown, show, status};
+use crate::summary::{write_check, write_report};
+use cj_budget::Limits;
+use cj_stream::{End, Query, WriteFault, copy_out, count_stream, tally_stream};
+use std::alloc::Global;
+use std::io::{Read, Write};
+
+/// What is to be done with the stream on standard input.
+#[derive(Drop)]
+pub enum Ask {
+    /// To say whether it is valid under these limits, and how many lines and features it has.
+    Check(Limits),
+    /// To copy the header and the features that satisfy the query.
+    Filter(Limits, Query),
+    /// To report what is in it.
+    Info(Limits),
+}
+
+// The end that is told where a text of our own followed a complete run, by what came of writing it.
+pub fn end_of_text(written: Result<(), WriteFault>) -> End
+    ensures { result ≡ told_after written }
+{
+    match written {
+        Ok(()) => End::Complete,
+        Err(WriteFault) => End::WriteFault,
+    }
+}
+
+// Judges the stream, and says how many lines and features it has where it is valid.
+fn check<R: Read, W: Write>(alloc: Global, limits: Limits, reader: &mut R, out: &mut W) -> End
+    ensures { (r : List ℕ) × (n features : ℕ) × (peaks : Peaks) × (e : End) × Consumes (R.remaining reader.old) (R.remaining reader.new) r
+        × Account (all_under limits) r (IsAtEnd (R.remaining reader.new)) n features peaks e
+        × SaysCheck (all_under limits) r e result (W.contents out.old) (W.contents out.new) }
+{
+    let query = Query::all(alloc);
+    let (counts, outcome) = count_stream(alloc, reader, limits, &query);
+    match outcome.ended {
+        End::Complete => end_of_text(write_check(out, outcome.lines, counts.features)),
+        ended => ended,
+    }
+}
+
+// Tallies the stream, and reports what is in it where it is valid.
+fn info<R: Read, W: Write>(alloc: Global, limits: Limits, reader: &mut R, out: &mut W) -> End
+    ensures { (r : List ℕ) × (n features : ℕ) × (peaks : Peaks) × (e : End) × Consumes (R.remaining reader.old) (R.remaining reader.new) r
+        × Account (all_under limits) r (IsAtEnd (R.remaining reader.new)) n features peaks e
+        × SaysReport (all_under limits) r e result (W.contents out.old) (W.contents out.new) }
+{
+    let query = Query::all(alloc);
+    let (tally, outcome) = tally_stream(alloc, reader, limits, &query);
+    match outcome.ended {
+        End::Complete => end_of_text(write_report(out, outcome.lines, &tally, outcome.peaks)),
+        ended => ended,
+    }
+}
+
+/// Does what is asked with what the reader gives, flushes `out`, says on `err` how it ended, and answers
+/// the status. A failure to write to `err` is ignored.
+pub fn perform<R: Read, W: Write + Drop, E: Write>(
+    alloc: Global,
+    ask: &Ask,
+    reader: &mut R,
+    out: &mut Output<W>,
+    err: &mut E,
+) -> u8
+    ensures { (r : List ℕ) × Consumes (R.remaining reader.old) (R.remaining reader.new) r
+        × Performs ask.now r (IsAtEnd (R.remaining reader.new)) result (W.contents (output_writer out.old)) (W.contents (output_writer out.new))
+        (flush_answer out.new) (E.contents err.old) (E.contents err.new) }
+{
+    let ended = match ask {
+        Ask::Check(limits) => check(alloc, *limits, reader, out),
+        Ask::Filter(limits, query) => copy_out(alloc, reader, out, *limits, query).ended,
+        Ask::Info(limits) => info(alloc, *limits, reader, out),
+    };
+    status(show(out.flush(), ended, err).end)
+}

@@ -1,0 +1,182 @@
+//! The words of the command line, read by `clap`.
+use crate::asking::QueryTexts;
+use cj_budget::{LimitFault, Limits};
+use clap::{Arg, ArgMatches, Command, Error, value_parser};
+use std::alloc::{AllocError, Global};
+
+/// The version of the program.
+const VERSION: &str = "0.1.0";
+
+/// The line limit where none is given: 8 MiB.
+pub const USUAL_LINE: u64 = 8_388_608;
+
+/// The depth limit where none is given.
+pub const USUAL_DEPTH: u64 = 64;
+
+/// The ids by which options are known.
+const LINE_LIMIT: &str = "line-limit";
+
+const DEPTH: &str = "depth";
+
+const IDS: &str = "id";
+
+const TYPES: &str = "type";
+
+const LODS: &str = "lod";
+
+const BBOX: &str = "bbox";
+
+/// What follows the help on a command.
+const STATUSES: &str = "\
+Exit status:
+  0  the stream is valid up to its end
+  1  a line is not valid: standard error tells its number (from 1), the byte in it (from 0), and
+     the code and the words of the reason
+  2  the command line is wrong
+  3  a read failed
+  4  a write failed
+  5  no memory was granted
+
+A CityJSONSeq stream is read from standard input: a CityJSON 2.0 header, then a CityJSONFeature a
+line. docs/RULES.md explains each reason, and docs/GUIDE.md shows the program at work.";
+
+/// Examples, for the help on each command.
+const CHECK_EXAMPLE: &str = "\
+Example:
+  cityseq check < town.city.jsonl
+
+Writes 'valid lines=N features=M' where the whole stream is valid, and nothing otherwise: then one
+line on standard error says where it is wrong. See 'cityseq --help' for the exit status.";
+
+const FILTER_EXAMPLE: &str = "\
+Examples:
+  cityseq filter --type Building,BuildingPart --lod 2.2 < town.city.jsonl > buildings.city.jsonl
+  zcat town.city.jsonl.gz | cityseq filter --bbox=-5,0,5000,5000 | gzip > part.city.jsonl.gz
+
+Kept lines leave byte for byte, in order. A feature is kept if it meets each option that is given;
+without options all are kept. The run stops at the first line that is not valid, with what was kept
+before it written. See 'cityseq --help' for the exit status.";
+
+const INFO_EXAMPLE: &str = "\
+Example:
+  cityseq info < town.city.jsonl
+
+Writes a report where the whole stream is valid, and nothing otherwise: lines and features, scale
+and translation, city objects by type, geometries by LoD, the least and the greatest number of the
+vertices on each axis, and the most bytes, tokens and open containers that were held. See
+'cityseq --help' for the exit status.";
+
+// The options that all commands have.
+fn with_limits(command: Command<'_>, alloc: Global) -> Result<Command<'_>, AllocError> {
+    let line = Arg::new(alloc, LINE_LIMIT)
+        .long(LINE_LIMIT)
+        .value_name("BYTES")
+        .value_parser(value_parser!(u64).range(1..=1_073_741_824))
+        .default_value("8388608")
+        .help("Refuse a line that is longer, from 1 to 1073741824");
+    let depth = Arg::new(alloc, DEPTH)
+        .long(DEPTH)
+        .value_name("LEVELS")
+        .value_parser(value_parser!(u64).range(1..=1_024))
+        .default_value("64")
+        .help("Refuse a line with more arrays and objects open at once, from 1 to 1024");
+    command.arg(line)?.arg(depth)
+}
+
+// An option of `filter` that takes texts.
+fn texts_option<'a>(alloc: Global, name: &'a str, value: &'a str, help: &'a str) -> Arg<'a> {
+    Arg::new(alloc, name)
+        .long(name)
+        .value_name(value)
+        .help(help)
+}
+
+fn check_command<'a>(alloc: Global) -> Result<Command<'a>, AllocError> {
+    let command = Command::new(alloc, "check")
+        .about("Say whether a stream is valid, and count its lines and features")
+        .after_help(CHECK_EXAMPLE);
+    with_limits(command, alloc)
+}
+
+fn filter_command<'a>(alloc: Global) -> Result<Command<'a>, AllocError> {
+    let command = Command::new(alloc, "filter")
+        .about("Copy the header and the features that are wanted")
+        .after_help(FILTER_EXAMPLE);
+    with_limits(command, alloc)?
+        .arg(texts_option(
+            alloc,
+            IDS,
+            "IDS",
+            "Keep a feature whose id is one of these, with commas between them",
+        ))?
+        .arg(texts_option(
+            alloc,
+            TYPES,
+            "TYPES",
+            "Keep a feature that has a city object of one of these types, with commas between them",
+        ))?
+        .arg(texts_option(
+            alloc,
+            LODS,
+            "LODS",
+            "Keep a feature that has a geometry with one of these as its lod, with commas between them",
+        ))?
+        .arg(texts_option(
+            alloc,
+            BBOX,
+            "MINX,MINY,MAXX,MAXY",
+            "Keep a feature that reaches into this box, in world coordinates; written --bbox=-5,0,5,9 where it begins with a minus",
+        ))
+}
+
+fn info_command<'a>(alloc: Global) -> Result<Command<'a>, AllocError> {
+    let command = Command::new(alloc, "info")
+        .about("Report what is in a stream: types, LoDs, extent, and memory")
+        .after_help(INFO_EXAMPLE);
+    with_limits(command, alloc)
+}
+
+/// The command line of the program.
+fn program<'a>(alloc: Global) -> Result<Command<'a>, AllocError> {
+    Command::new(alloc, "cityseq")
+        .version(VERSION)
+        .about(
+            "Checks, filters and summarises a CityJSONSeq 2.0 stream, read once and in bounded memory",
+        )
+        .after_help(STATUSES)
+        .arg_required_else_help(true)
+        .subcommand_required(true)
+        .subcommand(check_command(alloc)?)?
+        .subcommand(filter_command(alloc)?)?
+        .subcommand(info_command(alloc)?)
+}
+
+/// What the words of a command line say, the program's name first.
+///
+/// # Errors
+///
+/// What is wrong with them, or the help that they ask for, as the text of `clap`.
+pub fn read_words<'a>(alloc: Global, words: &'a [String]) -> Result<ArgMatches<'a>, Error> {
+    program(alloc)?.try_get_matches_from(words)
+}
+
+/// The limits that a command was given, or the usual ones.
+///
+/// # Errors
+///
+/// The first that is out of its range.
+pub fn limits_of(matches: &ArgMatches) -> Result<Limits, LimitFault> {
+    let line = matches.get_one::<u64>(LINE_LIMIT).unwrap_or(USUAL_LINE);
+    let depth = matches.get_one::<u64>(DEPTH).unwrap_or(USUAL_DEPTH);
+    Limits::new(line, depth)
+}
+
+/// The texts that `filter` was given.
+pub fn texts_of<'a>(matches: &ArgMatches<'a>) -> QueryTexts<'a> {
+    QueryTexts {
+        ids: matches.get_str(IDS),
+        types: matches.get_str(TYPES),
+        lods: matches.get_str(LODS),
+        bbox: matches.get_str(BBOX),
+    }
+}
