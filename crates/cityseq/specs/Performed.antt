@@ -44,7 +44,7 @@ SaysCheck rules r e told old new =
     Says (check_text (length (good rules r)) (length (filter is_feature (kept rules r)))) e told old new
 
 -- of the bytes r: how many good lines they have, their tally, and what was held at most
-record SaysReport (rules : Rules) (r : List ℕ) (e told : End) (old new : Option (List ℕ)) : Type 0 where
+pub record SaysReport (rules : Rules) (r : List ℕ) (e told : End) (old new : Option (List ℕ)) : Type 0 where
   pub tally : Tally
   pub counted : e ≡ Complete → IsTallyOf (kept rules r) tally
   pub says : Says (report (length (good rules r)) tally (exact_peaks rules.limits r)) e told old new
@@ -68,7 +68,7 @@ Answers (Info limits) r e told old new = SaysReport (all_under limits) r e told 
 
 -- What is asked was done with bytes r that were read: the account of the run over them; what standard output has got;
 -- what the flush answered, and standard error has got; and the status.
-record Performs (ask : Ask) (r : List ℕ) (at_end : Type 0) (status : ℕ) (old_out new_out : Option (List ℕ)) (flushed : Option (Result (Unit {0}) Unwritten)) (old_err new_err : Option (List ℕ)) : Type 0 where
+pub record Performs (ask : Ask) (r : List ℕ) (at_end : Type 0) (answer : ℕ) (old_out new_out : Option (List ℕ)) (flushed : Option (Result (Unit {0}) Unwritten)) (old_err new_err : Option (List ℕ)) : Type 0 where
   pub lines : ℕ
   pub features : ℕ
   pub peaks : Peaks
@@ -78,4 +78,22 @@ record Performs (ask : Ask) (r : List ℕ) (at_end : Type 0) (status : ℕ) (old
   pub account : Account (rules_of_ask ask) r at_end lines features peaks ended
   pub answers : Answers ask r ended told old_out new_out
   pub reports : Reports told flushed shown old_err new_err
-  pub status : status ≡ status_of shown.end
+  pub status : answer ≡ status_of shown.end
+
+-- ---- other words
+
+-- A text was written that the words ask for, as help: what standard output has got; what the flush answered, and
+-- standard error has got; and the status.
+pub record TellsHelp (answer : ℕ) (old_out new_out : Option (List ℕ)) (flushed : Option (Result (Unit {0}) Unwritten)) (old_err new_err : Option (List ℕ)) : Type 0 where
+  pub text : List ℕ
+  pub told : End
+  pub shown : Shown
+  pub says : Says text Complete told old_out new_out
+  pub reports : Reports told flushed shown old_err new_err
+  pub status : answer ≡ status_of shown.end
+
+-- Nothing is done with the stream: the words are wrong or memory was refused, and standard output got nothing; or they
+-- ask for help.
+abbrev pub Declines : ℕ → Option (List ℕ) → Option (List ℕ) → Option (Result (Unit {0}) Unwritten) → Option (List ℕ) → Option (List ℕ) → Type 0
+Declines answer old_out new_out flushed old_err new_err =
+    (((answer ≡ 2) ⊎ (answer ≡ 5)) × (new_out ≡ old_out)) ⊎ TellsHelp answer old_out new_out flushed old_err new_err

@@ -8,7 +8,7 @@ ghost use Rattle.cj_stream.specs.Run.{Account, Writes};
 ghost use Rattle.cj_stream.specs.Verdict.{Rules};
 ghost use Rattle.cj_stream.specs.declared.ending.End.{End};
 ghost use Rattle.cityseq.specs.Output.{output_writer, flush_answer};
-ghost use Rattle.cityseq.specs.Performed.{all_under, end_of_text as told_after, Performs, SaysCheck, SaysReport};
+ghost use Rattle.cityseq.specs.Performed.{all_under, end_of_text as told_after, rules_of_ask, Answers, Performs, SaysCheck, SaysReport};
 ghost use Rattle.cityseq.specs.Report.{Reports, status_of};
 
 use crate::output::Output;
@@ -47,9 +47,9 @@ fn check<R: Read, W: Write>(alloc: Global, limits: Limits, reader: &mut R, out: 
         × SaysCheck (all_under limits) r e result (W.contents out.old) (W.contents out.new) }
 {
     let query = Query::all(alloc);
-    let (counts, outcome) = count_stream(alloc, reader, limits, &query);
+    let (_, outcome) = count_stream(alloc, reader, limits, &query);
     match outcome.ended {
-        End::Complete => end_of_text(write_check(out, outcome.lines, counts.features)),
+        End::Complete => end_of_text(write_check(out, outcome.lines, outcome.kept)),
         ended => ended,
     }
 }
@@ -68,6 +68,19 @@ fn info<R: Read, W: Write>(alloc: Global, limits: Limits, reader: &mut R, out: &
     }
 }
 
+// Does what is asked with what the reader gives, and tells the end.
+fn answer<R: Read, W: Write>(alloc: Global, ask: &Ask, reader: &mut R, out: &mut W) -> End
+    ensures { (r : List ℕ) × (n features : ℕ) × (peaks : Peaks) × (e : End) × Consumes (R.remaining reader.old) (R.remaining reader.new) r
+        × Account (rules_of_ask ask.now) r (IsAtEnd (R.remaining reader.new)) n features peaks e
+        × Answers ask.now r e result (W.contents out.old) (W.contents out.new) }
+{
+    match ask {
+        Ask::Check(limits) => check(alloc, *limits, reader, out),
+        Ask::Filter(limits, query) => copy_out(alloc, reader, out, *limits, query).ended,
+        Ask::Info(limits) => info(alloc, *limits, reader, out),
+    }
+}
+
 /// Does what is asked with what the reader gives, flushes `out`, says on `err` how it ended, and answers
 /// the status. A failure to write to `err` is ignored.
 pub fn perform<R: Read, W: Write + Drop, E: Write>(
@@ -81,10 +94,6 @@ pub fn perform<R: Read, W: Write + Drop, E: Write>(
         × Performs ask.now r (IsAtEnd (R.remaining reader.new)) result (W.contents (output_writer out.old)) (W.contents (output_writer out.new))
         (flush_answer out.new) (E.contents err.old) (E.contents err.new) }
 {
-    let ended = match ask {
-        Ask::Check(limits) => check(alloc, *limits, reader, out),
-        Ask::Filter(limits, query) => copy_out(alloc, reader, out, *limits, query).ended,
-        Ask::Info(limits) => info(alloc, *limits, reader, out),
-    };
-    status(show(out.flush(), ended, err).end)
+    let told = answer(alloc, ask, reader, out);
+    status(show(out.flush(), told, err).end)
 }

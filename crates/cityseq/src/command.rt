@@ -1,8 +1,8 @@
 //! The command line.
-ghost use Rattle.std.specs.Prelude.{◌≡◌, ◌×◌, ◌⊎◌, ℕ, List};
+ghost use Rattle.std.specs.Prelude.{◌≡◌, ◌⊎◌, ℕ, List};
 ghost use Rattle.std.specs.Io.KnownBytes.{Consumes, IsAtEnd};
 ghost use Rattle.cityseq.specs.Output.{output_writer, flush_answer};
-ghost use Rattle.cityseq.specs.Performed.{Performs, Tells};
+ghost use Rattle.cityseq.specs.Performed.{Performs, Declines};
 ghost use Rattle.cityseq.specs.declared.ask.Ask.{Ask};
 
 use crate::ask::{Ask, end_of_text, perform};
@@ -22,41 +22,47 @@ use std::io::{Read, Write};
 enum NoAsk {
     /// The words are wrong, or they ask for help.
     Words(Error),
-    /// A limit is out of its range.
+    /// The words name no command of the program; `clap` refuses such words before.
+    NoCommand,
+    /// A limit is out of its range; `clap` refuses such a number before.
     Limits(LimitFault),
     /// The query cannot be asked.
     Query(QueryFault),
 }
 
-// What a command asks for.
-fn ask_of(alloc: Global, name: &str, matches: &ArgMatches) -> Result<Ask, NoAsk> {
-    let limits = match limits_of(matches) {
+// What a command with these options asks for.
+fn ask_of(alloc: Global, name: &str, options: &ArgMatches) -> Result<Ask, NoAsk> {
+    let limits = match limits_of(options) {
         Ok(limits) => limits,
         Err(fault) => return Err(NoAsk::Limits(fault)),
     };
     match name {
         "check" => Ok(Ask::Check(limits)),
-        "info" => Ok(Ask::Info(limits)),
-        _ => match query_of(alloc, &texts_of(matches)) {
+        "filter" => match query_of(alloc, &texts_of(options)) {
             Ok(query) => Ok(Ask::Filter(limits, query)),
             Err(fault) => Err(NoAsk::Query(fault)),
         },
+        "info" => Ok(Ask::Info(limits)),
+        _ => Err(NoAsk::NoCommand),
     }
 }
 
 // What the words ask for.
 fn read_ask(alloc: Global, words: &[String]) -> Result<Ask, NoAsk> {
-    match read_words(alloc, words) {
-        Ok(matches) => match matches.subcommand() {
-            Some((name, options)) => ask_of(alloc, name, options),
-            None => unreachable!(),
-        },
-        Err(error) => Err(NoAsk::Words(error)),
+    let matches = match read_words(alloc, words) {
+        Ok(matches) => matches,
+        Err(error) => return Err(NoAsk::Words(error)),
+    };
+    match matches.subcommand() {
+        Some((name, options)) => ask_of(alloc, name, options),
+        None => Err(NoAsk::NoCommand),
     }
 }
 
 // Says that memory was refused, and answers the status of that.
-fn out_of_memory<E: Write>(err: &mut E) -> u8 {
+fn out_of_memory<E: Write>(err: &mut E) -> u8
+    ensures { result ≡ 5 }
+{
     let _ = write_fault_line(err, End::Memory);
     status(End::Memory)
 }
@@ -67,7 +73,10 @@ fn tell<W: Write + Drop, E: Write>(
     error: &Error,
     out: &mut Output<W>,
     err: &mut E,
-) -> u8 {
+) -> u8
+    ensures { Declines result (W.contents (output_writer out.old)) (W.contents (output_writer out.new)) (flush_answer out.new)
+        (E.contents err.old) (E.contents err.new) }
+{
     if error.kind() == ErrorKind::OutOfMemory {
         return out_of_memory(err);
     }
@@ -90,7 +99,13 @@ pub fn command<R: Read, W: Write + Drop, E: Write>(
     reader: &mut R,
     out: &mut Output<W>,
     err: &mut E,
-) -> u8 {
+) -> u8
+    ensures { ((ask : Ask) × (r : List ℕ) × Consumes (R.remaining reader.old) (R.remaining reader.new) r
+        × Performs ask r (IsAtEnd (R.remaining reader.new)) result (W.contents (output_writer out.old)) (W.contents (output_writer out.new))
+        (flush_answer out.new) (E.contents err.old) (E.contents err.new))
+        ⊎ ((reader.new ≡ reader.old) × Declines result (W.contents (output_writer out.old)) (W.contents (output_writer out.new)) (flush_answer out.new)
+        (E.contents err.old) (E.contents err.new)) }
+{
     match read_ask(alloc, words) {
         Ok(ask) => perform(alloc, &ask, reader, out, err),
         Err(NoAsk::Words(error)) => tell(alloc, &error, out, err),
@@ -102,5 +117,6 @@ pub fn command<R: Read, W: Write + Drop, E: Write>(
             let _ = writeln!(err, "{fault}");
             WRONG_WORDS
         }
+        Err(NoAsk::NoCommand) => WRONG_WORDS,
     }
 }

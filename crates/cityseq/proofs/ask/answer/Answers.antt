@@ -1,0 +1,10 @@
+use Rattle.std.proofs.Common.{refl}
+use Rattle.cityseq.proofs.ask.answer.Goals as goal
+
+pub returns-in-Filter : goal.returns-in-Filter
+returns-in-Filter g c =
+    let e = c.copy_out.ensures in
+    rw c.in-Filter.is (e.0, _, _, _, _, e.1, e.2, (refl, e.3))
+
+pub returns-in-Info : goal.returns-in-Info
+returns-in-Info g c = rw c.in-Info.is c.info.ensures
