@@ -83,8 +83,8 @@ Says-report rules r n t peaks written told old new lines tally held tells ok err
   tally = t;
   counted = λ e. tally;
   says = subst (λ p. Says (report (length (good rules r)) t p) Complete told old new) held
-    (subst (λ x. Says (report x t peaks) Complete told old new) lines
-    (Says-told (report n t peaks) written told old new tells ok err));
+      (subst (λ x. Says (report x t peaks) Complete told old new) lines
+      (Says-told (report n t peaks) written told old new tells ok err));
 }
 
 -- nothing was reported after a run that is not complete

@@ -1,6 +1,6 @@
 //! Tests of what no clause says: worked rows, printed texts, and devices that fail.
 //!
-//! `rows`, `blank_lines`, `long_lines`, `lines`, `order` and `queries` have inputs with their answers, `lent` and
+//! `rows`, `blank_lines`, `long_lines`, `lines`, `order`, `queries` and `options` have inputs with their answers, `lent` and
 //! `tally` what sinks see of them, `devices` the readers and writers that fail, and `calls` what all tests share. A
 //! body of many asserts is dear to prove, and a call is not: a row is one call of a function that checks
 //! it.
@@ -13,6 +13,7 @@ mod faults;
 mod lent;
 mod lines;
 mod long_lines;
+mod options;
 mod order;
 mod queries;
 mod rows;

@@ -1,10 +1,13 @@
 //! What the tests share: comparisons, and the calls that are tested without what their contracts
 //! say. A test compares values when it runs, and its proof grows with each fact that a call leaves.
 use super::devices::{SlowReader, SlowWriter};
+use crate::command::command;
+use crate::output::Output;
 use cj_budget::{Limits, Peaks};
 use cj_spans::Reason;
 use cj_stream::{End, Engine, LineSink, Outcome, Query, WriteSink, copy, copy_out};
 use std::alloc::Global;
+use std::io::Read;
 use std::process::Abort;
 use std::test::Fail;
 
@@ -95,4 +98,38 @@ pub fn check_feed<S: LineSink>(
 /// Ends the stream of an engine, which has to answer so.
 pub fn check_finish<S: LineSink>(rt: &impl Abort, engine: &mut Engine, sink: &mut S, wanted: End) {
     assert_eq!(rt; engine.finish(sink), wanted);
+}
+
+/// What the program wrote to standard output and to standard error, and its status.
+#[derive(Drop)]
+pub struct Written {
+    pub status: u8,
+    pub out: Vec<u8>,
+    pub err: Vec<u8>,
+}
+
+/// Compares what the program wrote.
+pub fn check_written(rt: &impl Abort, written: &Written, status: u8, out: &[u8], err: &[u8]) {
+    check_number(rt, written.status.into(), status.into(), "status", 0);
+    check_bytes(rt, &written.out, out, "standard output", 0);
+    check_bytes(rt, &written.err, err, "standard error", 0);
+}
+
+// The program's name and these words.
+fn words(alloc: Global, parts: &[&str]) -> Result<Vec<String>, Fail> {
+    let mut words = Vec::new(alloc);
+    words.push(String::from_str(alloc, "cityseq")?)?;
+    for part in parts {
+        words.push(String::from_str(alloc, part)?)?;
+    }
+    Ok(words)
+}
+
+/// Runs the command that these words after the program's name ask for.
+pub fn commanded<R: Read>(alloc: Global, asked: &[&str], reader: &mut R) -> Result<Written, Fail> {
+    let asked = words(alloc, asked)?;
+    let mut out = Vec::new(alloc);
+    let mut err = Vec::new(alloc);
+    let status = command(alloc, &asked, reader, &mut Output::new(&mut out), &mut err);
+    Ok(Written { status, out, err })
 }

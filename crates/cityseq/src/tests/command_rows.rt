@@ -1,82 +1,32 @@
-//! Rows of the command line.
-use super::calls::{check_bytes, check_number, joined, refused};
+//! Rows of the program: what it writes and says where a stream is refused, and where a device fails.
+use super::calls::{Written, check_bytes, check_number, check_written, commanded, joined, refused};
 use super::devices::{SlowReader, SlowWriter};
 use super::rows::{FEATURE, HEADER};
-use crate::command::{command, filter};
+use crate::ask::{Ask, perform};
 use crate::output::Output;
 use crate::report::{status, write_fault_line};
 use cj_budget::Limits;
 use cj_spans::Reason;
 use cj_stream::{End, Query};
 use std::alloc::Global;
-use std::io::{Read, Write};
+use std::io::Write;
 use std::process::Abort;
 use std::test::Fail;
-
-// What a run wrote to standard output and to standard error, and its status.
-#[derive(Drop)]
-struct Written {
-    status: u8,
-    out: Vec<u8>,
-    err: Vec<u8>,
-}
-
-fn check_written(rt: &impl Abort, written: &Written, status: u8, out: &[u8], err: &[u8]) {
-    check_number(rt, written.status.into(), status.into(), "status", 0);
-    check_bytes(rt, &written.out, out, "standard output", 0);
-    check_bytes(rt, &written.err, err, "standard error", 0);
-}
-
-fn words(alloc: Global, parts: &[&str]) -> Result<Vec<String>, Fail> {
-    let mut words = Vec::new(alloc);
-    for part in parts {
-        words.push(String::from_str(alloc, part)?)?;
-    }
-    Ok(words)
-}
-
-// Runs the command that the words ask for.
-fn commanded<R: Read>(alloc: Global, asked: &[&str], reader: &mut R) -> Result<Written, Fail> {
-    let asked = words(alloc, asked)?;
-    let mut out = Vec::new(alloc);
-    let mut err = Vec::new(alloc);
-    let status = command(alloc, &asked, reader, &mut Output::new(&mut out), &mut err);
-    Ok(Written { status, out, err })
-}
 
 #[test]
 fn filter_copies_and_answers_zero(rt: HostRuntime) -> Result<(), Fail> {
     let text = joined(rt.alloc(), &[HEADER, b"\n", FEATURE, b"\n"])?;
-    let written = commanded(rt.alloc(), &["cityseq", "filter"], &mut text.as_slice())?;
+    let written = commanded(rt.alloc(), &["filter"], &mut text.as_slice())?;
     check_written(&rt, &written, 0, &text, b"");
     Ok(())
 }
 
 #[test]
 fn an_empty_input_has_no_header(rt: HostRuntime) -> Result<(), Fail> {
-    let written = commanded(rt.alloc(), &["cityseq", "filter"], &mut b"".as_slice())?;
+    let written = commanded(rt.alloc(), &["filter"], &mut b"".as_slice())?;
     let told = b"line 1, byte 0: 1 no header line\n";
     check_written(&rt, &written, 1, b"", told);
     Ok(())
-}
-
-// Nothing is read, written or said.
-fn check_other_words(rt: &impl Abort, alloc: Global, asked: &[&str]) -> Result<(), Fail> {
-    let mut reader = SlowReader::new(HEADER, 10);
-    let written = commanded(alloc, asked, &mut reader)?;
-    check_written(rt, &written, 2, b"", b"");
-    check_number(rt, reader.reads, 0, "reads", 0);
-    Ok(())
-}
-
-#[test]
-fn other_words_are_refused_in_silence(rt: HostRuntime) -> Result<(), Fail> {
-    check_other_words(&rt, rt.alloc(), &[])?;
-    check_other_words(&rt, rt.alloc(), &["cityseq"])?;
-    check_other_words(&rt, rt.alloc(), &["cityseq", "check"])?;
-    check_other_words(&rt, rt.alloc(), &["cityseq", "--help"])?;
-    check_other_words(&rt, rt.alloc(), &["cityseq", "Filter"])?;
-    check_other_words(&rt, rt.alloc(), &["cityseq", "filter", "filter"])
 }
 
 // Filters what a reader gives to a writer, and answers the status.
@@ -87,9 +37,8 @@ fn filter_to<W: Write, E: Write>(
     out: &mut W,
     err: &mut E,
 ) -> u8 {
-    let query = Query::all(alloc);
-    let mut out = Output::new(out);
-    status(filter(alloc, limits, &query, reader, &mut out, err).end)
+    let ask = Ask::Filter(limits, Query::all(alloc));
+    perform(alloc, &ask, reader, &mut Output::new(out), err)
 }
 
 // Filters what a reader gives.
