@@ -6,3 +6,4 @@ pub mod Performed
 pub mod Report
 pub mod Summary
 pub mod Text
+pub mod Words

@@ -1,9 +1,11 @@
 //! The command line.
-ghost use Rattle.std.specs.Prelude.{◌≡◌, ◌⊎◌, ℕ, List};
+ghost use Rattle.std.specs.Prelude.{◌≡◌, ◌⊎◌, ℕ, List, IfOk, IsErrOf};
 ghost use Rattle.std.specs.Io.KnownBytes.{Consumes, IsAtEnd};
 ghost use Rattle.cityseq.specs.Output.{output_writer, flush_answer};
 ghost use Rattle.cityseq.specs.Performed.{Performs, Declines};
+ghost use Rattle.cityseq.specs.Words.{AsksBy, CannotAsk};
 ghost use Rattle.cityseq.specs.declared.ask.Ask.{Ask};
+ghost use Rattle.cj_stream.specs.declared.query.fault.QueryFault.{QueryFault};
 
 use crate::ask::{Ask, end_of_text, perform};
 use crate::asking::query_of;
@@ -31,7 +33,10 @@ enum NoAsk {
 }
 
 // What a command with these options asks for.
-fn ask_of(alloc: Global, name: &str, options: &ArgMatches) -> Result<Ask, NoAsk> {
+fn ask_of(alloc: Global, name: &str, options: &ArgMatches) -> Result<Ask, NoAsk>
+    ensures ok { IfOk result (λ ask. AsksBy name.now options.now ask) }
+    ensures err { (fault : QueryFault) → IsErrOf result (NoAsk.Query fault) → CannotAsk options.now fault }
+{
     let limits = match limits_of(options) {
         Ok(limits) => limits,
         Err(fault) => return Err(NoAsk::Limits(fault)),

@@ -1,4 +1,8 @@
 //! The words of the command line, read by `clap`.
+ghost use Rattle.std.specs.Prelude.{◌≡◌, IfOk};
+ghost use Rattle.cityseq.specs.Asking.{texts_of as texts_given};
+ghost use Rattle.cityseq.specs.Words.{texts_in, HasNumber, HasLimits};
+
 use crate::asking::QueryTexts;
 use cj_budget::{LimitFault, Limits};
 use clap::{Arg, ArgMatches, Command, Error, value_parser};
@@ -160,19 +164,30 @@ pub fn read_words<'a>(alloc: Global, words: &'a [String]) -> Result<ArgMatches<'
     program(alloc)?.try_get_matches_from(words)
 }
 
+// The number that an option was given, or the usual one.
+fn number_of(matches: &ArgMatches, option: &str, usual: u64) -> u64
+    ensures { HasNumber matches.now option.now usual result }
+{
+    matches.get_one::<u64>(option).unwrap_or(usual)
+}
+
 /// The limits that a command was given, or the usual ones.
 ///
 /// # Errors
 ///
 /// The first that is out of its range.
-pub fn limits_of(matches: &ArgMatches) -> Result<Limits, LimitFault> {
-    let line = matches.get_one::<u64>(LINE_LIMIT).unwrap_or(USUAL_LINE);
-    let depth = matches.get_one::<u64>(DEPTH).unwrap_or(USUAL_DEPTH);
+pub fn limits_of(matches: &ArgMatches) -> Result<Limits, LimitFault>
+    ensures { IfOk result (λ limits. HasLimits matches.now limits) }
+{
+    let line = number_of(matches, LINE_LIMIT, USUAL_LINE);
+    let depth = number_of(matches, DEPTH, USUAL_DEPTH);
     Limits::new(line, depth)
 }
 
 /// The texts that `filter` was given.
-pub fn texts_of<'a>(matches: &ArgMatches<'a>) -> QueryTexts<'a> {
+pub fn texts_of<'a>(matches: &ArgMatches<'a>) -> QueryTexts<'a>
+    ensures { texts_given result ≡ texts_in matches.now }
+{
     QueryTexts {
         ids: matches.get_str(IDS),
         types: matches.get_str(TYPES),

@@ -1,7 +1,0 @@
-use Rattle.cityseq.proofs.summary.write_report.Goals as goal
-
-pub returns-clause-ok : goal.returns-clause-ok
-returns-clause-ok g c = ?
-
-pub returns-clause-fault : goal.returns-clause-fault
-returns-clause-fault g c = ?
