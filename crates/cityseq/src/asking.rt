@@ -1,14 +1,17 @@
 //! What the options of `filter` ask for.
-ghost use Rattle.std.specs.Prelude.{◌≡◌, ◌⊎◌, Ok, Err, IfOk, IfErr};
+ghost use Rattle.std.specs.Prelude.{◌≡◌, ◌⊎◌, Some, Ok, Err, IfOk, IfErr, IsSome, OnOk, MatchOption};
+ghost use Rattle.cj_stream.specs.Asking.{no_types};
+ghost use Rattle.cj_stream.specs.BoxText.{fields};
 ghost use Rattle.cj_stream.specs.Query.{asked};
-ghost use Rattle.cj_stream.specs.declared.query.fault.QueryFault.TheVariants.{Memory};
-ghost use Rattle.cityseq.specs.Options.{asked_by};
+ghost use Rattle.cj_stream.specs.declared.query.fault.QueryFault.TheVariants.{Memory, UnknownTypeName};
+ghost use Rattle.cityseq.specs.Options.{asked_by, flags_with};
 ghost use Rattle.cityseq.specs.Asking.{texts_of};
 
 use cj_stream::{Query, QueryFault};
 use std::alloc::Global;
 
-/// The texts of the options that say what is asked, as they were given.
+/// The texts of the options that say what is asked, as they were given. Where there are commas, what stands
+/// between two of them is one id, name or level, also where it is empty.
 #[derive(Clone, Copy, Debug)]
 pub struct QueryTexts<'a> {
     /// Ids of features, with commas between them.
@@ -25,23 +28,34 @@ pub struct QueryTexts<'a> {
 ///
 /// # Errors
 ///
-/// The first refusal: `UnknownTypeName`, or what is wrong with the box; or `Memory` where none was granted.
+/// The first refusal: `UnknownTypeName`, or what is wrong with the box; or `Memory` where none was granted
+/// for ids or LoDs. Types and a box take no memory.
 pub fn query_of(alloc: Global, texts: &QueryTexts) -> Result<Query, QueryFault>
     ensures ok { IfOk result (λ query. asked_by (texts_of texts.now) ≡ Ok (asked query)) }
     ensures err { IfErr result (λ fault. (fault ≡ Memory) ⊎ (asked_by (texts_of texts.now) ≡ Err fault)) }
+    ensures memory { result ≡ Err Memory → IsSome texts.now.ids ⊎ IsSome texts.now.lods }
 {
     let mut query = Query::all(alloc);
-    ask_ids(&mut query, texts.ids)?;
-    ask_types(&mut query, texts.types)?;
-    ask_lods(&mut query, texts.lods)?;
+    if let Some(ids) = texts.ids {
+        ask_ids(&mut query, ids)?;
+    }
+    if let Some(types) = texts.types {
+        ask_types(&mut query, types)?;
+    }
+    if let Some(lods) = texts.lods {
+        ask_lods(&mut query, lods)?;
+    }
     if let Some(bbox) = texts.bbox {
         query.bbox(bbox)?;
     }
     Ok(query)
 }
 
-fn ask_ids(query: &mut Query, ids: Option<&str>) -> Result<(), QueryFault> {
-    let Some(ids) = ids else { return Ok(()) };
+// Sets the part on ids to what stands between the commas of a text.
+fn ask_ids(query: &mut Query, ids: &str) -> Result<(), QueryFault>
+    ensures ok { OnOk result (asked query.new ≡ record (asked query.old) { ids = Some (fields ids.now) }) }
+    ensures memory { IfErr result (λ fault. fault ≡ Memory) }
+{
     query.start_ids();
     for id in ids.split(',') {
         query.add_id(id)?;
@@ -49,8 +63,12 @@ fn ask_ids(query: &mut Query, ids: Option<&str>) -> Result<(), QueryFault> {
     Ok(())
 }
 
-fn ask_types(query: &mut Query, types: Option<&str>) -> Result<(), QueryFault> {
-    let Some(types) = types else { return Ok(()) };
+// Sets the part on types to those whose names stand between the commas of a text.
+fn ask_types(query: &mut Query, types: &str) -> Result<(), QueryFault>
+    ensures { MatchOption (flags_with (fields types.now) no_types)
+        (result ≡ Err UnknownTypeName)
+        (λ flags. (result ≡ Ok tt) × (asked query.new ≡ record (asked query.old) { types = Some flags })) }
+{
     query.start_types();
     for name in types.split(',') {
         query.add_type(name)?;
@@ -58,8 +76,11 @@ fn ask_types(query: &mut Query, types: Option<&str>) -> Result<(), QueryFault> {
     Ok(())
 }
 
-fn ask_lods(query: &mut Query, lods: Option<&str>) -> Result<(), QueryFault> {
-    let Some(lods) = lods else { return Ok(()) };
+// Sets the part on LoDs to what stands between the commas of a text.
+fn ask_lods(query: &mut Query, lods: &str) -> Result<(), QueryFault>
+    ensures ok { OnOk result (asked query.new ≡ record (asked query.old) { lods = Some (fields lods.now) }) }
+    ensures memory { IfErr result (λ fault. fault ≡ Memory) }
+{
     query.start_lods();
     for lod in lods.split(',') {
         query.add_lod(lod)?;

@@ -1,0 +1,91 @@
+use Rattle.std.proofs.Common.{◌≡◌, ◌∙◌, ℕ, List, Bool, true, false, not, Option, Some, None, Result, Ok, Err, refl, sym, ap, inr}
+use Rattle.std.specs.Prelude.{if◌then◌else◌, MatchOption, MatchResult, option_map}
+use Rattle.std.specs.List.{list_all}
+use Rattle.std.proofs.lemmas.Result.{err_from_is_err_and}
+use Rattle.cj_stream.specs.Asked.{Asked, Box, everything}
+use Rattle.cj_stream.specs.BoxText.{fields, is_edge, box_between, is_empty, are_four_numbers, box_text}
+use Rattle.cj_stream.specs.Query.{asked}
+use Rattle.cj_stream.specs.declared.query.fault.QueryFault.{QueryFault}
+use Rattle.cj_stream.specs.declared.query.fault.QueryFault.TheVariants.{Memory, UnknownTypeName, BadBox, BoxRange, EmptyBox}
+use Rattle.cityseq.specs.Options.{types_or_fault, types_asked, box_or_fault, box_asked}
+use Rattle.cityseq.specs.Asking.{texts_of}
+use Rattle.cityseq.proofs.asking.query_of.Goals.{in-Some+in_ok-ask_ids, in_default, in-Some-types+in_ok-ask_types, in_default-types, in-Some-lods+in_ok-ask_lods, in_default-lods, in-Some-bbox+in_ok-bbox, in_default-bbox}
+use Rattle.cityseq.proofs.asking.query_of.Goals as goal
+
+-- what `ask_types` and `bbox` answer, with what was asked before and after
+module _ (r : Result (Unit {0}) QueryFault) (old new : Asked) where
+  abbrev SetsTypes : Option (List Bool) → Type 0
+  SetsTypes flags = MatchOption flags (r ≡ Err UnknownTypeName) (λ flags. (r ≡ Ok tt) × (new ≡ record old { types = Some flags }))
+
+  abbrev SetsBox : Result Box QueryFault → Type 0
+  SetsBox box = MatchResult box (λ box. (r ≡ Ok tt) × (new ≡ record old { box = Some box })) (λ fault. (r ≡ Err fault) × (new ≡ old))
+
+  types-set : (flags : Option (List Bool)) → SetsTypes flags → r ≡ Ok tt → (types_or_fault flags ≡ Ok new.types) × (new ≡ record old { types = new.types })
+  types-set None h ok = absurd (cc (h, ok))
+  types-set (Some flags) h ok = (ap (λ a. Ok a.types) (sym h.1), h.1 ∙ ap (λ types. record old { types = types }) (sym (ap (λ a. a.types) h.1)))
+
+  box-set : (box : Result Box QueryFault) → SetsBox box → r ≡ Ok tt → (box_or_fault box ≡ Ok new.box) × (new ≡ record old { box = new.box })
+  box-set (Ok box) h ok = (ap (λ a. Ok a.box) (sym h.1), h.1 ∙ ap (λ box. record old { box = box }) (sym (ap (λ a. a.box) h.1)))
+  box-set (Err fault) h ok = absurd (cc (h.0, ok))
+
+  box-refused : (fault : QueryFault) (box : Result Box QueryFault) → SetsBox box → r ≡ Err fault → box ≡ Err fault
+  box-refused fault (Ok box) h err = absurd (cc (h.0, err))
+  box-refused fault (Err other) h err = cc (h.0, err)
+
+-- memory is no reason to refuse a box
+refused-by-text : (wrong wide empty : Bool) (box : Box) → (if wrong then Err BadBox else if wide then Err BoxRange else if empty then Err EmptyBox else Ok box) ≡ Err Memory → ⊥
+refused-by-text true wide empty box e = cc e
+refused-by-text false true empty box e = cc e
+refused-by-text false false true box e = cc e
+refused-by-text false false false box e = cc e
+
+box-takes-none : (s : List ℕ) → box_text s ≡ Err Memory → ⊥
+box-takes-none s = refused-by-text (not (are_four_numbers (fields s))) (not (list_all is_edge (fields s))) (is_empty (box_between (fields s))) (box_between (fields s))
+
+pub returns-clause-ok : goal.returns-clause-ok
+returns-clause-ok c =
+    let texts = texts_of c.args.texts.now in
+    let first = asked c.match-texts.query in
+    let second = asked c.match-texts-2.query in
+    let third = asked c.match-texts-3.query in
+    let last = asked c.match-texts-4.query in
+    let ids : first ≡ record everything { ids = option_map fields texts.ids } =
+    elim c.match-texts.branch [
+      | in-Some+in_ok-ask_ids w ↦ rw (w.query-is, w.in_ok-ask_ids.ensures.ok, c.all-query.ensures.all, w.in-Some.is) refl
+      | in_default w ↦ rw (w.query-is, c.all-query.ensures.all, w.in_default.is) refl
+    ] in
+    let types : (types_asked texts.types ≡ Ok second.types) × (second ≡ record first { types = second.types }) =
+    elim c.match-texts-2.branch [
+      | in-Some-types+in_ok-ask_types w ↦ rw (w.query-is, w.in-Some-types.is) (types-set w.ask_types.result first (asked w.ask_types.new.query) _ w.ask_types.ensures w.in_ok-ask_types.was)
+      | in_default-types w ↦ rw (w.query-is, w.in_default-types.is, ids) (refl, refl)
+    ] in
+    let lods : third ≡ record second { lods = option_map fields texts.lods } =
+    elim c.match-texts-3.branch [
+      | in-Some-lods+in_ok-ask_lods w ↦ rw (w.query-is, w.in_ok-ask_lods.ensures.ok, w.in-Some-lods.is) refl
+      | in_default-lods w ↦ rw (w.query-is, w.in_default-lods.is, types.1, ids) refl
+    ] in
+    let box : (box_asked texts.box ≡ Ok last.box) × (last ≡ record third { box = last.box }) =
+    elim c.match-texts-4.branch [
+      | in-Some-bbox+in_ok-bbox w ↦ rw (w.query-is, w.in-Some-bbox.is) (box-set w.bbox.result third (asked w.bbox.new.self) _ w.bbox.ensures w.in_ok-bbox.was)
+      | in_default-bbox w ↦ rw (w.query-is, w.in_default-bbox.is, lods, types.1, ids) (refl, refl)
+    ] in
+    rw (types.0, box.0, box.1, lods, types.1, ids) refl
+
+pub returns-in_err-bbox-clause-err : goal.returns-in_err-bbox-clause-err
+returns-in_err-bbox-clause-err c =
+    let texts = texts_of c.args.texts.now in
+    let types : (flags : Option (List Bool)) × (types_asked texts.types ≡ Ok flags) =
+    elim c.match-texts-2.branch [
+      | in-Some-types+in_ok-ask_types w ↦ rw w.in-Some-types.is (_, (types-set w.ask_types.result (asked c.match-texts.query) (asked w.ask_types.new.query) _ w.ask_types.ensures w.in_ok-ask_types.was).0)
+      | in_default-types w ↦ rw w.in_default-types.is (None, refl)
+    ] in
+    let box = box-refused c.bbox.result (asked c.match-texts-3.query) (asked c.bbox.new.self) c.in_err-bbox.field-0.0 (box_text c.in-Some-bbox.bbox.now) c.bbox.ensures c.in_err-bbox.was in
+    let returned = err_from_is_err_and c.from_residual-in_err-bbox.result c.from_residual-in_err-bbox.ensures.1 in
+    rw (returned.1, returned.2) (inr (rw (types.1, c.in-Some-bbox.is, box) refl))
+
+pub returns-in_err-bbox-clause-memory : goal.returns-in_err-bbox-clause-memory
+returns-in_err-bbox-clause-memory c e =
+    let box = box-refused c.bbox.result (asked c.match-texts-3.query) (asked c.bbox.new.self) c.in_err-bbox.field-0.0 (box_text c.in-Some-bbox.bbox.now) c.bbox.ensures c.in_err-bbox.was in
+    let returned = err_from_is_err_and c.from_residual-in_err-bbox.result c.from_residual-in_err-bbox.ensures.1 in
+    let same : c.in_err-bbox.field-0.0 ≡ Memory = cc (returned.1, returned.2, e) in
+    absurd (box-takes-none c.in-Some-bbox.bbox.now (box ∙ ap Err same))

@@ -1,0 +1,16 @@
+use Rattle.std.proofs.Common.{refl}
+use Rattle.cj_geometry.specs.ObjectTypes.{object_types}
+use Rattle.cj_stream.proofs.BoxRowLemmas.{a_box, empty}
+use Rattle.cityseq.proofs.option_laws.options_compute.Goals as goal
+
+pub returns : goal.returns
+unfolding object_types
+returns c = record {
+  nothing = refl;
+  ids = (refl, refl);
+  lods = refl;
+  types = (refl, refl, refl);
+  a_box = rw empty refl;
+  order = (refl, refl);
+  all = rw a_box refl;
+}
