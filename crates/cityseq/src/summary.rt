@@ -1,19 +1,20 @@
 //! What `check` and `info` write of a valid stream.
-ghost use Rattle.std.specs.Prelude.{◌≡◌, OnOk, OnErr};
+ghost use Rattle.std.specs.Prelude.{◌≡◌, ◌≤◌, OnOk, OnErr, get_or, map, ◌∷◌, []};
 ghost use Rattle.std.specs.Io.KnownBytes.{Appends};
 ghost use Rattle.cj_stream.specs.Sink.{AppendsPart};
-ghost use Rattle.cityseq.specs.Summary.{check_text, report};
+ghost use Rattle.cityseq.specs.Summary.{check_text, numbers_line, power_text, types_text, class_names, lods_text, range_line, ranges_text, tally_text, peaks_text, report};
+ghost use Rattle.cityseq.specs.Text.{text_line, count_line, counted};
 
 use crate::report::write_parts;
 use cj_budget::Peaks;
 use cj_decimal::Decimal;
 use cj_geometry::ObjectType;
 use cj_stream::{TallySink, WriteFault, write_whole};
-use itoa::{Buffer, Integer};
+use itoa::Buffer;
 use std::io::Write;
 
-/// The classes of levels of detail, in the order in which tallies number them.
-const CLASSES: [&str; 6] = ["0", "1", "2", "3", "4", "other"];
+/// How many classes of levels of detail tallies number.
+const CLASSES: u8 = 6;
 
 /// Writes what `check` says: how many lines were dealt with, and how many features are among them.
 ///
@@ -36,18 +37,25 @@ pub fn write_check<W: Write>(out: &mut W, lines: u64, features: u64) -> Result<(
     write_parts(out, &parts)
 }
 
+// Writes a line: a name, and words after it, each behind a space.
+fn write_line<W: Write>(out: &mut W, name: &str, words: &[&str]) -> Result<(), WriteFault>
+    ensures ok { OnOk result (Appends (W.contents out.old) (W.contents out.new) (text_line name.now (map (λ word. word.now) words.now))) }
+    ensures fault { OnErr result (AppendsPart (W.contents out.old) (W.contents out.new) (text_line name.now (map (λ word. word.now) words.now))) }
+{
+    write_whole(out, name.as_bytes())?;
+    for word in words {
+        write_parts(out, &[b" ", word.as_bytes()])?;
+    }
+    write_whole(out, b"\n")
+}
+
 // Writes a line with a count.
-fn write_count<W: Write>(out: &mut W, name: &str, count: u64) -> Result<(), WriteFault> {
+fn write_count<W: Write>(out: &mut W, name: &str, count: u64) -> Result<(), WriteFault>
+    ensures ok { OnOk result (Appends (W.contents out.old) (W.contents out.new) (count_line name.now count)) }
+    ensures fault { OnErr result (AppendsPart (W.contents out.old) (W.contents out.new) (count_line name.now count)) }
+{
     let mut digits = Buffer::new();
-    write_parts(
-        out,
-        &[
-            name.as_bytes(),
-            b" ",
-            digits.format(count).as_bytes(),
-            b"\n",
-        ],
-    )
+    write_line(out, name, &[digits.format(count)])
 }
 
 // Writes a line with the count of something among others of its kind, unless it is 0.
@@ -56,37 +64,31 @@ fn write_counted<W: Write>(
     kind: &str,
     name: &str,
     count: u64,
-) -> Result<(), WriteFault> {
+) -> Result<(), WriteFault>
+    ensures ok { OnOk result (Appends (W.contents out.old) (W.contents out.new) (counted kind.now name.now count)) }
+    ensures fault { OnErr result (AppendsPart (W.contents out.old) (W.contents out.new) (counted kind.now name.now count)) }
+{
     if count == 0 {
         return Ok(());
     }
     let mut digits = Buffer::new();
-    write_parts(
-        out,
-        &[
-            kind.as_bytes(),
-            b" ",
-            name.as_bytes(),
-            b" ",
-            digits.format(count).as_bytes(),
-            b"\n",
-        ],
-    )
+    write_line(out, kind, &[name, digits.format(count)])
 }
 
 // Writes a number, behind a space, as its coefficient, `e`, and its power of ten.
-fn write_power<W: Write>(out: &mut W, number: Decimal) -> Result<(), WriteFault> {
+fn write_power<W: Write>(out: &mut W, number: Decimal) -> Result<(), WriteFault>
+    ensures ok { OnOk result (Appends (W.contents out.old) (W.contents out.new) (32 ∷ power_text number)) }
+    ensures fault { OnErr result (AppendsPart (W.contents out.old) (W.contents out.new) (32 ∷ power_text number)) }
+{
     let mut coefficient = Buffer::new();
     let mut power = Buffer::new();
-    write_parts(
-        out,
-        &[
-            b" ",
-            coefficient.format(number.coefficient()).as_bytes(),
-            b"e",
-            power.format(number.power()).as_bytes(),
-        ],
-    )
+    let parts = [
+        " ".as_bytes(),
+        coefficient.format(number.coefficient()).as_bytes(),
+        "e".as_bytes(),
+        power.format(number.power()).as_bytes(),
+    ];
+    write_parts(out, &parts)
 }
 
 // Writes a line with the numbers of a transform, if there is one.
@@ -94,29 +96,53 @@ fn write_numbers<W: Write>(
     out: &mut W,
     name: &str,
     numbers: Option<[Decimal; 3]>,
-) -> Result<(), WriteFault> {
-    let Some([x, y, z]) = numbers else {
+) -> Result<(), WriteFault>
+    ensures ok { OnOk result (Appends (W.contents out.old) (W.contents out.new) (numbers_line name.now numbers)) }
+    ensures fault { OnErr result (AppendsPart (W.contents out.old) (W.contents out.new) (numbers_line name.now numbers)) }
+{
+    let Some(numbers) = numbers else {
         return Ok(());
     };
     write_whole(out, name.as_bytes())?;
-    write_power(out, x)?;
-    write_power(out, y)?;
-    write_power(out, z)?;
+    for number in numbers {
+        write_power(out, number)?;
+    }
     write_whole(out, b"\n")
 }
 
 // Writes how many city objects there are of each type of which there are some.
-fn write_types<W: Write>(out: &mut W, tally: &TallySink) -> Result<(), WriteFault> {
+fn write_types<W: Write>(out: &mut W, tally: &TallySink) -> Result<(), WriteFault>
+    ensures ok { OnOk result (Appends (W.contents out.old) (W.contents out.new) (types_text tally.now)) }
+    ensures fault { OnErr result (AppendsPart (W.contents out.old) (W.contents out.new) (types_text tally.now)) }
+{
     for object_type in ObjectType::all() {
         write_counted(out, "type", object_type.name(), tally.by_type(object_type))?;
     }
     Ok(())
 }
 
+// The name of a class of levels of detail.
+fn class_name(class: u8) -> &'static str
+    requires { class ≤ 5 }
+    ensures { result.now ≡ get_or class_names class [] }
+{
+    match class {
+        0 => "0",
+        1 => "1",
+        2 => "2",
+        3 => "3",
+        4 => "4",
+        _ => "other",
+    }
+}
+
 // Writes how many geometries there are of each class of LoDs of which there are some.
-fn write_lods<W: Write>(out: &mut W, tally: &TallySink) -> Result<(), WriteFault> {
-    for (class, name) in CLASSES.iter().enumerate() {
-        write_counted(out, "lod", name, tally.by_lod(class as u8))?;
+fn write_lods<W: Write>(out: &mut W, tally: &TallySink) -> Result<(), WriteFault>
+    ensures ok { OnOk result (Appends (W.contents out.old) (W.contents out.new) (lods_text tally.now)) }
+    ensures fault { OnErr result (AppendsPart (W.contents out.old) (W.contents out.new) (lods_text tally.now)) }
+{
+    for class in 0..CLASSES {
+        write_counted(out, "lod", class_name(class), tally.by_lod(class))?;
     }
     Ok(())
 }
@@ -126,23 +152,53 @@ fn write_range<W: Write>(
     out: &mut W,
     axis: &str,
     range: Option<(i64, i64)>,
-) -> Result<(), WriteFault> {
+) -> Result<(), WriteFault>
+    ensures ok { OnOk result (Appends (W.contents out.old) (W.contents out.new) (range_line axis.now range)) }
+    ensures fault { OnErr result (AppendsPart (W.contents out.old) (W.contents out.new) (range_line axis.now range)) }
+{
     let Some((least, greatest)) = range else {
         return Ok(());
     };
     let mut least_digits = Buffer::new();
     let mut greatest_digits = Buffer::new();
-    write_parts(
+    write_line(
         out,
-        &[
-            axis.as_bytes(),
-            b" ",
-            least_digits.format(least).as_bytes(),
-            b" ",
-            greatest_digits.format(greatest).as_bytes(),
-            b"\n",
-        ],
+        axis,
+        &[least_digits.format(least), greatest_digits.format(greatest)],
     )
+}
+
+// Writes the range of each axis.
+fn write_ranges<W: Write>(out: &mut W, tally: &TallySink) -> Result<(), WriteFault>
+    ensures ok { OnOk result (Appends (W.contents out.old) (W.contents out.new) (ranges_text tally.now)) }
+    ensures fault { OnErr result (AppendsPart (W.contents out.old) (W.contents out.new) (ranges_text tally.now)) }
+{
+    write_range(out, "x", tally.range(0))?;
+    write_range(out, "y", tally.range(1))?;
+    write_range(out, "z", tally.range(2))
+}
+
+// Writes a tally.
+fn write_tally<W: Write>(out: &mut W, tally: &TallySink) -> Result<(), WriteFault>
+    ensures ok { OnOk result (Appends (W.contents out.old) (W.contents out.new) (tally_text tally.now)) }
+    ensures fault { OnErr result (AppendsPart (W.contents out.old) (W.contents out.new) (tally_text tally.now)) }
+{
+    write_count(out, "features", tally.features())?;
+    write_numbers(out, "scale", tally.scale())?;
+    write_numbers(out, "translate", tally.translate())?;
+    write_types(out, tally)?;
+    write_lods(out, tally)?;
+    write_ranges(out, tally)
+}
+
+// Writes how much was held at most.
+fn write_peaks<W: Write>(out: &mut W, peaks: Peaks) -> Result<(), WriteFault>
+    ensures ok { OnOk result (Appends (W.contents out.old) (W.contents out.new) (peaks_text peaks)) }
+    ensures fault { OnErr result (AppendsPart (W.contents out.old) (W.contents out.new) (peaks_text peaks)) }
+{
+    write_count(out, "peak bytes", peaks.bytes)?;
+    write_count(out, "peak tokens", peaks.tokens)?;
+    write_count(out, "peak open", peaks.depth)
 }
 
 /// Writes the report of `info`: how many lines were dealt with, the tally of the stream, and how much was
@@ -161,15 +217,6 @@ pub fn write_report<W: Write>(
     ensures fault { OnErr result (AppendsPart (W.contents out.old) (W.contents out.new) (report lines tally.now peaks)) }
 {
     write_count(out, "lines", lines)?;
-    write_count(out, "features", tally.features())?;
-    write_numbers(out, "scale", tally.scale())?;
-    write_numbers(out, "translate", tally.translate())?;
-    write_types(out, tally)?;
-    write_lods(out, tally)?;
-    write_range(out, "x", tally.range(0))?;
-    write_range(out, "y", tally.range(1))?;
-    write_range(out, "z", tally.range(2))?;
-    write_count(out, "peak bytes", peaks.bytes)?;
-    write_count(out, "peak tokens", peaks.tokens)?;
-    write_count(out, "peak open", peaks.depth)
+    write_tally(out, tally)?;
+    write_peaks(out, peaks)
 }

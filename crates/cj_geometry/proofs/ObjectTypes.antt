@@ -1,7 +1,9 @@
 -- The table of types, row by row.
-use Rattle.std.proofs.Common.{◌≡◌, ℕ, ◌+◌, ◌<◌, List, [], ◌∷◌, length, drop, Bool, true, false, ◌&&◌, nat_eq, nat_le, cond, Option, Some, None, refl, sym, ◌∙◌, arith, add-one, drop-cons}
+use Rattle.std.proofs.Common.{◌≡◌, ℕ, ◌+◌, ◌<◌, List, [], ◌∷◌, length, drop, get_or, map, Bool, true, false, ◌&&◌, nat_eq, nat_le, cond, Option, Some, None, refl, sym, ap, ◌∙◌, arith, add-one, drop-cons}
 use Rattle.std.proofs.lemmas.Bool.{agree_below, agree_below_at, and_parts, eqb-true}
 use Rattle.std.proofs.lemmas.Slice.Eq.{bytes_eq-Decides}
+use Rattle.std.proofs.lemmas.List.FromFn.{fill_by_all}
+use Rattle.std.specs.List.{range_with_len}
 use Rattle.std.specs.Str.{chars, bytes_eq}
 use Rattle.cj_spans.specs.Text.{are_same}
 use Rattle.cj_spans.specs.Tree.{Tree}
@@ -32,6 +34,14 @@ each-level = refl
 
 pub has-level : (n : ℕ) → n < 33 → (row_at n).is_second ≡ nat_le 16 n
 has-level n small = agree_below_at (λ k. (row_at k).is_second) (λ k. nat_le 16 k) 33 n each-level small
+
+-- the rows of all numbers, in turn
+each-row : map row_at (map (λ k. k) (range_with_len 0 33)) ≡ object_types
+unfolding object_types
+each-row = refl
+
+pub all-rows : (ns : List ℕ) → length ns ≡ 33 → ((k : ℕ) → k < 33 → get_or ns k 0 ≡ k) → map row_at ns ≡ object_types
+all-rows ns long each = ap (map row_at) (fill_by_all (λ k. k) ns 33 0 long each) ∙ each-row
 
 -- ---- one row after another
 

@@ -144,3 +144,46 @@ fn types_by_their_names(rt: HostRuntime) -> Result<(), Fail> {
     }
     Ok(())
 }
+
+const IN_ORDER: [&str; 33] = [
+    "Bridge",
+    "Building",
+    "CityFurniture",
+    "CityObjectGroup",
+    "GenericCityObject",
+    "LandUse",
+    "OtherConstruction",
+    "PlantCover",
+    "Railway",
+    "Road",
+    "SolitaryVegetationObject",
+    "TINRelief",
+    "TransportSquare",
+    "Tunnel",
+    "WaterBody",
+    "Waterway",
+    "BridgeConstructiveElement",
+    "BridgeFurniture",
+    "BridgeInstallation",
+    "BridgePart",
+    "BridgeRoom",
+    "BuildingConstructiveElement",
+    "BuildingFurniture",
+    "BuildingInstallation",
+    "BuildingPart",
+    "BuildingRoom",
+    "BuildingStorey",
+    "BuildingUnit",
+    "TunnelConstructiveElement",
+    "TunnelFurniture",
+    "TunnelHollowSpace",
+    "TunnelInstallation",
+    "TunnelPart",
+];
+
+#[test]
+fn all_types_in_the_order_of_the_table(rt: HostRuntime) {
+    for (object_type, name) in ObjectType::all().iter().zip(&IN_ORDER) {
+        assert_eq!(&rt; object_type.name(), *name);
+    }
+}

@@ -1,0 +1,61 @@
+-- Texts that are written one part after another.
+use Rattle.std.proofs.Common.{◌≡◌, ℕ, zero, suc, ◌+◌, ◌<◌, ◌≤◌, List, [], ◌∷◌, ◌++◌, length, take, drop, get_or, Option, Result, Ok, Err, refl, sym, ap, ◌∙◌, append_assoc}
+use Rattle.std.specs.Prelude.{OnErr, OnOk}
+use Rattle.std.specs.List.{flat_map}
+use Rattle.std.specs.Io.KnownBytes.{Appends}
+use Rattle.std.proofs.lemmas.Grind.{flat_map-append}
+use Rattle.std.proofs.lemmas.List.{append-nil, take-append-drop, take_all, take_more}
+use Rattle.cj_stream.specs.Sink.{AppendsPart}
+use Rattle.cj_stream.proofs.KnownLemmas.{Appends-then, AppendsPart-after, AppendsPart-front, on_err_any}
+
+-- ---- parts of a list
+
+module _ {A : Type 0} (f : A → List ℕ) (xs : List A) (i : ℕ) where
+  -- one part more
+  parts_more : (d : A) → i < length xs → flat_map f (take (i + 1) xs) ≡ flat_map f (take i xs) ++ f (get_or xs i d)
+  parts_more d small =
+      ap (flat_map f) (take_more xs i d small)
+      ∙ flat_map-append f (take i xs) (get_or xs i d ∷ [])
+      ∙ ap (λ z. flat_map f (take i xs) ++ z) (append-nil (f (get_or xs i d)))
+
+  -- all parts: those before one, that one, and those after it
+  parts_at : (d : A) → i < length xs → flat_map f xs ≡ (flat_map f (take i xs) ++ f (get_or xs i d)) ++ flat_map f (drop (i + 1) xs)
+  parts_at d small =
+      ap (flat_map f) (sym (take-append-drop (i + 1) xs))
+      ∙ flat_map-append f (take (i + 1) xs) (drop (i + 1) xs)
+      ∙ ap (λ z. z ++ flat_map f (drop (i + 1) xs)) (parts_more d small)
+
+  module _ (a b : Option (List ℕ)) (before : Appends a b (flat_map f (take i xs))) where
+    -- one part more is written
+    pub part-written : (c : Option (List ℕ)) (d : A) → i < length xs → Appends b c (f (get_or xs i d)) → Appends a c (flat_map f (take (i + 1) xs))
+    part-written c d small now = rw (parts_more d small) (Appends-then a b c _ _ before now)
+
+    -- a fault in one part
+    pub part-fault : (c : Option (List ℕ)) (d : A) → i < length xs → AppendsPart b c (f (get_or xs i d)) → AppendsPart a c (flat_map f xs)
+    part-fault c d small now = rw (parts_at d small) (AppendsPart-front a c _ _ (AppendsPart-after a b c _ _ before now))
+
+    -- all parts are written
+    pub parts-written : length xs ≤ i → Appends a b (flat_map f xs)
+    parts-written all = rw (take_all i xs all) at before
+
+-- ---- one text after another
+
+module _ {T E : Type 0} (r : Result T E) (a b : Option (List ℕ)) (x : List ℕ) where
+  -- the last text
+  pub last-written : OnOk r (Appends a b x) → OnOk r (Appends a b (x ++ []))
+  last-written h = rw (append-nil x) h
+
+  pub last-fault : OnErr r (AppendsPart a b x) → OnErr r (AppendsPart a b (x ++ []))
+  last-fault h = rw (append-nil x) h
+
+  -- a fault in one text, which others were to follow
+  pub fault-before : (y : List ℕ) → AppendsPart a b x → OnErr r (AppendsPart a b (x ++ y))
+  fault-before y h = on_err_any r (AppendsPart-front a b x y h)
+
+  -- one text, and what came of the others
+  module _ (c : Option (List ℕ)) (y : List ℕ) (first : Appends a b x) where
+    pub written-after : OnOk r (Appends b c y) → OnOk r (Appends a c (x ++ y))
+    written-after = elim r as (λ r. OnOk r (Appends b c y) → OnOk r (Appends a c (x ++ y))) [ Ok v ↦ λ h. Appends-then a b c x y first h | Err e ↦ λ h. tt ]
+
+    pub fault-after : OnErr r (AppendsPart b c y) → OnErr r (AppendsPart a c (x ++ y))
+    fault-after = elim r as (λ r. OnErr r (AppendsPart b c y) → OnErr r (AppendsPart a c (x ++ y))) [ Ok v ↦ λ h. tt | Err e ↦ λ h. AppendsPart-after a b c x y first h ]
