@@ -78,6 +78,7 @@ fn name_at(number: u8) -> &'static str
 impl ObjectType {
     /// All types, in the order of the table.
     pub fn all() -> [ObjectType; 33]
+        ensures { map row_at result ≡ object_types }
     {
         let mut types = [ObjectType { number: 0 }; 33];
         for number in 0..TYPES {
