@@ -5,4 +5,5 @@ pub mod Output
 pub mod Performed
 pub mod Report
 pub mod Summary
+pub mod SummaryRows
 pub mod Text

@@ -9,6 +9,7 @@
 mod ask;
 mod asking;
 mod command;
+mod laws;
 mod output;
 mod report;
 mod summary;
