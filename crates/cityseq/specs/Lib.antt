@@ -6,5 +6,6 @@ pub mod Output
 pub mod Performed
 pub mod Report
 pub mod Summary
+pub mod SummaryRows
 pub mod Text
 pub mod Words

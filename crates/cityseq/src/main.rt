@@ -1,9 +1,11 @@
-//! The program `cityseq`: it reads a CityJSONSeq stream from standard input, once and within a
-//! bound, judges each line, and writes the header and the features before the first bad line to standard
-//! output, byte for byte.
+//! The program `cityseq`: it reads a CityJSONSeq stream from standard input, once and within a bound, and
+//! says whether it is valid (`check`), copies the header and the features that are wanted, byte for byte
+//! (`filter`), or reports what is in it (`info`).
 //!
-//! `command` tells by the words what is asked for, and runs the engine of `cj_stream` over standard input
-//! and output; `output` notes what a flush answers, and `report` says how the run ended.
+//! `words` reads the command line by `clap`, `asking` makes a query of its options, and `command` tells what
+//! is asked for; `ask` does it by the engine of `cj_stream`, over standard input and output. `summary` writes
+//! what `check` and `info` say, `report` how a run ended, and `output` notes what a flush answers.
+//! `option_laws` and `text_laws` are worked rows of their definitions, as theorems.
 #![tactic(auto)]
 
 mod ask;
@@ -15,6 +17,7 @@ mod report;
 mod summary;
 #[cfg(test)]
 mod tests;
+mod text_laws;
 mod words;
 
 use crate::command::command;
