@@ -22,5 +22,5 @@ pub returns : goal.returns
 returns c = record {
   none = λ missing. c.unwrap_or.ensures ∙ ap (λ r. unwrap_or r c.args.usual) (c.get_one.ensures.none missing);
   some = λ n below given. c.unwrap_or.ensures
-    ∙ read (λ bs x. ParsesUnsigned 64 10 bs x × ExplainsUnsignedError 10 bs x × HasUnsignedDigitsIfOk bs x) c.get_one.result n c.args.usual below (λ x g. g.0) (c.get_one.ensures.value (decimal n) given);
+      ∙ read (λ bs x. ParsesUnsigned 64 10 bs x × ExplainsUnsignedError 10 bs x × HasUnsignedDigitsIfOk bs x) c.get_one.result n c.args.usual below (λ x g. g.0) (c.get_one.ensures.value (decimal n) given);
 }
