@@ -1,5 +1,4 @@
 pub mod Asking
-pub mod Command
 pub mod OptionRows
 pub mod Options
 pub mod Output
