@@ -1,13 +1,14 @@
 #!/usr/bin/env python3
-"""Runs programs on the same inputs and prints MB/s, the ratios to the times of the two twins, and the greatest
-resident memory: measure.py PROGRAM TWIN NARROW_TWIN TYPED_TWIN INPUT.., with an empty word for a twin that is not
-there."""
+"""Runs programs on the same inputs and prints MB/s, the ratios to the times of `cityseq check` and of the two twins,
+and the greatest resident memory; before that the time of a run on a stream of one feature: measure.py PROGRAM TWIN
+NARROW_TWIN TYPED_TWIN SMALL INPUT.., with an empty word for a twin that is not there."""
 import os
 import subprocess
 import sys
 import time
 
 RUNS = 5
+STARTS = 200
 GNU_TIME = "/usr/bin/time"
 
 
@@ -37,15 +38,19 @@ def ratio(best, name, peer):
 
 
 def main():
-    program, twin, narrow, typed, *paths = sys.argv[1:]
-    programs = {"cityseq filter": [program, "filter"], "cat": ["cat"], "wc -l": ["wc", "-l"]}
+    program, twin, narrow, typed, small, *paths = sys.argv[1:]
+    commands = {f"cityseq {name}": [program, name] for name in ("check", "filter", "info")}
+    for name, words in {**commands, "true": ["true"]}.items():
+        print(f"{name} on one feature: {1000 * min(seconds_of(words, small) for _ in range(STARTS)):.2f} ms")
+    programs = {**commands, "cat": ["cat"], "wc -l": ["wc", "-l"]}
     if twin:
         programs["Rust twin"] = [twin]
         programs["twin, SSE alone"] = [narrow]
         programs["twin, no JSON"] = [twin, "copy"]
     if typed:
         programs["typed twin"] = [typed]
-    print(f"{'input':<16}{'program':<18}{'MB/s':>8}{'of the twin':>13}{'of typed twin':>15}{'resident KB':>13}")
+    titles = f"{'of check':>10}{'of the twin':>13}{'of typed twin':>15}{'resident KB':>13}"
+    print(f"{'input':<16}{'program':<18}{'MB/s':>8}{titles}")
     for path in paths:
         size = os.path.getsize(path) / 1e6
         best = dict.fromkeys(programs, 1e9)
@@ -53,7 +58,7 @@ def main():
             for name, words in programs.items():
                 best[name] = min(best[name], seconds_of(words, path))
         for name, seconds in best.items():
-            ratios = f"{ratio(best, name, 'Rust twin'):>13}{ratio(best, name, 'typed twin'):>15}"
+            ratios = f"{ratio(best, name, 'cityseq check'):>10}{ratio(best, name, 'Rust twin'):>13}{ratio(best, name, 'typed twin'):>15}"
             resident = resident_of(programs[name], path)
             print(f"{os.path.basename(path):<16}{name:<18}{size / seconds:>8.0f}{ratios}{resident:>13}")
 

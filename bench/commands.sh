@@ -1,8 +1,9 @@
 #!/usr/bin/env bash
-# Measures `cityseq filter` beside cat, wc -l and two Rust twins, in one run. The twin reads each line by serde_json
-# and throws the value away (and the same without reading JSON); the typed twin judges typed values of serde's derive.
+# Measures `cityseq check`, `filter` and `info` beside cat, wc -l and two Rust twins, in one run, and how long they take
+# on a stream of one feature. The twin reads each line by serde_json and throws the value away (and the same without
+# reading JSON); the typed twin judges typed values of serde's derive.
 #
-#   bench/filter.sh [MEGABYTES]      (300 if left out)
+#   bench/commands.sh [MEGABYTES]      (300 if left out)
 #
 # It builds the program by `rt run`, and the twins by cargo with Debian's packages librust-memchr-dev,
 # librust-simdutf8-dev, librust-serde-json-dev and librust-serde-derive-dev, where they are installed: the first twin
@@ -51,4 +52,5 @@ for shape in usual tiny huge text; do
   [ -s "out/$shape.jsonl" ] && [ "$(stat -c %s "out/$shape.jsonl")" -ge $((megabytes * 1000000)) ] ||
     python3 make_stream.py "$shape" "$megabytes" > "out/$shape.jsonl"
 done
-python3 measure.py "$program" "$twin" "$narrow" "$typed" out/usual.jsonl out/tiny.jsonl out/huge.jsonl out/text.jsonl
+head -n 2 ../examples/sample.city.jsonl > out/one.jsonl
+python3 measure.py "$program" "$twin" "$narrow" "$typed" out/one.jsonl out/usual.jsonl out/tiny.jsonl out/huge.jsonl out/text.jsonl
