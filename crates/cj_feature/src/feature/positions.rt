@@ -49,6 +49,7 @@ impl<'a> Iterator for Positions<'a> {
 
     ghost remaining = { item_count positions_left };
 
+    #[inline(always)]
     #[tactic(auto, unfolding(crate::specs::Walks::positions_left))]
     fn next(&mut self) -> Option<[i64; 2]> {
         let mut items = self.items;
