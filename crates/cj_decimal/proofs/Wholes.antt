@@ -1,12 +1,12 @@
 -- What reading a whole number answers.
-use Rattle.std.proofs.Common.{◌≡◌, ℕ, ◌*◌, ◌^◌, ◌<◌, ◌≤◌, ◌++◌, List, [], Bool, true, false, Option, Some, None, Result, Ok, Err, ℤ, pos, negsuc, refl, sym, ap, ◌∙◌, subst, arith, rules}
+use Rattle.std.proofs.Common.{◌≡◌, ℕ, ◌*◌, ◌^◌, ◌<◌, ◌≤◌, ◌++◌, List, drop, Bool, true, false, Option, Some, None, Result, Ok, Err, ℤ, pos, negsuc, neg_ℤ, refl, sym, ap, ◌∙◌, subst, arith, rules}
 use Rattle.std.specs.Prelude.{IfOk, IfSome, IsSome, unsigned_abs}
 use Rattle.std.proofs.Math.Nat.{le-mul_of_pos_right}
 use Rattle.std.proofs.lemmas.Int.{ints}
-use Rattle.cj_decimal.specs.Number.{Number, number, IsNormal, IsInRange, IsWhole}
+use Rattle.cj_decimal.specs.Number.{Number, number, signed, IsNormal, IsInRange, IsWhole}
 use Rattle.cj_decimal.specs.Spelling.{IsNumber, IsValue, IsNumberOutOfRange, digits_value}
 use Rattle.cj_decimal.specs.Class.{Class, no_number, out_of_range, not_whole, whole, whole_answer}
-use Rattle.cj_decimal.specs.Reading.{digits_front, digits_rest, begins, is_int}
+use Rattle.cj_decimal.specs.Reading.{digits_front, digits_rest, begins, body, IsShort}
 use Rattle.cj_decimal.specs.declared.decimal.DecimalFault.{DecimalFault}
 use Rattle.cj_decimal.specs.declared.decimal.DecimalFault.TheVariants.{NotANumber, NumberRange}
 use Rattle.cj_decimal.proofs.TenPowers.{ten_pow_pos}
@@ -14,7 +14,7 @@ use Rattle.cj_decimal.proofs.Values.{same_sym, same_trans}
 use Rattle.cj_decimal.proofs.Normal.{normal_form}
 use Rattle.cj_decimal.proofs.Scales.{units_below, far_units, size_of_units}
 use Rattle.cj_decimal.proofs.Grammar.{front_all, front_rest, int_from_test, int_is_digits, digit_begins}
-use Rattle.cj_decimal.proofs.Parts.{no_minus, integer_read}
+use Rattle.cj_decimal.proofs.Parts.{no_minus, minus_there, integer_read}
 use Rattle.cj_decimal.proofs.Classes.{class}
 use Rattle.cj_decimal.proofs.Law.{has_one_value, value_of_read, not_both, value_is_number}
 
@@ -97,15 +97,29 @@ whole_in_range v w normal is = by_power v.power refl
         let near : k < 18 = below k far is.small in
         record { digits = omega (arith, size, least, is.small); power_low = omega (arith, ints, e); power_high = omega (arith, ints, e, near) }
 
--- an int part that ends the spelling and spells n is the whole number n
-pub answer_digits : (s : List ℕ) (n : ℕ) (c : Class s) → is_int (digits_front s) ≡ true → digits_rest s ≡ [] → n ≡ digits_value (digits_front s) → n < 10 ^ 18 → whole_answer c ≡ Ok (Some (pos n))
-answer_digits s n c int none spelled small =
-    let plain : begins 45 s ≡ false = ap (begins 45) (front_rest s) ∙ digit_begins 45 (digits_front s) (digits_rest s) (int_is_digits _ (int_from_test _ (front_all s) int)) (omega arith) in
-    let same_body = no_minus s plain in
-    let read = integer_read s false n (sym plain) (ap (λ b. is_int (digits_front b)) same_body ∙ int) (ap digits_rest same_body ∙ none) (spelled ∙ sym (ap (λ b. digits_value (digits_front b)) same_body)) in
-    let form = normal_form false n (pos 0) in
+-- an int part that ends the spelling, after its sign, is that whole number
+size : (negative : Bool) (n : ℕ) → unsigned_abs (signed negative n) ≡ n
+size true n = omega (arith, ints)
+size false n = omega (arith, ints)
+
+signed_answer : (s : List ℕ) (negative : Bool) (n : ℕ) (c : Class s) → negative ≡ begins 45 s → IsShort (body s) n → whole_answer c ≡ Ok (Some (signed negative n))
+signed_answer s negative n c sign short =
+    let w = signed negative n in
+    let read = integer_read s negative n sign short.int short.rest short.value in
+    let form = normal_form negative n (pos 0) in
     let digits : digits_value (read.written.int ++ read.written.frac) ≡ n = omega (arith, read.digits.whole refl) in
     let exponent : read.written.exponent ≡ pos 0 = read.exponent_is.same (omega (arith, ints)) in
-    let value = value_of_read s false n 0 false 0 (pos 0) read form.0 (rw (digits, exponent) form.1) form.2 in
-    let is : IsWhole form.0 (pos n) = record { same = same_sym (number (pos n) (pos 0)) form.0 form.1; small = small } in
-    answer_whole s form.0 value (whole_in_range form.0 (pos n) form.2 is) (pos n) c is
+    let value = value_of_read s negative n 0 false 0 (pos 0) read form.0 (rw (digits, exponent) form.1) form.2 in
+    let is : IsWhole form.0 w = record { same = same_sym (number w (pos 0)) form.0 form.1; small = rw (size negative n) short.small } in
+    answer_whole s form.0 value (whole_in_range form.0 w form.2 is) w c is
+
+same_short : (s t : List ℕ) (n : ℕ) → t ≡ s → IsShort s n → IsShort t n
+same_short s t n e short = let P : List ℕ → Type 0 = λ u. IsShort u n in subst P (sym e) short
+
+pub answer_digits : (s : List ℕ) (n : ℕ) (c : Class s) → IsShort s n → whole_answer c ≡ Ok (Some (pos n))
+answer_digits s n c short =
+    let plain : begins 45 s ≡ false = ap (begins 45) (front_rest s) ∙ digit_begins 45 (digits_front s) (digits_rest s) (int_is_digits _ (int_from_test _ (front_all s) short.int)) (omega arith) in
+    signed_answer s false n c (sym plain) (same_short s (body s) n (no_minus s plain) short)
+
+pub answer_minus : (s : List ℕ) (n : ℕ) (c : Class s) → begins 45 s ≡ true → IsShort (drop 1 s) n → whole_answer c ≡ Ok (Some (neg_ℤ (pos n)))
+answer_minus s n c minus short = signed_answer s true n c (sym minus) (same_short (drop 1 s) (body s) n (minus_there s minus) short)

@@ -56,6 +56,13 @@ unfoldable pub is_int : List ℕ → Bool
 is_int [] = false
 is_int (b ∷ s) = not (nat_eq b 48) || is_empty s
 
+-- the list is an int part and nothing else, of the number n, which is below 10^18
+pub record IsShort (s : List ℕ) (n : ℕ) : Type 0 where
+  pub int : is_int (digits_front s) ≡ true
+  pub rest : digits_rest s ≡ []
+  pub value : n ≡ digits_value (digits_front s)
+  pub small : n < 10 ^ 18
+
 -- what follows the int part begins with a right fraction, or with none
 unfoldable pub is_frac : List ℕ → Bool
 is_frac r = not (begins 46 r) || begins_digit (drop 1 r)

@@ -36,6 +36,15 @@ const WHOLES: &str = "\
 1e2|100\n\
 -0|0\n\
 -5|-5\n\
+-10482|-10482\n\
+-999999999999999999|-999999999999999999\n\
+-1000000000000000000|none\n\
+-12.0|-12\n\
+-1.5|none\n\
+-|NotANumber\n\
+-05|NotANumber\n\
+--5|NotANumber\n\
+5-|NotANumber\n\
 1.5|none\n\
 01|NotANumber\n\
 00|NotANumber\n\

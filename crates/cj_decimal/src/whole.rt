@@ -1,33 +1,56 @@
 //! Whole numbers, which nearly all numbers of a city model are, read without what other numbers need.
 ghost use Rattle.std.specs.Prelude.{◌≡◌, ◌<◌, ◌^◌, unsigned_abs, IfOk, IfSome};
 ghost use Rattle.cj_decimal.specs.Class.{Class, whole_answer};
+ghost use Rattle.cj_decimal.specs.Reading.{IsShort};
 
 use crate::decimal::{Decimal, DecimalFault};
-use crate::digits::read_short;
 use crate::spelling::is_int_part;
 
-/// The value of a spelling that is at most 18 digits and nothing else, with no 0 before another digit: the
+/// This many digits spell a number below 10^18.
+const FEW: usize = 18;
+
+/// The number that at most 18 digits spell, where nothing else stands there and no 0 before another digit: the
 /// usual case. None where it is anything else.
 #[inline(always)]
-fn read_few_digits(spelling: &[u8]) -> Option<i64>
-    ensures { IfSome result (λ w. (c : Class spelling.now) → whole_answer c ≡ Ok (Some w)) }
+fn read_few_digits(digits: &[u8]) -> Option<u64>
+    ensures { IfSome result (λ n. IsShort digits.now n) }
 {
-    let (value, stop) = read_short(spelling, 0, 0);
-    if stop < spelling.len() {
+    if digits.len() > FEW {
         return None;
     }
-    if is_int_part(spelling, 0, stop) {
-        Some(value as i64)
+    let mut value = 0;
+    for digit in digits {
+        if !digit.is_ascii_digit() {
+            return None;
+        }
+        value = 10 * value + (*digit - b'0') as u64;
+    }
+    if is_int_part(digits, 0, digits.len()) {
+        Some(value)
     } else {
         None
     }
 }
 
-/// The same of any spelling.
+/// The value of a spelling that is a minus and a few digits. None where it is anything else.
+fn read_negative(spelling: &[u8]) -> Option<i64>
+    ensures { IfSome result (λ w. (c : Class spelling.now) → whole_answer c ≡ Ok (Some w)) }
+{
+    let [b'-', digits @ ..] = spelling else {
+        return None;
+    };
+    let size = read_few_digits(digits)?;
+    Some(-(size as i64))
+}
+
+/// The value of any spelling.
 #[inline(never)]
 fn read_any(spelling: &[u8]) -> Result<Option<i64>, DecimalFault>
     ensures { (c : Class spelling.now) → result ≡ whole_answer c }
 {
+    if let Some(whole) = read_negative(spelling) {
+        return Ok(Some(whole));
+    }
     match Decimal::read(spelling) {
         Ok(decimal) => Ok(decimal.whole()),
         Err(fault) => Err(fault),
@@ -47,7 +70,7 @@ impl Decimal {
         ensures small { IfOk result (λ o. IfSome o (λ w. unsigned_abs w < 10 ^ 18)) }
     {
         match read_few_digits(spelling) {
-            Some(whole) => Ok(Some(whole)),
+            Some(whole) => Ok(Some(whole as i64)),
             None => read_any(spelling),
         }
     }

@@ -19,7 +19,7 @@ number_at s i j = scalar Number (record { start = i; stop = j; spelling = s })
 
 -- what a digit reads as
 of_digits : (s : List ℕ) (n : ℕ) → is_int (digits_front s) ≡ true → digits_rest s ≡ [] → n ≡ digits_value (digits_front s) → n < 10 ^ 18 → (c : Class s) → Ok (Some (pos n)) ≡ whole_answer c
-of_digits s n int rest value small c = sym (answer_digits s n c int rest value small)
+of_digits s n int rest value small c = sym (answer_digits s n c (record { int = int; rest = rest; value = value; small = small }))
 
 zero_read : (c : Class (codes "0")) → Ok (Some (pos 0)) ≡ whole_answer c
 unfolding digits_front digits_rest begins begins_digit is_int is_empty

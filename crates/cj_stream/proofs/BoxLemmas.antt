@@ -1,5 +1,5 @@
 -- Of the numbers that a map brings to at most or at least an end, the least or the greatest is one.
-use Rattle.std.proofs.Common.{◌≡◌, ℕ, zero, suc, ◌+◌, ◌<◌, ◌≤◌, ◌^◌, List, [], ◌∷◌, length, map, get_or, Bool, true, false, cond, ◌&&◌, ◌||◌, ◌⊎◌, inl, inr, Option, Some, None, ℤ, pos, negsuc, ◌*ℤ◌, ◌≤ℤ◌, int_le, int_lt, unsigned_abs, refl, sym, ap, ◌∙◌, arith}
+use Rattle.std.proofs.Common.{◌≡◌, ℕ, zero, suc, ◌+◌, ◌<◌, ◌≤◌, ◌^◌, List, [], ◌∷◌, length, map, take, get_or, Bool, true, false, cond, ◌&&◌, ◌||◌, ◌⊎◌, inl, inr, Option, Some, None, ℤ, pos, negsuc, ◌*ℤ◌, ◌≤ℤ◌, int_le, int_lt, unsigned_abs, refl, sym, ap, ◌∙◌, arith}
 use Rattle.std.specs.Int.{int_min, int_max, w64, cast_signed, cast_unsigned}
 use Rattle.std.specs.List.{fold, list_any}
 use Rattle.std.specs.Option.{unwrap_or}
@@ -19,8 +19,8 @@ use Rattle.cj_geometry.specs.Rule.{spelling, whole_by, whole_of}
 use Rattle.cj_feature.specs.Shown.{maps_of, maps_if}
 use Rattle.cj_feature.specs.Typed.{vertex_of}
 use Rattle.cj_stream.specs.declared.query.extent.Range.{Range}
-use Rattle.cj_stream.specs.Asked.{Box, axis_map, vertices_of, some_at_most, some_at_least, is_in}
-use Rattle.cj_stream.specs.Extent.{number_on, alone, widened, range_of, meets, IsSmall}
+use Rattle.cj_stream.specs.Asked.{Box, number_on, axis_map, vertices_of, some_at_most, some_at_least, is_in}
+use Rattle.cj_stream.specs.Extent.{alone, widened, range_of, meets, IsSmall}
 use borrow.Author.Differences.{up, down, product_is}
 
 -- ---- a map keeps the order of numbers, or turns it
@@ -218,6 +218,22 @@ range_small axis r (t ∷ ts) e =
     let same : widened (alone first) (map (number_on axis) (map vertex_of ts)) ≡ r = cc e in
     rw (← same) (record { least = least_small axis first ts (number_small axis (items_of t)); greatest = greatest_small axis first ts (number_small axis (items_of t)) })
 
+-- the first two numbers of each vertex are those of the plane
+in_plane : (axis : ℕ) (v : List (Option ℤ)) → axis < 2 → number_on axis (take 2 v) ≡ number_on axis v
+in_plane axis [] h = refl
+in_plane zero (n ∷ v) h = refl
+in_plane (suc zero) (n ∷ []) h = refl
+in_plane (suc zero) (n ∷ m ∷ v) h = refl
+in_plane (suc (suc axis)) (n ∷ v) h = absurd (omega arith)
+
+all_in_plane : (axis : ℕ) (vs : List (List (Option ℤ))) → axis < 2 → map (number_on axis) (map (take 2) vs) ≡ map (number_on axis) vs
+all_in_plane axis [] h = refl
+all_in_plane axis (v ∷ vs) h = rw (in_plane axis v h, all_in_plane axis vs h) refl
+
+-- so they have the range of the whole vertices
+pub range_shown : (axis : ℕ) (r : Option Range) (ps vs : List (List (Option ℤ))) → axis < 2 → ps ≡ map (take 2) vs → r ≡ range_of (map (number_on axis) ps) → r ≡ range_of (map (number_on axis) vs)
+range_shown axis r ps vs h shown range = range ∙ ap (λ us. range_of (map (number_on axis) us)) shown ∙ ap range_of (all_in_plane axis vs h)
+
 -- ---- the box, by the numbers on each axis
 
 any-numbers : (test : ℤ → Bool) (axis : ℕ) (vs : List (List (Option ℤ))) → list_any (λ v. test (number_on axis v)) vs ≡ list_any test (map (number_on axis) vs)
@@ -249,13 +265,13 @@ maps_shown true header shown maps is e f = same maps (maps_of header) (sym f ∙
 maps_shown false header shown maps is e f = absurd (cc is)
 
 -- what is told of any numbers of a range is so of those on an axis
-pub axis_told : (header t : Tree) (axis : ℕ) (maps : List AffineMap) (d : AffineMap) (low high : ℤ) (r : Range) (vs : List (List (Option ℤ))) (told : Bool)
-    → maps ≡ maps_of header → axis < length maps → vs ≡ vertices_of t → Some r ≡ range_of (map (number_on axis) vs)
+pub axis_told : (header t : Tree) (axis : ℕ) (maps : List AffineMap) (d : AffineMap) (low high : ℤ) (r : Range) (told : Bool)
+    → maps ≡ maps_of header → axis < length maps → Some r ≡ range_of (map (number_on axis) (vertices_of t))
     → ((ns : List ℤ) → range_of ns ≡ Some r → told ≡ meets (get_or maps axis d) low high ns)
     → told ≡ meets (axis_map header axis) low high (map (number_on axis) (vertices_of t))
-axis_told header t axis maps d low high r vs told are within shown range tells =
+axis_told header t axis maps d low high r told are within range tells =
     let map_is : get_or maps axis d ≡ axis_map header axis = get_or_default maps axis d (record { scale = pos 0; shift = pos 0 }) within ∙ ap (λ ms. get_or ms axis (record { scale = pos 0; shift = pos 0 })) are in
-    tells (map (number_on axis) vs) (sym range) ∙ ap (λ m. meets m low high (map (number_on axis) vs)) map_is ∙ ap (λ us. meets (axis_map header axis) low high (map (number_on axis) us)) shown
+    tells (map (number_on axis) (vertices_of t)) (sym range) ∙ ap (λ m. meets m low high (map (number_on axis) (vertices_of t))) map_is
 
 -- two tests, of which the first is known
 pub and_second : (a b c d : Bool) → a ≡ b → a ≡ true → c ≡ d → c ≡ (b && d)

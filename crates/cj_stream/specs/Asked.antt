@@ -70,13 +70,17 @@ has_lod lods header t = list_any (λ g. there_is (is_one_of lods) (lod (template
 abbrev pub vertices_of : Tree → List (List (Option ℤ))
 vertices_of t = map vertex_of (items_if (member_of (chars (codes "vertices")) t))
 
--- the map of an axis: 0 is x, and 1 is y
+-- the number of a vertex on an axis: 0 is x, 1 is y, and 2 is z
+abbrev pub number_on : ℕ → List (Option ℤ) → ℤ
+number_on axis v = unwrap_or (get_or v axis None) (pos 0)
+
+-- the map of an axis of the plane
 abbrev pub axis_map : Tree → ℕ → AffineMap
 axis_map header axis = get_or (maps_of header) axis (record { scale = pos 0; shift = pos 0 })
 
 -- the coordinate of a vertex on an axis, v * scale + translate, in units of 10^-18
 abbrev pub coordinate : Tree → ℕ → List (Option ℤ) → ℤ
-coordinate header axis v = image (axis_map header axis) (unwrap_or (get_or v axis None) (pos 0))
+coordinate header axis v = image (axis_map header axis) (number_on axis v)
 
 -- some vertex is at most there, or at least there, on an axis
 abbrev pub some_at_most : Tree → Tree → ℕ → ℤ → Bool

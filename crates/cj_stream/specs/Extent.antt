@@ -1,14 +1,9 @@
 -- The least and the greatest of some numbers.
-use Rattle.std.specs.Prelude.{ℕ, ◌<◌, ◌^◌, List, [], ◌∷◌, Bool, ◌&&◌, Option, Some, None, ℤ, pos, int_le, unsigned_abs, get_or}
-use Rattle.std.specs.Option.{unwrap_or}
+use Rattle.std.specs.Prelude.{◌<◌, ◌^◌, List, [], ◌∷◌, Bool, ◌&&◌, Option, Some, None, ℤ, int_le, unsigned_abs}
 use Rattle.std.specs.Int.{int_min, int_max}
 use Rattle.std.specs.List.{fold, list_any}
 use Rattle.cj_decimal.specs.Affine.{AffineMap, image}
 use Rattle.cj_stream.specs.declared.query.extent.Range.{Range}
-
--- the number of a vertex on an axis: 0 is x, and 1 is y
-abbrev pub number_on : ℕ → List (Option ℤ) → ℤ
-number_on axis v = unwrap_or (get_or v axis None) (pos 0)
 
 -- the range of a number alone
 abbrev pub alone : ℤ → Range

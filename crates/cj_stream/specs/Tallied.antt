@@ -1,5 +1,5 @@
 -- What is tallied of features: types of city objects, classes of LoDs, and numbers of vertices.
-use Rattle.std.specs.Prelude.{◌≡◌, ℕ, ◌-◌, ◌^◌, List, [], length, min, if◌then◌else◌, ◌&&◌, Option, Some, None, ℤ, pos, ◌≤ℤ◌, get_or, unwrap_or, map, option_and_then, nat_eq, nat_le, All, Contains}
+use Rattle.std.specs.Prelude.{◌≡◌, ℕ, ◌-◌, ◌^◌, List, [], length, min, if◌then◌else◌, ◌&&◌, Option, Some, None, ℤ, ◌≤ℤ◌, map, option_and_then, nat_eq, nat_le, All, Contains}
 use Rattle.std.specs.List.{filter, flat_map}
 use Rattle.cj_spans.specs.Tree.{Tree}
 use Rattle.cj_spans.specs.Parts.{first_code_of}
@@ -8,7 +8,7 @@ use Rattle.cj_geometry.specs.ObjectTypes.{ObjectRow}
 use Rattle.cj_feature.specs.Feature.{templates_of}
 use Rattle.cj_feature.specs.Typed.{type_row}
 use Rattle.cj_feature.specs.Walks.{object_geometries}
-use Rattle.cj_stream.specs.Asked.{objects_of, vertices_of}
+use Rattle.cj_stream.specs.Asked.{objects_of, vertices_of, number_on}
 use Rattle.cj_stream.specs.Item.{Item}
 
 -- ---- counts
@@ -49,11 +49,7 @@ lod_classes header t = map (λ g. class_of (lod (templates_of header) g)) (flat_
 
 -- ---- numbers of vertices
 
--- the number of a vertex on an axis: 0 is x, 1 is y, and 2 is z
-abbrev pub number_on : ℕ → List (Option ℤ) → ℤ
-number_on axis v = unwrap_or (get_or v axis None) (pos 0)
-
--- those of a feature's vertices
+-- the numbers of a feature's vertices on an axis
 abbrev pub numbers_on : ℕ → Tree → List ℤ
 numbers_on axis t = map (number_on axis) (vertices_of t)
 

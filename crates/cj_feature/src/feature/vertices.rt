@@ -16,7 +16,7 @@ pub struct Vertices<'a> {
 }
 
 /// The next of some whole numbers.
-fn next_whole(items: &mut Items) -> i64
+pub fn next_whole(items: &mut Items) -> i64
     requires { begins_whole (map whole_of (items_left items.old)) ≡ true }
     ensures { map whole_of (items_left items.old) ≡ Some result ∷ map whole_of (items_left items.new) }
 {

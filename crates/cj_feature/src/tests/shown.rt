@@ -170,13 +170,24 @@ fn vertices_text(alloc: Global, feature: &Feature) -> Result<String, AllocError>
     Ok(text)
 }
 
+/// The first two numbers of vertices.
+fn positions_text(alloc: Global, feature: &Feature) -> Result<String, AllocError> {
+    let mut text = String::new(alloc);
+    for [x, y] in feature.positions() {
+        let one = format!(in alloc; " {x},{y}")?;
+        text.push_str(&one)?;
+    }
+    Ok(text)
+}
+
 /// What a feature shows.
 fn feature_text(alloc: Global, feature: &Feature) -> Result<String, AllocError> {
     let objects = objects_text(alloc, feature)?;
     let geometries = geometries_text(alloc, feature)?;
     let vertices = vertices_text(alloc, feature)?;
+    let positions = positions_text(alloc, feature)?;
     format!(in alloc;
-        "id {}, objects{objects}, geometries{geometries}, vertices{vertices}, {} bytes",
+        "id {}, objects{objects}, geometries{geometries}, vertices{vertices}, positions{positions}, {} bytes",
         feature.id().start(),
         feature.bytes().len()
     )
@@ -205,7 +216,7 @@ fn a_building_shows_its_parts(rt: HostRuntime) -> Result<(), Fail> {
     let text = line_text(&rt, rt.alloc(), HEADER.as_bytes(), BUILDING.as_bytes())?;
     assert_eq!(&rt;
         text.as_str(),
-        "id 31, objects 51 Building 56, geometries 87 116, vertices 0,0,0 1000,0,0 1000,1000,0 0,1000,0, 210 bytes"
+        "id 31, objects 51 Building 56, geometries 87 116, vertices 0,0,0 1000,0,0 1000,1000,0 0,1000,0, positions 0,0 1000,0 1000,1000 0,1000, 210 bytes"
     );
     Ok(())
 }
@@ -215,7 +226,7 @@ fn an_instance_shows_the_level_of_its_template(rt: HostRuntime) -> Result<(), Fa
     let text = line_text(&rt, rt.alloc(), TEMPLATES.as_bytes(), TREE.as_bytes())?;
     assert_eq!(&rt;
         text.as_str(),
-        "id 31, objects 50 SolitaryVegetationObject 54 218 BuildingPart 222 262 Building 266, geometries 101 204, vertices -1,20,3, 330 bytes"
+        "id 31, objects 50 SolitaryVegetationObject 54 218 BuildingPart 222 262 Building 266, geometries 101 204, vertices -1,20,3, positions -1,20, 330 bytes"
     );
     Ok(())
 }

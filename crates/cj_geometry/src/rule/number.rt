@@ -42,6 +42,7 @@ fn is_outside(count: Option<u64>, whole: i64) -> bool
 }
 
 /// The value of a number that is in range and whole; None of any other number and of any other value.
+#[inline(always)]
 pub fn read_whole(node: Node) -> Option<i64>
     ensures { result ≡ whole_of (tree node.entry) }
 {

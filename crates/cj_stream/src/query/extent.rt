@@ -3,14 +3,14 @@ ghost use Rattle.std.specs.Prelude.{◌≡◌, ◌||◌, ◌∷◌, [], true, in
 ghost use Rattle.cj_decimal.specs.Affine.{image};
 ghost use Rattle.cj_feature.specs.HeaderView.{header_tree, has_box};
 ghost use Rattle.cj_feature.specs.View.{feature_tree};
-ghost use Rattle.cj_feature.specs.Walks.{vertices_left};
-ghost use Rattle.cj_stream.specs.Asked.{is_in as in_box};
-ghost use Rattle.cj_stream.specs.Extent.{number_on, alone, widened, range_of, meets, IsSmall};
+ghost use Rattle.cj_feature.specs.Walks.{positions_left};
+ghost use Rattle.cj_stream.specs.Asked.{is_in as in_box, number_on};
+ghost use Rattle.cj_stream.specs.Extent.{alone, widened, range_of, meets, IsSmall};
 ghost use Rattle.cj_stream.specs.Query.{box_of};
 
 use crate::query::bounds::Bounds;
 use cj_decimal::{Affine, Fixed18};
-use cj_feature::{Feature, Header, Vertices};
+use cj_feature::{Feature, Header, Positions};
 
 /// The least and the greatest of some numbers.
 #[derive(Clone, Copy)]
@@ -74,20 +74,20 @@ struct Extent {
 }
 
 impl Extent {
-    /// That of some vertices, in one walk; None where there are none.
-    fn of(vertices: Vertices) -> Option<Extent>
-        ensures x { option_map (λ e. e.x) result ≡ range_of (map (number_on 0) (vertices_left vertices.entry)) }
-        ensures y { option_map (λ e. e.y) result ≡ range_of (map (number_on 1) (vertices_left vertices.entry)) }
+    /// That of the vertices at some positions, in one walk; None where there are none.
+    fn of(positions: Positions) -> Option<Extent>
+        ensures x { option_map (λ e. e.x) result ≡ range_of (map (number_on 0) (positions_left positions.entry)) }
+        ensures y { option_map (λ e. e.y) result ≡ range_of (map (number_on 1) (positions_left positions.entry)) }
     {
-        let mut left = vertices;
+        let mut left = positions;
         let Some(first) = left.next() else {
             return None;
         };
         let mut x = Range::alone(first[0]);
         let mut y = Range::alone(first[1]);
-        for vertex in left {
-            x = x.widened(vertex[0]);
-            y = y.widened(vertex[1]);
+        for position in left {
+            x = x.widened(position[0]);
+            y = y.widened(position[1]);
         }
         Some(Extent { x, y })
     }
@@ -103,7 +103,7 @@ pub fn is_in(bounds: &Bounds, feature: &Feature, header: &Header) -> bool
         Some(maps) => maps,
         None => unreachable!(),
     };
-    match Extent::of(feature.vertices()) {
+    match Extent::of(feature.positions()) {
         Some(extent) => {
             extent.x.meets(&x_map, bounds.min_x, bounds.max_x)
                 && extent.y.meets(&y_map, bounds.min_y, bounds.max_y)
