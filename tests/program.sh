@@ -1,16 +1,18 @@
 #!/usr/bin/env bash
-# Rows over the built program: what it writes, what it says on standard error, and its status.
+# Rows over the built program: what it writes, what it says on standard error, and its status; and the commands that the
+# documents show.
 #
 #     tests/program.sh [PROGRAM]
 #
 # With no PROGRAM it builds crates/cityseq, which is quick where nothing changed since the last build. A row is a function
-# named row_*; a row that fails prints its name, what is wanted and what came. The last line is 'N passed, M failed', and
-# the status is 0 where all passed.
+# named row_*, or a block of a document that is marked `console`; a row that fails prints its name, what is wanted and what
+# came. The last line is 'N passed, M failed', and the status is 0 where all passed.
 set -u
 cd "$(dirname "$0")/.." || exit
 
 limit=8388608 # the usual line limit, in bytes
 skipped=77    # what a row answers that this system cannot show
+documents='README.md docs/GUIDE.md docs/RULES.md' # whose commands are run
 
 # A header, a feature, and a feature of four vertices whose last index is the one given.
 header='{"type":"CityJSON","version":"2.0","transform":{"scale":[1,1,1],"translate":[0,0,0]},"CityObjects":{},"vertices":[]}'
@@ -19,8 +21,9 @@ indexed() {
   lines '{"type":"CityJSONFeature","id":"b1","CityObjects":{"b1":{"type":"Building","geometry":[{"type":"MultiSurface","lod":"2.2","boundaries":[[[0,1,2,'"$1"']]]}]}},"vertices":[[0,0,0],[1000,0,0],[1000,1000,0],[0,1000,0]]}'
 }
 
-scratch=$(mktemp -d)
-trap 'rm -rf "$scratch"' EXIT
+scratch=$(mktemp -d) # the files of one row
+tools=$(mktemp -d)   # the program, by the name that its texts have
+trap 'rm -rf "$scratch" "$tools"' EXIT
 
 # Prints the path of the program, built if it is not given.
 find_program() {
@@ -198,39 +201,232 @@ row_64_open_arrays() {
   lines "$header" | answered 1 'line 2, byte 64: 4 syntax'
 }
 
-# ---- words that are not understood
+# ---- what is asked for
 
-# Whether these words are refused in silence, with nothing read.
-refuses_words() {
+# Prints the header and a feature of this id with a city object of this type.
+one_feature() {
+  local named=${feature//\"b\"/\"$1\"}
+  lines "$header" "${named/Building/$2}"
+}
+
+row_a_feature_of_another_id() {
+  one_feature b Building | run filter --id c,d
+  lines "$header" | answered 0 ''
+}
+
+row_an_id_among_others() {
+  one_feature b Building | run filter --id c,b,
+  one_feature b Building | answered 0 ''
+}
+
+row_the_empty_id() {
+  one_feature '' Building | run filter --id ''
+  one_feature '' Building | answered 0 ''
+}
+
+row_one_option_of_two_holds() {
+  one_feature b Building | run filter --id b --type Road
+  lines "$header" | answered 0 ''
+}
+
+# The four vertices run from 0 to 1000 on both axes.
+row_a_box_that_touches() {
+  { lines "$header"; indexed 3; } | run filter --bbox 1000,1000,2000,2000
+  { lines "$header"; indexed 3; } | answered 0 ''
+}
+
+row_a_box_that_begins_with_a_minus() {
+  { lines "$header"; indexed 3; } | run filter --bbox=-5,-5,-1,-1
+  lines "$header" | answered 0 ''
+}
+
+row_a_refused_line_that_is_not_asked_for() {
+  { lines "$header"; indexed 4; } | run filter --id other
+  lines "$header" | answered 1 'line 2, byte 144: 25 vertex index out of range'
+}
+
+row_a_header_that_no_box_can_use() {
+  lines "${header/0,0,0/1e-19,0,0}" "$feature" | run filter --bbox 0,0,1,1
+  answered 1 'line 1, byte 77: 30 transform not fixed' < /dev/null
+}
+
+row_a_limit_as_long_as_a_line() {
+  lines "$header" "$feature" | run filter --line-limit ${#header}
+  lines "$header" "$feature" | answered 0 ''
+}
+
+row_a_limit_shorter_than_a_line() {
+  lines "$header" "$feature" | run filter --line-limit $((${#header} - 1))
+  answered 1 "line 1, byte $((${#header} - 1)): 2 line too long" < /dev/null
+}
+
+row_the_greatest_limits() {
+  lines "$header" "$feature" | run filter --line-limit 1073741824 --depth 1024
+  lines "$header" "$feature" | answered 0 ''
+}
+
+row_three_open_and_no_more() {
+  lines "$header" "$feature" | run filter --depth 3
+  lines "$header" "$feature" | answered 0 ''
+}
+
+row_three_open_where_two_may_be() {
+  lines "$header" "$feature" | run filter --depth 2
+  answered 1 'line 1, byte 56: 5 nested too deep' < /dev/null
+}
+
+# ---- check and info
+
+row_a_valid_stream() {
+  lines "$header" '' "$feature" ' ' "$feature" | run check
+  lines 'valid lines=5 features=2' | answered 0 ''
+}
+
+row_a_report() {
+  { lines "$header"; indexed 3; } | run info
+  lines 'lines 2' 'features 1' 'scale 1e0 1e0 1e0' 'translate 0e0 0e0 0e0' 'type Building 1' 'lod 2 1' 'x 0 1000' 'y 0 1000' \
+    'z 0 0' "peak bytes $((${#header} + 210))" 'peak tokens 65' 'peak open 8' | answered 0 ''
+}
+
+row_a_report_of_a_header() {
+  lines "$header" | run info
+  lines 'lines 1' 'features 0' 'scale 1e0 1e0 1e0' 'translate 0e0 0e0 0e0' "peak bytes ${#header}" 'peak tokens 21' \
+    'peak open 3' | answered 0 ''
+}
+
+row_check_of_a_bad_stream_writes_nothing() {
+  { lines "$header"; indexed 3; indexed 4; } | run check
+  answered 1 'line 3, byte 144: 25 vertex index out of range' < /dev/null
+}
+
+row_info_of_a_bad_stream_writes_nothing() {
+  { lines "$header"; indexed 3; indexed 4; } | run info
+  answered 1 'line 3, byte 144: 25 vertex index out of range' < /dev/null
+}
+
+row_info_of_an_empty_input() {
+  run info < /dev/null
+  answered 1 'line 1, byte 0: 1 no header line' < /dev/null
+}
+
+# ---- help, and words that are not understood
+
+row_the_version() {
+  run --version < /dev/null
+  lines 'cityseq 0.1.0' | answered 0 ''
+}
+
+# The help itself is shown in README.
+row_help_is_asked_for() {
+  run help < /dev/null
+  mv "$scratch/written" "$scratch/help"
+  run --help < /dev/null
+  answered 0 '' < "$scratch/help"
+}
+
+# Whether these words are refused with this text, or in silence where it is empty, and nothing is read.
+refuses() {
+  local text=$1
+  shift
   lines "$header" | { run "$@"; cat > "$scratch/unread"; }
-  answered 2 '' < /dev/null || return
+  answered 2 "$text" < /dev/null || return
   [ "$(cat "$scratch/unread")" = "$header" ] && return
   differs 'an input that is not read' "$(sketch "$scratch/unread")"
   false
 }
 
+# The text of a mistake in the words, which may have more lines than one.
+mistake() {
+  lines "error: $1" '' "${@:2}" "For more information, try '--help'."
+}
+
 row_no_word() {
-  refuses_words
+  run --help < /dev/null
+  refuses "$(cat "$scratch/written")"
 }
 
 row_an_unknown_word() {
-  refuses_words check
-}
-
-row_a_word_too_many() {
-  refuses_words filter filter
+  refuses "$(mistake "unrecognized subcommand 'chekc'" "  tip: a similar subcommand exists: 'check'" '' \
+    'Usage: cityseq <COMMAND>' '')" chekc
 }
 
 row_an_empty_word() {
-  refuses_words ''
+  refuses "$(mistake "unrecognized subcommand ''" 'Usage: cityseq <COMMAND>' '')" ''
+}
+
+row_a_word_too_many() {
+  refuses "$(mistake "unexpected argument 'filter' found" 'Usage: cityseq filter [OPTIONS]' '')" filter filter
+}
+
+row_an_unknown_option() {
+  refuses "$(mistake "unexpected argument '--idd' found" "  tip: a similar argument exists: '--id'" '' \
+    'Usage: cityseq filter --id <IDS>' '')" filter --idd b
+}
+
+row_an_option_of_another_command() {
+  refuses "$(mistake "unexpected argument '--id' found" 'Usage: cityseq check [OPTIONS]' '')" check --id b
+}
+
+row_an_option_given_twice() {
+  refuses "$(mistake "the argument '--id <IDS>' cannot be used multiple times" 'Usage: cityseq filter [OPTIONS]' '')" \
+    filter --id b --id c
+}
+
+row_an_option_without_its_value() {
+  refuses "$(mistake "a value is required for '--id <IDS>' but none was supplied")" filter --id
+}
+
+row_a_box_taken_for_an_option() {
+  refuses "$(mistake "unexpected argument '-5' found" 'Usage: cityseq filter [OPTIONS]' '')" filter --bbox -5,0,5,9
+}
+
+# Whether this line limit is refused.
+refuses_limit() {
+  refuses "$(mistake "invalid value '$1' for '--line-limit <BYTES>': $2")" check --line-limit "$1"
+}
+
+row_a_line_limit_of_0() {
+  refuses_limit 0 '0 is not in 1..=1073741824'
+}
+
+row_a_line_limit_above_the_range() {
+  refuses_limit 1073741825 '1073741825 is not in 1..=1073741824'
+}
+
+row_a_line_limit_that_is_no_number() {
+  refuses_limit x 'invalid digit found in string'
+}
+
+row_a_depth_above_the_range() {
+  refuses "$(mistake "invalid value '1025' for '--depth <LEVELS>': 1025 is not in 1..=1024")" info --depth 1025
+}
+
+row_an_unknown_type() {
+  refuses 'unknown object type' filter --type Building,building
+}
+
+row_a_box_of_three_numbers() {
+  refuses 'bad box' filter --bbox 1,2,3
+}
+
+row_a_box_of_too_great_a_number() {
+  refuses 'box number out of range' filter --bbox 1e18,0,2e18,1
+}
+
+row_a_box_with_its_corners_exchanged() {
+  refuses 'empty box' filter --bbox 3,0,1,1
+}
+
+row_a_type_is_judged_before_a_box() {
+  refuses 'unknown object type' filter --bbox 1,2,3 --type Shed
 }
 
 row_a_word_that_is_not_utf_8() {
-  refuses_words $'\xff'
+  refuses '' $'\xff'
 }
 
 row_a_second_word_that_is_not_utf_8() {
-  refuses_words filter $'\xff'
+  refuses '' filter $'\xff'
 }
 
 # Not even the program's name: some systems put an empty one there, and some start no program so.
@@ -251,6 +447,11 @@ row_a_folder_as_standard_input() {
   answered 3 'read fault' < /dev/null
 }
 
+row_a_folder_as_standard_input_of_check() {
+  run check < "$scratch"
+  answered 3 'read fault' < /dev/null
+}
+
 row_a_closed_standard_input() {
   run filter <&-
   answered 3 'read fault' < /dev/null
@@ -259,6 +460,26 @@ row_a_closed_standard_input() {
 row_a_closed_standard_output() {
   lines "$header" | run_onto filter >&-
   answered 4 'write fault' < /dev/null
+}
+
+row_a_closed_standard_output_and_help() {
+  run_onto --help < /dev/null >&-
+  answered 4 'write fault' < /dev/null
+}
+
+row_a_full_device_and_check() {
+  lines "$header" | run_onto check > /dev/full
+  answered 4 'write fault' < /dev/null
+}
+
+row_a_full_device_and_info() {
+  lines "$header" | run_onto info > /dev/full
+  answered 4 'write fault' < /dev/null
+}
+
+row_a_full_device_and_a_bad_stream() {
+  lines "$feature" | run_onto check > /dev/full
+  answered 1 'line 1, byte 0: 10 member missing' < /dev/null
 }
 
 row_a_full_device_at_the_flush() {
@@ -304,12 +525,53 @@ row_the_example_counts() {
   lines 'buildings 2, geometries 17' | answered 0 '' || { cat "$scratch/noise"; false; }
 }
 
+# ---- what the documents show
+
+# Prints for each block of a document that is marked `console` the number of the line that marks it.
+blocks_of() {
+  grep -n '^```console$' "$1" | cut -d : -f 1
+}
+
+# Prints the block of a document that is marked at this line.
+block() {
+  tail -n "+$(($2 + 1))" "$1" | sed '/^```$/,$d'
+}
+
+# Prints commands that show a command as it stands in a block, and run it.
+step() {
+  [ -z "$1" ] || printf "printf '%%s\\\\n' %q\n%s\n" "$1" "$2"
+}
+
+# Prints a script that shows each command of a block and runs it. So it prints the block, if all is as the block has it.
+script_of() {
+  local line shown='' command=''
+  while IFS= read -r line; do
+    case $line in
+      '$ '*) step "$shown" "$command" && shown=$line command=${line#* } ;;
+      '> '*) shown+=$'\n'$line command+=$'\n'${line#* } ;;
+    esac
+  done
+  step "$shown" "$command"
+}
+
+# Whether the commands of this block print what stands under them, on standard output and standard error together.
+shown_in() {
+  block "$1" "$2" > "$scratch/wanted"
+  script_of < "$scratch/wanted" > "$scratch/script"
+  PATH=$tools:$PATH timeout 60 bash "$scratch/script" < /dev/null > "$scratch/written" 2>&1
+  diff --label shown --label printed -u "$scratch/wanted" "$scratch/written"
+}
+
+has_blocks() {
+  [ -n "$(blocks_of "$1")" ]
+}
+
 # Runs a row, and counts it.
 try() {
-  row=${1#row_}
+  row=${*#row_}
   rm -f "$scratch"/*
   touch "$scratch/written" "$scratch/said" "$scratch/status"
-  "$1"
+  "$@"
   case $? in
     0) passed=$((passed + 1)) ;;
     "$skipped") echo "$row: left out, as this system cannot show it" ;;
@@ -317,10 +579,24 @@ try() {
   esac
 }
 
+# Runs the blocks of a document, of which there is one at least.
+try_document() {
+  local line
+  try has_blocks "$1"
+  for line in $(blocks_of "$1"); do
+    try shown_in "$1" "$line"
+  done
+}
+
 passed=0 failed=0
-if program=$(find_program "$@"); then
+if found=$(find_program "$@"); then
+  program=$tools/cityseq
+  ln -s "$found" "$program"
   for row in $(compgen -A function row_); do
     try "$row"
+  done
+  for document in $documents; do
+    try_document "$document"
   done
 else
   echo "there is no program to test" && failed=1
