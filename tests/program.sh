@@ -429,15 +429,20 @@ row_a_second_word_that_is_not_utf_8() {
   refuses '' filter $'\xff'
 }
 
-# Not even the program's name: some systems put an empty one there, and some start no program so.
+# Not even the program's name: some systems put an empty one there, so that it is no words that are told; some start no
+# program so.
 row_no_arguments_at_all() {
+  local text
   command -v python3 > "$scratch/written" || return $skipped
+  run --help < /dev/null
+  text=$(cat "$scratch/written")
   python3 -c 'import ctypes, os, sys
 ctypes.CDLL(None).execv(os.fsencode(sys.argv[1]), (ctypes.c_char_p * 1)(None))
 sys.exit(int(sys.argv[2]))' "$program" $skipped < /dev/null > "$scratch/written" 2> "$scratch/said"
   echo $? > "$scratch/status"
   [ "$(cat "$scratch/status")" != $skipped ] || return $skipped
-  answered 2 '' < /dev/null
+  [ -s "$scratch/said" ] || text=''
+  answered 2 "$text" < /dev/null
 }
 
 # ---- devices that fail
