@@ -1,26 +1,32 @@
 #!/usr/bin/env python3
 """Runs programs on the same inputs and prints MB/s, the ratios to the times of `cityseq check` and of the two twins,
 and the greatest resident memory; before that the time of a run on a stream of one feature: measure.py PROGRAM TWIN
-NARROW_TWIN TYPED_TWIN SMALL INPUT.., with an empty word for a twin that is not there."""
+NARROW_TWIN TYPED_TWIN SMALL INPUT.., with an empty word for a twin that is not there. Times are of the processor, so
+that other work on the machine does not count."""
 import os
+import resource
 import subprocess
 import sys
-import time
 
 RUNS = 5
 STARTS = 200
 GNU_TIME = "/usr/bin/time"
 
 
+def processor_seconds():
+    """The processor's time that all programs have taken that were run so far."""
+    used = resource.getrusage(resource.RUSAGE_CHILDREN)
+    return used.ru_utime + used.ru_stime
+
+
 def seconds_of(words, path):
     """The time of one run, its output thrown away."""
     with open(path, "rb") as source:
-        start = time.perf_counter()
+        before = processor_seconds()
         ran = subprocess.run(words, stdin=source, stdout=subprocess.DEVNULL)
-        seconds = time.perf_counter() - start
     if ran.returncode:
         sys.exit(f"{' '.join(words)} on {path}: status {ran.returncode}")
-    return seconds
+    return processor_seconds() - before
 
 
 def resident_of(words, path):
