@@ -1,12 +1,12 @@
 -- Characters and code points, read one at a time.
-use Rattle.std.proofs.Common.{◌≡◌, ℕ, zero, suc, ◌+◌, ◌-◌, ◌*◌, ◌<◌, ◌≤◌, List, [], ◌∷◌, length, take, drop, get_or, Bool, true, false, cond, ◌&&◌, nat_eq, Option, Some, refl, sym, ap, arith, ◌∙◌, add-one, drop-cons}
+use Rattle.std.proofs.Common.{◌≡◌, ℕ, zero, suc, ◌+◌, ◌-◌, ◌*◌, ◌<◌, ◌≤◌, List, [], ◌∷◌, length, take, drop, get_or, Bool, true, false, cond, not, ◌&&◌, nat_eq, nat_lt, Option, Some, None, refl, sym, ap, arith, ◌∙◌, add-one, drop-cons}
 use Rattle.std.specs.Cmp.Derive.{both_true}
 use Rattle.std.proofs.lemmas.List.{drop-drop, drop-take}
 use Rattle.std.proofs.lemmas.Bool.Decides.{nat_tests}
 use Rattle.std.proofs.lemmas.Grind.{common_steps}
 use Rattle.cj_spans.specs.declared.text.Point.{Point}
-use Rattle.cj_spans.specs.Decoding.{left, after_read, ReadsPoint}
-use Rattle.cj_spans.specs.Text.{char_of, four_digits, unit, is_unicode, is_escaped, is_pair, escaped, first_point, first_width, points_after, text, StandFor, done, plain, letter, single, pair}
+use Rattle.cj_spans.specs.Decoding.{left, after_read, ReadsPoint, plain_front, points_from}
+use Rattle.cj_spans.specs.Text.{char_of, four_digits, unit, is_unicode, is_escaped, is_pair, escaped, first_point, first_width, points_after, text, are_same, StandFor, done, plain, letter, single, pair}
 use Rattle.std.specs.Char.{digit_value}
 use Rattle.std.specs.Char.Utf16.{is_high_surrogate, is_low_surrogate, surrogate_pair_char}
 use Rattle.std.specs.Str.{chars, chars_after, continuation_len, lead_bits}
@@ -253,6 +253,33 @@ points_done bs i h = ap (points_after 0) h ∙ points_nil
 pub characters_step : (bs : List ℕ) (i : ℕ) (f : Point) → left bs i ≡ after_read bs 0 (Some f) → left bs i ≡ f.code ∷ left bs f.stop
 characters_step bs i f h = h ∙ chars_end f.code (drop f.stop bs)
 
+-- ---- a byte that stands for itself
+
+pub plain_character : (bs : List ℕ) (i : ℕ) → i < length bs → get_or bs i 0 < 128 → left bs i ≡ get_or bs i 0 ∷ left bs (i + 1)
+plain_character bs i h l = lead_one bs i h l ∙ chars_end (get_or bs i 0) (drop (i + 1) bs)
+
+points_go_on : (c : ℕ) (cs ds ps : List ℕ) (x n : ℕ) → (first_point (c ∷ cs) ≡ x) × (first_width (c ∷ cs) ≡ n) → drop n (c ∷ cs) ≡ ds → points_after 0 ds ≡ ps → points_after 0 (c ∷ cs) ≡ x ∷ ps
+points_go_on c cs ds ps x n e d h =
+    points_cons c cs ∙ ap (λ y. y ∷ points_after 0 (drop (first_width (c ∷ cs)) (c ∷ cs))) e.0 ∙ ap (λ m. x ∷ points_after 0 (drop m (c ∷ cs))) e.1 ∙ ap (λ us. x ∷ points_after 0 us) d ∙ ap (λ us. x ∷ us) h
+
+plain_cons : (c : ℕ) (cs : List ℕ) → nat_eq c 92 ≡ false → points_after 0 (c ∷ cs) ≡ c ∷ points_after 0 cs
+plain_cons c cs n = points_go_on c cs cs (points_after 0 cs) c 1 (first_plain (c ∷ cs) n) refl refl
+
+pub plain_code : (bs : List ℕ) (i : ℕ) → i < length bs → get_or bs i 0 < 128 → nat_eq (get_or bs i 0) 92 ≡ false → points_from bs i ≡ get_or bs i 0 ∷ points_from bs (i + 1)
+plain_code bs i h l n = ap (points_after 0) (plain_character bs i h l) ∙ plain_cons (get_or bs i 0) (left bs (i + 1)) n
+
+pub front_end : (bs : List ℕ) (i : ℕ) → length bs ≤ i → plain_front (drop i bs) ≡ None
+front_end bs i h = let e : drop i bs ≡ [] = grind (arith, common_steps) in ap plain_front e
+
+pub front_cons : (bs : List ℕ) (i : ℕ) → i < length bs → plain_front (drop i bs) ≡ cond (nat_lt (get_or bs i 0) 128 && not (nat_eq (get_or bs i 0) 92)) (Some (get_or bs i 0)) None
+front_cons bs i h = ap plain_front (at_drop bs i h)
+
+pub text_ends : (bs ws : List ℕ) (i j : ℕ) → length bs ≤ i → length ws ≤ j → are_same (points_from bs i) (left ws j) ≡ true
+text_ends bs ws i j h k = ap (λ cs. are_same (points_after 0 cs) (left ws j)) (chars_past bs i h) ∙ ap (λ ps. are_same ps (left ws j)) points_nil ∙ ap (are_same []) (chars_past ws j k)
+
+pub texts_end : (bs ds : List ℕ) (i j : ℕ) → length bs ≤ i → length ds ≤ j → are_same (points_from bs i) (points_from ds j) ≡ true
+texts_end bs ds i j h k = ap (λ cs. are_same (points_after 0 cs) (points_from ds j)) (chars_past bs i h) ∙ ap (λ ps. are_same ps (points_from ds j)) points_nil ∙ ap (are_same []) (points_done ds j (chars_past ds j k))
+
 -- ---- between the quotes
 
 body_place : (s : List ℕ) (n : ℕ) → drop 1 (take n s) ≡ take (n - 1) (drop 1 s)
@@ -267,10 +294,6 @@ unfolding text
 points_between s = ap (λ bs. points_after 0 (chars bs)) (body_place s (length s - 1))
 
 -- ---- the relation has one answer, the function's
-
-points_go_on : (c : ℕ) (cs ds ps : List ℕ) (x n : ℕ) → (first_point (c ∷ cs) ≡ x) × (first_width (c ∷ cs) ≡ n) → drop n (c ∷ cs) ≡ ds → points_after 0 ds ≡ ps → points_after 0 (c ∷ cs) ≡ x ∷ ps
-points_go_on c cs ds ps x n e d h =
-    points_cons c cs ∙ ap (λ y. y ∷ points_after 0 (drop (first_width (c ∷ cs)) (c ∷ cs))) e.0 ∙ ap (λ m. x ∷ points_after 0 (drop m (c ∷ cs))) e.1 ∙ ap (λ us. x ∷ points_after 0 us) d ∙ ap (λ us. x ∷ us) h
 
 pub stands_once : {cs ps : List ℕ} → StandFor cs ps → points_after 0 cs ≡ ps
 stands_once done = points_nil

@@ -1,5 +1,5 @@
 -- What is read of a text, and what is left. Only private clauses cite it.
-use Rattle.std.specs.Prelude.{◌≡◌, ℕ, List, [], drop, Option, Some, None}
+use Rattle.std.specs.Prelude.{◌≡◌, ℕ, List, [], ◌∷◌, drop, cond, not, ◌&&◌, nat_eq, nat_lt, Option, Some, None}
 use Rattle.std.specs.Str.{chars, chars_after}
 use Rattle.cj_spans.specs.declared.text.Point.{Point}
 use Rattle.cj_spans.specs.declared.text.Points.{Points}
@@ -20,9 +20,18 @@ pub record ReadsPoint (bytes cs : List ℕ) (x n : ℕ) (p : Point) : Type 0 whe
   pub code : p.code ≡ x
   pub rest : left bytes p.stop ≡ drop n cs
 
+-- the first byte, where it alone is a character that stands for itself: ASCII, and no backslash
+abbrev pub plain_front : List ℕ → Option ℕ
+plain_front [] = None
+plain_front (b ∷ bs) = cond (nat_lt b 128 && not (nat_eq b 92)) (Some b) None
+
+-- the code points from a place on
+abbrev pub points_from : List ℕ → ℕ → List ℕ
+points_from bytes place = points_after 0 (left bytes place)
+
 -- the code points that are left
 abbrev pub points_left : Points → List ℕ
-points_left p = points_after 0 (left p.bytes.now p.place)
+points_left p = points_from p.bytes.now p.place
 
 -- the characters that are left
 abbrev pub characters_left : Characters → List ℕ

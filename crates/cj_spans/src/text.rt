@@ -3,7 +3,7 @@ ghost use Rattle.std.specs.Prelude.{◌≡◌, ◌+◌, ◌-◌, ◌*◌, ◌<�
 ghost use Rattle.std.specs.Str.{chars, chars_after};
 ghost use Rattle.std.specs.Char.{digit_value as digit_value_of};
 ghost use Rattle.std.specs.Char.Utf16.{is_high_surrogate as is_high_of, is_low_surrogate as is_low_of};
-ghost use Rattle.cj_spans.specs.Decoding.{left, after_read, ReadsPoint, points_left, characters_left};
+ghost use Rattle.cj_spans.specs.Decoding.{left, after_read, ReadsPoint, plain_front, points_from, points_left, characters_left};
 ghost use Rattle.cj_spans.specs.Text.{char_of, four_digits, escaped as escaped_of, is_escaped, is_unicode, unit, first_point, first_width, text, are_same};
 
 #[cfg(test)]
@@ -309,8 +309,30 @@ impl<'a> Iterator for Characters<'a> {
     }
 }
 
-/// Whether a string's text is these characters.
-pub(crate) fn is_text(points: Points, characters: Characters) -> bool
+/// The byte at a place, where it alone is a character that stands for itself: ASCII, and no backslash.
+#[tactic(auto, using(crate::proofs::Texts::plain_character, crate::proofs::Texts::plain_code, crate::proofs::Texts::front_end, crate::proofs::Texts::front_cons, std::proofs::lemmas::Bool::Decides::nat_tests))]
+#[inline(always)]
+fn plain_at(bytes: &[u8], place: usize) -> Option<u8>
+    ensures exact { result ≡ plain_front (drop place bytes.now) }
+    ensures place { IfSome result (λ b. (place < length bytes.now) × (place + 1 < 2 ^ 64)) }
+    ensures character { IfSome result (λ b. left bytes.now place ≡ b ∷ left bytes.now (place + 1)) }
+    ensures point { IfSome result (λ b. points_from bytes.now place ≡ b ∷ points_from bytes.now (place + 1)) }
+{
+    if place >= bytes.len() {
+        return None;
+    }
+    let byte = bytes[place];
+    if byte < 128 && byte != b'\\' {
+        Some(byte)
+    } else {
+        None
+    }
+}
+
+/// Whether a string's text is these characters, by code points: for what is spelled by escapes or is not ASCII.
+#[cold]
+#[inline(never)]
+fn is_text_slowly(points: Points, characters: Characters) -> bool
     ensures { result ≡ are_same (points_left points.entry) (characters_left characters.entry) }
 {
     let mut rest = characters;
@@ -327,8 +349,36 @@ pub(crate) fn is_text(points: Points, characters: Characters) -> bool
     rest.next().is_none()
 }
 
-/// Whether two strings have one text.
-pub(crate) fn is_same_text(points: Points, others: Points) -> bool
+/// Whether a string's text is these characters.
+#[tactic(auto, using(crate::proofs::Texts::text_ends))]
+#[inline]
+pub(crate) fn is_text(points: Points, characters: Characters) -> bool
+    ensures { result ≡ are_same (points_left points.entry) (characters_left characters.entry) }
+{
+    let mut left = points;
+    let mut wanted = characters;
+    while let Some(byte) = plain_at(left.bytes, left.place) {
+        match plain_at(wanted.bytes, wanted.place) {
+            Some(other) => {
+                if other != byte {
+                    return false;
+                }
+            }
+            None => return is_text_slowly(left, wanted),
+        }
+        left.place += 1;
+        wanted.place += 1;
+    }
+    if left.place >= left.bytes.len() && wanted.place >= wanted.bytes.len() {
+        return true;
+    }
+    is_text_slowly(left, wanted)
+}
+
+/// Whether two strings have one text, by code points: for what is spelled by escapes or is not ASCII.
+#[cold]
+#[inline(never)]
+fn is_same_text_slowly(points: Points, others: Points) -> bool
     ensures { result ≡ are_same (points_left points.entry) (points_left others.entry) }
 {
     let mut later = others;
@@ -343,4 +393,30 @@ pub(crate) fn is_same_text(points: Points, others: Points) -> bool
         }
     }
     later.next().is_none()
+}
+
+/// Whether two strings have one text.
+#[tactic(auto, using(crate::proofs::Texts::texts_end))]
+#[inline]
+pub(crate) fn is_same_text(points: Points, others: Points) -> bool
+    ensures { result ≡ are_same (points_left points.entry) (points_left others.entry) }
+{
+    let mut left = points;
+    let mut right = others;
+    while let Some(byte) = plain_at(left.bytes, left.place) {
+        match plain_at(right.bytes, right.place) {
+            Some(other) => {
+                if other != byte {
+                    return false;
+                }
+            }
+            None => return is_same_text_slowly(left, right),
+        }
+        left.place += 1;
+        right.place += 1;
+    }
+    if left.place >= left.bytes.len() && right.place >= right.bytes.len() {
+        return true;
+    }
+    is_same_text_slowly(left, right)
 }

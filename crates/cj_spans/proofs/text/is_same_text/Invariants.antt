@@ -1,7 +1,10 @@
-use Rattle.std.proofs.Common.{◌≡◌}
+use Rattle.std.proofs.Common.{◌≡◌, ◌-◌, length}
 use Rattle.cj_spans.specs.Text.{are_same}
 use Rattle.cj_spans.specs.Decoding.{points_left}
 use Rattle.cj_spans.proofs.text.is_same_text.Given as goal
 
-abbrev pub invariant-loop-point : goal.invariant-loop-point
-invariant-loop-point l = are_same (points_left l.point-iterator) (points_left l.later) ≡ are_same (points_left l.fn.points) (points_left l.fn.others)
+abbrev pub invariant-loop-byte : goal.invariant-loop-byte
+invariant-loop-byte l = are_same (points_left l.left) (points_left l.right) ≡ are_same (points_left l.fn.points) (points_left l.fn.others)
+
+abbrev pub decreases-loop-byte : goal.decreases-loop-byte
+decreases-loop-byte l = length l.left.bytes.now - l.left.place
