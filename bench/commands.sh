@@ -1,13 +1,14 @@
 #!/usr/bin/env bash
-# Measures `cityseq check`, `filter` and `info` beside cat, wc -l and two Rust twins, in one run, and how long they take
-# on a stream of one feature. The twin reads each line by serde_json and throws the value away (and the same without
-# reading JSON); the typed twin judges typed values of serde's derive.
+# Measures `cityseq check`, `filter` and `info` beside cat, wc -l, two Rust twins and a peer in C++, in one run, and how
+# long they take on a stream of one feature. The twin reads each line by serde_json and throws the value away (and the
+# same without reading JSON); the typed twin judges typed values of serde's derive; the peer judges values of simdjson.
 #
 #   bench/commands.sh [MEGABYTES]      (300 if left out)
 #
 # It builds the program by `rt run`, and the twins by cargo with Debian's packages librust-memchr-dev,
-# librust-simdutf8-dev, librust-serde-json-dev and librust-serde-derive-dev, where they are installed: the first twin
-# once as it is, and once for x86-64-v2 alone, for which Rattle builds programs. Figures are the best of five runs.
+# librust-simdutf8-dev, librust-serde-json-dev and librust-serde-derive-dev, and the peer by g++ with libsimdjson-dev,
+# where they are installed: the first twin once as it is, and once for x86-64-v2 alone, for which Rattle builds programs;
+# simdjson takes the widest vectors that the machine has. Figures are the best of five runs.
 set -euo pipefail
 cd "$(dirname "$0")"
 megabytes=${1:-300}
@@ -47,10 +48,16 @@ if have simdutf8 serde_json serde_derive && build typed_twin out/typed; then
 else
   echo "the typed twin is left out: its packages are missing, or it does not build" >&2
 fi
+peer=
+if g++ -O3 -std=c++17 -o out/simdjson_peer simdjson_peer/peer.cpp -lsimdjson 2> /dev/null; then
+  peer=out/simdjson_peer
+else
+  echo "the peer in C++ is left out: libsimdjson-dev is missing, or it does not build" >&2
+fi
 
 for shape in usual tiny huge text; do
   [ -s "out/$shape.jsonl" ] && [ "$(stat -c %s "out/$shape.jsonl")" -ge $((megabytes * 1000000)) ] ||
     python3 make_stream.py "$shape" "$megabytes" > "out/$shape.jsonl"
 done
 head -n 2 ../examples/sample.city.jsonl > out/one.jsonl
-python3 measure.py "$program" "$twin" "$narrow" "$typed" out/one.jsonl out/usual.jsonl out/tiny.jsonl out/huge.jsonl out/text.jsonl
+python3 measure.py "$program" "$twin" "$narrow" "$typed" "$peer" out/one.jsonl out/usual.jsonl out/tiny.jsonl out/huge.jsonl out/text.jsonl

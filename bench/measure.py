@@ -1,8 +1,8 @@
 #!/usr/bin/env python3
-"""Runs programs on the same inputs and prints MB/s, the ratios to the times of `cityseq check` and of the two twins,
-and the greatest resident memory; before that the time of a run on a stream of one feature: measure.py PROGRAM TWIN
-NARROW_TWIN TYPED_TWIN SMALL INPUT.., with an empty word for a twin that is not there. Times are of the processor, so
-that other work on the machine does not count."""
+"""Runs programs on the same inputs and prints MB/s, the ratios to the times of `cityseq check`, of the two twins and of
+the peer, and the greatest resident memory; before that the time of a run on a stream of one feature: measure.py PROGRAM
+TWIN NARROW_TWIN TYPED_TWIN PEER SMALL INPUT.., with an empty word for one that is not there. Times are of the processor,
+so that other work on the machine does not count."""
 import os
 import resource
 import subprocess
@@ -11,6 +11,8 @@ import sys
 RUNS = 5
 STARTS = 200
 GNU_TIME = "/usr/bin/time"
+# a box around all that the inputs have
+BOX = "--bbox=84616,447422,100000,500000"
 
 
 def processor_seconds():
@@ -44,8 +46,9 @@ def ratio(best, name, peer):
 
 
 def main():
-    program, twin, narrow, typed, small, *paths = sys.argv[1:]
+    program, twin, narrow, typed, peer, small, *paths = sys.argv[1:]
     commands = {f"cityseq {name}": [program, name] for name in ("check", "filter", "info")}
+    commands["filter by a box"] = [program, "filter", BOX]
     for name, words in {**commands, "true": ["true"]}.items():
         print(f"{name} on one feature: {1000 * min(seconds_of(words, small) for _ in range(STARTS)):.2f} ms")
     programs = {**commands, "cat": ["cat"], "wc -l": ["wc", "-l"]}
@@ -55,7 +58,9 @@ def main():
         programs["twin, no JSON"] = [twin, "copy"]
     if typed:
         programs["typed twin"] = [typed]
-    titles = f"{'of check':>10}{'of the twin':>13}{'of typed twin':>15}{'resident KB':>13}"
+    if peer:
+        programs["simdjson peer"] = [peer]
+    titles = f"{'of check':>10}{'of the twin':>13}{'of typed twin':>15}{'of the peer':>13}{'resident KB':>13}"
     print(f"{'input':<16}{'program':<18}{'MB/s':>8}{titles}")
     for path in paths:
         size = os.path.getsize(path) / 1e6
@@ -64,7 +69,8 @@ def main():
             for name, words in programs.items():
                 best[name] = min(best[name], seconds_of(words, path))
         for name, seconds in best.items():
-            ratios = f"{ratio(best, name, 'cityseq check'):>10}{ratio(best, name, 'Rust twin'):>13}{ratio(best, name, 'typed twin'):>15}"
+            peers = (("cityseq check", 10), ("Rust twin", 13), ("typed twin", 15), ("simdjson peer", 13))
+            ratios = "".join(f"{ratio(best, name, other):>{width}}" for other, width in peers)
             resident = resident_of(programs[name], path)
             print(f"{os.path.basename(path):<16}{name:<18}{size / seconds:>8.0f}{ratios}{resident:>13}")
 

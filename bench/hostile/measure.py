@@ -1,0 +1,192 @@
+#!/usr/bin/env python3
+"""Times `cityseq check`, and `cityseq info` where the rules alone do not cost, on lines that are made to cost, each of
+several lengths, beside a usual line of the same length: measure.py PROGRAM SECONDS. A run that takes more than SECONDS is ended, and no longer line of its shape is tried.
+Times are of the processor, so that other work on the machine does not count; what the program takes to start is in them."""
+import json
+import os
+import resource
+import subprocess
+import sys
+import tempfile
+
+LENGTHS = (125_000, 1_000_000, 8_000_000)
+RUNS = 3
+HEADER = ('{"type":"CityJSON","version":"2.0","transform":{"scale":[1,1,1],"translate":[0,0,0]},'
+          '"CityObjects":{},"vertices":[]%s}\n')
+
+
+def many(length, item):
+    """Items from the 0th on, with commas between them, of about this length together."""
+    parts, taken = [], 0
+    while taken < length:
+        parts.append(item(len(parts)))
+        taken += len(parts[-1]) + 1
+    return ",".join(parts)
+
+
+def spread(letters, bits, low):
+    """A text of so many bits of a number, the lowest first or last."""
+    return "".join(letters[bits >> i & 1] for i in (range(24) if low else reversed(range(24))))
+
+
+def feature(objects, vertices="", more=""):
+    """A feature, whose id is `b`, with these city objects beside one of that name."""
+    return f'{{"type":"CityJSONFeature","id":"b","CityObjects":{{{objects}}},"vertices":[{vertices}]{more}}}\n'
+
+
+def building(more=""):
+    """The city object `b`, with more members."""
+    return f'"b":{{"type":"Building"{more}}}'
+
+
+def geometry(boundaries, more="", kind="MultiSurface"):
+    """The city object `b` with a geometry of these boundaries."""
+    return building(f',"geometry":[{{"type":"{kind}","lod":"2","boundaries":[{boundaries}]{more}}}]')
+
+
+def name(i):
+    """An unread member."""
+    return f'"name {i}":0'
+
+
+def usual(n):
+    count = n // 72
+    surfaces = ",".join(f"[[{i % count},{i * 7 % count},{i * 31 % count}]]" for i in range(2 * count))
+    values = ",".join(str(i % 3) for i in range(2 * count))
+    kinds = ",".join(f'{{"type":"{kind}Surface"}}' for kind in ("Ground", "Roof", "Wall"))
+    semantics = f',"semantics":{{"surfaces":[{kinds}],"values":[[{values}]]}}'
+    points = ",".join(f"[{i * 7919 % 1000000},{i * 104729 % 1000000},{i * 31 % 30000}]" for i in range(count))
+    return feature(geometry(f"[{surfaces}]", semantics, "Solid"), points)
+
+
+def many_surfaces(n):
+    semantics = f',"semantics":{{"surfaces":[{many(n, lambda i: json.dumps({"type": "+Part"}))}],"values":[0]}}'
+    return feature(geometry("[[0,0,0]]", semantics), "[0,0,0]")
+
+
+def one_parent(n, backwards=False):
+    count = n // 52
+    ids = [f'"p{i:06}"' for i in range(count)]
+    listed = reversed(ids) if backwards else ids
+    parts = ",".join(f'{i}:{{"type":"BuildingPart","parents":["b"]}}' for i in ids)
+    return feature(building(f',"children":[{",".join(listed)}]') + "," + parts)
+
+
+def chain(n):
+    count = n // 78
+    parts = ",".join(
+        f'"p{i}":{{"type":"BuildingPart","parents":["{f"p{i - 1}" if i else "b"}"],"children":[{f"{chr(34)}p{i + 1}{chr(34)}" if i + 1 < count else ""}]}}'
+        for i in range(count))
+    return feature(building(',"children":["p0"]') + "," + parts)
+
+
+def pairs_again(n):
+    again = n // 8
+    children, parents = ",".join(['"q"'] * again), ",".join(['"b"'] * again)
+    parts = f'"p":{{"type":"BuildingPart","parents":[{parents}]}},"q":{{"type":"BuildingPart","parents":["b"]}}'
+    return feature(building(f',"children":[{children},"p"]') + "," + parts)
+
+
+def absent_parents(n):
+    half = many(n // 2, lambda i: f'"p{i}":{{"type":"Building"}}')
+    return feature(building(f',"parents":[{many(n // 2, lambda i: f"{chr(34)}q{i}{chr(34)}")}]') + "," + half)
+
+
+def absent_children(n):
+    half = many(n // 2, lambda i: f'"p{i}":{{"type":"Building"}}')
+    group = f'"g":{{"type":"CityObjectGroup","children":[{many(n // 2, lambda i: f"{chr(34)}q{i}{chr(34)}")}]}}'
+    return feature(building() + "," + group + "," + half)
+
+
+def instances(n):
+    matrix = ",".join(["1"] * 16)
+    last = n // 80 - 1
+    listed = many(n, lambda i: f'{{"type":"GeometryInstance","template":{last},"boundaries":[0],"transformationMatrix":[{matrix}]}}')
+    return feature(building(f',"geometry":[{listed}]'), "[0,0,0]")
+
+
+def many_templates(n):
+    template = '{"type":"MultiSurface","lod":"2","boundaries":[[[0,0,0]]]}'
+    listed = ",".join([template] * (n // 80))
+    return f',"geometry-templates":{{"templates":[{listed}],"vertices-templates":[[0,0,0]]}}'
+
+
+SHAPES = {
+    "usual": usual,
+    "names in the root": lambda n: feature(building(), more="," + many(n, name)),
+    "names of city objects": lambda n: feature(building() + "," + many(n, lambda i: f'"p{i}":{{"type":"Road"}}')),
+    "names in a city object": lambda n: feature(building("," + many(n, name))),
+    "names in a geometry": lambda n: feature(geometry("[[0,0,0]]", "," + many(n, name)), "[0,0,0]"),
+    "names in a surface": lambda n: feature(
+        geometry("[[0,0,0]]", f',"semantics":{{"surfaces":[{{"type":"+A",{many(n, name)}}}],"values":[0]}}'), "[0,0,0]"),
+    "names of one length, alike at both ends": lambda n: feature(
+        building("," + many(n, lambda i: f'"{spread("ab", i, True)}{"x" * 16}":0'))),
+    "names by escapes": lambda n: feature(
+        building("," + many(n, lambda i: '"' + "".join(f"\\u{ord(c):04x}" for c in str(i)) + '":0'))),
+    "one parent of all": one_parent,
+    "children listed backwards": lambda n: one_parent(n, True),
+    "a chain of parents": chain,
+    "a pair listed again and again": pairs_again,
+    "parents that are not there": absent_parents,
+    "a group's children that are not there": absent_children,
+    "info: instances of the last template": instances,
+    "many surfaces": many_surfaces,
+    "nests of 60": lambda n: feature(building(f',"attributes":[{many(n, lambda i: "[" * 56 + "]" * 56)}]')),
+    "a string of escapes": lambda n: feature(building(f',"attributes":{{"a":"{chr(92)}u0041' + "\\n" * (n // 2) + '"}')),
+    "a number of many digits": lambda n: feature(building(f',"attributes":{{"a":1.{"7" * n}}}')),
+    "a coordinate of many digits": lambda n: feature(building(), f'[0,0,{"0" if n < 1 else "1"}.{"0" * n}]'),
+    "an id of many letters": lambda n: feature(
+        building(f',"children":["{"a" * (n // 4)}"]') + f',"{"a" * (n // 4)}":{{"type":"Building","parents":["b"]}}'),
+}
+
+
+def processor_seconds():
+    """The processor's time that all programs have taken that were run so far."""
+    used = resource.getrusage(resource.RUSAGE_CHILDREN)
+    return used.ru_utime + used.ru_stime
+
+
+def seconds_of(program, command, path, most):
+    """The best time of a few runs, or None where one took more than `most`."""
+    best = most
+    for _ in range(RUNS):
+        before = processor_seconds()
+        with open(path, "rb") as stream:
+            try:
+                ran = subprocess.run([program, command], stdin=stream, stdout=subprocess.DEVNULL,
+                                     stderr=subprocess.PIPE, timeout=4 * most)
+            except subprocess.TimeoutExpired:
+                return None
+        if ran.returncode:
+            sys.exit(f"{path}: {ran.stderr.decode()}")
+        best = min(best, processor_seconds() - before)
+        if best > most / 4:
+            break
+    return best if best < most else None
+
+
+def main():
+    program, most = sys.argv[1], float(sys.argv[2])
+    usual_seconds = {}
+    print(f"{'shape':<42}" + "".join(f"{length:>12,}{'of usual':>10}" for length in LENGTHS) + f"{'growth by a doubling':>24}")
+    for shape, line in SHAPES.items():
+        shown, last = "", None
+        command = "info" if shape.startswith("info: ") else "check"
+        for length in LENGTHS:
+            templates = many_templates(length) if line is instances else ""
+            with tempfile.NamedTemporaryFile(delete=False) as stream:
+                stream.write((HEADER % templates + line(length)).encode())
+            took = seconds_of(program, command, stream.name, most)
+            os.unlink(stream.name)
+            usual_seconds.setdefault(length, took)
+            if took is None:
+                shown += f"{f'over {most:.0f}':>12}{'':>10}"
+                break
+            growth = (took / last) ** (1 / 3) if last else None
+            last = took
+            shown += f"{took:>12.3f}{took / usual_seconds[length]:>10.1f}"
+        print(f"{shape:<42}{shown}" + (f"{growth:>24.2f}" if growth else ""))
+
+
+if __name__ == "__main__":
+    main()
