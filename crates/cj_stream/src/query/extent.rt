@@ -92,8 +92,8 @@ fn meets_on(feature: &Feature, axis: usize, map: &Affine, low: Fixed18, high: Fi
     first.meets(map, low, high) || first.widened_by(numbers).meets(map, low, high)
 }
 
-/// Whether a feature lies in the box, beside a header that was judged for one. No vertex but the first is
-/// multiplied: only the least and the greatest of each axis are. The numbers on y are read where those on x meet the box.
+/// Whether a feature lies in the box, beside a header that was judged for one. On an axis the first number is
+/// multiplied, and the least and the greatest where that does not tell it. y is looked at where x meets the box.
 pub fn is_in(bounds: &Bounds, feature: &Feature, header: &Header) -> bool
     requires { has_box header.now ≡ true }
     ensures { result ≡ in_box (box_of bounds.now) (header_tree header.now) (feature_tree feature.now) }
