@@ -1,5 +1,5 @@
 -- Where the rules on city objects and vertices find nothing, types are known and vertices have three whole numbers.
-use Rattle.std.proofs.Common.{◌≡◌, ℕ, List, [], ◌∷◌, ◌++◌, length, map, Bool, true, false, nat_eq, cond, Option, Some, None, ℤ, codes, refl, arith}
+use Rattle.std.proofs.Common.{◌≡◌, ℕ, zero, suc, ◌<◌, drop, List, [], ◌∷◌, ◌++◌, length, map, Bool, true, false, nat_eq, cond, Option, Some, None, ℤ, codes, refl, arith}
 use Rattle.std.specs.List.{flat_map, list_all}
 use Rattle.std.proofs.lemmas.Bool.{eqb-true}
 use Rattle.std.specs.Str.{chars}
@@ -13,7 +13,7 @@ use Rattle.cj_geometry.specs.ObjectTypes.{ObjectRow, row_of}
 use Rattle.cj_geometry.specs.Geometry.{Given}
 use Rattle.cj_geometry.specs.Rule.{one, needs, may_have, spelling, whole_findings, whole_by, whole_of, whole_number, distinct, has_length, of_length}
 use Rattle.cj_feature.specs.Feature.{known_type, object_type, geometries, texts, second_level, city_object, city_objects, vertex_list}
-use Rattle.cj_feature.specs.Typed.{is_row, is_typed, are_three, is_vertex}
+use Rattle.cj_feature.specs.Typed.{is_row, is_typed, are_one, are_two, are_three, is_vertex, begins_whole, number_on}
 use Rattle.cj_feature.proofs.None.{none-both, of_kind-none, by-member, none-each}
 
 -- ---- city objects
@@ -76,3 +76,30 @@ vertex t h =
 
 pub all-vertices : (t : Tree) → vertex_list t ≡ [] → list_all is_vertex (items_of t) ≡ true
 all-vertices t h = none-each (of_length NotThree 3 whole_number) is_vertex vertex (items_of t) (of_kind-none (λ u. flat_map (of_length NotThree 3 whole_number) (items_of u)) t is_array h).1
+
+-- ---- the numbers of a vertex
+
+one-begins : (axis : ℕ) (ws : List (Option ℤ)) → are_one ws ≡ true → axis < 1 → begins_whole (drop axis ws) ≡ true
+one-begins axis [] h within = absurd (cc h)
+one-begins axis (None ∷ ws) h within = absurd (cc h)
+one-begins zero (Some x ∷ ws) h within = refl
+one-begins (suc axis) (Some x ∷ ws) h within = absurd (omega arith)
+
+two-begin : (axis : ℕ) (ws : List (Option ℤ)) → are_two ws ≡ true → axis < 2 → begins_whole (drop axis ws) ≡ true
+two-begin axis [] h within = absurd (cc h)
+two-begin axis (None ∷ ws) h within = absurd (cc h)
+two-begin zero (Some x ∷ ws) h within = refl
+two-begin (suc axis) (Some x ∷ ws) h within = one-begins axis ws h (omega arith)
+
+-- from each of its three axes on a vertex begins with a whole number
+pub three-begin : (axis : ℕ) (ws : List (Option ℤ)) → are_three ws ≡ true → axis < 3 → begins_whole (drop axis ws) ≡ true
+three-begin axis [] h within = absurd (cc h)
+three-begin axis (None ∷ ws) h within = absurd (cc h)
+three-begin zero (Some x ∷ ws) h within = refl
+three-begin (suc axis) (Some x ∷ ws) h within = two-begin axis ws h (omega arith)
+
+-- and that is its number on the axis
+pub number-begins : (axis : ℕ) (ws rest : List (Option ℤ)) (n : ℤ) → drop axis ws ≡ Some n ∷ rest → number_on axis ws ≡ n
+number-begins zero ws rest n e = rw e refl
+number-begins (suc axis) [] rest n e = absurd (cc e)
+number-begins (suc axis) (w ∷ ws) rest n e = number-begins axis ws rest n e

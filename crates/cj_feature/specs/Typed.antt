@@ -1,5 +1,5 @@
 -- What a valid feature's city objects and vertices have: a type that is known, and three whole numbers.
-use Rattle.std.specs.Prelude.{List, [], ◌∷◌, Bool, true, false, map, Option, Some, None, ℤ, option_and_then, codes}
+use Rattle.std.specs.Prelude.{ℕ, List, [], ◌∷◌, Bool, true, false, map, get_or, unwrap_or, Option, Some, None, ℤ, pos, option_and_then, codes}
 use Rattle.std.specs.Str.{chars}
 use Rattle.cj_spans.specs.Tree.{Tree}
 use Rattle.cj_spans.specs.Parts.{items_of, members_of, member_of}
@@ -26,6 +26,10 @@ members_if (Some t) = members_of t
 -- the whole numbers of a vertex
 abbrev pub vertex_of : Tree → List (Option ℤ)
 vertex_of t = map whole_of (items_of t)
+
+-- the number of a vertex on an axis: 0 is x, 1 is y, and 2 is z
+abbrev pub number_on : ℕ → List (Option ℤ) → ℤ
+number_on axis v = unwrap_or (get_or v axis None) (pos 0)
 
 -- they are one, two and three
 abbrev pub are_one : List (Option ℤ) → Bool

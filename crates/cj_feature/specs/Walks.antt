@@ -1,5 +1,5 @@
 -- Walks over a feature: what of its tree is left.
-use Rattle.std.specs.Prelude.{◌≡◌, ℕ, List, ◌++◌, map, take, Option, ℤ, IfSome, codes}
+use Rattle.std.specs.Prelude.{◌≡◌, ℕ, List, ◌++◌, map, Option, ℤ, IfSome, codes}
 use Rattle.std.specs.List.{flat_map}
 use Rattle.std.specs.Str.{chars}
 use Rattle.std.specs.Iterator.{YieldsFirstBy}
@@ -10,11 +10,11 @@ use Rattle.cj_spans.specs.View.{tree, line_of, items_left, members_left, members
 use Rattle.cj_geometry.specs.Geometry.{left_of}
 use Rattle.cj_feature.specs.declared.feature.city_object.CityObject.{CityObject}
 use Rattle.cj_feature.specs.declared.feature.city_object.Objects.{Objects}
+use Rattle.cj_feature.specs.declared.feature.coordinates.Coordinates.{Coordinates}
 use Rattle.cj_feature.specs.declared.feature.geometries.Geometries.{Geometries}
-use Rattle.cj_feature.specs.declared.feature.positions.Positions.{Positions}
 use Rattle.cj_feature.specs.declared.feature.vertices.Vertices.{Vertices}
 use Rattle.cj_feature.specs.Members.{items_if}
-use Rattle.cj_feature.specs.Typed.{vertex_of}
+use Rattle.cj_feature.specs.Typed.{vertex_of, number_on}
 
 -- ---- city objects
 
@@ -53,6 +53,6 @@ YieldsGeometry s r t = YieldsFirstBy tree geometries_left s r t × (geometries_l
 unfoldable pub vertices_left : Vertices → List (List (Option ℤ))
 vertices_left w = map vertex_of (items_left w.items)
 
--- their positions in the plane: the first two numbers of each
-unfoldable pub positions_left : Positions → List (List (Option ℤ))
-positions_left w = map (take 2) (map vertex_of (items_left w.items))
+-- their numbers on the axis of the walk
+unfoldable pub coordinates_left : Coordinates → List ℤ
+coordinates_left w = map (number_on w.axis) (map vertex_of (items_left w.items))

@@ -1,5 +1,5 @@
 //! Features: the later lines of a text.
-ghost use Rattle.std.specs.Prelude.{◌≡◌, [], Some, codes, map, take};
+ghost use Rattle.std.specs.Prelude.{◌≡◌, ◌<◌, [], Some, codes, map};
 ghost use Rattle.std.specs.Str.{chars};
 ghost use Rattle.cj_spans.specs.Parts.{member_of};
 ghost use Rattle.cj_spans.specs.View.{document, document_line, tree, line_of};
@@ -8,11 +8,11 @@ ghost use Rattle.cj_feature.specs.Feature.{feature, templates_of};
 
 mod check;
 mod city_object;
+mod coordinates;
 mod geometries;
 mod ids;
 mod links;
 mod objects;
-mod positions;
 mod rules;
 mod vertices;
 
@@ -21,8 +21,8 @@ pub use check::check_feature;
 pub use city_object::{CityObject, Objects};
 use cj_geometry::Templates;
 use cj_spans::{Doc, Node};
+pub use coordinates::Coordinates;
 pub use geometries::Geometries;
-pub use positions::Positions;
 pub use vertices::Vertices;
 
 /// A valid feature, beside its header.
@@ -36,9 +36,9 @@ pub struct Feature<'a> {
 impl<'a> Feature<'a> {
     ghost use Rattle.std.specs.List.{flat_map};
     ghost use Rattle.cj_feature.specs.Members.{items_if};
-    ghost use Rattle.cj_feature.specs.Typed.{members_if, vertex_of};
+    ghost use Rattle.cj_feature.specs.Typed.{members_if, vertex_of, number_on};
     ghost use Rattle.cj_feature.specs.View.{feature_tree, feature_line, feature_header};
-    ghost use Rattle.cj_feature.specs.Walks.{objects_left, objects_line, geometries_left, geometries_line, object_geometries, vertices_left, positions_left};
+    ghost use Rattle.cj_feature.specs.Walks.{objects_left, objects_line, geometries_left, geometries_line, object_geometries, vertices_left, coordinates_left};
 
     /// The feature of a document that has no findings beside this header.
     #[tactic(auto, unfolding(crate::specs::View::feature_tree, crate::specs::View::feature_line, crate::specs::View::feature_header))]
@@ -103,13 +103,13 @@ impl<'a> Feature<'a> {
         }
     }
 
-    /// The positions of the vertices in the plane, in order: the first two numbers of each that
-    /// [`Feature::vertices`] shows.
+    /// The numbers of the vertices on an axis, in order: 0 is x, 1 is y, and 2 is z.
     #[tactic(auto, unfolding(crate::specs::View::feature_tree, crate::specs::Walks::vertices_left))]
-    pub fn positions(&self) -> Positions<'a>
-        ensures { positions_left result ≡ map (take 2) (map vertex_of (items_if (member_of (chars (codes "vertices")) (feature_tree self.now)))) }
+    pub fn coordinates(&self, axis: usize) -> Coordinates<'a>
+        requires { axis < 3 }
+        ensures { coordinates_left result ≡ map (number_on axis) (map vertex_of (items_if (member_of (chars (codes "vertices")) (feature_tree self.now)))) }
     {
-        Positions::over(self.vertices().items)
+        Coordinates::over(self.vertices().items, axis)
     }
 
     /// The line's content.

@@ -14,7 +14,7 @@
 //! let feature = check_feature(Doc::of(line, tokens), &header)?;
 //! for object in feature.objects() {}                                // id, type and node of each
 //! for [x, y, z] in feature.vertices() {}                            // whole numbers, as they stand there
-//! for [x, y] in feature.positions() {}                              // x and y of each, without z
+//! for x in feature.coordinates(0) {}                                // the first number of each
 //! ```
 #![tactic(auto)]
 
@@ -27,6 +27,6 @@ mod member;
 #[cfg(test)]
 mod tests;
 
-pub use feature::{CityObject, Feature, Geometries, Objects, Positions, Vertices, check_feature};
+pub use feature::{CityObject, Coordinates, Feature, Geometries, Objects, Vertices, check_feature};
 pub use header::{Header, HeaderParts, check_header};
 pub use laws::{fixed_numbers_are_fixed, links_are_the_links, numbers_have_their_values};

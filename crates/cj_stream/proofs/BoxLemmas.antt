@@ -1,5 +1,5 @@
 -- Of the numbers that a map brings to at most or at least an end, the least or the greatest is one.
-use Rattle.std.proofs.Common.{◌≡◌, ℕ, zero, suc, ◌+◌, ◌<◌, ◌≤◌, ◌^◌, List, [], ◌∷◌, length, map, take, get_or, Bool, true, false, cond, ◌&&◌, ◌||◌, ◌⊎◌, inl, inr, Option, Some, None, ℤ, pos, negsuc, ◌*ℤ◌, ◌≤ℤ◌, int_le, int_lt, unsigned_abs, refl, sym, ap, ◌∙◌, arith}
+use Rattle.std.proofs.Common.{◌≡◌, ℕ, zero, suc, ◌+◌, ◌<◌, ◌≤◌, ◌^◌, List, [], ◌∷◌, length, map, get_or, Bool, true, false, cond, ◌&&◌, ◌||◌, ◌⊎◌, inl, inr, Option, Some, None, ℤ, pos, negsuc, ◌*ℤ◌, ◌≤ℤ◌, int_le, int_lt, unsigned_abs, refl, sym, ap, ◌∙◌, arith}
 use Rattle.std.specs.Int.{int_min, int_max, w64, cast_signed, cast_unsigned}
 use Rattle.std.specs.List.{fold, list_any}
 use Rattle.std.specs.Option.{unwrap_or}
@@ -17,9 +17,9 @@ use Rattle.cj_decimal.specs.Class.{Class, no_number, out_of_range, not_whole, wh
 use Rattle.cj_decimal.proofs.Classes.{class}
 use Rattle.cj_geometry.specs.Rule.{spelling, whole_by, whole_of}
 use Rattle.cj_feature.specs.Shown.{maps_of, maps_if}
-use Rattle.cj_feature.specs.Typed.{vertex_of}
+use Rattle.cj_feature.specs.Typed.{vertex_of, number_on}
 use Rattle.cj_stream.specs.declared.query.extent.Range.{Range}
-use Rattle.cj_stream.specs.Asked.{Box, number_on, axis_map, vertices_of, some_at_most, some_at_least, is_in}
+use Rattle.cj_stream.specs.Asked.{Box, axis_map, vertices_of, some_at_most, some_at_least, is_in}
 use Rattle.cj_stream.specs.Extent.{alone, widened, range_of, meets, IsSmall}
 use borrow.Author.Differences.{up, down, product_is}
 
@@ -139,10 +139,14 @@ at_least-range m end r (n ∷ ns) e =
     let same : widened (alone n) ns ≡ r = cc e in
     rw (← same) (at_least-ends m end n ns)
 
--- where there are none, none is brought anywhere
-pub none_meets : (m : AffineMap) (low high : ℤ) (ns : List ℤ) → range_of ns ≡ None → meets m low high ns ≡ false
-none_meets m low high [] e = refl
-none_meets m low high (n ∷ ns) e = absurd (cc e)
+-- where it brings the first alone to both ends, it does so with all
+or_more : (a b c d : Bool) → ((a || false) && (b || false)) ≡ true → ((a || c) && (b || d)) ≡ true
+or_more true true c d h = refl
+or_more true false c d h = absurd (cc h)
+or_more false b c d h = absurd (cc h)
+
+pub first_meets : (m : AffineMap) (low high n : ℤ) (ns : List ℤ) → meets m low high (n ∷ []) ≡ true → meets m low high (n ∷ ns) ≡ true
+first_meets m low high n ns h = or_more (int_le (image m n) high) (int_le low (image m n)) _ _ h
 
 -- ---- how the code asks whether a number is at most, or at least, at an end
 
@@ -218,21 +222,12 @@ range_small axis r (t ∷ ts) e =
     let same : widened (alone first) (map (number_on axis) (map vertex_of ts)) ≡ r = cc e in
     rw (← same) (record { least = least_small axis first ts (number_small axis (items_of t)); greatest = greatest_small axis first ts (number_small axis (items_of t)) })
 
--- the first two numbers of each vertex are those of the plane
-in_plane : (axis : ℕ) (v : List (Option ℤ)) → axis < 2 → number_on axis (take 2 v) ≡ number_on axis v
-in_plane axis [] h = refl
-in_plane zero (n ∷ v) h = refl
-in_plane (suc zero) (n ∷ []) h = refl
-in_plane (suc zero) (n ∷ m ∷ v) h = refl
-in_plane (suc (suc axis)) (n ∷ v) h = absurd (omega arith)
-
-all_in_plane : (axis : ℕ) (vs : List (List (Option ℤ))) → axis < 2 → map (number_on axis) (map (take 2) vs) ≡ map (number_on axis) vs
-all_in_plane axis [] h = refl
-all_in_plane axis (v ∷ vs) h = rw (in_plane axis v h, all_in_plane axis vs h) refl
-
--- so they have the range of the whole vertices
-pub range_shown : (axis : ℕ) (r : Option Range) (ps vs : List (List (Option ℤ))) → axis < 2 → ps ≡ map (take 2) vs → r ≡ range_of (map (number_on axis) ps) → r ≡ range_of (map (number_on axis) vs)
-range_shown axis r ps vs h shown range = range ∙ ap (λ us. range_of (map (number_on axis) us)) shown ∙ ap range_of (all_in_plane axis vs h)
+-- and so is the first of them alone
+pub first_small : (axis : ℕ) (n : ℤ) (ns : List ℤ) (ts : List Tree) → map (number_on axis) (map vertex_of ts) ≡ n ∷ ns → IsSmall (alone n)
+first_small axis n ns [] e = absurd (cc e)
+first_small axis n ns (t ∷ ts) e =
+    let same : number_on axis (vertex_of t) ≡ n = cc e in
+    rw (← same) (record { least = number_small axis (items_of t); greatest = number_small axis (items_of t) })
 
 -- ---- the box, by the numbers on each axis
 
@@ -264,14 +259,12 @@ maps_shown true header shown maps is e f = same maps (maps_of header) (sym f ∙
     same a b h = cc
 maps_shown false header shown maps is e f = absurd (cc is)
 
--- what is told of any numbers of a range is so of those on an axis
-pub axis_told : (header t : Tree) (axis : ℕ) (maps : List AffineMap) (d : AffineMap) (low high : ℤ) (r : Range) (told : Bool)
-    → maps ≡ maps_of header → axis < length maps → Some r ≡ range_of (map (number_on axis) (vertices_of t))
-    → ((ns : List ℤ) → range_of ns ≡ Some r → told ≡ meets (get_or maps axis d) low high ns)
-    → told ≡ meets (axis_map header axis) low high (map (number_on axis) (vertices_of t))
-axis_told header t axis maps d low high r told are within range tells =
+-- what is told by the map at an index is told by that of the axis
+pub axis_told : (header : Tree) (axis : ℕ) (maps : List AffineMap) (d : AffineMap) (low high : ℤ) (ns : List ℤ) (told : Bool)
+    → maps ≡ maps_of header → axis < length maps → told ≡ meets (get_or maps axis d) low high ns → told ≡ meets (axis_map header axis) low high ns
+axis_told header axis maps d low high ns told are within tells =
     let map_is : get_or maps axis d ≡ axis_map header axis = get_or_default maps axis d (record { scale = pos 0; shift = pos 0 }) within ∙ ap (λ ms. get_or ms axis (record { scale = pos 0; shift = pos 0 })) are in
-    tells (map (number_on axis) (vertices_of t)) (sym range) ∙ ap (λ m. meets m low high (map (number_on axis) (vertices_of t))) map_is
+    tells ∙ ap (λ m. meets m low high ns) map_is
 
 -- two tests, of which the first is known
 pub and_second : (a b c d : Bool) → a ≡ b → a ≡ true → c ≡ d → c ≡ (b && d)
@@ -279,6 +272,3 @@ and_second a b c d e f g = rw (← e, f) g
 
 pub and_first : (a b d : Bool) → a ≡ b → a ≡ false → a ≡ (b && d)
 and_first a b d e f = rw (← e, f) refl
-
-pub and_none : (b d : Bool) → b ≡ false → false ≡ (b && d)
-and_none b d e = rw e refl

@@ -5,7 +5,7 @@ use Rattle.std.specs.Int.{int_min, int_max}
 use Rattle.std.proofs.lemmas.Int.{ints}
 use Rattle.std.proofs.lemmas.List.{append-nil}
 use Rattle.std.proofs.lemmas.List.Elements.{All-nil, All-cons, All-append, All-weaker, Contains-append_left, Contains-push}
-use Rattle.cj_stream.specs.Asked.{number_on}
+use Rattle.cj_feature.specs.Typed.{number_on}
 use Rattle.cj_stream.specs.Tallied.{IsRange}
 use Rattle.cj_stream.specs.TallySink.{Widens}
 

@@ -1,5 +1,5 @@
 -- What may be asked of features, and which features satisfy it.
-use Rattle.std.specs.Prelude.{ℕ, List, Bool, true, false, ◌&&◌, Option, Some, None, ℤ, pos, int_le, get_or, unwrap_or, map, codes}
+use Rattle.std.specs.Prelude.{ℕ, List, Bool, true, false, ◌&&◌, Option, Some, None, ℤ, pos, int_le, get_or, map, codes}
 use Rattle.std.specs.List.{list_any, flat_map}
 use Rattle.std.specs.Str.{chars}
 use Rattle.cj_decimal.specs.Affine.{AffineMap, image}
@@ -10,7 +10,7 @@ use Rattle.cj_geometry.specs.ObjectTypes.{ObjectRow}
 use Rattle.cj_feature.specs.Feature.{templates_of}
 use Rattle.cj_feature.specs.Members.{items_if}
 use Rattle.cj_feature.specs.Shown.{maps_of}
-use Rattle.cj_feature.specs.Typed.{type_row, members_if, vertex_of}
+use Rattle.cj_feature.specs.Typed.{type_row, members_if, vertex_of, number_on}
 use Rattle.cj_feature.specs.Walks.{object_geometries}
 
 -- a box in the plane, in units of 10^-18
@@ -69,10 +69,6 @@ has_lod lods header t = list_any (λ g. there_is (is_one_of lods) (lod (template
 -- the vertices of a feature
 abbrev pub vertices_of : Tree → List (List (Option ℤ))
 vertices_of t = map vertex_of (items_if (member_of (chars (codes "vertices")) t))
-
--- the number of a vertex on an axis: 0 is x, 1 is y, and 2 is z
-abbrev pub number_on : ℕ → List (Option ℤ) → ℤ
-number_on axis v = unwrap_or (get_or v axis None) (pos 0)
 
 -- the map of an axis of the plane
 abbrev pub axis_map : Tree → ℕ → AffineMap

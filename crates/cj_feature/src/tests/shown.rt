@@ -1,5 +1,5 @@
 //! What valid headers and features show: places of values, counted in the lines, and numbers.
-ghost use Rattle.std.specs.Prelude.{◌≡◌};
+ghost use Rattle.std.specs.Prelude.{◌≡◌, ◌<◌};
 ghost use Rattle.cj_spans.specs.View.{document};
 ghost use Rattle.cj_feature.specs.HeaderView.{header_tree};
 
@@ -170,11 +170,13 @@ fn vertices_text(alloc: Global, feature: &Feature) -> Result<String, AllocError>
     Ok(text)
 }
 
-/// The first two numbers of vertices.
-fn positions_text(alloc: Global, feature: &Feature) -> Result<String, AllocError> {
+/// The numbers of vertices on an axis.
+fn coordinates_text(alloc: Global, feature: &Feature, axis: usize) -> Result<String, AllocError>
+    requires { axis < 3 }
+{
     let mut text = String::new(alloc);
-    for [x, y] in feature.positions() {
-        let one = format!(in alloc; " {x},{y}")?;
+    for number in feature.coordinates(axis) {
+        let one = format!(in alloc; " {number}")?;
         text.push_str(&one)?;
     }
     Ok(text)
@@ -185,9 +187,11 @@ fn feature_text(alloc: Global, feature: &Feature) -> Result<String, AllocError> 
     let objects = objects_text(alloc, feature)?;
     let geometries = geometries_text(alloc, feature)?;
     let vertices = vertices_text(alloc, feature)?;
-    let positions = positions_text(alloc, feature)?;
+    let x = coordinates_text(alloc, feature, 0)?;
+    let y = coordinates_text(alloc, feature, 1)?;
+    let z = coordinates_text(alloc, feature, 2)?;
     format!(in alloc;
-        "id {}, objects{objects}, geometries{geometries}, vertices{vertices}, positions{positions}, {} bytes",
+        "id {}, objects{objects}, geometries{geometries}, vertices{vertices}, x{x}, y{y}, z{z}, {} bytes",
         feature.id().start(),
         feature.bytes().len()
     )
@@ -216,7 +220,7 @@ fn a_building_shows_its_parts(rt: HostRuntime) -> Result<(), Fail> {
     let text = line_text(&rt, rt.alloc(), HEADER.as_bytes(), BUILDING.as_bytes())?;
     assert_eq!(&rt;
         text.as_str(),
-        "id 31, objects 51 Building 56, geometries 87 116, vertices 0,0,0 1000,0,0 1000,1000,0 0,1000,0, positions 0,0 1000,0 1000,1000 0,1000, 210 bytes"
+        "id 31, objects 51 Building 56, geometries 87 116, vertices 0,0,0 1000,0,0 1000,1000,0 0,1000,0, x 0 1000 1000 0, y 0 0 1000 1000, z 0 0 0 0, 210 bytes"
     );
     Ok(())
 }
@@ -226,7 +230,7 @@ fn an_instance_shows_the_level_of_its_template(rt: HostRuntime) -> Result<(), Fa
     let text = line_text(&rt, rt.alloc(), TEMPLATES.as_bytes(), TREE.as_bytes())?;
     assert_eq!(&rt;
         text.as_str(),
-        "id 31, objects 50 SolitaryVegetationObject 54 218 BuildingPart 222 262 Building 266, geometries 101 204, vertices -1,20,3, positions -1,20, 330 bytes"
+        "id 31, objects 50 SolitaryVegetationObject 54 218 BuildingPart 222 262 Building 266, geometries 101 204, vertices -1,20,3, x -1, y 20, z 3, 330 bytes"
     );
     Ok(())
 }

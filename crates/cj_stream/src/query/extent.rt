@@ -1,16 +1,17 @@
 //! Whether a feature lies in a box.
-ghost use Rattle.std.specs.Prelude.{◌≡◌, ◌||◌, ◌∷◌, [], true, int_le, map, option_map, List, ℤ, Some};
+ghost use Rattle.std.specs.Prelude.{◌≡◌, ◌<◌, ◌||◌, ◌∷◌, [], true, int_le, List, ℤ, Some};
 ghost use Rattle.cj_decimal.specs.Affine.{image};
 ghost use Rattle.cj_feature.specs.HeaderView.{header_tree, has_box};
 ghost use Rattle.cj_feature.specs.View.{feature_tree};
-ghost use Rattle.cj_feature.specs.Walks.{positions_left};
-ghost use Rattle.cj_stream.specs.Asked.{is_in as in_box, number_on};
+ghost use Rattle.cj_feature.specs.Walks.{coordinates_left};
+ghost use Rattle.cj_stream.specs.Asked.{is_in as in_box};
 ghost use Rattle.cj_stream.specs.Extent.{alone, widened, range_of, meets, IsSmall};
 ghost use Rattle.cj_stream.specs.Query.{box_of};
+ghost use Rattle.cj_stream.specs.Tallied.{numbers_on};
 
 use crate::query::bounds::Bounds;
 use cj_decimal::{Affine, Fixed18};
-use cj_feature::{Feature, Header, Positions};
+use cj_feature::{Coordinates, Feature, Header};
 
 /// The least and the greatest of some numbers.
 #[derive(Clone, Copy)]
@@ -40,6 +41,17 @@ impl Range {
         }
     }
 
+    /// The range with the numbers of a walk more.
+    fn widened_by(self, numbers: Coordinates) -> Range
+        ensures { result ≡ widened self (coordinates_left numbers.entry) }
+    {
+        let mut range = self;
+        for number in numbers {
+            range = range.widened(number);
+        }
+        range
+    }
+
     /// Whether the map brings one of the two to at most this end.
     fn is_at_most(self, map: &Affine, end: Fixed18) -> bool
         requires { IsSmall self }
@@ -66,35 +78,22 @@ impl Range {
     }
 }
 
-/// The ranges of vertices on the axes of the plane, in whole numbers as they stand in the line.
-#[derive(Clone, Copy)]
-struct Extent {
-    x: Range,
-    y: Range,
+/// Whether a map brings the numbers of some vertices on an axis to at most `high`, and those of some to at least
+/// `low`. Where the first vertex lies between both, no other is read: so it is with most features in a box.
+fn meets_on(feature: &Feature, axis: usize, map: &Affine, low: Fixed18, high: Fixed18) -> bool
+    requires { axis < 3 }
+    ensures { result ≡ meets map.now low high (numbers_on axis (feature_tree feature.now)) }
+{
+    let mut numbers = feature.coordinates(axis);
+    let Some(number) = numbers.next() else {
+        return false;
+    };
+    let first = Range::alone(number);
+    first.meets(map, low, high) || first.widened_by(numbers).meets(map, low, high)
 }
 
-impl Extent {
-    /// That of the vertices at some positions, in one walk; None where there are none.
-    fn of(positions: Positions) -> Option<Extent>
-        ensures x { option_map (λ e. e.x) result ≡ range_of (map (number_on 0) (positions_left positions.entry)) }
-        ensures y { option_map (λ e. e.y) result ≡ range_of (map (number_on 1) (positions_left positions.entry)) }
-    {
-        let mut left = positions;
-        let Some(first) = left.next() else {
-            return None;
-        };
-        let mut x = Range::alone(first[0]);
-        let mut y = Range::alone(first[1]);
-        for position in left {
-            x = x.widened(position[0]);
-            y = y.widened(position[1]);
-        }
-        Some(Extent { x, y })
-    }
-}
-
-/// Whether a feature lies in the box, beside a header that was judged for one. No vertex is multiplied:
-/// only the least and the greatest of each axis are.
+/// Whether a feature lies in the box, beside a header that was judged for one. On an axis the first number is
+/// multiplied, and the least and the greatest where that does not tell it. y is looked at where x meets the box.
 pub fn is_in(bounds: &Bounds, feature: &Feature, header: &Header) -> bool
     requires { has_box header.now ≡ true }
     ensures { result ≡ in_box (box_of bounds.now) (header_tree header.now) (feature_tree feature.now) }
@@ -103,11 +102,6 @@ pub fn is_in(bounds: &Bounds, feature: &Feature, header: &Header) -> bool
         Some(maps) => maps,
         None => unreachable!(),
     };
-    match Extent::of(feature.positions()) {
-        Some(extent) => {
-            extent.x.meets(&x_map, bounds.min_x, bounds.max_x)
-                && extent.y.meets(&y_map, bounds.min_y, bounds.max_y)
-        }
-        None => false,
-    }
+    meets_on(feature, 0, &x_map, bounds.min_x, bounds.max_x)
+        && meets_on(feature, 1, &y_map, bounds.min_y, bounds.max_y)
 }

@@ -1,5 +1,5 @@
 use Rattle.std.proofs.Common.{rules, to_z, of_z, w64, pos, ◌≡◌, ℕ, ◌<◌, ◌∷◌, [], List, map, get_or, None, Option, ℤ, ap, ◌∙◌, suc, zero, arith}
-use Rattle.cj_stream.specs.Asked.{number_on}
+use Rattle.cj_feature.specs.Typed.{number_on}
 use Rattle.cj_stream.specs.Tallied.{numbers_on}
 use Rattle.cj_stream.specs.TallySink.{Widens}
 use Rattle.cj_feature.specs.View.{feature_tree}

@@ -1,7 +1,7 @@
 use Rattle.std.proofs.Common.{map}
+use Rattle.cj_feature.specs.Typed.{number_on}
 use Rattle.cj_feature.specs.View.{feature_tree}
 use Rattle.cj_feature.specs.Walks.{vertices_left}
-use Rattle.cj_stream.specs.Asked.{number_on}
 use Rattle.cj_stream.specs.Tallied.{numbers_on}
 use Rattle.cj_stream.proofs.Ranges.{Widening}
 use Rattle.cj_stream.proofs.tally.adding.widen_all.Given as goal

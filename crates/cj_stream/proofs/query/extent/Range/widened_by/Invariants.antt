@@ -1,0 +1,7 @@
+use Rattle.std.proofs.Common.{◌≡◌}
+use Rattle.cj_feature.specs.Walks.{coordinates_left}
+use Rattle.cj_stream.specs.Extent.{widened}
+use Rattle.cj_stream.proofs.query.extent.Range.widened_by.Given as goal
+
+abbrev pub invariant-loop-number : goal.invariant-loop-number
+invariant-loop-number l = widened l.range (coordinates_left l.number-iterator) ≡ widened l.fn.self (coordinates_left l.numbers)
