@@ -1,10 +1,11 @@
 //! Features: the later lines of a text.
-ghost use Rattle.std.specs.Prelude.{◌≡◌, ◌<◌, [], Some, codes, map};
+ghost use Rattle.std.specs.Prelude.{◌≡◌, ◌<◌, [], Some, IfSome, codes, map, option_map};
 ghost use Rattle.std.specs.Str.{chars};
 ghost use Rattle.cj_spans.specs.Parts.{member_of};
 ghost use Rattle.cj_spans.specs.View.{document, document_line, tree, line_of};
 ghost use Rattle.cj_geometry.specs.Given.{given};
 ghost use Rattle.cj_feature.specs.Feature.{feature, templates_of};
+ghost use Rattle.cj_feature.specs.TreeSet.{tree_if-set, given-set};
 
 mod check;
 mod city_object;
@@ -16,7 +17,6 @@ mod objects;
 mod rules;
 mod vertices;
 
-use crate::header::templates_in;
 pub use check::check_feature;
 pub use city_object::{CityObject, Objects};
 use cj_geometry::Templates;
@@ -25,12 +25,19 @@ pub use coordinates::Coordinates;
 pub use geometries::Geometries;
 pub use vertices::Vertices;
 
-/// A valid feature, beside its header.
+/// A valid feature, beside its header. What its walks begin at is looked up once, when it is judged.
 #[derive(Clone, Copy)]
 pub struct Feature<'a> {
     doc: Doc<'a>,
     header: Doc<'a>,
+    objects: Node<'a>,
+    vertices: Node<'a>,
+    templates: Templates<'a>,
     ghost valid: { feature (document header) (document doc) ≡ [] },
+    ghost has_objects: { member_of (chars (codes "CityObjects")) (document doc) ≡ Some (tree objects) } by { tree_if-set _ _ },
+    ghost of_line: { line_of objects ≡ document_line doc },
+    ghost has_vertices: { member_of (chars (codes "vertices")) (document doc) ≡ Some (tree vertices) } by { tree_if-set _ _ },
+    ghost has_templates: { given templates ≡ templates_of (document header) } by { given-set _ _ },
 }
 
 impl<'a> Feature<'a> {
@@ -40,15 +47,38 @@ impl<'a> Feature<'a> {
     ghost use Rattle.cj_feature.specs.View.{feature_tree, feature_line, feature_header};
     ghost use Rattle.cj_feature.specs.Walks.{objects_left, objects_line, geometries_left, geometries_line, object_geometries, vertices_left, coordinates_left};
 
-    /// The feature of a document that has no findings beside this header.
+    /// The feature of a document that has no findings beside this header, with these members of the one
+    /// and templates of the other.
     #[tactic(auto, unfolding(crate::specs::View::feature_tree, crate::specs::View::feature_line, crate::specs::View::feature_header))]
-    fn of(doc: Doc<'a>, header: Doc<'a>) -> Feature<'a>
-        requires { feature (document header) (document doc) ≡ [] }
+    fn of(
+        doc: Doc<'a>,
+        header: Doc<'a>,
+        objects: Option<Node<'a>>,
+        vertices: Option<Node<'a>>,
+        templates: Templates<'a>,
+    ) -> Feature<'a>
+        requires valid { feature (document header) (document doc) ≡ [] }
+        requires objects { option_map tree objects ≡ member_of (chars (codes "CityObjects")) (document doc) }
+        requires line { IfSome objects (λ n. line_of n ≡ document_line doc) }
+        requires vertices { option_map tree vertices ≡ member_of (chars (codes "vertices")) (document doc) }
+        requires templates { given templates ≡ templates_of (document header) }
         ensures tree { feature_tree result ≡ document doc.entry }
         ensures line { feature_line result ≡ document_line doc.entry }
         ensures header { feature_header result ≡ document header.entry }
     {
-        Feature { doc, header }
+        match objects {
+            Some(objects) => match vertices {
+                Some(vertices) => Feature {
+                    doc,
+                    header,
+                    objects,
+                    vertices,
+                    templates,
+                },
+                None => unreachable!(),
+            },
+            None => unreachable!(),
+        }
     }
 
     /// The id, which is the name of one of the city objects.
@@ -68,10 +98,7 @@ impl<'a> Feature<'a> {
         ensures tree { member_of (chars (codes "CityObjects")) (document self.now.doc) ≡ Some (tree result) }
         ensures line { line_of result ≡ document_line self.now.doc }
     {
-        match self.doc.root().get("CityObjects") {
-            Some(objects) => objects,
-            None => unreachable!(),
-        }
+        self.objects
     }
 
     /// The city objects, in order.
@@ -97,10 +124,7 @@ impl<'a> Feature<'a> {
     pub fn vertices(&self) -> Vertices<'a>
         ensures { vertices_left result ≡ map vertex_of (items_if (member_of (chars (codes "vertices")) (feature_tree self.now))) }
     {
-        match self.doc.root().get("vertices") {
-            Some(vertices) => Vertices::over(vertices.items()),
-            None => unreachable!(),
-        }
+        Vertices::over(self.vertices.items())
     }
 
     /// The numbers of the vertices on an axis, in order: 0 is x, 1 is y, and 2 is z.
@@ -125,6 +149,6 @@ impl<'a> Feature<'a> {
     pub fn templates(&self) -> Templates<'a>
         ensures { given result ≡ templates_of (feature_header self.now) }
     {
-        templates_in(self.header)
+        self.templates
     }
 }

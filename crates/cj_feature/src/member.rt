@@ -1,16 +1,25 @@
 //! Members that have to be a certain text, and members that are counted.
-ghost use Rattle.std.specs.Prelude.{◌≡◌};
+ghost use Rattle.std.specs.Prelude.{◌≡◌, option_map};
 ghost use Rattle.std.specs.Str.{chars};
 ghost use Rattle.cj_spans.specs.Finding.{least};
 ghost use Rattle.cj_spans.specs.Kinds.{is_text};
 ghost use Rattle.cj_spans.specs.Parts.{member_of};
 ghost use Rattle.cj_spans.specs.View.{tree};
 ghost use Rattle.cj_geometry.specs.Geometry.{count_of};
-ghost use Rattle.cj_geometry.specs.Rule.{of_kind};
+ghost use Rattle.cj_geometry.specs.Rule.{of_kind, missing};
 ghost use Rattle.cj_feature.specs.Header.{is_named, has_member_named};
 
 use cj_geometry::rule::{add, count_items, needed};
 use cj_spans::{Kind, Least, Node, Reason};
+
+/// The object has this member, which was looked for in it.
+pub fn check_there(object: Node, member: Option<Node>, found: &mut Least)
+    ensures { found.new ≡ least found.old (missing (tree object.entry) (option_map tree member.entry)) }
+{
+    if member.is_none() {
+        add(object, Reason::MissingMember, found);
+    }
+}
 
 /// The value is this text; another text has `reason`.
 fn check_name(node: Node, text: &str, reason: Reason, found: &mut Least)

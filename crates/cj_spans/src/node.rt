@@ -264,6 +264,7 @@ impl<'a> Node<'a> {
     /// Whether it is a string or a name with this text. Texts are compared by code points, with the
     /// escapes undone (RFC 8259, sections 7 and 8.3); what text a string has is the law
     /// [`crate::laws::one_text`].
+    #[inline(always)]
     pub fn text_is(self, text: &str) -> bool
         ensures test { result ≡ has_text (chars text.now) (tree self.entry) }
         ensures means { IsTrue result ↔ (text_of (tree self.entry) ≡ Some (chars text.now)) }

@@ -1,5 +1,5 @@
 //! The code points of strings (RFC 8259, section 7), one at a time, without a buffer.
-ghost use Rattle.std.specs.Prelude.{◌≡◌, ◌+◌, ◌-◌, ◌*◌, ◌<◌, ◌≤◌, ◌^◌, ℕ, suc, [], ◌∷◌, length, drop, get_or, nat_eq, IfSome, is_some, Some, List, true};
+ghost use Rattle.std.specs.Prelude.{◌≡◌, ◌+◌, ◌-◌, ◌*◌, ◌<◌, ◌≤◌, ◌^◌, ℕ, suc, [], ◌∷◌, length, drop, get_or, nat_eq, IfSome, is_some, Some, List, true, false};
 ghost use Rattle.std.specs.Str.{chars, chars_after};
 ghost use Rattle.std.specs.Char.{digit_value as digit_value_of};
 ghost use Rattle.std.specs.Char.Utf16.{is_high_surrogate as is_high_of, is_low_surrogate as is_low_of};
@@ -315,6 +315,7 @@ impl<'a> Iterator for Characters<'a> {
 fn plain_at(bytes: &[u8], place: usize) -> Option<u8>
     ensures exact { result ≡ plain_front (drop place bytes.now) }
     ensures place { IfSome result (λ b. (place < length bytes.now) × (place + 1 < 2 ^ 64)) }
+    ensures plain { IfSome result (λ b. (b < 128) × (nat_eq b 92 ≡ false)) }
     ensures character { IfSome result (λ b. left bytes.now place ≡ b ∷ left bytes.now (place + 1)) }
     ensures point { IfSome result (λ b. points_from bytes.now place ≡ b ∷ points_from bytes.now (place + 1)) }
 {
@@ -327,6 +328,19 @@ fn plain_at(bytes: &[u8], place: usize) -> Option<u8>
     } else {
         None
     }
+}
+
+/// Whether a byte that stands for itself is at a place: one that [`plain_at`] answers elsewhere.
+#[tactic(auto, using(crate::proofs::Texts::plain_character, crate::proofs::Texts::plain_code, std::proofs::lemmas::Bool::Decides::nat_tests))]
+#[inline(always)]
+fn is_at(bytes: &[u8], place: usize, byte: u8) -> bool
+    requires ascii { byte < 128 }
+    requires plain { nat_eq byte 92 ≡ false }
+    ensures place { result ≡ true → (place < length bytes.now) × (place + 1 < 2 ^ 64) }
+    ensures character { result ≡ true → left bytes.now place ≡ byte ∷ left bytes.now (place + 1) }
+    ensures point { result ≡ true → points_from bytes.now place ≡ byte ∷ points_from bytes.now (place + 1) }
+{
+    place < bytes.len() && bytes[place] == byte
 }
 
 /// Whether a string's text is these characters, by code points: for what is spelled by escapes or is not ASCII.
@@ -358,13 +372,11 @@ pub(crate) fn is_text(points: Points, characters: Characters) -> bool
     let mut left = points;
     let mut wanted = characters;
     while let Some(byte) = plain_at(left.bytes, left.place) {
-        match plain_at(wanted.bytes, wanted.place) {
-            Some(other) => {
-                if other != byte {
-                    return false;
-                }
-            }
-            None => return is_text_slowly(left, wanted),
+        if !is_at(wanted.bytes, wanted.place, byte) {
+            return match plain_at(wanted.bytes, wanted.place) {
+                Some(other) if other != byte => false,
+                _ => is_text_slowly(left, wanted),
+            };
         }
         left.place += 1;
         wanted.place += 1;
@@ -404,13 +416,11 @@ pub(crate) fn is_same_text(points: Points, others: Points) -> bool
     let mut left = points;
     let mut right = others;
     while let Some(byte) = plain_at(left.bytes, left.place) {
-        match plain_at(right.bytes, right.place) {
-            Some(other) => {
-                if other != byte {
-                    return false;
-                }
-            }
-            None => return is_same_text_slowly(left, right),
+        if !is_at(right.bytes, right.place, byte) {
+            return match plain_at(right.bytes, right.place) {
+                Some(other) if other != byte => false,
+                _ => is_same_text_slowly(left, right),
+            };
         }
         left.place += 1;
         right.place += 1;

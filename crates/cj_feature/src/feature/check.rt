@@ -24,11 +24,14 @@ pub fn check_feature<'a>(doc: Doc<'a>, header: &Header<'a>) -> Result<Feature<'a
     ensures line { IfOk result (λ f. feature_line f ≡ document_line doc.entry) }
     ensures header { IfOk result (λ f. feature_header f ≡ header_tree header.now) }
 {
+    let root = doc.root();
+    let objects = root.get("CityObjects");
+    let vertices = root.get("vertices");
     let templates = header.templates();
     let mut found = Least::new();
-    check_root(doc.root(), templates, &mut found);
+    check_root(root, objects, vertices, templates, &mut found);
     match found.get() {
         Some(finding) => Err(finding),
-        None => Ok(Feature::of(doc, header.doc())),
+        None => Ok(Feature::of(doc, header.doc(), objects, vertices, templates)),
     }
 }

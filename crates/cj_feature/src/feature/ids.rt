@@ -3,7 +3,7 @@ ghost use Rattle.std.specs.Prelude.{◌≡◌, codes, option_map};
 ghost use Rattle.std.specs.Str.{chars};
 ghost use Rattle.cj_spans.specs.Finding.{least};
 ghost use Rattle.cj_spans.specs.Kinds.{is_text};
-ghost use Rattle.cj_spans.specs.Parts.{members_of};
+ghost use Rattle.cj_spans.specs.Parts.{members_of, member_of};
 ghost use Rattle.cj_spans.specs.View.{tree};
 ghost use Rattle.cj_geometry.specs.Rule.{of_kind};
 ghost use Rattle.cj_feature.specs.Feature.{id_in, id_rule};
@@ -52,10 +52,11 @@ fn check_id(id: Node, objects: Option<Node>, found: &mut Least)
 }
 
 /// The feature has an id, which is the name of one of its city objects (own).
-pub fn check_id_member(object: Node, found: &mut Least)
+pub fn check_id_member(object: Node, objects: Option<Node>, found: &mut Least)
+    requires { option_map tree objects ≡ member_of (chars (codes "CityObjects")) (tree object) }
     ensures { found.new ≡ least found.old (id_rule (tree object.entry)) }
 {
     if let Some(id) = needed(object, "id", found) {
-        check_id(id, object.get("CityObjects"), found);
+        check_id(id, objects, found);
     }
 }

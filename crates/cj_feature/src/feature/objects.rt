@@ -1,13 +1,15 @@
 //! City objects (CityJSON 2.0, section 2).
-ghost use Rattle.std.specs.Prelude.{◌≡◌, codes};
+ghost use Rattle.std.specs.Prelude.{◌≡◌, codes, option_map};
 ghost use Rattle.std.specs.Str.{chars};
 ghost use Rattle.cj_spans.specs.Finding.{least};
+ghost use Rattle.cj_spans.specs.Parts.{member_of};
 ghost use Rattle.cj_spans.specs.View.{tree};
 ghost use Rattle.cj_geometry.specs.Given.{given};
 ghost use Rattle.cj_geometry.specs.Rule.{needs, may_have};
 ghost use Rattle.cj_feature.specs.Feature.{object_type, geometries, texts, second_level, city_object, city_objects};
 ghost use Rattle.cj_feature.specs.Links.{is_part as is_part_of};
 
+use crate::member::check_there;
 use cj_geometry::rule::{add, check_array, check_names, check_object, check_text, needed};
 use cj_geometry::{ObjectType, Templates, check_geometry};
 use cj_spans::{Kind, Least, Node, Reason};
@@ -133,13 +135,16 @@ fn check_city_objects(node: Node, vertices: Option<u64>, templates: Templates, f
 /// The feature has city objects.
 pub fn check_city_objects_member(
     object: Node,
+    objects: Option<Node>,
     vertices: Option<u64>,
     templates: Templates,
     found: &mut Least,
 )
+    requires { option_map tree objects ≡ member_of (chars (codes "CityObjects")) (tree object) }
     ensures { found.new ≡ least found.old (needs (chars (codes "CityObjects")) (city_objects vertices (given templates.entry)) (tree object.entry)) }
 {
-    if let Some(value) = needed(object, "CityObjects", found) {
+    check_there(object, objects, found);
+    if let Some(value) = objects {
         check_city_objects(value, vertices, templates, found);
     }
 }

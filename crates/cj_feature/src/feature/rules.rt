@@ -1,5 +1,5 @@
 //! The rules on features, one after another.
-ghost use Rattle.std.specs.Prelude.{◌≡◌, codes, length};
+ghost use Rattle.std.specs.Prelude.{◌≡◌, codes, length, option_map};
 ghost use Rattle.std.specs.List.{flat_map};
 ghost use Rattle.std.specs.Str.{chars};
 ghost use Rattle.cj_spans.specs.declared.reason.Reason.TheVariants.{NotThree};
@@ -15,9 +15,9 @@ ghost use Rattle.cj_feature.specs.Feature.{vertex_list, feature_rules};
 use crate::feature::ids::check_id_member;
 use crate::feature::links::check_links;
 use crate::feature::objects::check_city_objects_member;
-use crate::member::check_name_member;
+use crate::member::{check_name_member, check_there};
 use cj_geometry::Templates;
-use cj_geometry::rule::{add, check_array, check_names, check_object, check_whole, needed};
+use cj_geometry::rule::{add, check_array, check_names, check_object, check_whole};
 use cj_spans::{Least, Node, Reason};
 
 /// Each item is a whole number; answers how many there are, so that they are gone over once.
@@ -63,27 +63,37 @@ fn check_vertices(node: Node, found: &mut Least) -> Option<u64>
 }
 
 /// The feature has vertices; answers how many, if they are an array.
-fn check_vertices_member(object: Node, found: &mut Least) -> Option<u64>
+fn check_vertices_member(object: Node, vertices: Option<Node>, found: &mut Least) -> Option<u64>
+    requires { option_map tree vertices ≡ member_of (chars (codes "vertices")) (tree object) }
     ensures count { result ≡ count_of (member_of (chars (codes "vertices")) (tree object.entry)) }
     ensures found { found.new ≡ least found.old (needs (chars (codes "vertices")) vertex_list (tree object.entry)) }
 {
-    match needed(object, "vertices", found) {
+    check_there(object, vertices, found);
+    match vertices {
         Some(value) => check_vertices(value, found),
         None => None,
     }
 }
 
-/// The value is a feature, beside these templates. Vertices come before the city objects, which ask for
-/// their number.
-pub fn check_root(node: Node, templates: Templates, found: &mut Least)
+/// The value is a feature, with these members, beside these templates. Vertices come before the city
+/// objects, which ask for their number.
+pub fn check_root(
+    node: Node,
+    objects: Option<Node>,
+    vertices: Option<Node>,
+    templates: Templates,
+    found: &mut Least,
+)
+    requires objects { option_map tree objects ≡ member_of (chars (codes "CityObjects")) (tree node) }
+    requires vertices { option_map tree vertices ≡ member_of (chars (codes "vertices")) (tree node) }
     ensures { found.new ≡ least found.old (of_kind is_object (feature_rules (given templates.entry)) (tree node.entry)) }
 {
     if check_object(node, found) {
         check_names(node, found);
         check_name_member(node, "type", "CityJSONFeature", Reason::WrongType, found);
-        check_id_member(node, found);
-        let vertices = check_vertices_member(node, found);
-        check_city_objects_member(node, vertices, templates, found);
-        check_links(node.get("CityObjects"), found);
+        check_id_member(node, objects, found);
+        let count = check_vertices_member(node, vertices, found);
+        check_city_objects_member(node, objects, count, templates, found);
+        check_links(objects, found);
     }
 }

@@ -16,6 +16,7 @@ pub struct Vertices<'a> {
 }
 
 /// The next of some whole numbers.
+#[inline(always)]
 pub fn next_whole(items: &mut Items) -> i64
     requires { begins_whole (map whole_of (items_left items.old)) ≡ true }
     ensures { map whole_of (items_left items.old) ≡ Some result ∷ map whole_of (items_left items.new) }
@@ -30,6 +31,7 @@ pub fn next_whole(items: &mut Items) -> i64
 }
 
 /// The whole numbers of a vertex.
+#[inline(always)]
 fn read_vertex(node: Node) -> [i64; 3]
     requires { is_vertex (tree node) ≡ true }
     ensures { map Some result ≡ vertex_of (tree node.entry) }
@@ -66,6 +68,7 @@ impl<'a> Iterator for Vertices<'a> {
 
     ghost remaining = { item_count vertices_left };
 
+    #[inline(always)]
     #[tactic(auto, unfolding(crate::specs::Walks::vertices_left))]
     fn next(&mut self) -> Option<[i64; 3]> {
         let mut items = self.items;

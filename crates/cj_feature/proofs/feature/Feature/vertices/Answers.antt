@@ -1,11 +1,11 @@
-use Rattle.std.proofs.Common.{◌∙◌, ap, codes, Some, None, refl}
+use Rattle.std.proofs.Common.{◌∙◌, ap, codes, Some, refl, sym}
 use Rattle.std.specs.Str.{chars}
 use Rattle.std.specs.List.{list_all}
 use Rattle.cj_spans.specs.View.{document, tree}
 use Rattle.cj_feature.specs.Feature.{templates_of}
 use Rattle.cj_feature.specs.Feature.{vertex_list}
 use Rattle.cj_feature.specs.Typed.{is_vertex}
-use Rattle.cj_feature.proofs.None.{is-there, then-none}
+use Rattle.cj_feature.proofs.None.{then-none}
 use Rattle.cj_feature.proofs.Valid.{has-vertices}
 use Rattle.cj_feature.proofs.Typed.{all-vertices}
 use Rattle.cj_feature.proofs.feature.Feature.vertices.Goals as goal
@@ -14,12 +14,6 @@ pub over-requires : goal.over-requires
 over-requires c =
     let f = c.args.self.now in
     let t = document f.doc in
-    let vertices = tree c.in-Some.vertices in
-    let none = then-none vertex_list t (chars (codes "vertices")) (has-vertices (templates_of (document f.header)) t f.valid) (Some vertices) (rw c.root.ensures.tree at c.in-Some.ensures.value) vertices refl in
+    let vertices = tree f.vertices in
+    let none = then-none vertex_list t (chars (codes "vertices")) (has-vertices (templates_of (document f.header)) t f.valid) (Some vertices) (sym f.has_vertices) vertices refl in
     ap (list_all is_vertex) c.items.ensures.items ∙ all-vertices vertices none
-
-pub unreachable-requires : goal.unreachable-requires
-unreachable-requires c =
-    let f = c.args.self.now in
-    let t = document f.doc in
-    is-there vertex_list t (chars (codes "vertices")) (has-vertices (templates_of (document f.header)) t f.valid) None (rw c.root.ensures.tree at c.in-None.ensures.value) refl
