@@ -87,7 +87,7 @@ fn read_numbers(line: &[u8], from: Next, depth: usize, tokens: &mut Bounded<Toke
             link: tokens.len() as u32 + 1,
             kind: Kind::Number,
         };
-        match tokens.push(token) {
+        match tokens.put(token) {
             Ok(()) => {}
             Err(_) => return next,
         }
