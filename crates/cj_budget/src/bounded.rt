@@ -37,11 +37,13 @@ pub struct NoMemory;
 pub struct Bounded<T: Copy> {
     items: Vec<T>,
     limit: usize,
-    peak: usize,
+    /// The greatest number of elements before the list was last emptied: as elements are only added
+    /// in between, the peak is the greater of this and the length, and need not be kept with each.
+    earlier: usize,
 }
 
 impl<T: Copy> Model for Bounded<T> {
-    ghost use Rattle.std.specs.Prelude.{◌≤◌, vec_len, vec_capacity, nat_le};
+    ghost use Rattle.std.specs.Prelude.{◌≤◌, max, vec_len, vec_capacity, nat_le};
     ghost use Rattle.cj_budget.specs.Bounded.{BoundedList, bounded_code};
 
     ghost Value = { BoundedList T };
@@ -51,11 +53,11 @@ impl<T: Copy> Model for Bounded<T> {
     ghost view = { λ b. record {
       elements = b.items.items;
       limit = b.limit;
-      peak = b.peak;
+      peak = max b.earlier (vec_len b.items);
       reserved = nat_le b.limit (vec_capacity b.items);
     } };
 
-    ghost invariant = { λ b. (vec_len b.items ≤ b.peak) × (b.peak ≤ b.limit) };
+    ghost invariant = { λ b. (vec_len b.items ≤ b.limit) × (b.earlier ≤ b.limit) };
 }
 
 impl<T: Copy> Bounded<T> {
@@ -66,7 +68,7 @@ impl<T: Copy> Bounded<T> {
         Bounded {
             items: Vec::new(alloc),
             limit,
-            peak: 0,
+            earlier: 0,
         }
     }
 
@@ -78,11 +80,25 @@ impl<T: Copy> Bounded<T> {
         if self.items.len() == self.limit {
             return Err(Refused::Full(x));
         }
+        match self.put(x) {
+            Ok(()) => Ok(()),
+            Err(NoMemory) => Err(Refused::Memory(x)),
+        }
+    }
+
+    /// The same of a list that is not full, for callers who know that it is not: it costs a test of
+    /// the room and a store.
+    #[inline(always)]
+    pub fn put(&mut self, x: T) -> Result<(), NoMemory>
+        requires { length self.old.elements < self.old.limit }
+        ensures ok { OnOk result (Becomes self.old (self.old.elements ++ x ∷ []) self.new) }
+        ensures err { OnErr result (self.new ≡ self.old) }
+        ensures room { IsTrue self.old.reserved → IsOk result }
+    {
         if self.items.try_reserve(1).is_err() {
-            return Err(Refused::Memory(x));
+            return Err(NoMemory);
         }
         let _ = self.items.push(x);
-        self.peak = self.peak.max(self.items.len());
         Ok(())
     }
 
@@ -103,7 +119,6 @@ impl<T: Copy> Bounded<T> {
             return Err(ExtendFault::Memory);
         }
         let _ = self.items.extend_from_slice(xs);
-        self.peak = self.peak.max(self.items.len());
         Ok(())
     }
 
@@ -122,6 +137,7 @@ impl<T: Copy> Bounded<T> {
         ensures cleared { Becomes self.old [] self.new }
         ensures room { self.new.reserved ≡ self.old.reserved }
     {
+        self.earlier = self.peak();
         self.items.clear();
     }
 
@@ -154,7 +170,7 @@ impl<T: Copy> Bounded<T> {
         ensures value { result ≡ self.now.peak }
         ensures within { IsWithin self.now }
     {
-        self.peak // never below the length, by the invariant
+        self.earlier.max(self.items.len())
     }
 
     /// The greatest number of elements that is allowed.

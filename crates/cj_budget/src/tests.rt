@@ -97,6 +97,20 @@ fn a_list_of_two(rt: HostRuntime) -> Result<(), Fail> {
 }
 
 #[test]
+fn a_list_that_is_not_full(rt: HostRuntime) -> Result<(), Fail> {
+    let mut list: Bounded<u8> = Bounded::new(rt.alloc(), 2);
+    assert_eq!(rt; list.put(1), Ok(()));
+    assert_eq!(rt; list.put(2), Ok(()));
+    assert_eq!(rt; list.push(3), Err(Refused::Full(3)));
+    assert_eq!(rt; list.peak(), 2);
+    list.clear();
+    assert_eq!(rt; list.put(4), Ok(()));
+    assert_eq!(rt; list.peak(), 2);
+    assert_eq!(rt; list.as_slice(), [4u8].as_slice());
+    Ok(())
+}
+
+#[test]
 fn one_element_is_replaced(rt: HostRuntime) -> Result<(), Fail> {
     let mut list: Bounded<u8> = Bounded::new(rt.alloc(), 3);
     assert_eq!(rt; list.extend_from_slice(&[7, 8, 9]), Ok(()));

@@ -1,14 +1,14 @@
 -- Whole numbers in an array: the machine over them.
 use Rattle.std.proofs.Common.{◌≡◌, ℕ, suc, ◌+◌, ◌*◌, ◌/◌, ◌<◌, ◌≤◌, List, [], ◌∷◌, ◌++◌, length, Bool, true, false, nat_eq, Option, Some, None, refl, sym, ap, subst, arith, ◌∙◌, ◌⊎◌, inl, inr, slice_get, max, length-append}
 use Rattle.std.proofs.lemmas.Bool.{cond-false}
-use Rattle.std.specs.Prelude.{option_map}
+use Rattle.std.specs.Prelude.{IfSome, option_map}
 use Rattle.std.proofs.lemmas.Bool.Decides.{nat_tests}
 use Rattle.cj_budget.specs.Bounded.{BoundedList, Becomes}
 use Rattle.cj_spans.specs.declared.token.Kind.{Kind}
 use Rattle.cj_spans.specs.declared.token.Kind.TheVariants.{Null, Truth, Number, Text, Array, Object}
 use Rattle.cj_spans.specs.declared.token.Token.{Token}
 use Rattle.cj_spans.specs.declared.lex.Lex.{Lex}
-use Rattle.cj_spans.specs.declared.lex.Lex.TheVariants.{Whole, Zero}
+use Rattle.cj_spans.specs.declared.lex.Lex.TheVariants.{Minus, Whole, Zero}
 use Rattle.cj_spans.specs.declared.step.Mode.{Mode}
 use Rattle.cj_spans.specs.declared.step.Move.{Move}
 use Rattle.cj_spans.specs.declared.step.Move.TheVariants.{To, Open}
@@ -16,7 +16,7 @@ use Rattle.cj_spans.specs.declared.step.Mode.TheVariants.{Ready, FirstItem, Afte
 use Rattle.cj_spans.specs.Spelling.{is_white_space}
 use Rattle.cj_spans.specs.Json.{byte}
 use Rattle.cj_spans.specs.Preorder.{token_at}
-use Rattle.cj_spans.specs.Machine.{State, state, between, in_atom, phase_after, read, after_top, after_token, after_in, moved, step, lex_start, Continues, still, Reaches, here, on, ComesTo, BeginsValue, InArray, Grown, StaysInArray, StaysInArrayNext, BeginsValueNext, IsNumberItem, is_digit}
+use Rattle.cj_spans.specs.Machine.{State, state, between, in_atom, phase_after, read, after_top, after_token, after_in, moved, step, lex_start, lex_step, Continues, still, further, Reaches, here, on, ComesTo, BeginsValue, InArray, Grown, StaysInArray, StaysInArrayNext, BeginsValueNext, IsNumberItem, is_digit}
 use Rattle.cj_spans.proofs.Spellings.{some_same, none_some}
 use Rattle.cj_spans.proofs.Lists.{slice_get-append, slice_get-seam}
 use Rattle.cj_spans.proofs.Runs.{idle, settled, atom_ends, IsEnd, comma, bracket}
@@ -35,11 +35,11 @@ step_on b s t u h l e =
 not_at : (c n : ℕ) → (c ≡ n → ⊥) → nat_eq c n ≡ false
 not_at c n h = grind (arith, nat_tests)
 
-not_white : (c : ℕ) → 48 ≤ c → is_white_space c ≡ false
+not_white : (c : ℕ) → 45 ≤ c → is_white_space c ≡ false
 not_white c h = rw (not_at c 32 (λ e. omega arith), not_at c 9 (λ e. omega arith), not_at c 10 (λ e. omega arith), not_at c 13 (λ e. omega arith)) refl
 
--- a digit begins a number where a value may begin
-number_begins : (m : Mode) (c : ℕ) (x : Lex) (ks : List ℕ) (ts : List Token) (i p : ℕ) → BeginsValue m → (48 ≤ c) × (c ≤ 57) → lex_start c ≡ Some x → step c (idle m ks ts i p) ≡ Some (state (in_atom After i x) ks ts (suc i) p)
+-- a minus or a digit begins a number where a value may begin
+number_begins : (m : Mode) (c : ℕ) (x : Lex) (ks : List ℕ) (ts : List Token) (i p : ℕ) → BeginsValue m → (45 ≤ c) × (c ≤ 57) → lex_start c ≡ Some x → step c (idle m ks ts i p) ≡ Some (state (in_atom After i x) ks ts (suc i) p)
 number_begins Ready c x ks ts i p v d h =
     let low = d.0 in let high = d.1 in
     let s = idle Ready ks ts i p in
@@ -86,7 +86,7 @@ pub number_read : (b : List ℕ) (s : State) (m : Mode) (ks : List ℕ) (ts us :
     → ComesTo b s (idle m ks ts i p) → ComesTo b s (idle After ks us k p)
 number_read b s m ks ts us i k c p n v count q h =
     let below = n.order in let inside = n.within in
-    let r = step_on b s (idle m ks ts i p) (state (in_atom After i n.first) ks ts (suc i) p) h (omega arith) (number_begins m (byte b i) n.first ks ts i p v n.digit n.begins) in
+    let r = step_on b s (idle m ks ts i p) (state (in_atom After i n.first) ks ts (suc i) p) h (omega arith) (number_begins m (byte b i) n.first ks ts i p v n.sign n.begins) in
     settles_both r (ends_ok b i k c p n.first n.last Number After ks ts us n.goes (inr (atom_ends n.last (byte b k) Number n.done (ended (byte b k) n.ended))) n.done count q)
 
 -- and the comma after it
@@ -105,8 +105,9 @@ first_whole : (c : ℕ) → 49 ≤ c → c ≤ 57 → lex_start c ≡ Some Whole
 first_whole c l h = grind (arith, nat_tests)
 
 -- digits alone, of which the first is `0` only if it stands alone
-pub number_is : (b : List ℕ) (i k : ℕ) → (48 ≤ byte b i) × (byte b i ≤ 57) → (byte b i ≡ 48 → k ≡ i + 1) → ((j : ℕ) (x : Lex) → Continues b j x (i + 1) Whole → Continues b j x k Whole) → i + 1 ≤ k → k < length b → (byte b k ≡ 44) ⊎ (byte b k ≡ 93) → IsNumberItem b i k
-number_is b i k d z same l h e = choose (split (byte b i))
+pub number_is : (b : List ℕ) (i k : ℕ) → (48 ≤ byte b i) × (byte b i ≤ 57) → (byte b i ≡ 48 → k ≡ i + 1) → ((j : ℕ) (x : Lex) → Continues b j x (i + 1) Whole → Continues b j x k Whole) → i + 1 ≤ k → k < length b → (byte b k ≡ 44) ⊎ (byte b k ≡ 93)
+    → (48 ≤ byte b i) × IsNumberItem b i k
+number_is b i k d z same l h e = (d.0, choose (split (byte b i)))
   where
     split : (c : ℕ) → (c ≡ 48) ⊎ (c ≡ 48 → ⊥)
     split c = grind arith
@@ -114,11 +115,44 @@ number_is b i k d z same l h e = choose (split (byte b i))
     choose : (byte b i ≡ 48) ⊎ (byte b i ≡ 48 → ⊥) → IsNumberItem b i k
     choose (inl q) =
         let f : suc i ≡ k = let g = z q in omega arith in
-        record { first = Zero; last = Zero; digit = d; begins = first_zero (byte b i) q; goes = subst (λ n. Continues b (suc i) Zero n Zero) f still; done = refl; order = omega arith; within = h; ended = e }
+        let low = d.0 in
+        record { first = Zero; last = Zero; sign = (omega arith, d.1); begins = first_zero (byte b i) q; goes = subst (λ n. Continues b (suc i) Zero n Zero) f still; done = refl; order = omega arith; within = h; ended = e }
     choose (inr q) =
         let f : suc i ≡ i + 1 = omega arith in
         let low = d.0 in let high = d.1 in
-        record { first = Whole; last = Whole; digit = d; begins = first_whole (byte b i) (omega arith) high; goes = same (suc i) Whole (subst (λ n. Continues b (suc i) Whole n Whole) f still); done = refl; order = omega arith; within = h; ended = e }
+        record { first = Whole; last = Whole; sign = (omega arith, high); begins = first_whole (byte b i) (omega arith) high; goes = same (suc i) Whole (subst (λ n. Continues b (suc i) Whole n Whole) f still); done = refl; order = omega arith; within = h; ended = e }
+
+-- a digit goes on behind a minus as it begins a number
+behind_minus : (c : ℕ) → 48 ≤ c → c ≤ 57 → lex_step Minus c ≡ lex_start c
+behind_minus c l h = grind (arith, nat_tests)
+
+-- one byte more in front
+from_front : {b : List ℕ} {i : ℕ} {x y : Lex} {k : ℕ} {z : Lex} → lex_step x (byte b i) ≡ Some y → Continues b (suc i) y k z → Continues b i x k z
+from_front {b} {i} {x} {y} h still = further i x y still h
+from_front {b} {i} {x} {y} h (further k u v c e) = further k u v (from_front h c) e
+
+-- the same behind a minus
+minus_is : (b : List ℕ) (i k : ℕ) → byte b i ≡ 45 → (48 ≤ byte b (i + 1)) × IsNumberItem b (i + 1) k → IsNumberItem b i k
+minus_is b i k e d =
+    let n = d.1 in
+    let f : suc i ≡ i + 1 = omega arith in
+    let below = n.order in
+    let h : lex_step Minus (byte b (i + 1)) ≡ Some n.first = behind_minus (byte b (i + 1)) d.0 n.sign.1 ∙ n.begins in
+    record {
+      first = Minus;
+      last = n.last;
+      sign = (omega arith, omega arith);
+      begins = ap lex_start e;
+      goes = subst (λ j. Continues b j Minus k n.last) (sym f) (from_front h n.goes);
+      done = n.done;
+      order = omega arith;
+      within = n.within;
+      ended = n.ended;
+    }
+
+pub behind_minus_stop : (b : List ℕ) (i : ℕ) (r : Option ℕ) → byte b i ≡ 45 → IfSome r (λ k. (48 ≤ byte b (i + 1)) × IsNumberItem b (i + 1) k) → IfSome r (λ k. IsNumberItem b i k)
+behind_minus_stop b i None e h = tt
+behind_minus_stop b i (Some k) e h = minus_is b i k e h
 
 pub stays_begins : (c : ℕ) (m : Mode) → StaysInArray c m → BeginsValue m
 stays_begins c Ready h = tt

@@ -377,11 +377,11 @@ StaysInArrayNext c (To m) = StaysInArray c m
 StaysInArrayNext c (Open m) = StaysInArray c m
 StaysInArrayNext c _ = ⊥
 
--- the bytes from i to k are a whole number, and a comma or `]` comes after it
+-- the bytes from i to k are a number, and a comma or `]` comes after it; the first is a minus or a digit
 pub record IsNumberItem (b : List ℕ) (i k : ℕ) : Type 0 where
   pub first : Lex
   pub last : Lex
-  pub digit : (48 ≤ byte b i) × (byte b i ≤ 57)
+  pub sign : (45 ≤ byte b i) × (byte b i ≤ 57)
   pub begins : lex_start (byte b i) ≡ Some first
   pub goes : Continues b (suc i) first k last
   pub done : lex_kind last ≡ Some Number

@@ -21,11 +21,12 @@ fn ends_item(byte: u8) -> bool
     byte == b',' || byte == b']'
 }
 
-/// Where the whole number that begins at `place` ends, if an item of an array ends there too.
+/// Where the digits that begin at `place` end, if they are a whole number and an item of an array ends
+/// there too.
 #[inline(always)]
-fn number_stop(line: &[u8], place: usize) -> Option<usize>
+fn digits_stop(line: &[u8], place: usize) -> Option<usize>
     requires { place < length line.now }
-    ensures { IfSome result (λ k. IsNumberItem line.now place k) }
+    ensures { IfSome result (λ k. (48 ≤ byte_of line.now place) × IsNumberItem line.now place k) }
 {
     let first = line[place];
     if !is_digit(first) {
@@ -39,6 +40,22 @@ fn number_stop(line: &[u8], place: usize) -> Option<usize>
         return None;
     }
     Some(stop)
+}
+
+/// Where the whole number that begins at `place`, by a digit or by a minus, ends, if an item of an array
+/// ends there too.
+#[inline(always)]
+fn number_stop(line: &[u8], place: usize) -> Option<usize>
+    requires { place < length line.now }
+    ensures { IfSome result (λ k. IsNumberItem line.now place k) }
+{
+    if line[place] != b'-' {
+        return digits_stop(line, place);
+    }
+    if place + 1 == line.len() {
+        return None;
+    }
+    digits_stop(line, place + 1)
 }
 
 /// Reads numbers from a place on where a value may begin in an array. It stops before what is no such
@@ -70,7 +87,7 @@ fn read_numbers(line: &[u8], from: Next, depth: usize, tokens: &mut Bounded<Toke
             link: tokens.len() as u32 + 1,
             kind: Kind::Number,
         };
-        match tokens.push(token) {
+        match tokens.put(token) {
             Ok(()) => {}
             Err(_) => return next,
         }

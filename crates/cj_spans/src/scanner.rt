@@ -49,7 +49,7 @@ fn end_atom(
         link: tokens.len() as u32 + 1,
         kind,
     };
-    match tokens.push(token) {
+    match tokens.put(token) {
         Ok(()) => Ok(Next {
             mode: next,
             place: reach.stop,

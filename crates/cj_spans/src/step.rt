@@ -74,7 +74,7 @@ fn open(
         link: 0,
         kind,
     };
-    match tokens.push(token) {
+    match tokens.put(token) {
         Ok(()) => Ok(Move::Open(next)),
         Err(_) => Err(ScanFault::Memory),
     }

@@ -62,6 +62,7 @@ fn lines_that_are_texts(rt: HostRuntime) -> Result<(), Fail> {
         at_64(b" \t\r\n7 \r", Ok((1, 0))),
         at_64(b"-0.5e+10", Ok((1, 0))),
         at_64(b"[0,-0,10,1.25,1e5,1E-05,-1.0e+0]", Ok((8, 1))),
+        at_64(b"[-1,-0,[-10],-2.5,-3]", Ok((7, 2))),
         at_64(b"[null,true,false]", Ok((4, 1))),
         at_64(
             b"\"\\\"\\\\\\/\\b\\f\\n\\r\\t\\u00e9\\uD83D\\uDE00\"",
@@ -87,6 +88,11 @@ fn numbers_that_are_none(rt: HostRuntime) -> Result<(), Fail> {
         at_64(b".5", Err(ScanFault::Syntax(0))),
         at_64(b"1e", Err(ScanFault::Syntax(2))),
         at_64(b"1e+", Err(ScanFault::Syntax(3))),
+        at_64(b"[-1,-0,-01]", Err(ScanFault::Syntax(9))),
+        at_64(b"[-]", Err(ScanFault::Syntax(2))),
+        at_64(b"[1,-]", Err(ScanFault::Syntax(4))),
+        at_64(b"[1,--2]", Err(ScanFault::Syntax(4))),
+        at_64(b"[1,-", Err(ScanFault::Syntax(4))),
     ];
     for r in &rows {
         meets(&rt, rt.alloc(), r);
