@@ -1,5 +1,7 @@
+pub mod Blocks
 pub mod Examples
 pub mod Form
+pub mod Gathered
 pub mod Geometry
 pub mod Given
 pub mod Grammar

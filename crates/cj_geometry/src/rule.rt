@@ -26,12 +26,15 @@ ghost use Rattle.cj_spans.specs.View.{tree};
 ghost use Rattle.cj_geometry.specs.Rule.{one, of_kind, nothing};
 
 mod array;
+mod blocks;
 mod member;
+mod names;
 mod number;
 
 pub use array::{check_length, count_items};
 use cj_spans::{Finding, Kind, Least, Node, Reason};
-pub use member::{check_names, check_text_member, needed};
+pub use member::{check_text_member, needed};
+pub use names::check_names;
 pub use number::{check_index, check_number, check_whole, read_whole};
 
 /// Adds a reason at a value. Few values have one.

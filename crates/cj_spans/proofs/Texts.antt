@@ -6,6 +6,7 @@ use Rattle.std.proofs.lemmas.Bool.Decides.{nat_tests}
 use Rattle.std.proofs.lemmas.Grind.{common_steps}
 use Rattle.cj_spans.specs.declared.text.Point.{Point}
 use Rattle.cj_spans.specs.Decoding.{left, after_read, ReadsPoint, plain_front, points_from}
+use Rattle.cj_spans.specs.Hash.{hash_on}
 use Rattle.cj_spans.specs.Text.{char_of, four_digits, unit, is_unicode, is_escaped, is_pair, escaped, first_point, first_width, points_after, text, are_same, StandFor, done, plain, letter, single, pair}
 use Rattle.std.specs.Char.{digit_value}
 use Rattle.std.specs.Char.Utf16.{is_high_surrogate, is_low_surrogate, surrogate_pair_char}
@@ -279,6 +280,9 @@ text_ends bs ws i j h k = ap (λ cs. are_same (points_after 0 cs) (left ws j)) (
 
 pub texts_end : (bs ds : List ℕ) (i j : ℕ) → length bs ≤ i → length ds ≤ j → are_same (points_from bs i) (points_from ds j) ≡ true
 texts_end bs ds i j h k = ap (λ cs. are_same (points_after 0 cs) (points_from ds j)) (chars_past bs i h) ∙ ap (λ ps. are_same ps (points_from ds j)) points_nil ∙ ap (are_same []) (points_done ds j (chars_past ds j k))
+
+pub hash_ends : (bs : List ℕ) (i h : ℕ) → length bs ≤ i → hash_on h (points_from bs i) ≡ h
+hash_ends bs i h e = ap (hash_on h) (points_done bs i (chars_past bs i e))
 
 -- ---- between the quotes
 

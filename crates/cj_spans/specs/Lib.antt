@@ -5,6 +5,7 @@ pub mod Judgement
 pub mod Front
 pub mod Preorder
 pub mod Forest
+pub mod Hash
 pub mod Scan
 pub mod Begins
 pub mod Reason

@@ -27,7 +27,7 @@ mod examples;
 #[cfg(test)]
 mod tests;
 
-use crate::text::{Characters, Points, is_same_text, is_text};
+use crate::text::{Characters, Points, hash, is_same_text, is_text};
 use crate::token::{Kind, Token};
 
 /// A line with the tokens that show its tree.
@@ -235,6 +235,7 @@ impl<'a> Node<'a> {
     ghost use Rattle.std.specs.Str.{chars};
     ghost use Rattle.cj_spans.specs.Parts.{text_of, are_same_texts, has_text, first_code_of, member_of};
     ghost use Rattle.cj_spans.specs.Decoding.{points_left};
+    ghost use Rattle.cj_spans.specs.Hash.{hash_of};
     ghost use Rattle.cj_spans.specs.View.{tree, line_of};
 
     /// The code points of a string or a name, one at a time; None for any other value.
@@ -287,6 +288,18 @@ impl<'a> Node<'a> {
                 None => false,
             },
             None => false,
+        }
+    }
+
+    /// A number of 64 bits of the text of a string or a name; 0 for any other value. Equal texts have equal
+    /// numbers, however they are spelled, and other texts seldom do: it tells quickly that two texts differ,
+    /// and never that they are the same.
+    pub fn text_hash(self) -> u64
+        ensures { result ≡ hash_of (text_of (tree self.entry)) }
+    {
+        match self.points() {
+            Some(points) => hash(points),
+            None => 0,
         }
     }
 

@@ -4,6 +4,7 @@ ghost use Rattle.std.specs.Str.{chars, chars_after};
 ghost use Rattle.std.specs.Char.{digit_value as digit_value_of};
 ghost use Rattle.std.specs.Char.Utf16.{is_high_surrogate as is_high_of, is_low_surrogate as is_low_of};
 ghost use Rattle.cj_spans.specs.Decoding.{left, after_read, ReadsPoint, plain_front, points_from, points_left, characters_left};
+ghost use Rattle.cj_spans.specs.Hash.{hash_step, hash_on};
 ghost use Rattle.cj_spans.specs.Text.{char_of, four_digits, escaped as escaped_of, is_escaped, is_unicode, unit, first_point, first_width, text, are_same};
 
 #[cfg(test)]
@@ -429,4 +430,48 @@ pub(crate) fn is_same_text(points: Points, others: Points) -> bool
         return true;
     }
     is_same_text_slowly(left, right)
+}
+
+/// What the hash of a text begins with.
+const HASH_START: u64 = 14_695_981_039_346_656_037;
+
+/// The state of the hash after one code point more. No part of it is linear in the code points before, so texts
+/// that are to have one hash have to be searched for.
+#[inline(always)]
+fn hash_point(state: u64, point: u32) -> u64
+    ensures { result ≡ hash_step state point }
+{
+    let product = (state ^ point as u64).wrapping_mul(11_400_714_819_323_198_485);
+    product ^ (product >> 32)
+}
+
+/// The hash after these code points, from a state on, by code points: for what is spelled by escapes or is not ASCII.
+#[cold]
+#[inline(never)]
+fn hash_slowly(state: u64, points: Points) -> u64
+    ensures { result ≡ hash_on state (points_left points.entry) }
+{
+    let mut hash = state;
+    for point in points {
+        hash = hash_point(hash, point);
+    }
+    hash
+}
+
+/// A number of a string's text: the code points alone make it, not their spelling.
+#[tactic(auto, using(crate::proofs::Texts::hash_ends))]
+#[inline]
+pub(crate) fn hash(points: Points) -> u64
+    ensures { result ≡ hash_on HASH_START (points_left points.entry) }
+{
+    let mut hash = HASH_START;
+    let mut left = points;
+    while let Some(byte) = plain_at(left.bytes, left.place) {
+        hash = hash_point(hash, byte as u32);
+        left.place += 1;
+    }
+    if left.place >= left.bytes.len() {
+        return hash;
+    }
+    hash_slowly(hash, left)
 }

@@ -1,14 +1,14 @@
-//! Members and names of an object.
+//! Members of an object.
 ghost use Rattle.std.specs.Prelude.{◌≡◌, option_map, IfSome};
 ghost use Rattle.std.specs.Str.{chars};
 ghost use Rattle.cj_spans.specs.Finding.{least};
 ghost use Rattle.cj_spans.specs.Kinds.{is_text};
 ghost use Rattle.cj_spans.specs.Parts.{member_of};
-ghost use Rattle.cj_spans.specs.View.{tree, line_of, members_left};
-ghost use Rattle.cj_geometry.specs.Rule.{of_kind, nothing, missing, needs, repeats_of, distinct};
+ghost use Rattle.cj_spans.specs.View.{tree, line_of};
+ghost use Rattle.cj_geometry.specs.Rule.{of_kind, nothing, missing, needs};
 
 use crate::rule::{add, check_text};
-use cj_spans::{Least, Members, Node, Reason};
+use cj_spans::{Least, Node, Reason};
 
 /// The object has a member of this name: the value of the first, or None where it is missing.
 #[inline(always)]
@@ -30,27 +30,5 @@ pub fn check_text_member(object: Node, name: &str, found: &mut Least)
 {
     if let Some(value) = needed(object, name, found) {
         check_text(value, found);
-    }
-}
-
-/// No later name has the text of this one.
-fn check_later(name: Node, rest: Members, found: &mut Least)
-    ensures { found.new ≡ least found.old (repeats_of (tree name.entry) (members_left rest.entry)) }
-{
-    for (later, _) in rest {
-        if later.same_text(name) {
-            add(later, Reason::DuplicateName, found);
-        }
-    }
-}
-
-/// The names of an object are distinct: each that has the text of an earlier one has a finding. It compares
-/// each two names, and so takes time by the square of their number.
-pub fn check_names(object: Node, found: &mut Least)
-    ensures { found.new ≡ least found.old (distinct (tree object.entry)) }
-{
-    let mut rest = object.members();
-    while let Some((name, _)) = rest.next() {
-        check_later(name, rest, found);
     }
 }

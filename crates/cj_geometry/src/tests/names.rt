@@ -1,6 +1,26 @@
 //! Names of the objects that rules read are distinct.
 use super::{Around, Given, meets, with_vertices};
+use std::alloc::{AllocError, Global};
+use std::process::Abort;
 use std::test::Fail;
+
+/// So many members, whose names are numbers, and a comma behind each.
+fn members(alloc: Global, count: u32) -> Result<String, AllocError> {
+    let mut text = String::new(alloc);
+    for number in 0..count {
+        let member = format!(in alloc; "\"{number}\":0,")?;
+        text.push_str(&member)?;
+    }
+    Ok(text)
+}
+
+/// A geometry of so many names more has the finding that the row wants, whose cell stands behind them.
+fn meets_behind(rt: &impl Abort, alloc: Global, count: u32, row: &str) -> Result<(), AllocError> {
+    let members = members(alloc, count)?;
+    let front = r#"{"type":"MultiPoint","lod":"1","boundaries":[0],"#;
+    let geometry = format!(in alloc; "{front}{members}_}}")?;
+    meets(rt, alloc, with_vertices(1), &geometry, row)
+}
 
 #[test]
 fn names_of_a_geometry_are_distinct(rt: HostRuntime) -> Result<(), Fail> {
@@ -113,5 +133,28 @@ fn objects_that_no_rule_reads_may_double_names(rt: HostRuntime) -> Result<(), Fa
         in semantics that are not read | {"type":"MultiPoint","lod":"1","boundaries":[0],"semantics":{"a":1,"a":1}} | none
         "#,
     )?;
+    Ok(())
+}
+
+#[test]
+fn many_names_are_distinct(rt: HostRuntime) -> Result<(), Fail> {
+    let rows = r#"
+        another name | "a":1 | none
+        the first name | ^"0":1 | 11 duplicate name
+        a name by an escape | ^"\u00357":1 | 11 duplicate name
+        a type by an escape | ^"t\u0079pe":1 | 11 duplicate name
+        "#;
+    meets_behind(&rt, rt.alloc(), 60, rows)?;
+    Ok(())
+}
+
+#[test]
+fn names_of_several_blocks_are_distinct(rt: HostRuntime) -> Result<(), Fail> {
+    let rows = r#"
+        another name | "a":1 | none
+        a name of the first block by an escape | ^"\u0033":1 | 11 duplicate name
+        a name of the last block | ^"8999":1 | 11 duplicate name
+        "#;
+    meets_behind(&rt, rt.alloc(), 9_000, rows)?;
     Ok(())
 }
