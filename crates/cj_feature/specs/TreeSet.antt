@@ -1,5 +1,5 @@
 -- Trees are a set: that two of them are the same has one proof, so a ghost field may hold it. Shown by codes: trees of numbers, one for each.
-use Rattle.std.specs.Prelude.{◌≡◌, ℕ, List, ◌∷◌, [], ◌==◌, cond, Option, refl}
+use Rattle.std.specs.Prelude.{◌≡◌, ℕ, List, ◌==◌, cond, Option, refl}
 use mathlib.Core.Path.{ap, sym, ◌∙◌}
 use base.Stored.{Gv, gnil, gnum, gcons, Coded, Coded-set, coded_ℕ, coded_list, coded×, coded_via}
 use Rattle.std.specs.Coded.{coded_option}
