@@ -72,12 +72,12 @@ halted b ks ts m a k p x r none kind =
     ∙ ap (λ q. option_and_then (read m (byte b k)) (end_atom m a q s)) kind
 
 -- a scalar that may end where it halts has ended there
-pub ends_ok : (b : List ℕ) (i k n p : ℕ) (x y : Lex) (kd : Kind) (m : Mode) (ks : List ℕ) (ts us : List Token) → Continues b (suc i) x k y → Halts b k y → lex_kind y ≡ Some kd → n ≡ length ts → us ≡ ts ++ token_at i k (n + 1) kd ∷ []
+pub ends_ok : (b : List ℕ) (i k n p : ℕ) (x y : Lex) (kd : Kind) (m : Mode) (ks : List ℕ) (ts us : List Token) → Continues b (suc i) x k y → Halts b k y → lex_kind y ≡ Some kd → n ≡ length ts → us ≡ ts ++ token_at i k (n + 1) ∷ []
     → ComesTo b (state (in_atom m i x) ks ts (suc i) p) (state (between m) ks us k p)
 ends_ok b i k n p x y kd m ks ts us c h kind count is =
     let last = state (in_atom m i y) ks ts k p in
     let next : suc (length ts) ≡ n + 1 = omega arith in
-    let e : ts ++ token_at i k (suc (length ts)) kd ∷ [] ≡ us = ap (λ l. ts ++ token_at i k l kd ∷ []) next ∙ sym is in
+    let e : ts ++ token_at i k (suc (length ts)) ∷ [] ≡ us = ap (λ l. ts ++ token_at i k l ∷ []) next ∙ sym is in
     record {
       last = last;
       reached = continues_reaches c (state (in_atom m i x) ks ts (suc i) p) m i ks ts p here;

@@ -8,7 +8,7 @@ use Rattle.cj_budget.specs.Bounded.{BoundedList}
 use Rattle.cj_spans.specs.declared.fault.ScanFault.{ScanFault}
 use Rattle.cj_spans.specs.declared.fault.ScanFault.TheVariants.{Syntax, TooDeep}
 use Rattle.cj_spans.specs.declared.token.Kind.{Kind}
-use Rattle.cj_spans.specs.declared.token.Kind.TheVariants.{Number, Text, Array, Object}
+use Rattle.cj_spans.specs.declared.token.Kind.TheVariants.{Array, Object}
 use Rattle.cj_spans.specs.declared.token.Token.{Token}
 use Rattle.cj_spans.specs.declared.lex.Lex.{Lex}
 use Rattle.cj_spans.specs.declared.lex.Lex.TheVariants.{Zero, InText, TextDone}
@@ -19,8 +19,8 @@ use Rattle.cj_spans.specs.Json.{byte, Json}
 use Rattle.cj_spans.specs.Front.{Front, IsFront, SyntaxAt, stuck, short}
 use Rattle.cj_spans.specs.Begins.{BeginsText, IsFirstFault, IsFirstTooDeep}
 use Rattle.cj_spans.specs.Preorder.{token_at, flatten, flatten_items, flatten_members}
-use Rattle.cj_spans.specs.Machine.{State, state, in_atom, step, end_atom, after_token, after_in, still, Reaches, here, on, start, SinksAt, RunAnswers, BeginsValue}
-use Rattle.cj_spans.proofs.Spellings.{some_same, can_end, text_end}
+use Rattle.cj_spans.specs.Machine.{open_kind, State, state, in_atom, step, end_atom, after_token, after_in, still, Reaches, here, on, start, SinksAt, RunAnswers, BeginsValue}
+use Rattle.cj_spans.proofs.Spellings.{can_end, text_end}
 use Rattle.cj_spans.proofs.Lists.{slice_get-append, slice_get-seam, rise-nest}
 use Rattle.cj_spans.proofs.Runs.{IsEnd, colon, bracket, brace, Arrives, arrive_on, arrived, settled, idle, BeginsName}
 use Rattle.cj_spans.proofs.Follows.{run_json}
@@ -62,16 +62,22 @@ text_front b i l x =
 -- ---- the open containers and what closes them
 
 abbrev kind_at : List Token → ℕ → Option Kind
-kind_at ts k = option_map (λ t. t.kind) (slice_get ts k)
+kind_at ts k = option_map open_kind (slice_get ts k)
 
 abbrev IsContainer : Option Kind → Type 0
 IsContainer (Some Array) = Unit {0}
 IsContainer (Some Object) = Unit {0}
 IsContainer _ = ⊥
 
+-- indices below n
+abbrev AreBelow : ℕ → List ℕ → Type 0
+AreBelow n [] = Unit {0}
+AreBelow n (k ∷ ks) = (k < n) × AreBelow n ks
+
+-- each of a container, and each before those inside it
 abbrev AllContainers : List ℕ → List Token → Type 0
 AllContainers [] ts = Unit {0}
-AllContainers (k ∷ ks) ts = IsContainer (kind_at ts k) × AllContainers ks ts
+AllContainers (k ∷ ks) ts = IsContainer (kind_at ts k) × AreBelow k ks × AllContainers ks ts
 
 abbrev closer : Option Kind → ℕ
 closer (Some Array) = 93
@@ -85,42 +91,55 @@ closers (k ∷ ks) ts = closer (kind_at ts k) ∷ closers ks ts
 container_more : (ts us : List Token) (k : ℕ) → IsContainer (kind_at ts k) → IsContainer (kind_at (ts ++ us) k)
 container_more ts us k h = by_get (slice_get ts k) refl h
   where
-    by_get : (o : Option Token) → slice_get ts k ≡ o → IsContainer (option_map (λ t. t.kind) o) → IsContainer (kind_at (ts ++ us) k)
+    by_get : (o : Option Token) → slice_get ts k ≡ o → IsContainer (option_map open_kind o) → IsContainer (kind_at (ts ++ us) k)
     by_get None e h = absurd h
-    by_get (Some t) e h = subst (λ o. IsContainer (option_map (λ t. t.kind) o)) (sym (slice_get-append ts us k t e)) h
+    by_get (Some t) e h = subst (λ o. IsContainer (option_map open_kind o)) (sym (slice_get-append ts us k t e)) h
 
 containers_more : (ks : List ℕ) (ts us : List Token) → AllContainers ks ts → AllContainers ks (ts ++ us)
 containers_more [] ts us h = tt
-containers_more (k ∷ ks) ts us h = (container_more ts us k h.0, containers_more ks ts us h.1)
+containers_more (k ∷ ks) ts us h = (container_more ts us k h.0, h.1, containers_more ks ts us h.2)
 
-container_last : (ts : List Token) (t : Token) → IsContainer (Some t.kind) → IsContainer (kind_at (ts ++ t ∷ []) (length ts))
-container_last ts t h = subst (λ o. IsContainer (option_map (λ u. u.kind) o)) (sym (slice_get-seam ts [] t)) h
+container_last : (ts : List Token) (t : Token) → IsContainer (Some (open_kind t)) → IsContainer (kind_at (ts ++ t ∷ []) (length ts))
+container_last ts t h = subst (λ o. IsContainer (option_map open_kind o)) (sym (slice_get-seam ts [] t)) h
+
+container_below : (ts : List Token) (k : ℕ) → IsContainer (kind_at ts k) → k < length ts
+container_below [] k h = absurd h
+container_below (z ∷ ts) zero h = omega arith
+container_below (z ∷ ts) (suc k) h = let l = container_below ts k h in omega arith
+
+containers_below : (ks : List ℕ) (ts : List Token) → AllContainers ks ts → AreBelow (length ts) ks
+containers_below [] ts h = tt
+containers_below (k ∷ ks) ts h = (container_below ts k h.0, containers_below ks ts h.2)
+
+-- inside a container whose token comes after ts
+just_inside : (ks : List ℕ) (ts : List Token) (t : Token) → IsContainer (Some (open_kind t)) → AllContainers ks ts → AllContainers (length ts ∷ ks) (ts ++ t ∷ [])
+just_inside ks ts t h all = (container_last ts t h, containers_below ks ts all, containers_more ks ts (t ∷ []) all)
+
+-- the same with more tokens behind it
+inside : (ks : List ℕ) (ts : List Token) (t : Token) (us : List Token) → IsContainer (Some (open_kind t)) → AllContainers ks ts → AllContainers (length ts ∷ ks) ((ts ++ t ∷ []) ++ us)
+inside ks ts t us h all = containers_more (length ts ∷ ks) (ts ++ t ∷ []) us (just_inside ks ts t h all)
 
 context_containers : {b : List ℕ} {e : ℕ} {ks : List ℕ} {ts : List Token} → Context b e ks ts → AllContainers ks ts
 context_containers (root e w) = tt
-context_containers (in_array e j k ks ts us c o l w) =
-    let t = token_at e 0 0 Array in
-    containers_more (length ts ∷ ks) (ts ++ t ∷ []) (flatten_items (suc (length ts)) us) (container_last ts t tt, containers_more ks ts (t ∷ []) (context_containers c))
+context_containers (in_array e j k ks ts us c o l w) = inside ks ts (token_at e 0 0) (flatten_items (suc (length ts)) us) tt (context_containers c)
 context_containers (in_member e j k l ks ts us n c o m d w) =
-    let t = token_at e 0 0 Object in
-    containers_more (length ts ∷ ks) ((ts ++ t ∷ []) ++ flatten_members (suc (length ts)) us) _
-    (containers_more (length ts ∷ ks) (ts ++ t ∷ []) (flatten_members (suc (length ts)) us) (container_last ts t tt, containers_more ks ts (t ∷ []) (context_containers c)))
+    let fs = flatten_members (suc (length ts)) us in
+    containers_more (length ts ∷ ks) ((ts ++ token_at e 0 1 ∷ []) ++ fs) _ (inside ks ts (token_at e 0 1) fs tt (context_containers c))
 
--- a token that is written anew keeps its kind
-kind_set : (ts : List Token) (k j : ℕ) (t u : Token) → slice_get ts k ≡ Some t → u.kind ≡ t.kind → kind_at (slice_set ts k u) j ≡ kind_at ts j
-kind_set [] k j t u h e = cc
-kind_set (z ∷ ts) zero zero t u h e = let q : z ≡ t = some_same z t h in ap (λ x. Some x) (e ∙ ap (λ y. y.kind) (sym q))
-kind_set (z ∷ ts) zero (suc j) t u h e = refl
-kind_set (z ∷ ts) (suc k) zero t u h e = refl
-kind_set (z ∷ ts) (suc k) (suc j) t u h e = kind_set ts k j t u h e
+-- a token that is written anew leaves those before it as they are
+kind_set : (ts : List Token) (k j : ℕ) (u : Token) → j < k → kind_at (slice_set ts k u) j ≡ kind_at ts j
+kind_set [] k j u l = refl
+kind_set (z ∷ ts) zero j u l = absurd (omega arith)
+kind_set (z ∷ ts) (suc k) zero u l = refl
+kind_set (z ∷ ts) (suc k) (suc j) u l = kind_set ts k j u (omega arith)
 
-containers_set : (ks : List ℕ) (ts us : List Token) → ((j : ℕ) → kind_at us j ≡ kind_at ts j) → AllContainers ks ts → AllContainers ks us
-containers_set [] ts us e h = tt
-containers_set (k ∷ ks) ts us e h = (subst IsContainer (sym (e k)) h.0, containers_set ks ts us e h.1)
+containers_set : (ks : List ℕ) (ts : List Token) (k : ℕ) (u : Token) → AreBelow k ks → AllContainers ks ts → AllContainers ks (slice_set ts k u)
+containers_set [] ts k u l h = tt
+containers_set (j ∷ ks) ts k u l h = (subst IsContainer (sym (kind_set ts k j u l.0)) h.0, h.1, containers_set ks ts k u l.1 h.2)
 
-closers_set : (ks : List ℕ) (ts us : List Token) → ((j : ℕ) → kind_at us j ≡ kind_at ts j) → closers ks us ≡ closers ks ts
-closers_set [] ts us e = refl
-closers_set (k ∷ ks) ts us e = ap (λ z. closer z ∷ closers ks us) (e k) ∙ ap (λ zs. closer (kind_at ts k) ∷ zs) (closers_set ks ts us e)
+closers_set : (ks : List ℕ) (ts : List Token) (k : ℕ) (u : Token) → AreBelow k ks → closers ks (slice_set ts k u) ≡ closers ks ts
+closers_set [] ts k u l = refl
+closers_set (j ∷ ks) ts k u l = ap (λ z. closer z ∷ closers ks (slice_set ts k u)) (kind_set ts k j u l.0) ∙ ap (λ zs. closer (kind_at ts j) ∷ zs) (closers_set ks ts k u l.1)
 
 -- from the place j on, the line has these bytes and no more
 record Has (c : List ℕ) (j : ℕ) (cs : List ℕ) : Type 0 where
@@ -135,8 +154,8 @@ has_tail c j x cs h =
     let w = h.whole in
     record { whole = omega arith; bytes = λ n l. let e : suc j + n ≡ j + suc n = omega arith in ap (byte c) e ∙ h.bytes (suc n) (omega arith) }
 
-close_step : (k : ℕ) (ks : List ℕ) (ts : List Token) (j p : ℕ) (t : Token) (kd : Kind) → slice_get ts k ≡ Some t → t.kind ≡ kd → IsContainer (Some kd)
-    → step (closer (Some kd)) (idle After (k ∷ ks) ts j p) ≡ Some (idle After ks (slice_set ts k (token_at t.start (suc j) (length ts) t.kind)) (suc j) p)
+close_step : (k : ℕ) (ks : List ℕ) (ts : List Token) (j p : ℕ) (t : Token) (kd : Kind) → slice_get ts k ≡ Some t → open_kind t ≡ kd → IsContainer (Some kd)
+    → step (closer (Some kd)) (idle After (k ∷ ks) ts j p) ≡ Some (idle After ks (slice_set ts k (token_at t.start (suc j) (length ts))) (suc j) p)
 close_step k ks ts j p t Array e q h = let s = idle After (k ∷ ks) ts j p in ap (λ o. after_token 93 k o s) e ∙ ap (λ z. after_in z 93 k t s) q
 close_step k ks ts j p t Object e q h = let s = idle After (k ∷ ks) ts j p in ap (λ o. after_token 125 k o s) e ∙ ap (λ z. after_in z 125 k t s) q
 close_step k ks ts j p t _ e q h = absurd h
@@ -152,14 +171,14 @@ record Ended (c : List ℕ) (p : ℕ) : Type 0 where
   arrives : Arrives c start (idle After [] tokens (length c) p)
 
 -- one container is closed
-close_one : (c : List ℕ) (ks : List ℕ) (ts : List Token) (k j p : ℕ) (o : Option Token) → slice_get ts k ≡ o → Arrives c start (idle After (k ∷ ks) ts j p) → IsContainer (option_map (λ t. t.kind) o) → byte c j ≡ closer (option_map (λ t. t.kind) o)
-    → ((u : Token) → Reaches c start (idle After ks (slice_set ts k u) (suc j) p) → ((i : ℕ) → kind_at (slice_set ts k u) i ≡ kind_at ts i) → Ended c p) → Ended c p
+close_one : (c : List ℕ) (ks : List ℕ) (ts : List Token) (k j p : ℕ) (o : Option Token) → slice_get ts k ≡ o → Arrives c start (idle After (k ∷ ks) ts j p) → IsContainer (option_map open_kind o) → byte c j ≡ closer (option_map open_kind o)
+    → ((u : Token) → Reaches c start (idle After ks (slice_set ts k u) (suc j) p) → Ended c p) → Ended c p
 close_one c ks ts k j p None e a h b next = absurd h
 close_one c ks ts k j p (Some t) e a h b next =
-    let u = token_at t.start (suc j) (length ts) t.kind in
+    let u = token_at t.start (suc j) (length ts) in
     let s = idle After (k ∷ ks) ts j p in
-    let r = arrive_on c start s (idle After ks (slice_set ts k u) (suc j) p) (subst IsEnd (sym b) (closer_end t.kind h)) a (ap (λ z. step z s) b ∙ close_step k ks ts j p t t.kind e refl h) in
-    next u r (λ i. kind_set ts k i t u e refl)
+    let r = arrive_on c start s (idle After ks (slice_set ts k u) (suc j) p) (subst IsEnd (sym b) (closer_end (open_kind t) h)) a (ap (λ z. step z s) b ∙ close_step k ks ts j p t (open_kind t) e refl h) in
+    next u r
 
 close_all : (ks : List ℕ) (c cs : List ℕ) (ts : List Token) (j p : ℕ) → Arrives c start (idle After ks ts j p) → AllContainers ks ts → closers ks ts ≡ cs → Has c j cs → Ended c p
 close_all [] c cs ts j p a all e h =
@@ -168,8 +187,8 @@ close_all [] c cs ts j p a all e h =
     let q : j ≡ length c = omega arith in
     record { tokens = ts; arrives = subst (λ z. Arrives c start (idle After [] ts z p)) q a }
 close_all (k ∷ ks) c cs ts j p a all e h =
-    close_one c ks ts k j p (slice_get ts k) refl a all.0 (has_head c j _ _ (subst (Has c j) (sym e) h)) (λ u r same.
-    close_all ks c (closers ks ts) (slice_set ts k u) (suc j) p (arrived c start After ks (slice_set ts k u) (suc j) p r) (containers_set ks ts (slice_set ts k u) same all.1) (closers_set ks ts (slice_set ts k u) same)
+    close_one c ks ts k j p (slice_get ts k) refl a all.0 (has_head c j _ _ (subst (Has c j) (sym e) h)) (λ u r.
+    close_all ks c (closers ks ts) (slice_set ts k u) (suc j) p (arrived c start After ks (slice_set ts k u) (suc j) p r) (containers_set ks ts k u all.1 all.2) (closers_set ks ts k u all.1)
     (has_tail c j _ _ (subst (Has c j) (sym e) h)))
 
 -- ---- a value after the front
@@ -180,7 +199,7 @@ zero_step Ready ks ts j p h = refl
 zero_step FirstItem ks ts j p h = refl
 zero_step _ ks ts j p h = absurd h
 
-read_zero : (c : List ℕ) (m : Mode) (ks : List ℕ) (ts : List Token) (j p : ℕ) → BeginsValue m → byte c j ≡ 48 → Reaches c start (idle m ks ts j p) → Arrives c start (idle After ks (ts ++ token_at j (suc j) (suc (length ts)) Number ∷ []) (suc j) p)
+read_zero : (c : List ℕ) (m : Mode) (ks : List ℕ) (ts : List Token) (j p : ℕ) → BeginsValue m → byte c j ≡ 48 → Reaches c start (idle m ks ts j p) → Arrives c start (idle After ks (ts ++ token_at j (suc j) (suc (length ts)) ∷ []) (suc j) p)
 read_zero c m ks ts j p h e r = record {
   at = state (in_atom After j Zero) ks ts (suc j) p;
   reached = on (idle m ks ts j p) (state (in_atom After j Zero) ks ts (suc j) p) r (ap (λ z. step z (idle m ks ts j p)) e ∙ zero_step m ks ts j p h);
@@ -190,12 +209,12 @@ read_zero c m ks ts j p h e r = record {
 read_colon : (c : List ℕ) (ks : List ℕ) (ts : List Token) (j p : ℕ) → byte c j ≡ 58 → Arrives c start (idle AfterName ks ts j p) → Reaches c start (idle Ready ks ts (suc j) p)
 read_colon c ks ts j p e a = arrive_on c start (idle AfterName ks ts j p) (idle Ready ks ts (suc j) p) (subst IsEnd (sym e) colon) a (ap (λ z. step z (idle AfterName ks ts j p)) e)
 
-read_value : (c : List ℕ) (ks : List ℕ) (ts : List Token) (j p : ℕ) → byte c j ≡ 58 → byte c (suc j) ≡ 48 → Arrives c start (idle AfterName ks ts j p) → Arrives c start (idle After ks (ts ++ token_at (suc j) (suc (suc j)) (suc (length ts)) Number ∷ []) (suc (suc j)) p)
+read_value : (c : List ℕ) (ks : List ℕ) (ts : List Token) (j p : ℕ) → byte c j ≡ 58 → byte c (suc j) ≡ 48 → Arrives c start (idle AfterName ks ts j p) → Arrives c start (idle After ks (ts ++ token_at (suc j) (suc (suc j)) (suc (length ts)) ∷ []) (suc (suc j)) p)
 read_value c ks ts j p e f a = read_zero c Ready ks ts (suc j) p tt f (read_colon c ks ts j p e a)
 
 -- an empty name
 read_name : (c : List ℕ) (m : Mode) (ks : List ℕ) (ts : List Token) (j p : ℕ) → BeginsName m → byte c j ≡ 34 → byte c (suc j) ≡ 34 → Reaches c start (idle m ks ts j p)
-    → Arrives c start (idle AfterName ks (ts ++ token_at j (suc (suc j)) (suc (length ts)) Text ∷ []) (suc (suc j)) p)
+    → Arrives c start (idle AfterName ks (ts ++ token_at j (suc (suc j)) (suc (length ts)) ∷ []) (suc (suc j)) p)
 read_name c m ks ts j p h e f r =
     let s = state (in_atom AfterName j InText) ks ts (suc j) p in
     let q = on (idle m ks ts j p) s r (ap (λ z. step z (idle m ks ts j p)) e ∙ name_34 m ks ts j p h) in
@@ -206,7 +225,7 @@ read_name c m ks ts j p h e f r =
     }
 
 read_member : (c : List ℕ) (m : Mode) (ks : List ℕ) (ts : List Token) (j p : ℕ) → BeginsName m → byte c j ≡ 34 → byte c (suc j) ≡ 34 → byte c (suc (suc j)) ≡ 58 → byte c (suc (suc (suc j))) ≡ 48 → Reaches c start (idle m ks ts j p)
-    → Arrives c start (idle After ks (let us = with_name ts j (suc (suc j)) in us ++ token_at (suc (suc (suc j))) (suc (suc (suc (suc j)))) (suc (length us)) Number ∷ []) (suc (suc (suc (suc j)))) p)
+    → Arrives c start (idle After ks (let us = with_name ts j (suc (suc j)) in us ++ token_at (suc (suc (suc j))) (suc (suc (suc (suc j)))) (suc (length us)) ∷ []) (suc (suc (suc (suc j)))) p)
 read_member c m ks ts j p h e f g i r = read_value c ks (with_name ts j (suc (suc j))) (suc (suc j)) p g i (read_name c m ks ts j p h e f r)
 
 -- bytes after which the value that is begun, or is to come, has ended
@@ -227,7 +246,7 @@ finish_value : (m : Mode) (k p : ℕ) (ks : List ℕ) (ts : List Token) → Begi
 finish_value m k p ks ts h all = record {
   rest = 48 ∷ [];
   stack = ks;
-  tokens = ts ++ token_at k (suc k) (suc (length ts)) Number ∷ [];
+  tokens = ts ++ token_at k (suc k) (suc (length ts)) ∷ [];
   containers = containers_more ks ts _ all;
   goes = λ c r b. arrives_at c ks _ (suc k) (k + 1) p (omega arith) (read_zero c m ks ts k p h (place_at c k (k + 0) 48 (omega arith) (b 0 (omega arith))) r);
 }
@@ -236,7 +255,7 @@ finish_name : (m : Mode) (k p : ℕ) (ks : List ℕ) (ts : List Token) → Begin
 finish_name m k p ks ts h all = record {
   rest = 34 ∷ 34 ∷ 58 ∷ 48 ∷ [];
   stack = ks;
-  tokens = let us = with_name ts k (suc (suc k)) in us ++ token_at (suc (suc (suc k))) (suc (suc (suc (suc k)))) (suc (length us)) Number ∷ [];
+  tokens = let us = with_name ts k (suc (suc k)) in us ++ token_at (suc (suc (suc k))) (suc (suc (suc (suc k)))) (suc (length us)) ∷ [];
   containers = containers_more ks _ _ (containers_more ks ts _ all);
   goes = λ c r b. arrives_at c ks _ (suc (suc (suc (suc k)))) (k + 4) p (omega arith)
       (read_member c m ks ts k p h (place_at c k (k + 0) 34 (omega arith) (b 0 (omega arith))) (place_at c (suc k) (k + 1) 34 (omega arith) (b 1 (omega arith))) (place_at c (suc (suc k)) (k + 2) 58 (omega arith) (b 2 (omega arith)))
@@ -256,7 +275,7 @@ finish_colon : (k p : ℕ) (ks : List ℕ) (ts : List Token) → AllContainers k
 finish_colon k p ks ts all = record {
   rest = 58 ∷ 48 ∷ [];
   stack = ks;
-  tokens = ts ++ token_at (suc k) (suc (suc k)) (suc (length ts)) Number ∷ [];
+  tokens = ts ++ token_at (suc k) (suc (suc k)) (suc (length ts)) ∷ [];
   containers = containers_more ks ts _ all;
   goes = λ c r b. arrives_at c ks _ (suc (suc k)) (k + 2) p (omega arith)
       (read_value c ks ts k p (place_at c k (k + 0) 58 (omega arith) (b 0 (omega arith))) (place_at c (suc k) (k + 1) 48 (omega arith) (b 1 (omega arith))) (arrived c start AfterName ks ts k p r));
@@ -268,7 +287,7 @@ finish_scalar e k p ks ts x all =
     record {
       rest = z.rest;
       stack = ks;
-      tokens = ts ++ token_at e (k + length z.rest) (suc (length ts)) z.kind ∷ [];
+      tokens = ts ++ token_at e (k + length z.rest) (suc (length ts)) ∷ [];
       containers = containers_more ks ts _ all;
       goes = λ c r b. record {
         at = state (in_atom After e z.last) ks ts (k + length z.rest) p;
@@ -295,7 +314,7 @@ finish_in_name l k p ks ts x w q all =
     record {
       rest = z.rest ++ 58 ∷ 48 ∷ [];
       stack = ks;
-      tokens = us ++ token_at (suc (k + n)) (suc (suc (k + n))) (suc (length us)) Number ∷ [];
+      tokens = us ++ token_at (suc (k + n)) (suc (suc (k + n))) (suc (length us)) ∷ [];
       containers = containers_more ks us _ (containers_more ks ts _ all);
       goes = λ c r b.
           let f = continues_run z.rest c k k x x TextDone still z.run (λ i h. b i (omega arith) ∙ front_byte z.rest (58 ∷ 48 ∷ []) i h) in
@@ -307,27 +326,20 @@ finish_in_name l k p ks ts x w q all =
           (place_at c (suc (k + n)) (k + (n + 1)) 48 (omega arith) (b (n + 1) (omega arith) ∙ seam_byte z.rest (58 ∷ 48 ∷ []) 1)) a);
     }
 
--- inside a container whose token comes after ts, with more tokens behind it
-inside : (ks : List ℕ) (ts : List Token) (t : Token) (us : List Token) → IsContainer (Some t.kind) → AllContainers ks ts → AllContainers (length ts ∷ ks) ((ts ++ t ∷ []) ++ us)
-inside ks ts t us h all = containers_more (length ts ∷ ks) (ts ++ t ∷ []) us (container_last ts t h, containers_more ks ts (t ∷ []) all)
-
-just_inside : (ks : List ℕ) (ts : List Token) (t : Token) → IsContainer (Some t.kind) → AllContainers ks ts → AllContainers (length ts ∷ ks) (ts ++ t ∷ [])
-just_inside ks ts t h all = (container_last ts t h, containers_more ks ts (t ∷ []) all)
-
 finish : {b : List ℕ} (s : State) → Inv b s → Finish s
 finish s (ready k p ks ts c) = finish_value Ready k p ks ts tt (context_containers c)
-finish s (first_item e k p ks ts c o w) = let t = token_at e 0 0 Array in finish_value FirstItem k p (length ts ∷ ks) (ts ++ t ∷ []) tt (just_inside ks ts t tt (context_containers c))
+finish s (first_item e k p ks ts c o w) = let t = token_at e 0 0 in finish_value FirstItem k p (length ts ∷ ks) (ts ++ t ∷ []) tt (just_inside ks ts t tt (context_containers c))
 finish s (after_tree e j k p ks ts t c v w) = finish_tree k p ks (ts ++ flatten (length ts) t) (containers_more ks ts (flatten (length ts) t) (context_containers c))
-finish s (first_name e k p ks ts c o w) = let t = token_at e 0 0 Object in finish_name FirstName k p (length ts ∷ ks) (ts ++ t ∷ []) tt (just_inside ks ts t tt (context_containers c))
+finish s (first_name e k p ks ts c o w) = let t = token_at e 0 1 in finish_name FirstName k p (length ts ∷ ks) (ts ++ t ∷ []) tt (just_inside ks ts t tt (context_containers c))
 finish s (next_name e j k p ks ts us c o l w) =
-    let t = token_at e 0 0 Object in let fs = flatten_members (suc (length ts)) us in
+    let t = token_at e 0 1 in let fs = flatten_members (suc (length ts)) us in
     finish_name NextName k p (length ts ∷ ks) ((ts ++ t ∷ []) ++ fs) tt (inside ks ts t fs tt (context_containers c))
 finish s (after_name e j l m k p ks ts us c o ld w0 wd w) =
-    let t = token_at e 0 0 Object in let fs = flatten_members (suc (length ts)) us in let n = token_at l m (suc (length ((ts ++ t ∷ []) ++ fs))) Text in
+    let t = token_at e 0 1 in let fs = flatten_members (suc (length ts)) us in let n = token_at l m (suc (length ((ts ++ t ∷ []) ++ fs))) in
     finish_colon k p (length ts ∷ ks) (((ts ++ t ∷ []) ++ fs) ++ n ∷ []) (containers_more (length ts ∷ ks) ((ts ++ t ∷ []) ++ fs) (n ∷ []) (inside ks ts t fs tt (context_containers c)))
 finish s (in_scalar e k p ks ts x c w) = finish_scalar e k p ks ts x (context_containers c)
 finish s (in_name e j l k p ks ts us x c o ld w0 q w) =
-    let t = token_at e 0 0 Object in let fs = flatten_members (suc (length ts)) us in
+    let t = token_at e 0 1 in let fs = flatten_members (suc (length ts)) us in
     finish_in_name l k p (length ts ∷ ks) ((ts ++ t ∷ []) ++ fs) x w q (inside ks ts t fs tt (context_containers c))
 
 -- ---- fronts and texts

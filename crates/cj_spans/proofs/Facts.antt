@@ -12,7 +12,7 @@ use Rattle.cj_spans.specs.declared.step.Mode.TheVariants.{Ready, FirstItem, Afte
 use Rattle.cj_spans.specs.Spelling.{is_white_space}
 use Rattle.cj_spans.specs.Json.{byte}
 use Rattle.cj_spans.specs.Preorder.{token_at}
-use Rattle.cj_spans.specs.Machine.{Phase, State, state, between, in_atom, step, read, read_in, begin_value, begin_name, after_value, after_token, after_in, close_empty, close_token, end_atom, go_on, settle, lex_start, lex_step, lex_kind, Reaches, here, on, start}
+use Rattle.cj_spans.specs.Machine.{open_kind, Phase, State, state, between, in_atom, step, read, read_in, begin_value, begin_name, after_value, after_token, after_in, close_empty, close_token, end_atom, go_on, settle, lex_start, lex_step, lex_kind, Reaches, here, on, start}
 use Rattle.cj_spans.proofs.Spellings.{none_some, some_same}
 use Rattle.cj_spans.proofs.Runs.{idle}
 
@@ -75,10 +75,10 @@ module _ (i p : ℕ) (ts : List Token) where
   goes_atom m x ks e o d c = record { place = refl; deepest = omega arith; lawful = record { open_count = omega arith; deep = d; token_count = c; began = (omega arith, e) } }
 
   -- into a container
-  goes_open : (m : Mode) (k : Kind) (ks : List ℕ) → length ks ≤ i → 2 * length ts ≤ i + length ks → 2 * suc (length ts) ≤ reach_in m (suc i) + suc (length ks)
-      → Goes i p (idle m (length ts ∷ ks) (ts ++ token_at i 0 0 k ∷ []) (suc i) (max p (suc (length ks))))
-  goes_open m k ks o c g =
-      let e : length (ts ++ token_at i 0 0 k ∷ []) ≡ length ts + 1 = length-append ts (token_at i 0 0 k ∷ []) in
+  goes_open : (m : Mode) (l : ℕ) (ks : List ℕ) → length ks ≤ i → 2 * length ts ≤ i + length ks → 2 * suc (length ts) ≤ reach_in m (suc i) + suc (length ks)
+      → Goes i p (idle m (length ts ∷ ks) (ts ++ token_at i 0 l ∷ []) (suc i) (max p (suc (length ks))))
+  goes_open m l ks o c g =
+      let e : length (ts ++ token_at i 0 l ∷ []) ≡ length ts + 1 = length-append ts (token_at i 0 l ∷ []) in
       record { place = refl; deepest = refl; lawful = record { open_count = omega arith; deep = omega arith; token_count = omega arith; began = tt } }
 
   goes_lex : (ks : List ℕ) (o : Option Lex) → length ks ≤ i → length ks ≤ p → 2 * length ts ≤ i + length ks → GoesIf i p (option_map (λ x. state (in_atom After i x) ks ts (suc i) p) o)
@@ -87,7 +87,7 @@ module _ (i p : ℕ) (ts : List Token) where
 
   goes_begin : (c : ℕ) (m : Mode) (ks : List ℕ) → length ks ≤ i → length ks ≤ p → 2 * length ts ≤ i + length ks → GoesIf i p (begin_value c (idle m ks ts i p))
   goes_begin c m ks o d n =
-      goes_cond i p (nat_eq c 91) _ _ (goes_open FirstItem Array ks o n (omega arith)) (goes_cond i p (nat_eq c 123) _ _ (goes_open FirstName Object ks o n (omega arith)) (goes_lex ks (lex_start c) o d n))
+      goes_cond i p (nat_eq c 91) _ _ (goes_open FirstItem 0 ks o n (omega arith)) (goes_cond i p (nat_eq c 123) _ _ (goes_open FirstName 1 ks o n (omega arith)) (goes_lex ks (lex_start c) o d n))
 
   goes_name : (c : ℕ) (m : Mode) (ks : List ℕ) → length ks ≤ i → length ks ≤ p → 2 * length ts ≤ i + length ks → GoesIf i p (begin_name c (idle m ks ts i p))
   goes_name c m ks o d n = goes_cond i p (nat_eq c 34) _ None (goes_atom AfterName _ ks tt o d n) tt
@@ -109,7 +109,7 @@ module _ (i p : ℕ) (ts : List Token) where
 
   goes_token : (c k : ℕ) (z : Option Token) (m : Mode) (ks : List ℕ) → suc (length ks) ≤ i → suc (length ks) ≤ p → 2 * length ts ≤ suc i + suc (length ks) → GoesIf i p (after_token c k z (idle m (k ∷ ks) ts i p))
   goes_token c k None m ks o d n = tt
-  goes_token c k (Some t) m ks o d n = goes_in t.kind c k t m ks o d n
+  goes_token c k (Some t) m ks o d n = goes_in (open_kind t) c k t m ks o d n
 
   goes_after : (c : ℕ) (m : Mode) (ks : List ℕ) → length ks ≤ i → length ks ≤ p → 2 * length ts ≤ suc i + length ks → GoesIf i p (after_value c (idle m ks ts i p))
   goes_after c m [] o d n = tt
@@ -135,15 +135,15 @@ module _ (i p : ℕ) (ts : List Token) where
   goes_read m c ks o d n = let r = reach_more m i in goes_cond i p (is_white_space c) _ _ (goes_to m ks o d (omega arith)) (goes_read_in m c ks o d n)
 
 -- one token more, where a scalar or a name ends
-ends_count : (m : Mode) (a i d : ℕ) (k : Kind) (ks : List ℕ) (ts : List Token) → EndsAtom m → a < i → 2 * length ts ≤ a + length ks → 2 * length (ts ++ token_at a i d k ∷ []) ≤ reach_in m i + length ks
-ends_count After a i d k ks ts e l n = let f : length (ts ++ token_at a i d k ∷ []) ≡ length ts + 1 = length-append ts (token_at a i d k ∷ []) in omega arith
-ends_count AfterName a i d k ks ts e l n = let f : length (ts ++ token_at a i d k ∷ []) ≡ length ts + 1 = length-append ts (token_at a i d k ∷ []) in omega arith
-ends_count _ a i d k ks ts e l n = absurd e
+ends_count : (m : Mode) (a i d : ℕ) (ks : List ℕ) (ts : List Token) → EndsAtom m → a < i → 2 * length ts ≤ a + length ks → 2 * length (ts ++ token_at a i d ∷ []) ≤ reach_in m i + length ks
+ends_count After a i d ks ts e l n = let f : length (ts ++ token_at a i d ∷ []) ≡ length ts + 1 = length-append ts (token_at a i d ∷ []) in omega arith
+ends_count AfterName a i d ks ts e l n = let f : length (ts ++ token_at a i d ∷ []) ≡ length ts + 1 = length-append ts (token_at a i d ∷ []) in omega arith
+ends_count _ a i d ks ts e l n = absurd e
 
 goes_ended : (m : Mode) (a : ℕ) (f : Phase) (r : Option Kind) (c : ℕ) (ks : List ℕ) (ts : List Token) (i p : ℕ) → EndsAtom m → a < i → length ks ≤ i → length ks ≤ p → 2 * length ts ≤ a + length ks
     → GoesIf i p (option_and_then (read m c) (end_atom m a r (state f ks ts i p)))
 goes_ended m a f None c ks ts i p e l o d n = tt
-goes_ended m a f (Some k) c ks ts i p e l o d n = goes_read i p (ts ++ token_at a i (suc (length ts)) k ∷ []) m c ks o d (ends_count m a i (suc (length ts)) k ks ts e l n)
+goes_ended m a f (Some k) c ks ts i p e l o d n = goes_read i p (ts ++ token_at a i (suc (length ts)) ∷ []) m c ks o d (ends_count m a i (suc (length ts)) ks ts e l n)
 
 goes_on : (m : Mode) (a : ℕ) (x : Lex) (z : Option Lex) (c : ℕ) (ks : List ℕ) (ts : List Token) (i p : ℕ) → EndsAtom m → a < i → length ks ≤ i → length ks ≤ p → 2 * length ts ≤ a + length ks
     → GoesIf i p (go_on (λ y. in_atom m a y) z (state (in_atom m a x) ks ts i p) (option_and_then (read m c) (end_atom m a (lex_kind x) (state (in_atom m a x) ks ts i p))))
@@ -165,7 +165,7 @@ lawful_reaches {b} s (on t u r h) = (goes t u (byte b t.place) (lawful_reaches t
 settle_lawful : (m : Mode) (a : ℕ) (x : Lex) (r : Option Kind) (ks : List ℕ) (ts : List Token) (i p : ℕ) (t : State) → IsLawful (state (in_atom m a x) ks ts i p) → end_atom m a r (state (in_atom m a x) ks ts i p) ≡ Some t → IsLawful t
 settle_lawful m a x None ks ts i p t l h = none_some t h
 settle_lawful m a x (Some k) ks ts i p t l h =
-    subst IsLawful (some_same _ t h) (record { open_count = l.open_count; deep = l.deep; token_count = ends_count m a i (suc (length ts)) k ks ts l.began.1 l.began.0 l.token_count; began = tt })
+    subst IsLawful (some_same _ t h) (record { open_count = l.open_count; deep = l.deep; token_count = ends_count m a i (suc (length ts)) ks ts l.began.1 l.began.0 l.token_count; began = tt })
 
 lawful_phase : (f : Phase) (ks : List ℕ) (ts : List Token) (i p : ℕ) (t : State) → IsLawful (state f ks ts i p) → settle (state f ks ts i p) ≡ Some t → IsLawful t
 lawful_phase (between m) ks ts i p t l h = subst IsLawful (some_same _ t h) l

@@ -1,7 +1,6 @@
 -- The machine is at a state after the first i bytes exactly where they are a front.
 use Rattle.std.proofs.Common.{◌≡◌, ℕ, suc, ◌+◌, List, [], ◌∷◌, ◌++◌, length, max, refl, ap, subst, arith, inl, inr}
 use Rattle.std.proofs.lemmas.Bool.{cases_lt}
-use Rattle.cj_spans.specs.declared.token.Kind.TheVariants.{Array, Object}
 use Rattle.cj_spans.specs.declared.token.Token.{Token}
 use Rattle.cj_spans.specs.declared.step.Mode.{Mode}
 use Rattle.cj_spans.specs.declared.step.Mode.TheVariants.{Ready, FirstItem, After, FirstName, AfterName}
@@ -47,7 +46,7 @@ record InObject (b : List ℕ) (s : State) (ks : List ℕ) (k : ℕ) : Type 0 wh
 object_at : {b : List ℕ} (i j k : ℕ) (us : Members) → White b i j → byte b j ≡ 123 → LedMembers b (suc j) k us → (s : State) (m : Mode) (ks : List ℕ) (ts : List Token) (p : ℕ) → BeginsValue m → Reaches b s (idle m ks ts i p)
     → InObject b s (length ts ∷ ks) k
 object_at {b} i j k us w o ld s m ks ts p h r =
-    let t = token_at j 0 0 Object in let q = max p (suc (length ks)) in
+    let t = token_at j 0 1 in let q = max p (suc (length ks)) in
     let r1 = on (idle m ks ts j p) (idle FirstName (length ts ∷ ks) (ts ++ t ∷ []) (suc j) q) (skip w s m ks ts p r) (open_object m ks ts j p (byte b j) h o) in
     let r2 = run_led_members ld s FirstName (length ts) ks (ts ++ t ∷ []) q j (suc (length ts)) (length-snoc ts t) (slice_get-seam ts [] t) tt r1 in
     record { mode = r2.mode; tokens = _; deepest = _; begins = r2.begins; reached = r2.reached }
@@ -59,7 +58,7 @@ front_runs {b} (begun i j l k w g) s m ks ts p h r =
     live_n _ _ (omega arith) (lives s (state (in_atom After j q.last) ks ts l p) (run_begun q.inside s m ks ts p h (skip w s m ks ts p r)))
 front_runs {b} (whole i j t w) s m ks ts p h r = live_n _ _ (omega arith) (live b s (idle After ks (ts ++ flatten (length ts) t) j (rise (length ks) p t)) (run_padded w s m ks ts p h r))
 front_runs {b} (front_array i j k l n us w o ld q) s m ks ts p h r =
-    let t = token_at j 0 0 Array in let y = max p (suc (length ks)) in
+    let t = token_at j 0 0 in let y = max p (suc (length ks)) in
     let r1 = on (idle m ks ts j p) (idle FirstItem (length ts ∷ ks) (ts ++ t ∷ []) (suc j) y) (skip w s m ks ts p r) (open_array m ks ts j p (byte b j) h o) in
     let r2 = run_led ld s FirstItem (length ts) ks (ts ++ t ∷ []) y j (suc (length ts)) (length-snoc ts t) (slice_get-seam ts [] t) tt r1 in
     live_n _ _ (omega arith) (front_runs q s r2.mode (length ts ∷ ks) _ _ r2.begins r2.reached)

@@ -16,7 +16,7 @@ use Rattle.cj_spans.specs.Front.{SyntaxAt, DeepAt, NowhereDeep}
 use Rattle.cj_spans.specs.Judgement.{Judgement, spelled, broken, sunk, SaySame, IsAnswerOf}
 use Rattle.cj_spans.specs.declared.fault.ScanFault.{ScanFault}
 use Rattle.cj_spans.specs.declared.fault.ScanFault.TheVariants.{Syntax, TooDeep, Memory}
-use Rattle.cj_spans.specs.Machine.{Phase, State, state, between, in_atom, start, moved, step, step_by, read, read_in, begin_value, begin_name, after_top, after_token, after_in, close_by, close_top, close_token, end_atom, go_on, settle, lex_start, lex_step, lex_kind, Reaches, here, on, Sticks}
+use Rattle.cj_spans.specs.Machine.{open_kind, Phase, State, state, between, in_atom, start, moved, step, step_by, read, read_in, begin_value, begin_name, after_top, after_token, after_in, close_by, close_top, close_token, end_atom, go_on, settle, lex_start, lex_step, lex_kind, Reaches, here, on, Sticks}
 use Rattle.cj_spans.proofs.Spellings.{none_some, some_same}
 use Rattle.cj_spans.proofs.Facts.{next_place, lawful_reaches, goes}
 use Rattle.cj_spans.proofs.Runs.{settled}
@@ -61,7 +61,7 @@ module _ (s : State) where
 
   climbs_token : (c k : ℕ) (z : Option Token) → Climbs (length s.stack) (after_token c k z s)
   climbs_token c k None = tt
-  climbs_token c k (Some t) = climbs_in t.kind c k t
+  climbs_token c k (Some t) = climbs_in (open_kind t) c k t
 
   climbs_top : (c : ℕ) (z : Option ℕ) → Climbs (length s.stack) (after_top c z s)
   climbs_top c None = tt

@@ -2,7 +2,6 @@
 use Rattle.std.proofs.Common.{◌≡◌, ℕ, zero, suc, ◌+◌, ◌≤◌, List, [], ◌∷◌, ◌++◌, length, max, Some, refl, sym, ap, arith, ◌∙◌, append_assoc, slice_get, slice_set, length-append}
 use Rattle.std.proofs.lemmas.List.{append-nil}
 use Rattle.std.proofs.Math.Seq.{set-append_seam}
-use Rattle.cj_spans.specs.declared.token.Kind.TheVariants.{Text, Array, Object}
 use Rattle.cj_spans.specs.declared.token.Token.{Token}
 use Rattle.cj_spans.specs.Tree.{Atom, Tree, scalar, array, object, Items, no_items, item, Members, no_members, member, add_item, add_member, size, items_size, members_size, nest, items_nest, members_nest}
 use Rattle.cj_spans.specs.Preorder.{span_at, preorder, items_preorder, members_preorder, flatten, flatten_items, flatten_members, token_at, spans_of}
@@ -19,16 +18,16 @@ flatten_items-add k (item u ts) t =
 
 -- a name and its value, at the indices from k on
 abbrev pub named_tokens : ℕ → Atom → Tree → List Token
-named_tokens k n t = token_at n.start n.stop (suc k) Text ∷ flatten (suc k) t
+named_tokens k n t = token_at n.start n.stop (suc k) ∷ flatten (suc k) t
 
 pub flatten_members-add : (k : ℕ) (ms : Members) (n : Atom) (t : Tree) → flatten_members k (add_member ms n t) ≡ flatten_members k ms ++ named_tokens (k + members_size ms) n t
 flatten_members-add k no_members n t =
-    let e : k ≡ k + 0 = omega arith in ap (λ xs. token_at n.start n.stop (suc k) Text ∷ xs) (append-nil (flatten (suc k) t)) ∙ ap (λ j. named_tokens j n t) e
+    let e : k ≡ k + 0 = omega arith in ap (λ xs. token_at n.start n.stop (suc k) ∷ xs) (append-nil (flatten (suc k) t)) ∙ ap (λ j. named_tokens j n t) e
 flatten_members-add k (member m u ms) n t =
     let j = suc k + size u in
     let e : j + members_size ms ≡ k + suc (size u + members_size ms) = omega arith in
-    ap (λ xs. token_at m.start m.stop (suc k) Text ∷ (flatten (suc k) u ++ xs)) (flatten_members-add j ms n t ∙ ap (λ i. flatten_members j ms ++ named_tokens i n t) e)
-    ∙ ap (λ xs. token_at m.start m.stop (suc k) Text ∷ xs) (sym (append_assoc (flatten (suc k) u) (flatten_members j ms) (named_tokens (k + suc (size u + members_size ms)) n t)))
+    ap (λ xs. token_at m.start m.stop (suc k) ∷ (flatten (suc k) u ++ xs)) (flatten_members-add j ms n t ∙ ap (λ i. flatten_members j ms ++ named_tokens i n t) e)
+    ∙ ap (λ xs. token_at m.start m.stop (suc k) ∷ xs) (sym (append_assoc (flatten (suc k) u) (flatten_members j ms) (named_tokens (k + suc (size u + members_size ms)) n t)))
 
 pub items_preorder-add : (ts : Items) (t : Tree) → items_preorder (add_item ts t) ≡ items_preorder ts ++ preorder t
 items_preorder-add no_items t = append-nil (preorder t)
@@ -106,11 +105,11 @@ items_more xs k us u h =
 
 -- one member more
 pub members_more : (xs : List Token) (k : ℕ) (us : Members) (n : Atom) (u : Tree) → length xs ≡ k
-    → let vs = xs ++ flatten_members k us in let ws = vs ++ token_at n.start n.stop (suc (length vs)) Text ∷ [] in ws ++ flatten (length ws) u ≡ xs ++ flatten_members k (add_member us n u)
+    → let vs = xs ++ flatten_members k us in let ws = vs ++ token_at n.start n.stop (suc (length vs)) ∷ [] in ws ++ flatten (length ws) u ≡ xs ++ flatten_members k (add_member us n u)
 members_more xs k us n u h =
     let fs = flatten_members k us in
     let vs = xs ++ fs in
-    let v = token_at n.start n.stop (suc (length vs)) Text in
+    let v = token_at n.start n.stop (suc (length vs)) in
     let e : length vs ≡ k + members_size us = let e = length-append xs fs in let f = length-flatten_members k us in omega arith in
     ap (λ j. (vs ++ v ∷ []) ++ flatten j u) (length-snoc vs v) ∙ append_assoc vs (v ∷ []) (flatten (suc (length vs)) u) ∙ append_assoc xs fs (named_tokens (length vs) n u)
     ∙ ap (λ j. xs ++ (fs ++ named_tokens j n u)) e ∙ ap (λ zs. xs ++ zs) (sym (flatten_members-add k us n u))
@@ -120,24 +119,24 @@ set_closed : (ts : List Token) (o f : Token) (xs : List Token) → slice_set ((t
 set_closed ts o f xs = ap (λ us. slice_set us (length ts) f) (append_assoc ts (o ∷ []) xs) ∙ set-append_seam ts o xs f
 
 -- the container ends with the tokens of its parts
-pub array_done : (ts : List Token) (o : Token) (i j : ℕ) (us : Items) → let vs = (ts ++ o ∷ []) ++ flatten_items (suc (length ts)) us in slice_set vs (length ts) (token_at i j (length vs) Array) ≡ ts ++ flatten (length ts) (array i j us)
+pub array_done : (ts : List Token) (o : Token) (i j : ℕ) (us : Items) → let vs = (ts ++ o ∷ []) ++ flatten_items (suc (length ts)) us in slice_set vs (length ts) (token_at i j (length vs)) ≡ ts ++ flatten (length ts) (array i j us)
 array_done ts o i j us =
     let fs = flatten_items (suc (length ts)) us in
     let e : length ((ts ++ o ∷ []) ++ fs) ≡ suc (length ts) + items_size us = let e = length-append (ts ++ o ∷ []) fs in let f = length-flatten_items (suc (length ts)) us in let g = length-snoc ts o in omega arith in
-    ap (λ n. slice_set ((ts ++ o ∷ []) ++ fs) (length ts) (token_at i j n Array)) e ∙ set_closed ts o (token_at i j (suc (length ts) + items_size us) Array) fs
+    ap (λ n. slice_set ((ts ++ o ∷ []) ++ fs) (length ts) (token_at i j n)) e ∙ set_closed ts o (token_at i j (suc (length ts) + items_size us)) fs
 
-pub object_done : (ts : List Token) (o : Token) (i j : ℕ) (us : Members) → let vs = (ts ++ o ∷ []) ++ flatten_members (suc (length ts)) us in slice_set vs (length ts) (token_at i j (length vs) Object) ≡ ts ++ flatten (length ts) (object i j us)
+pub object_done : (ts : List Token) (o : Token) (i j : ℕ) (us : Members) → let vs = (ts ++ o ∷ []) ++ flatten_members (suc (length ts)) us in slice_set vs (length ts) (token_at i j (length vs)) ≡ ts ++ flatten (length ts) (object i j us)
 object_done ts o i j us =
     let fs = flatten_members (suc (length ts)) us in
     let e : length ((ts ++ o ∷ []) ++ fs) ≡ suc (length ts) + members_size us = let e = length-append (ts ++ o ∷ []) fs in let f = length-flatten_members (suc (length ts)) us in let g = length-snoc ts o in omega arith in
-    ap (λ n. slice_set ((ts ++ o ∷ []) ++ fs) (length ts) (token_at i j n Object)) e ∙ set_closed ts o (token_at i j (suc (length ts) + members_size us) Object) fs
+    ap (λ n. slice_set ((ts ++ o ∷ []) ++ fs) (length ts) (token_at i j n)) e ∙ set_closed ts o (token_at i j (suc (length ts) + members_size us)) fs
 
 -- the same of one that is empty
-pub array_empty : (ts : List Token) (o : Token) (i j : ℕ) → slice_set (ts ++ o ∷ []) (length ts) (token_at i j (length (ts ++ o ∷ [])) Array) ≡ ts ++ flatten (length ts) (array i j no_items)
-array_empty ts o i j = ap (λ us. slice_set us (length ts) (token_at i j (length us) Array)) (sym (append-nil (ts ++ o ∷ []))) ∙ array_done ts o i j no_items
+pub array_empty : (ts : List Token) (o : Token) (i j : ℕ) → slice_set (ts ++ o ∷ []) (length ts) (token_at i j (length (ts ++ o ∷ []))) ≡ ts ++ flatten (length ts) (array i j no_items)
+array_empty ts o i j = ap (λ us. slice_set us (length ts) (token_at i j (length us))) (sym (append-nil (ts ++ o ∷ []))) ∙ array_done ts o i j no_items
 
-pub object_empty : (ts : List Token) (o : Token) (i j : ℕ) → slice_set (ts ++ o ∷ []) (length ts) (token_at i j (length (ts ++ o ∷ [])) Object) ≡ ts ++ flatten (length ts) (object i j no_members)
-object_empty ts o i j = ap (λ us. slice_set us (length ts) (token_at i j (length us) Object)) (sym (append-nil (ts ++ o ∷ []))) ∙ object_done ts o i j no_members
+pub object_empty : (ts : List Token) (o : Token) (i j : ℕ) → slice_set (ts ++ o ∷ []) (length ts) (token_at i j (length (ts ++ o ∷ []))) ≡ ts ++ flatten (length ts) (object i j no_members)
+object_empty ts o i j = ap (λ us. slice_set us (length ts) (token_at i j (length us))) (sym (append-nil (ts ++ o ∷ []))) ∙ object_done ts o i j no_members
 
 -- ---- the most containers that are open
 

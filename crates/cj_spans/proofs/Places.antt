@@ -277,7 +277,7 @@ pub name_quote : {b : List ℕ} {i j : ℕ} → IsAtom b Text i j → byte b i �
 name_quote {b} {i} {j} w = quote_first b i j [] w.order w.within (subst (IsScalar Text) (sym (append-nil (slice_range b i j))) w.spelled)
 
 pub run_atom : {b : List ℕ} {kd : Kind} {i j : ℕ} → IsAtom b kd i j → (s : State) (m : Mode) (ks : List ℕ) (ts : List Token) (p : ℕ) → BeginsValue m → Reaches b s (idle m ks ts i p)
-    → Arrives b s (idle After ks (ts ++ token_at i j (suc (length ts)) kd ∷ []) j p)
+    → Arrives b s (idle After ks (ts ++ token_at i j (suc (length ts)) ∷ []) j p)
 run_atom {b} {kd} {i} {j} w s m ks ts p g r =
     let a = atom_reading w in
     record {
@@ -287,7 +287,7 @@ run_atom {b} {kd} {i} {j} w s m ks ts p g r =
     }
 
 pub run_name : {b : List ℕ} {i j : ℕ} → IsAtom b Text i j → (s : State) (m : Mode) (ks : List ℕ) (ts : List Token) (p : ℕ) → BeginsName m → Reaches b s (idle m ks ts i p)
-    → Arrives b s (idle AfterName ks (ts ++ token_at i j (suc (length ts)) Text ∷ []) j p)
+    → Arrives b s (idle AfterName ks (ts ++ token_at i j (suc (length ts)) ∷ []) j p)
 run_name {b} {i} {j} w s m ks ts p g r =
     let a = atom_reading w in
     record {

@@ -46,14 +46,14 @@ white_more b i j w h = let o = w.order in record { order = omega arith; each = �
 
 -- the tokens ts, those of a container that began at e, and those of its parts so far
 abbrev pub opened_array : List Token → ℕ → Items → List Token
-opened_array ts e us = (ts ++ token_at e 0 0 Array ∷ []) ++ flatten_items (suc (length ts)) us
+opened_array ts e us = (ts ++ token_at e 0 0 ∷ []) ++ flatten_items (suc (length ts)) us
 
 abbrev pub opened_object : List Token → ℕ → Members → List Token
-opened_object ts e us = (ts ++ token_at e 0 0 Object ∷ []) ++ flatten_members (suc (length ts)) us
+opened_object ts e us = (ts ++ token_at e 0 1 ∷ []) ++ flatten_members (suc (length ts)) us
 
 -- and that of a name from i to j
 abbrev pub with_name : List Token → ℕ → ℕ → List Token
-with_name vs i j = vs ++ token_at i j (suc (length vs)) Text ∷ []
+with_name vs i j = vs ++ token_at i j (suc (length vs)) ∷ []
 
 -- all before the place k has been read, and a value may stand there: the open containers, and the tokens
 pub data Context (b : List ℕ) : ℕ → List ℕ → List Token → Type 0 where
@@ -66,9 +66,9 @@ pub data Context (b : List ℕ) : ℕ → List ℕ → List Token → Type 0 whe
 -- what has been read at a state
 pub data Inv (b : List ℕ) : State → Type 0 where
   ready : (k p : ℕ) (ks : List ℕ) (ts : List Token) → Context b k ks ts → Inv b (idle Ready ks ts k p)
-  first_item : (e k p : ℕ) (ks : List ℕ) (ts : List Token) → Context b e ks ts → byte b e ≡ 91 → White b (suc e) k → Inv b (idle FirstItem (length ts ∷ ks) (ts ++ token_at e 0 0 Array ∷ []) k p)
+  first_item : (e k p : ℕ) (ks : List ℕ) (ts : List Token) → Context b e ks ts → byte b e ≡ 91 → White b (suc e) k → Inv b (idle FirstItem (length ts ∷ ks) (ts ++ token_at e 0 0 ∷ []) k p)
   after_tree : (e j k p : ℕ) (ks : List ℕ) (ts : List Token) (t : Tree) → Context b e ks ts → Value b e j t → White b j k → Inv b (idle After ks (ts ++ flatten (length ts) t) k p)
-  first_name : (e k p : ℕ) (ks : List ℕ) (ts : List Token) → Context b e ks ts → byte b e ≡ 123 → White b (suc e) k → Inv b (idle FirstName (length ts ∷ ks) (ts ++ token_at e 0 0 Object ∷ []) k p)
+  first_name : (e k p : ℕ) (ks : List ℕ) (ts : List Token) → Context b e ks ts → byte b e ≡ 123 → White b (suc e) k → Inv b (idle FirstName (length ts ∷ ks) (ts ++ token_at e 0 1 ∷ []) k p)
   next_name : (e j k p : ℕ) (ks : List ℕ) (ts : List Token) (us : Members) → Context b e ks ts → byte b e ≡ 123 → LedMembers b (suc e) j us → White b j k
       → Inv b (idle NextName (length ts ∷ ks) (opened_object ts e us) k p)
   after_name : (e j l m k p : ℕ) (ks : List ℕ) (ts : List Token) (us : Members) → Context b e ks ts → byte b e ≡ 123 → LedMembers b (suc e) j us → White b j l → IsAtom b Text l m → White b m k
@@ -100,8 +100,8 @@ module _ (b : List ℕ) where
   after_byte : (a j k p : ℕ) (ks : List ℕ) (ts : List Token) (t : Tree) → Context b a ks ts → Value b a j t → White b j k → (u : State) → after_value (byte b k) (idle After ks (ts ++ flatten (length ts) t) k p) ≡ Some u → Inv b u
   after_byte a j k p ks ts t (root e w0) v w u h = none_some u h
   after_byte a j k p ls rs t (in_array e0 j0 e ks ts us c0 o l w0) v w u h =
-      let k0 = length ts in let o0 = token_at e0 0 0 Array in let fs = flatten_items (suc k0) us in
-      let vs = (ts ++ o0 ∷ []) ++ fs in let ys = flatten (length vs) t in let f = token_at e0 (suc k) (length (vs ++ ys)) Array in
+      let k0 = length ts in let o0 = token_at e0 0 0 in let fs = flatten_items (suc k0) us in
+      let vs = (ts ++ o0 ∷ []) ++ fs in let ys = flatten (length vs) t in let f = token_at e0 (suc k) (length (vs ++ ys)) in
       let more : vs ++ ys ≡ opened_array ts e0 (add_item us t) = items_more (ts ++ o0 ∷ []) (suc k0) us t (length-snoc ts o0) in
       let S = idle After (k0 ∷ ks) (vs ++ ys) k p in
       let g = slice_get-append vs ys k0 o0 (slice_get-append (ts ++ o0 ∷ []) fs k0 o0 (slice_get-seam ts [] o0)) in
@@ -113,16 +113,16 @@ module _ (b : List ℕ) where
             moved_to (idle Ready (k0 ∷ ks) (vs ++ ys) (suc k) p) (subst (λ zs. Inv b (idle Ready (k0 ∷ ks) zs (suc k) p)) (sym more) i) u z.1
         | inr r ↦ elim (split (nat_eq (byte b k) 93) _ _ (Some u) r) [
           | inl z ↦
-              let done : slice_set (vs ++ ys) k0 f ≡ ts ++ flatten k0 (array e0 (suc k) (add_item us t)) = ap (λ zs. slice_set zs k0 (token_at e0 (suc k) (length zs) Array)) more ∙ array_done ts o0 e0 (suc k) (add_item us t) in
+              let done : slice_set (vs ++ ys) k0 f ≡ ts ++ flatten k0 (array e0 (suc k) (add_item us t)) = ap (λ zs. slice_set zs k0 (token_at e0 (suc k) (length zs))) more ∙ array_done ts o0 e0 (suc k) (add_item us t) in
               let i = after_tree e0 (suc k) (suc k) p ks ts (array e0 (suc k) (add_item us t)) c0 (full_array e0 j0 k us t o l q (eqb-true _ _ z.0)) (no_white b (suc k)) in
               moved_to (idle After ks (slice_set (vs ++ ys) k0 f) (suc k) p) (subst (λ zs. Inv b (idle After ks zs (suc k) p)) (sym done) i) u z.1
           | inr n ↦ none_some u n
         ]
       ]
   after_byte a j k p ls rs t (in_member e0 j0 m e ks ts us n c0 o l nm w0) v w u h =
-      let k0 = length ts in let o0 = token_at e0 0 0 Object in let fs = flatten_members (suc k0) us in
-      let vs = (ts ++ o0 ∷ []) ++ fs in let wd = token_at n.start n.stop (suc (length vs)) Text in let xs = vs ++ wd ∷ [] in let ys = flatten (length xs) t in
-      let f = token_at e0 (suc k) (length (xs ++ ys)) Object in
+      let k0 = length ts in let o0 = token_at e0 0 1 in let fs = flatten_members (suc k0) us in
+      let vs = (ts ++ o0 ∷ []) ++ fs in let wd = token_at n.start n.stop (suc (length vs)) in let xs = vs ++ wd ∷ [] in let ys = flatten (length xs) t in
+      let f = token_at e0 (suc k) (length (xs ++ ys)) in
       let more : xs ++ ys ≡ opened_object ts e0 (add_member us n t) = members_more (ts ++ o0 ∷ []) (suc k0) us n t (length-snoc ts o0) in
       let S = idle After (k0 ∷ ks) (xs ++ ys) k p in
       let g = slice_get-append xs ys k0 o0 (slice_get-append vs (wd ∷ []) k0 o0 (slice_get-append (ts ++ o0 ∷ []) fs k0 o0 (slice_get-seam ts [] o0))) in
@@ -134,7 +134,7 @@ module _ (b : List ℕ) where
             moved_to (idle NextName (k0 ∷ ks) (xs ++ ys) (suc k) p) (subst (λ zs. Inv b (idle NextName (k0 ∷ ks) zs (suc k) p)) (sym more) i) u z.1
         | inr r ↦ elim (split (nat_eq (byte b k) 125) _ _ (Some u) r) [
           | inl z ↦
-              let done : slice_set (xs ++ ys) k0 f ≡ ts ++ flatten k0 (object e0 (suc k) (add_member us n t)) = ap (λ zs. slice_set zs k0 (token_at e0 (suc k) (length zs) Object)) more ∙ object_done ts o0 e0 (suc k) (add_member us n t) in
+              let done : slice_set (xs ++ ys) k0 f ≡ ts ++ flatten k0 (object e0 (suc k) (add_member us n t)) = ap (λ zs. slice_set zs k0 (token_at e0 (suc k) (length zs))) more ∙ object_done ts o0 e0 (suc k) (add_member us n t) in
               let i = after_tree e0 (suc k) (suc k) p ks ts (object e0 (suc k) (add_member us n t)) c0 (full_object e0 j0 m k us n t o l nm q (eqb-true _ _ z.0)) (no_white b (suc k)) in
               moved_to (idle After ks (slice_set (xs ++ ys) k0 f) (suc k) p) (subst (λ zs. Inv b (idle After ks zs (suc k) p)) (sym done) i) u z.1
           | inr z ↦ none_some u z
@@ -175,10 +175,7 @@ module _ (b : List ℕ) where
       → option_and_then (read AfterName (byte b k)) (end_atom AfterName l r (state (in_atom AfterName l x) (length ts ∷ ks) (opened_object ts e us) k p)) ≡ Some u → Inv b u
   ended_name e j l k p ks ts us x c o ld w0 q w None kind u h = none_some u h
   ended_name e j l k p ks ts us x c o ld w0 q w (Some kd) kind u h =
-      let is_text = name_kind w q kd kind in
-      let vs = opened_object ts e us in
-      colon_sound e j l k k p ks ts us c o ld w0 (subst (λ z. IsAtom b z l k) is_text (atom_sound w kd kind)) (no_white b k) u
-      (subst (λ z. read AfterName (byte b k) (idle AfterName (length ts ∷ ks) (vs ++ token_at l k (suc (length vs)) z ∷ []) k p) ≡ Some u) is_text h)
+      colon_sound e j l k k p ks ts us c o ld w0 (subst (λ z. IsAtom b z l k) (name_kind w q kd kind) (atom_sound w kd kind)) (no_white b k) u h
 
   name_sound : (e j l k p : ℕ) (ks : List ℕ) (ts : List Token) (us : Members) (x : Lex) → Context b e ks ts → byte b e ≡ 123 → LedMembers b (suc e) j us → White b j l → byte b l ≡ 34 → InAtom b l k x → (z : Option Lex) → lex_step x (byte b k) ≡ z → (u : State)
       → go_on (λ y. in_atom AfterName l y) z (state (in_atom AfterName l x) (length ts ∷ ks) (opened_object ts e us) k p)
@@ -191,7 +188,7 @@ module _ (b : List ℕ) where
   inv_step s (ready k p ks ts c) u h =
       elim (split (is_white_space (byte b k)) _ _ (Some u) h) [ inl z ↦ moved_to _ (ready (suc k) p ks ts (context_white c z.0)) u z.1 | inr r ↦ begin_sound k p ks ts Ready u c r ]
   inv_step s (first_item e k p ks ts c o w) u h =
-      let o0 = token_at e 0 0 Array in let f = token_at e (suc k) (length (ts ++ o0 ∷ [])) Array in let S = idle FirstItem (length ts ∷ ks) (ts ++ o0 ∷ []) k p in
+      let o0 = token_at e 0 0 in let f = token_at e (suc k) (length (ts ++ o0 ∷ [])) in let S = idle FirstItem (length ts ∷ ks) (ts ++ o0 ∷ []) k p in
       elim (split (is_white_space (byte b k)) _ _ (Some u) h) [
         | inl z ↦ moved_to _ (first_item e (suc k) p ks ts c o (white_more b (suc e) k w z.0)) u z.1
         | inr r ↦ elim (split (nat_eq (byte b k) 93) _ _ (Some u) r) [
@@ -204,7 +201,7 @@ module _ (b : List ℕ) where
       ]
   inv_step s (after_tree e j k p ks ts t c v w) u h = after_sound e j k p ks ts t c v w u h
   inv_step s (first_name e k p ks ts c o w) u h =
-      let o0 = token_at e 0 0 Object in let f = token_at e (suc k) (length (ts ++ o0 ∷ [])) Object in let S = idle FirstName (length ts ∷ ks) (ts ++ o0 ∷ []) k p in
+      let o0 = token_at e 0 1 in let f = token_at e (suc k) (length (ts ++ o0 ∷ [])) in let S = idle FirstName (length ts ∷ ks) (ts ++ o0 ∷ []) k p in
       elim (split (is_white_space (byte b k)) _ _ (Some u) h) [
         | inl z ↦ moved_to _ (first_name e (suc k) p ks ts c o (white_more b (suc e) k w z.0)) u z.1
         | inr r ↦ elim (split (nat_eq (byte b k) 125) _ _ (Some u) r) [

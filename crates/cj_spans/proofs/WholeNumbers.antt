@@ -16,7 +16,7 @@ use Rattle.cj_spans.specs.declared.step.Mode.TheVariants.{Ready, FirstItem, Afte
 use Rattle.cj_spans.specs.Spelling.{is_white_space}
 use Rattle.cj_spans.specs.Json.{byte}
 use Rattle.cj_spans.specs.Preorder.{token_at}
-use Rattle.cj_spans.specs.Machine.{State, state, between, in_atom, phase_after, read, after_top, after_token, after_in, moved, step, lex_start, lex_step, Continues, still, further, Reaches, here, on, ComesTo, BeginsValue, InArray, Grown, StaysInArray, StaysInArrayNext, BeginsValueNext, IsNumberItem, is_digit}
+use Rattle.cj_spans.specs.Machine.{open_kind, State, state, between, in_atom, phase_after, read, after_top, after_token, after_in, moved, step, lex_start, lex_step, Continues, still, further, Reaches, here, on, ComesTo, BeginsValue, InArray, Grown, StaysInArray, StaysInArrayNext, BeginsValueNext, IsNumberItem, is_digit}
 use Rattle.cj_spans.proofs.Spellings.{some_same, none_some}
 use Rattle.cj_spans.proofs.Lists.{slice_get-append, slice_get-seam}
 use Rattle.cj_spans.proofs.Runs.{idle, settled, atom_ends, IsEnd, comma, bracket}
@@ -82,7 +82,7 @@ ended c (inl e) = subst IsEnd (sym e) comma
 ended c (inr e) = subst IsEnd (sym e) bracket
 
 -- the machine has read a number
-pub number_read : (b : List ℕ) (s : State) (m : Mode) (ks : List ℕ) (ts us : List Token) (i k c p : ℕ) → IsNumberItem b i k → BeginsValue m → c ≡ length ts → us ≡ ts ++ token_at i k (c + 1) Number ∷ []
+pub number_read : (b : List ℕ) (s : State) (m : Mode) (ks : List ℕ) (ts us : List Token) (i k c p : ℕ) → IsNumberItem b i k → BeginsValue m → c ≡ length ts → us ≡ ts ++ token_at i k (c + 1) ∷ []
     → ComesTo b s (idle m ks ts i p) → ComesTo b s (idle After ks us k p)
 number_read b s m ks ts us i k c p n v count q h =
     let below = n.order in let inside = n.within in
@@ -194,7 +194,7 @@ next_name : {A : Type 0} → between NextName ≡ between Ready → A
 next_name h = cc
 
 module _ (ks ls : List ℕ) (ts us : List Token) (i p j q : ℕ) where
-  comma_kind : (k : ℕ) (t : Token) (d : Kind) → t.kind ≡ d → slice_get ts k ≡ Some t → slice_get ks 0 ≡ Some k → after_in d 44 k t (idle After ks ts i p) ≡ Some (idle Ready ls us j q) → InArray ls us
+  comma_kind : (k : ℕ) (t : Token) (d : Kind) → open_kind t ≡ d → slice_get ts k ≡ Some t → slice_get ks 0 ≡ Some k → after_in d 44 k t (idle After ks ts i p) ≡ Some (idle Ready ls us j q) → InArray ls us
   comma_kind k t Array d f g h =
       let e = some_same _ _ h in
       in_array_same ks ls ts us (ap (λ u. u.stack) e) (ap (λ u. u.tokens) e) (record { top = k; token = t; innermost = g; there = f; array = d })
@@ -206,7 +206,7 @@ module _ (ks ls : List ℕ) (ts us : List Token) (i p j q : ℕ) where
 
   comma_token : (k : ℕ) (o : Option Token) → slice_get ts k ≡ o → slice_get ks 0 ≡ Some k → after_token 44 k o (idle After ks ts i p) ≡ Some (idle Ready ls us j q) → InArray ls us
   comma_token k None f g h = none_some _ h
-  comma_token k (Some t) f g h = comma_kind k t t.kind refl f g h
+  comma_token k (Some t) f g h = comma_kind k t (open_kind t) refl f g h
 
   comma_top : (o : Option ℕ) → slice_get ks 0 ≡ o → after_top 44 o (idle After ks ts i p) ≡ Some (idle Ready ls us j q) → InArray ls us
   comma_top None g h = none_some _ h
@@ -230,15 +230,15 @@ module _ (ks ls : List ℕ) (ts us : List Token) (i p j q : ℕ) where
 
   bracket_token : {A : Type 0} (k : ℕ) (o : Option Token) (u : State) → after_token 91 k o (idle After ks ts i p) ≡ Some u → A
   bracket_token k None u h = none_some _ h
-  bracket_token k (Some t) u h = bracket_kind k t t.kind u h
+  bracket_token k (Some t) u h = bracket_kind k t (open_kind t) u h
 
   bracket_top : {A : Type 0} (o : Option ℕ) (u : State) → after_top 91 o (idle After ks ts i p) ≡ Some u → A
   bracket_top None u h = none_some _ h
   bracket_top (Some k) u h = bracket_token k (slice_get ts k) u h
 
-  opened_array : idle FirstItem (length ts ∷ ks) (ts ++ token_at i 0 0 Array ∷ []) (suc i) (max p (suc (length ks))) ≡ idle FirstItem ls us j q → InArray ls us
+  opened_array : idle FirstItem (length ts ∷ ks) (ts ++ token_at i 0 0 ∷ []) (suc i) (max p (suc (length ks))) ≡ idle FirstItem ls us j q → InArray ls us
   opened_array e =
-      let t = token_at i 0 0 Array in
+      let t = token_at i 0 0 in
       in_array_same (length ts ∷ ks) ls (ts ++ t ∷ []) us (ap (λ u. u.stack) e) (ap (λ u. u.tokens) e) (record { top = length ts; token = t; innermost = refl; there = slice_get-seam ts [] t; array = refl })
 
   bracket_array : (m : Mode) → read m 91 (idle m ks ts i p) ≡ Some (idle FirstItem ls us j q) → InArray ls us

@@ -153,6 +153,15 @@ pub record State : Type 0 where
 abbrev pub state : Phase → List ℕ → List Token → ℕ → ℕ → State
 state f ks ts i p = record { phase = f; stack = ks; tokens = ts; place = i; deepest = p }
 
+-- the link of a container of the kind while it is open: it tells the kind
+abbrev pub open_link : Kind → ℕ
+open_link Object = 1
+open_link _ = 0
+
+-- the kind of the open container whose token this is
+abbrev pub open_kind : Token → Kind
+open_kind t = cond (nat_eq t.link 0) Array Object
+
 -- before the first byte
 abbrev pub start : State
 start = state (between Ready) [] [] 0 0
@@ -163,11 +172,11 @@ moved f s = state f s.stack s.tokens (suc s.place) s.deepest
 
 -- the byte opens a container of the kind k, in which the mode m comes
 abbrev pub with_opened : Kind → Mode → State → State
-with_opened k m s = state (between m) (length s.tokens ∷ s.stack) (s.tokens ++ token_at s.place 0 0 k ∷ []) (suc s.place) (max s.deepest (suc (length s.stack)))
+with_opened k m s = state (between m) (length s.tokens ∷ s.stack) (s.tokens ++ token_at s.place 0 (open_link k) ∷ []) (suc s.place) (max s.deepest (suc (length s.stack)))
 
 -- the innermost container k, whose token is t, ends with the byte that is read
 abbrev pub with_closed : ℕ → Token → State → State
-with_closed k t s = state (between After) (drop 1 s.stack) (slice_set s.tokens k (token_at t.start (suc s.place) (length s.tokens) t.kind)) (suc s.place) s.deepest
+with_closed k t s = state (between After) (drop 1 s.stack) (slice_set s.tokens k (token_at t.start (suc s.place) (length s.tokens))) (suc s.place) s.deepest
 
 -- ---- one byte
 
@@ -194,7 +203,7 @@ after_in _ c k t s = None
 -- the same, in the container whose token this is
 abbrev pub after_token : ℕ → ℕ → Option Token → State → Option State
 after_token c k None s = None
-after_token c k (Some t) s = after_in t.kind c k t s
+after_token c k (Some t) s = after_in (open_kind t) c k t s
 
 -- the same, in the innermost container
 abbrev pub after_top : ℕ → Option ℕ → State → Option State
@@ -239,7 +248,7 @@ read m c s = cond (is_white_space c) (Some (moved (between m) s)) (read_in m c s
 -- where a scalar or a name may end, it has ended
 abbrev pub end_atom : Mode → ℕ → Option Kind → State → Option State
 end_atom m i None s = None
-end_atom m i (Some k) s = Some (state (between m) s.stack (s.tokens ++ token_at i s.place (suc (length s.tokens)) k ∷ []) s.place s.deepest)
+end_atom m i (Some k) s = Some (state (between m) s.stack (s.tokens ++ token_at i s.place (suc (length s.tokens)) ∷ []) s.place s.deepest)
 
 -- the scalar goes on, or the other state comes
 abbrev pub go_on : (Lex → Phase) → Option Lex → State → Option State → Option State
@@ -357,7 +366,7 @@ pub record InArray (ks : List ℕ) (ts : List Token) : Type 0 where
   pub token : Token
   pub innermost : slice_get ks 0 ≡ Some top
   pub there : slice_get ts top ≡ Some token
-  pub array : token.kind ≡ Array
+  pub array : open_kind token ≡ Array
 
 -- the byte c, after which the mode comes, is `[` or the comma of an array
 abbrev pub StaysInArray : ℕ → Mode → Type 0

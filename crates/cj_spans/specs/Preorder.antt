@@ -1,7 +1,5 @@
 -- The tokens of a tree, each before those of its parts.
 use Rattle.std.specs.Prelude.{ℕ, suc, ◌+◌, List, [], ◌∷◌, ◌++◌}
-use Rattle.cj_spans.specs.declared.token.Kind.{Kind}
-use Rattle.cj_spans.specs.declared.token.Kind.TheVariants.{Text, Array, Object}
 use Rattle.cj_spans.specs.declared.token.Token.{Token}
 use Rattle.cj_spans.specs.Tree.{Tree, scalar, array, object, Items, no_items, item, Members, no_members, member, size, items_size, members_size}
 
@@ -29,17 +27,17 @@ abbrev mutual
   members_preorder no_members = []
   members_preorder (member n t ms) = span_at n.start n.stop ∷ (preorder t ++ members_preorder ms)
 
--- the token of a span, with its link and its kind
-abbrev pub token_at : ℕ → ℕ → ℕ → Kind → Token
-token_at i j l k = record { start = i; stop = j; link = l; kind = k }
+-- the token of a span, with its link
+abbrev pub token_at : ℕ → ℕ → ℕ → Token
+token_at i j l = record { start = i; stop = j; link = l }
 
 -- one token for each value and each name of a tree, each before its parts, at the indices from n on; each links to the
 -- first index after its parts
 abbrev mutual
   pub flatten : ℕ → Tree → List Token
-  flatten n (scalar k a) = token_at a.start a.stop (suc n) k ∷ []
-  flatten n (array i j ts) = token_at i j (suc n + items_size ts) Array ∷ flatten_items (suc n) ts
-  flatten n (object i j ms) = token_at i j (suc n + members_size ms) Object ∷ flatten_members (suc n) ms
+  flatten n (scalar k a) = token_at a.start a.stop (suc n) ∷ []
+  flatten n (array i j ts) = token_at i j (suc n + items_size ts) ∷ flatten_items (suc n) ts
+  flatten n (object i j ms) = token_at i j (suc n + members_size ms) ∷ flatten_members (suc n) ms
 
   pub flatten_items : ℕ → Items → List Token
   flatten_items n no_items = []
@@ -47,7 +45,7 @@ abbrev mutual
 
   pub flatten_members : ℕ → Members → List Token
   flatten_members n no_members = []
-  flatten_members n (member m t ms) = token_at m.start m.stop (suc n) Text ∷ (flatten (suc n) t ++ flatten_members (suc n + size t) ms)
+  flatten_members n (member m t ms) = token_at m.start m.stop (suc n) ∷ (flatten (suc n) t ++ flatten_members (suc n + size t) ms)
 
 -- where each token starts and stops
 abbrev pub spans_of : List Token → List Span

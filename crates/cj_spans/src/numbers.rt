@@ -10,7 +10,7 @@ ghost use Rattle.cj_spans.specs.Machine.{State, state, between, ComesTo, Grown, 
 use crate::bytes::is_digit;
 use crate::lex::{Lex, skip_digits};
 use crate::step::{Mode, Next};
-use crate::token::{Kind, Token};
+use crate::token::Token;
 use cj_budget::Bounded;
 
 /// A comma, or the bracket that closes an array.
@@ -85,7 +85,6 @@ fn read_numbers(line: &[u8], from: Next, depth: usize, tokens: &mut Bounded<Toke
             start: next.place as u32,
             stop: stop as u32,
             link: tokens.len() as u32 + 1,
-            kind: Kind::Number,
         };
         match tokens.put(token) {
             Ok(()) => {}

@@ -40,14 +40,13 @@ fn end_atom(
     ensures err { OnErr result (tokens.new ≡ tokens.old) }
 {
     let reach = read_atom(line, place, first);
-    let Some(kind) = lex_kind(reach.read) else {
+    let Some(_) = lex_kind(reach.read) else {
         return Err(ScanFault::Syntax(reach.stop as u64));
     };
     let token = Token {
         start: place as u32,
         stop: reach.stop as u32,
         link: tokens.len() as u32 + 1,
-        kind,
     };
     match tokens.put(token) {
         Ok(()) => Ok(Next {

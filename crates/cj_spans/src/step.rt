@@ -3,7 +3,7 @@ ghost use Rattle.std.specs.Prelude.{◌≡◌, ◌≤◌, ◌<◌, ◌++◌, ◌
 ghost use Rattle.cj_budget.specs.Bounded.{IsWithin};
 ghost use Rattle.cj_spans.specs.declared.token.Token.{Token as TokenOf};
 ghost use Rattle.cj_spans.specs.declared.step.Mode.{Mode as ModeOf};
-ghost use Rattle.cj_spans.specs.Machine.{state, between, read as read_of, begin_value as begin_value_of, begin_name as begin_name_of, after_value as after_value_of, after_in as after_in_of, close_token as close_token_of, close_empty as close_empty_of, colon_step as colon_step_of, with_opened, Answers, Grown, Kept, ReadsByte, BeginsValue, FitsToken};
+ghost use Rattle.cj_spans.specs.Machine.{state, between, read as read_of, begin_value as begin_value_of, begin_name as begin_name_of, after_value as after_value_of, after_in as after_in_of, close_token as close_token_of, close_empty as close_empty_of, colon_step as colon_step_of, open_link as open_link_of, open_kind as open_kind_of, with_opened, Answers, Grown, Kept, ReadsByte, BeginsValue, FitsToken};
 
 use crate::bytes::is_white_space;
 use crate::fault::ScanFault;
@@ -49,6 +49,29 @@ fn token_of(tokens: &[Token], index: u32) -> Option<Token>
     tokens.get(index as usize).copied()
 }
 
+/// The link of a container of the kind while it is open: it tells the kind.
+#[inline(always)]
+fn open_link(kind: Kind) -> u32
+    ensures { result ≡ open_link_of kind }
+{
+    match kind {
+        Kind::Object => 1,
+        _ => 0,
+    }
+}
+
+/// The kind of the open container whose token this is.
+#[inline(always)]
+fn open_kind(token: Token) -> Kind
+    ensures { result ≡ open_kind_of token }
+{
+    if token.link == 0 {
+        Kind::Array
+    } else {
+        Kind::Object
+    }
+}
+
 /// Opens a container.
 #[inline(always)]
 fn open(
@@ -71,8 +94,7 @@ fn open(
     let token = Token {
         start: place as u32,
         stop: 0,
-        link: 0,
-        kind,
+        link: open_link(kind),
     };
     match tokens.put(token) {
         Ok(()) => Ok(Move::Open(next)),
@@ -202,7 +224,7 @@ fn after_value(
         None => Err(ScanFault::Syntax(place as u64)),
         Some(index) => match token_of(tokens.as_slice(), index) {
             None => Err(ScanFault::Syntax(place as u64)),
-            Some(token) => after_in(token.kind, index, byte, place, tokens, stack),
+            Some(token) => after_in(open_kind(token), index, byte, place, tokens, stack),
         },
     }
 }

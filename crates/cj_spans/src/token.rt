@@ -17,12 +17,12 @@ pub enum Kind {
     Object,
 }
 
-/// One value or member name of a line: the places where it starts and stops, the index of the first
-/// token after it and its parts, and its kind.
+/// One value or member name of a line: the places where it starts and stops, and the index of the first
+/// token after it and its parts. Of a container that is still open the link tells the kind: 0 of an
+/// array, 1 of an object.
 #[derive(Clone, Copy, Debug, PartialEq, Eq)]
 pub struct Token {
     pub(crate) start: u32,
     pub(crate) stop: u32,
     pub(crate) link: u32,
-    pub(crate) kind: Kind,
 }
