@@ -21,4 +21,5 @@ pub mod Findings
 pub mod Texts
 pub mod Views
 pub mod Scanned
+pub mod Sizes
 pub mod Strings

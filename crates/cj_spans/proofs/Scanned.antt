@@ -19,7 +19,7 @@ use Rattle.cj_spans.proofs.Forests.{atom_kind, Beyond, held_all, names_and_value
 
 -- ---- as many spans as the trees have values and names: none is left out
 
-abbrev sizes : List Tree → ℕ
+abbrev pub sizes : List Tree → ℕ
 sizes [] = 0
 sizes (t ∷ ts) = size t + sizes ts
 
@@ -72,7 +72,7 @@ members_same (n ∷ t ∷ ts) h =
     let f : members_size (members_from ts) ≡ sizes ts = omega arith in
     ap (λ ss. span_at (atom_of n).start (atom_of n).stop ∷ (preorder t ++ ss)) (members_same ts f) ∙ ap (λ ss. ss ++ (preorder t ++ preorders ts)) (sym (alone n e))
 
-node_small : (b : List ℕ) (k : Kind) (i j : ℕ) (ts : List Tree) → size (node b k i j ts) ≤ suc (sizes ts)
+pub node_small : (b : List ℕ) (k : Kind) (i j : ℕ) (ts : List Tree) → size (node b k i j ts) ≤ suc (sizes ts)
 node_small b Null i j ts = omega arith
 node_small b Truth i j ts = omega arith
 node_small b Number i j ts = omega arith
@@ -106,10 +106,10 @@ held-past : (j : ℕ) (ts : List Tree) → held j ts ++ past j ts ≡ ts
 held-past j [] = refl
 held-past j (t ∷ ts) = elim (cases_lt (start_of t) j) [ inl l ↦ held-past_on t ts j l ∙ ap (λ us. t ∷ us) (held-past j ts) | inr g ↦ held-past_here t ts j g ]
 
-held_sizes : (j : ℕ) (ts : List Tree) → sizes (held j ts) + sizes (past j ts) ≡ sizes ts
+pub held_sizes : (j : ℕ) (ts : List Tree) → sizes (held j ts) + sizes (past j ts) ≡ sizes ts
 held_sizes j ts = sym (sizes-append (held j ts) (past j ts)) ∙ ap sizes (held-past j ts)
 
-forest_small : (b : List ℕ) (ss : List Span) → sizes (forest b ss) ≤ length ss
+pub forest_small : (b : List ℕ) (ss : List Span) → sizes (forest b ss) ≤ length ss
 unfolding forest
 forest_small b [] = omega arith
 forest_small b (s ∷ ss) =
@@ -333,7 +333,7 @@ pub record Known (b : List ℕ) (ts : List Token) : Type 0 where
   pub linked : AreLinked ts
   pub some : 0 < length ts
 
-length-spans_of : (ts : List Token) → length (spans_of ts) ≡ length ts
+pub length-spans_of : (ts : List Token) → length (spans_of ts) ≡ length ts
 length-spans_of [] = refl
 length-spans_of (t ∷ ts) = ap suc (length-spans_of ts)
 

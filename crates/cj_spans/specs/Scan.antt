@@ -1,19 +1,24 @@
 -- What a scan leaves in its lists.
-use Rattle.std.specs.Prelude.{◌≡◌, ℕ, ◌+◌, ◌*◌, ◌≤◌, List, [], ◌∷◌, length, max, IsTrue}
+use Rattle.std.specs.Prelude.{◌≡◌, ℕ, ◌+◌, ◌*◌, ◌≤◌, List, [], ◌∷◌, length, max, slice_get, Some, IsTrue}
 use Rattle.cj_budget.specs.Bounded.{BoundedList, IsWithin}
 use Rattle.cj_spans.specs.declared.token.Token.{Token}
 use Rattle.cj_spans.specs.Tree.{Tree, size, nest}
 use Rattle.cj_spans.specs.Json.{Json}
-use Rattle.cj_spans.specs.Preorder.{flatten, spans_of}
+use Rattle.cj_spans.specs.Preorder.{preorder, spans_of}
 use Rattle.cj_spans.specs.Forest.{forest}
-use Rattle.cj_spans.specs.Sound.{AreLinked}
+use Rattle.cj_spans.specs.Sound.{link_of, AreLinked}
+use Rattle.cj_spans.specs.View.{tree_at}
+
+-- each token links past its tree: the k-th to k and the size of the tree that it shows
+abbrev pub AreSized : List ℕ → List Token → Type 0
+AreSized line tokens = (k : ℕ) (t : Token) → slice_get tokens k ≡ Some t → link_of t ≡ k + size (tree_at line (spans_of tokens) k)
 
 -- the line spells the tree t and no other, which opens no more containers than the limit, and the lists show it
 pub record IsScanOf (line : List ℕ) (t : Tree) (old_tokens new_tokens : BoundedList Token) (old_stack new_stack : BoundedList ℕ) : Type 0 where
   pub json : Json line t
   pub only : (u : Tree) → Json line u → u ≡ t
   pub shallow : nest t ≤ old_stack.limit
-  pub tokens : new_tokens.elements ≡ flatten 0 t
+  pub spans : spans_of new_tokens.elements ≡ preorder t
   pub shown : forest line (spans_of new_tokens.elements) ≡ t ∷ []
   pub count : length new_tokens.elements ≡ size t
   pub linked : AreLinked new_tokens.elements

@@ -76,7 +76,7 @@ pub struct Members<'a> {
 const LINKS: u32 = 1 << 31;
 
 /// The token at an index.
-fn token_at(tokens: &[Token], index: usize) -> Token
+pub(crate) fn token_at(tokens: &[Token], index: usize) -> Token
     requires { index < length tokens.now }
     ensures { slice_get tokens.now index ≡ Some result }
 {

@@ -7,7 +7,7 @@ ghost use Rattle.cj_spans.specs.Tree.{Tree, nest};
 ghost use Rattle.cj_spans.specs.Json.{Json};
 ghost use Rattle.cj_spans.specs.Front.{SyntaxAt, DeepAt, NowhereDeep};
 ghost use Rattle.cj_spans.specs.Begins.{IsFirstFault, IsFirstTooDeep};
-ghost use Rattle.cj_spans.specs.Scan.{IsScanOf, KeepsLaw};
+ghost use Rattle.cj_spans.specs.Scan.{IsScanOf, AreSized, KeepsLaw};
 ghost use Rattle.cj_spans.specs.Judgement.{Judgement, IsAnswerOf};
 ghost use Rattle.cj_spans.specs.Json.{byte as byte_of};
 ghost use Rattle.cj_spans.specs.Machine.{state, in_atom, phase_after, EndAnswers, Grown, BeginsAtom, BeginsValueNext, InArray, StaysInArrayNext, RunAnswers};
@@ -150,6 +150,7 @@ pub fn scan(line: &[u8], tokens: &mut Bounded<Token>, stack: &mut Stack) -> Resu
     // At Ok the lists show the one tree that the line spells.
     ensures tree { OnOk result ((t : Tree)
         × IsScanOf line.now t tokens.old tokens.new stack.old stack.new) }
+    ensures sized { OnOk result (AreSized line.now tokens.new.elements) }
     ensures utf8 { ((i : ℕ) → IsErrOf result (ScanFault.NotUtf8 i) → ⊥) → IsUtf8 line.now }
 
     // Each fault comes with its place.

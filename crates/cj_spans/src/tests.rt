@@ -1,5 +1,8 @@
 //! Rows of scans and reasons. Expected places and counts are worked out by hand from the grammar.
-use crate::{Reason, ScanFault, Token, scan};
+ghost use Rattle.std.specs.Prelude.{◌≤◌, length};
+ghost use Rattle.cj_spans.specs.Sound.{AreOf};
+
+use crate::{Reason, ScanFault, Token, scan, slow_next};
 use cj_budget::{Bounded, Stack};
 use std::alloc::Global;
 use std::process::Abort;
@@ -277,15 +280,28 @@ fn tokens_stand_where_the_values_do(rt: HostRuntime) -> Result<(), Fail> {
     Ok(())
 }
 
+/// Each token has its link, and places tell the same.
+fn are_linked(rt: &impl Abort, line: &[u8], tokens: &[Token], want: &[u32])
+    requires scanned { AreOf line.now tokens.now }
+    requires short { length line.now ≤ 60 }
+{
+    assert!(rt; tokens.len() <= 64);
+    assert_eq!(rt; tokens.len(), want.len());
+    for (index, link) in want.iter().enumerate() {
+        assert!(rt; index < tokens.len());
+        assert_eq!(rt; tokens[index].link, *link);
+        assert_eq!(rt; slow_next(line, tokens, index as u32), *link);
+    }
+}
+
 /// The links that a scan of the line leaves.
 fn has_links(rt: &impl Abort, alloc: Global, line: &[u8], want: &[u32]) {
     let mut tokens: Bounded<Token> = Bounded::new(alloc, 64);
     let mut stack = Stack::new(alloc, 64);
     assert!(rt; line.len() <= 60);
-    assert_eq!(rt; scan(line, &mut tokens, &mut stack), Ok(()));
-    assert_eq!(rt; tokens.len(), want.len());
-    for (token, link) in tokens.as_slice().iter().zip(want) {
-        assert_eq!(rt; token.link, *link);
+    match scan(line, &mut tokens, &mut stack) {
+        Ok(()) => are_linked(rt, line, tokens.as_slice(), want),
+        Err(_) => assert!(rt; false),
     }
 }
 

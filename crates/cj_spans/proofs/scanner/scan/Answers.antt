@@ -2,12 +2,16 @@ use Rattle.std.proofs.Common.{IsTrue, refl}
 use Rattle.cj_spans.proofs.Verdicts.{cleared, run_utf8, answers_tree, answers_deep, answers_syntax, answers_finds_deep, answers_finds_syntax, answers_finds_tree, utf8_whole, utf8_fault}
 use Rattle.cj_spans.proofs.Judgements.{judgement, answer_of}
 use Rattle.cj_spans.proofs.Endings.{answers_first_too_deep, answers_first_fault}
+use Rattle.cj_spans.proofs.Sizes.{sized_on}
 use Rattle.cj_spans.proofs.scanner.scan.Goals as goal
 
 pub returns-in-Ok-clause-tree : goal.returns-in-Ok-clause-tree
 returns-in-Ok-clause-tree c =
     let ts = c.clear.new.self in let ks = c.clear-2.new.self in
     answers_tree (Unit {0}) c.args.line.now c.args.tokens.now ts c.run.new.tokens c.args.stack.now ks c.run.new.stack (IsTrue ts.reserved × IsTrue ks.reserved) (cleared _ _ c.clear.ensures.cleared) (cleared _ _ c.clear-2.ensures.cleared) c.run.result c.run.ensures.answer c.run.ensures.law c.requires.short
+
+pub returns-in-Ok-clause-sized : goal.returns-in-Ok-clause-sized
+returns-in-Ok-clause-sized c = sized_on (Unit {0}) c.args.line.now c.args.tokens.now c.run.new.tokens c.args.stack.now c.run.new.stack c.run.result (returns-in-Ok-clause-tree c)
 
 pub returns-in-Ok-clause-not_utf8 : goal.returns-in-Ok-clause-not_utf8
 returns-in-Ok-clause-not_utf8 c = λ i.
