@@ -3,6 +3,8 @@ pub mod FixedRule
 pub mod Lengths
 pub mod LinkFaults
 pub mod None
+pub mod Pairs
+pub mod Passes
 pub mod Typed
 pub mod Valid
 pub mod Values

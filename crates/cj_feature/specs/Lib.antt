@@ -4,6 +4,7 @@ pub mod Header
 pub mod HeaderView
 pub mod Links
 pub mod Members
+pub mod Pairs
 pub mod Relations
 pub mod Shown
 pub mod TreeSet

@@ -13,7 +13,9 @@ mod coordinates;
 mod geometries;
 mod ids;
 mod links;
+mod many_links;
 mod objects;
+mod pairs;
 mod rules;
 mod vertices;
 

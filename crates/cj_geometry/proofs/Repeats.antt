@@ -9,6 +9,7 @@ use Rattle.std.proofs.lemmas.List.{length-set, get_or-set_same, get_or-set_other
 use Rattle.std.proofs.lemmas.Bool.Decides.{nat_tests}
 use Rattle.std.proofs.lemmas.Bool.{or_parts, or_from, and_parts, and_from, cases_eq}
 use Rattle.std.proofs.lemmas.List.Elements.{Contains-append_left, Contains-append_right, Contains-append_cases}
+use Rattle.cj_spans.specs.declared.reason.Reason.{Reason}
 use Rattle.cj_spans.specs.declared.reason.Reason.TheVariants.{DuplicateName}
 use Rattle.cj_spans.specs.declared.finding.Finding.{Finding}
 use Rattle.cj_spans.specs.Finding.{least, list_found, HaveSame, is_before, found_at}
@@ -38,12 +39,12 @@ twice : (o : Option Finding) (fs : List Finding) → least (least o fs) fs ≡ l
 twice o fs = sym (least-append o fs fs) ∙ least_only (list_found o ++ fs) (list_found o ++ (fs ++ fs)) (least o fs) (least o (fs ++ fs)) (same_twice (list_found o) fs) (fold_least o fs) (fold_least o (fs ++ fs))
 
 -- what stands after what was found changes nothing
-pub told_before : (o : Option Finding) (f : Finding) (t : Tree) → o ≡ Some f → f.place < start_of t → least o (one DuplicateName t) ≡ o
-told_before o f t e l =
+pub told_before : (o : Option Finding) (f : Finding) (t : Tree) → o ≡ Some f → f.place < start_of t → (r : Reason) → least o (one r t) ≡ o
+told_before o f t e l r =
     let a : nat_lt (start_of t) f.place ≡ false = grind (arith, nat_tests) in
     let b : nat_eq (start_of t) f.place ≡ false = grind (arith, nat_tests) in
-    let c : is_before (found_at (start_of t) DuplicateName) f ≡ false = or_from (nat_lt (start_of t) f.place) (nat_eq (start_of t) f.place && nat_lt (code_of DuplicateName) (code_of f.reason)) a (ap (λ v. v && nat_lt (code_of DuplicateName) (code_of f.reason)) b) in
-    ap (λ x. least x (one DuplicateName t)) e ∙ ap (λ v. cond v (Some (found_at (start_of t) DuplicateName)) (Some f)) c ∙ sym e
+    let c : is_before (found_at (start_of t) r) f ≡ false = or_from (nat_lt (start_of t) f.place) (nat_eq (start_of t) f.place && nat_lt (code_of r) (code_of f.reason)) a (ap (λ v. v && nat_lt (code_of r) (code_of f.reason)) b) in
+    ap (λ x. least x (one r t)) e ∙ ap (λ v. cond v (Some (found_at (start_of t) r)) (Some f)) c ∙ sym e
 
 pub kept_either : (v : Bool) (o : Option Finding) (fs : List Finding) → least o fs ≡ o → o ≡ least o (cond v fs [])
 kept_either true o fs h = sym h

@@ -18,7 +18,8 @@
 //!     }
 //! }
 //! ```
-ghost use Rattle.std.specs.Prelude.{◌≡◌};
+ghost use Rattle.std.specs.Prelude.{◌≡◌, IsTrue};
+ghost use Rattle.cj_spans.specs.declared.reason.Reason.{Reason as ReasonOf};
 ghost use Rattle.cj_spans.specs.Finding.{least};
 ghost use Rattle.cj_spans.specs.Kinds.{is_text, is_array, is_object};
 ghost use Rattle.cj_spans.specs.Parts.{kind_of};
@@ -47,6 +48,18 @@ pub fn add(node: Node, reason: Reason, found: &mut Least)
         place: node.start(),
         reason,
     });
+}
+
+/// Whether what was found stands before this value, so that no finding at it is told.
+#[tactic(auto, using(crate::proofs::Repeats::told_before))]
+#[inline(always)]
+pub fn is_told_before(found: Least, node: Node) -> bool
+    ensures { IsTrue result → (r : ReasonOf) → least found (one r (tree node.entry)) ≡ found }
+{
+    match found.get() {
+        Some(first) => first.place < node.start(),
+        None => false,
+    }
 }
 
 /// The value is a string, else it is of the wrong kind.

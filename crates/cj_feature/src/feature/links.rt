@@ -9,6 +9,7 @@ ghost use Rattle.cj_spans.specs.View.{tree, trees};
 ghost use Rattle.cj_feature.specs.Links.{is_known as is_known_in, has_item as has_item_of, lists as lists_of, listed_in, is_group as is_group_of, child, parent, children, parents, part, object_links, links};
 
 use crate::feature::ids::is_known;
+use crate::feature::many_links::check_many_links;
 use crate::feature::objects::is_part;
 use cj_geometry::rule::add;
 use cj_spans::{Kind, Least, Node, Reason};
@@ -41,7 +42,7 @@ fn lists(objects: Node, list: &str, from: Node, to: Node) -> bool
 }
 
 /// Whether the city object is a group.
-fn is_group(object: Node) -> bool
+pub fn is_group(object: Node) -> bool
     ensures { result ≡ is_group_of (tree object.entry) }
 {
     match object.get("type") {
@@ -51,7 +52,7 @@ fn is_group(object: Node) -> bool
 }
 
 /// A child is in the feature, and lists the city object of this name as a parent.
-fn check_child(objects: Node, name: Node, item: Node, found: &mut Least)
+pub fn check_child(objects: Node, name: Node, item: Node, found: &mut Least)
     ensures { found.new ≡ least found.old (child (members_of (tree objects.entry)) (tree name.entry) (tree item.entry)) }
 {
     match item.kind() {
@@ -67,7 +68,7 @@ fn check_child(objects: Node, name: Node, item: Node, found: &mut Least)
 }
 
 /// A parent that is in the feature lists the city object of this name as a child.
-fn check_parent(objects: Node, name: Node, item: Node, found: &mut Least)
+pub fn check_parent(objects: Node, name: Node, item: Node, found: &mut Least)
     ensures { found.new ≡ least found.old (parent (members_of (tree objects.entry)) (tree name.entry) (tree item.entry)) }
 {
     if is_known(objects, item) {
@@ -117,7 +118,7 @@ fn has_known_item(objects: Node, array: Node) -> bool
 }
 
 /// Of the parents of a city object of the second level, one is in the feature.
-fn check_part(objects: Node, name: Node, object: Node, found: &mut Least)
+pub fn check_part(objects: Node, name: Node, object: Node, found: &mut Least)
     ensures { found.new ≡ least found.old (part (members_of (tree objects.entry)) (trees (name.entry, object.entry))) }
 {
     let Some(value) = object.get("parents") else {
@@ -144,6 +145,52 @@ fn check_object_links(objects: Node, name: Node, object: Node, found: &mut Least
     check_part(objects, name, object, found);
 }
 
+/// At most so many city objects and items of their lists are searched one after another.
+const FEW: usize = 64;
+
+/// At most so many bytes have few of them that matter.
+const FEW_BYTES: usize = 1_000;
+
+/// What is left of a count after the items of a city object's list of this name; 0 where they are more.
+fn count_items(object: Node, list: &str, count: usize) -> usize {
+    let Some(value) = object.get(list) else {
+        return count;
+    };
+    let mut left = count;
+    for _ in value.items() {
+        if left == 0 {
+            return 0;
+        }
+        left -= 1;
+    }
+    left
+}
+
+/// Whether there are more than `FEW` city objects and items of their lists.
+fn has_many(objects: Node) -> bool {
+    if objects.bytes().len() <= FEW_BYTES {
+        return false;
+    }
+    let mut left = FEW;
+    for (_, object) in objects.members() {
+        if left == 0 {
+            return true;
+        }
+        left = count_items(object, "children", left - 1);
+        left = count_items(object, "parents", left);
+    }
+    left == 0
+}
+
+/// The links of few city objects.
+fn check_few_links(objects: Node, found: &mut Least)
+    ensures { let all = members_of (tree objects.entry) in found.new ≡ least found.old (flat_map (object_links all) all) }
+{
+    for (name, object) in objects.members() {
+        check_object_links(objects, name, object, found);
+    }
+}
+
 /// The links of the city objects, if there are any.
 pub fn check_links(objects: Option<Node>, found: &mut Least)
     ensures { found.new ≡ least found.old (links (option_map tree objects.entry)) }
@@ -151,7 +198,9 @@ pub fn check_links(objects: Option<Node>, found: &mut Least)
     let Some(objects) = objects else {
         return;
     };
-    for (name, object) in objects.members() {
-        check_object_links(objects, name, object, found);
+    if has_many(objects) {
+        check_many_links(objects, found);
+    } else {
+        check_few_links(objects, found);
     }
 }

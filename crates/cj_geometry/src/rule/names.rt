@@ -3,7 +3,7 @@
 //! Few names are compared each with each. Of many names a block is gathered at a time, each looked up among those
 //! before it; then all later names are looked up in the block, and the next block begins behind it. So n names take
 //! about n * n / 8,192 look-ups, and no memory is asked for.
-ghost use Rattle.std.specs.Prelude.{◌≡◌, ◌<◌, ◌≤◌, IsTrue, cond, [], map, length, take, drop, true};
+ghost use Rattle.std.specs.Prelude.{◌≡◌, ◌<◌, ◌≤◌, cond, [], map, length, take, drop, true};
 ghost use Rattle.cj_spans.specs.declared.reason.Reason.TheVariants.{DuplicateName};
 ghost use Rattle.cj_spans.specs.Finding.{least};
 ghost use Rattle.cj_spans.specs.Hash.{hash_of};
@@ -13,7 +13,7 @@ ghost use Rattle.cj_geometry.specs.Rule.{one, repeats_of, repeats, distinct};
 ghost use Rattle.cj_geometry.specs.Blocks.{is_named, repeats_in, number_of, are_marked};
 ghost use Rattle.cj_geometry.specs.Gathered.{gathered};
 
-use crate::rule::add;
+use crate::rule::{add, is_told_before};
 use crate::rule::blocks::{Block, MARKS, clear, mark};
 use cj_spans::{Least, Members, Node, Reason};
 
@@ -44,18 +44,6 @@ fn check_few(object: Node, found: &mut Least)
     let mut rest = object.members();
     while let Some((name, _)) = rest.next() {
         check_later(name, rest, found);
-    }
-}
-
-/// Whether what was found stands before this name, so that no finding at it is told.
-#[tactic(auto, using(crate::proofs::Repeats::told_before))]
-#[inline(always)]
-fn is_told_before(found: Least, name: Node) -> bool
-    ensures { IsTrue result → least found (one DuplicateName (tree name.entry)) ≡ found }
-{
-    match found.get() {
-        Some(first) => first.place < name.start(),
-        None => false,
     }
 }
 

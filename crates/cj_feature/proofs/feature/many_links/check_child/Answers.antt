@@ -1,0 +1,7 @@
+use Rattle.cj_spans.specs.Parts.{members_of}
+use Rattle.cj_spans.specs.View.{tree}
+use Rattle.cj_feature.proofs.Passes.{listed_child}
+use Rattle.cj_feature.proofs.feature.many_links.check_child.Goals as goal
+
+pub returns-then-finds-clause-found : goal.returns-then-finds-clause-found
+returns-then-finds-clause-found c = listed_child (members_of (tree c.args.objects)) (tree c.args.ahead.name) (tree c.args.item) c.args.found.now (c.finds.ensures.found c.if-finds.true)

@@ -1,0 +1,12 @@
+use Rattle.std.proofs.Common.{◌∙◌, ap}
+use Rattle.std.specs.List.{flat_map}
+use Rattle.cj_spans.specs.Finding.{least}
+use Rattle.cj_spans.specs.Parts.{members_of}
+use Rattle.cj_spans.specs.View.{tree}
+use Rattle.cj_feature.proofs.Passes.{parents_and_part, walks}
+use Rattle.cj_feature.proofs.feature.many_links.check_many_links.Goals as goal
+
+pub returns : goal.returns
+returns c =
+    let all = members_of (tree c.args.objects) in
+    c.check_all_parents.ensures ∙ ap (λ o. least o (flat_map (parents_and_part all) all)) c.check_all_children.ensures ∙ walks all all c.args.found.now

@@ -1,0 +1,15 @@
+use Rattle.std.proofs.Common.{◌≡◌, true}
+use Rattle.std.specs.Str.{chars}
+use Rattle.cj_spans.specs.Tree.{Tree}
+use Rattle.cj_spans.specs.Parts.{members_of}
+use Rattle.cj_spans.specs.View.{tree, items_left}
+use Rattle.cj_feature.specs.Links.{has_item, listed_in}
+use Rattle.cj_feature.specs.Pairs.{ArePairsOf}
+use Rattle.cj_feature.proofs.feature.pairs.Table.keep_object.Given as goal
+
+-- what the items that are left have, the list has
+abbrev pub invariant-loop-item : goal.invariant-loop-item
+invariant-loop-item l = record {
+  pairs : ArePairsOf (chars l.list) (members_of (tree l.objects)) l.self.pairs;
+  left : (to : Tree) → has_item (items_left l.item-iterator) to ≡ true → has_item (listed_in (chars l.list) (tree l.object)) to ≡ true;
+}

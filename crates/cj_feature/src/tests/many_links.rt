@@ -1,0 +1,162 @@
+//! Links between many city objects, more of them than are looked up at once. What is wrong with a line is told from
+//! how it is made.
+use super::{HEADER, features_meet};
+use std::alloc::{AllocError, Global};
+use std::process::Abort;
+use std::test::Fail;
+
+/// How many city objects a line has: more than twice as many as are looked up at once.
+const MANY: u32 = 4500;
+
+/// A line of these city objects, whose first is `p0`, has the finding that is wanted.
+fn objects_meet(
+    rt: &impl Abort,
+    alloc: Global,
+    objects: &str,
+    want: &str,
+) -> Result<(), AllocError> {
+    let row = format!(in alloc; "many | {objects} | {want}")?;
+    features_meet(
+        rt,
+        alloc,
+        HEADER,
+        r#"{"type":"CityJSONFeature","id":"p0","CityObjects":{_},"vertices":[]}"#,
+        &row,
+    )
+}
+
+/// What stands before the i-th of some things in a row.
+fn comma(i: u32) -> &'static str {
+    if i == 0 { "" } else { "," }
+}
+
+/// A city object of a ring: its child is the one after it, and its parent the one before it. That of the number
+/// `broken` has itself for a parent, so the child before it has the mark.
+fn ring_member(alloc: Global, i: u32, broken: u32) -> Result<String, AllocError> {
+    let child = if i < MANY - 1 { i as u64 + 1 } else { 0 };
+    let before = if i == 0 {
+        MANY as u64 - 1
+    } else {
+        i as u64 - 1
+    };
+    let parent = if i == broken { i as u64 } else { before };
+    let mark = if child == broken as u64 { "^" } else { "" };
+    let comma = comma(i);
+    format!(in alloc;
+        r#"{comma}"p{i}":{{"type":"Building","children":[{mark}"p{child}"],"parents":["p{parent}"]}}"#
+    )
+}
+
+/// A ring of city objects.
+fn ring(alloc: Global, broken: u32) -> Result<String, AllocError> {
+    let mut objects = String::new(alloc);
+    for i in 0..MANY {
+        objects.push_str(&ring_member(alloc, i, broken)?)?;
+    }
+    Ok(objects)
+}
+
+#[test]
+fn rings(rt: HostRuntime) -> Result<(), Fail> {
+    let whole = ring(rt.alloc(), MANY)?;
+    objects_meet(&rt, rt.alloc(), &whole, "none")?;
+    let broken = ring(rt.alloc(), 3000)?;
+    objects_meet(&rt, rt.alloc(), &broken, "22 link not mutual")?;
+    let last = ring(rt.alloc(), MANY - 1)?;
+    objects_meet(&rt, rt.alloc(), &last, "22 link not mutual")?;
+    Ok(())
+}
+
+/// Children of `p0`, the last first; the one of the number `marked` has the mark.
+fn backwards(alloc: Global, marked: u32) -> Result<String, AllocError> {
+    let mut children = String::new(alloc);
+    for i in 0..MANY {
+        let child = MANY - i;
+        let mark = if child == marked { "^" } else { "" };
+        let comma = comma(i);
+        children.push_str(&format!(in alloc; r#"{comma}{mark}"p{child}""#)?)?;
+    }
+    Ok(children)
+}
+
+/// Parts of `p0`, but that of the number `alone`, which has another text for a parent.
+fn parts(alloc: Global, alone: u32, other: &str) -> Result<String, AllocError> {
+    let mut parts = String::new(alloc);
+    for i in 0..MANY {
+        let part = i as u64 + 1;
+        let parent = if part == alone as u64 { other } else { "p0" };
+        parts.push_str(&format!(in alloc;
+            r#","p{part}":{{"type":"BuildingPart","parents":["{parent}"]}}"#
+        )?)?;
+    }
+    Ok(parts)
+}
+
+/// A building `p0` with these children, and its parts.
+fn building(alloc: Global, children: &str, parts: &str) -> Result<String, AllocError> {
+    format!(in alloc; r#""p0":{{"type":"Building","children":[{children}]}}{parts}"#)
+}
+
+#[test]
+fn children_listed_backwards(rt: HostRuntime) -> Result<(), Fail> {
+    let alloc = rt.alloc();
+    let whole = building(alloc, &backwards(alloc, 0)?, &parts(alloc, 0, "p0")?)?;
+    objects_meet(&rt, alloc, &whole, "none")?;
+    let of_another = building(alloc, &backwards(alloc, 7)?, &parts(alloc, 7, "p8")?)?;
+    objects_meet(&rt, alloc, &of_another, "22 link not mutual")?;
+    Ok(())
+}
+
+/// Buildings without links.
+fn buildings(alloc: Global) -> Result<String, AllocError> {
+    let mut objects = String::from_str(alloc, r#""p0":{"type":"Building"}"#)?;
+    for i in 0..MANY {
+        let number = i as u64 + 1;
+        objects.push_str(&format!(in alloc; r#","p{number}":{{"type":"Building"}}"#)?)?;
+    }
+    Ok(objects)
+}
+
+#[test]
+fn a_part_whose_parent_is_not_there(rt: HostRuntime) -> Result<(), Fail> {
+    let alloc = rt.alloc();
+    let others = buildings(alloc)?;
+    let part = format!(in alloc; r#"{others},"p":^{{"type":"BuildingPart","parents":["q"]}}"#)?;
+    objects_meet(&rt, alloc, &part, "23 no parent in the feature")?;
+    Ok(())
+}
+
+/// A text listed again and again.
+fn again(alloc: Global, text: &str) -> Result<String, AllocError> {
+    let mut texts = String::new(alloc);
+    for i in 0..MANY {
+        let comma = comma(i);
+        texts.push_str(&format!(in alloc; r#"{comma}"{text}""#)?)?;
+    }
+    Ok(texts)
+}
+
+/// `p0` with these children, `p` with these parents, and a part `q` of `p0`.
+fn two_parts(alloc: Global, children: &str, parents: &str) -> Result<String, AllocError> {
+    format!(in alloc;
+        r#""p0":{{"type":"Building","children":[{children}]}},"p":{{"type":"BuildingPart","parents":[{parents}]}},"q":{{"type":"BuildingPart","parents":["p0"]}}"#
+    )
+}
+
+#[test]
+fn a_pair_listed_again_and_again(rt: HostRuntime) -> Result<(), Fail> {
+    let alloc = rt.alloc();
+    let children = format!(in alloc; r#"{},"p""#, again(alloc, "q")?.as_str())?;
+    let whole = two_parts(alloc, &children, &again(alloc, "p0")?)?;
+    objects_meet(&rt, alloc, &whole, "none")?;
+    Ok(())
+}
+
+#[test]
+fn a_pair_listed_again_by_one_alone(rt: HostRuntime) -> Result<(), Fail> {
+    let alloc = rt.alloc();
+    let parents = format!(in alloc; r#"^"p0",{}"#, again(alloc, "p0")?.as_str())?;
+    let whole = two_parts(alloc, &again(alloc, "q")?, &parents)?;
+    objects_meet(&rt, alloc, &whole, "22 link not mutual")?;
+    Ok(())
+}
