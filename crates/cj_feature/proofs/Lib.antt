@@ -1,3 +1,4 @@
+pub mod Absent
 pub mod Fixed
 pub mod FixedRule
 pub mod Lengths

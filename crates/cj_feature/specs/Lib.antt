@@ -1,3 +1,4 @@
+pub mod Absent
 pub mod Examples
 pub mod Feature
 pub mod Header

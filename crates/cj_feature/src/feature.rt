@@ -7,6 +7,7 @@ ghost use Rattle.cj_geometry.specs.Given.{given};
 ghost use Rattle.cj_feature.specs.Feature.{feature, templates_of};
 ghost use Rattle.cj_feature.specs.TreeSet.{tree_if-set, given-set};
 
+mod absent;
 mod check;
 mod city_object;
 mod coordinates;

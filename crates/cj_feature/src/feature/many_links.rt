@@ -7,8 +7,10 @@ ghost use Rattle.cj_spans.specs.Finding.{least};
 ghost use Rattle.cj_spans.specs.Parts.{members_of};
 ghost use Rattle.cj_spans.specs.View.{tree, trees};
 ghost use Rattle.cj_feature.specs.Links.{is_known as is_known_in, listed_in, child, parent, children, parents, part, object_links};
+ghost use Rattle.cj_feature.specs.Absent.{AreAbsent};
 ghost use Rattle.cj_feature.specs.Pairs.{ArePairsOf};
 
+use crate::feature::absent::Absent;
 use crate::feature::links::{self, is_group};
 use crate::feature::pairs::{Ahead, Table};
 use cj_geometry::rule::is_told_before;
@@ -80,18 +82,24 @@ fn check_parent<'a>(
     item: Node<'a>,
     ahead: Ahead<'a>,
     table: &mut Table<'a>,
+    absent: &mut Absent<'a>,
     found: &mut Least,
 ) -> bool
-    requires { ArePairsOf (chars (codes "children")) (members_of (tree objects)) table.old.pairs }
+    requires pairs { ArePairsOf (chars (codes "children")) (members_of (tree objects)) table.old.pairs }
+    requires absent { AreAbsent (members_of (tree objects)) absent.old.texts }
     ensures found { found.new ≡ least found.old (parent (members_of (tree objects.entry)) (tree ahead.entry.name) (tree item.entry)) }
     ensures known { IsTrue result → is_known_in (members_of (tree objects.entry)) (tree item.entry) ≡ true }
     ensures pairs { ArePairsOf (chars (codes "children")) (members_of (tree objects.entry)) table.new.pairs }
+    ensures absent { AreAbsent (members_of (tree objects.entry)) absent.new.texts }
 {
     if is_told_before(*found, item) {
         return false;
     }
     if table.finds("children", "parents", objects, item, ahead.name, ahead) {
         return true;
+    }
+    if absent.finds(objects, item, ahead) {
+        return false;
     }
     links::check_parent(objects, ahead.name, item, found);
     false
@@ -104,12 +112,15 @@ fn check_parents<'a>(
     object: Node<'a>,
     later: Members<'a>,
     table: &mut Table<'a>,
+    absent: &mut Absent<'a>,
     found: &mut Least,
 ) -> bool
-    requires { ArePairsOf (chars (codes "children")) (members_of (tree objects)) table.old.pairs }
+    requires pairs { ArePairsOf (chars (codes "children")) (members_of (tree objects)) table.old.pairs }
+    requires absent { AreAbsent (members_of (tree objects)) absent.old.texts }
     ensures found { found.new ≡ least found.old (parents (members_of (tree objects.entry)) (trees (name.entry, object.entry))) }
     ensures known { IsTrue result → list_any (is_known_in (members_of (tree objects.entry))) (listed_in (chars (codes "parents")) (tree object.entry)) ≡ true }
     ensures pairs { ArePairsOf (chars (codes "children")) (members_of (tree objects.entry)) table.new.pairs }
+    ensures absent { AreAbsent (members_of (tree objects.entry)) absent.new.texts }
 {
     let Some(value) = object.get("parents") else {
         return false;
@@ -118,7 +129,7 @@ fn check_parents<'a>(
     let mut items = value.items();
     while let Some(item) = items.next() {
         let ahead = Ahead { name, items, later };
-        if check_parent(objects, item, ahead, table, found) {
+        if check_parent(objects, item, ahead, table, absent, found) {
             known = true;
         }
     }
@@ -139,15 +150,16 @@ fn check_part(objects: Node, name: Node, object: Node, known: bool, found: &mut 
     links::check_part(objects, name, object, found);
 }
 
-/// The parents of all city objects. The table takes 400 KB of the stack.
+/// The parents of all city objects. What is found takes 800 KB of the stack.
 #[inline(never)]
 fn check_all_parents(objects: Node, found: &mut Least)
     ensures { let all = members_of (tree objects.entry) in found.new ≡ least found.old (flat_map (λ m. parents all m ++ part all m) all) }
 {
     let mut table = Table::new();
+    let mut absent = Absent::new();
     let mut later = objects.members();
     while let Some((name, object)) = later.next() {
-        let known = check_parents(objects, name, object, later, &mut table, found);
+        let known = check_parents(objects, name, object, later, &mut table, &mut absent, found);
         check_part(objects, name, object, known, found);
     }
 }

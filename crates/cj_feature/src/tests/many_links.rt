@@ -160,3 +160,34 @@ fn a_pair_listed_again_by_one_alone(rt: HostRuntime) -> Result<(), Fail> {
     objects_meet(&rt, alloc, &whole, "22 link not mutual")?;
     Ok(())
 }
+
+/// Texts `q0`, `q1` and so on.
+fn absent(alloc: Global) -> Result<String, AllocError> {
+    let mut texts = String::new(alloc);
+    for i in 0..MANY {
+        let comma = comma(i);
+        texts.push_str(&format!(in alloc; r#"{comma}"q{i}""#)?)?;
+    }
+    Ok(texts)
+}
+
+/// Buildings without links, and one with parents that are not there and another.
+fn with_absent(alloc: Global, another: &str) -> Result<String, AllocError> {
+    let others = buildings(alloc)?;
+    let parents = absent(alloc)?;
+    format!(in alloc; r#"{others},"p":{{"type":"Building","parents":[{parents}{another}]}}"#)
+}
+
+#[test]
+fn parents_that_are_not_there(rt: HostRuntime) -> Result<(), Fail> {
+    let alone = with_absent(rt.alloc(), "")?;
+    objects_meet(&rt, rt.alloc(), &alone, "none")?;
+    Ok(())
+}
+
+#[test]
+fn a_parent_among_those_that_are_not_there(rt: HostRuntime) -> Result<(), Fail> {
+    let beside_one = with_absent(rt.alloc(), r#",^"p3000""#)?;
+    objects_meet(&rt, rt.alloc(), &beside_one, "22 link not mutual")?;
+    Ok(())
+}
