@@ -65,7 +65,7 @@ def many_surfaces(n):
 
 
 def one_parent(n, backwards=False):
-    count = n // 52
+    count = n // 60
     ids = [f'"p{i:06}"' for i in range(count)]
     listed = reversed(ids) if backwards else ids
     parts = ",".join(f'{i}:{{"type":"BuildingPart","parents":["b"]}}' for i in ids)

@@ -6,6 +6,7 @@ pub mod HeaderView
 pub mod Links
 pub mod Members
 pub mod Pairs
+pub mod Part
 pub mod Relations
 pub mod Shown
 pub mod TreeSet

@@ -6,6 +6,7 @@ ghost use Rattle.std.specs.Str.{chars};
 ghost use Rattle.cj_spans.specs.Finding.{least};
 ghost use Rattle.cj_spans.specs.Parts.{items_of, members_of};
 ghost use Rattle.cj_spans.specs.View.{tree, trees};
+ghost use Rattle.cj_feature.specs.Part.{part_parents};
 ghost use Rattle.cj_feature.specs.Links.{is_known as is_known_in, has_item as has_item_of, lists as lists_of, listed_in, is_group as is_group_of, child, parent, children, parents, part, object_links, links};
 
 use crate::feature::ids::is_known;
@@ -117,22 +118,28 @@ fn has_known_item(objects: Node, array: Node) -> bool
     false
 }
 
-/// Of the parents of a city object of the second level, one is in the feature.
-pub fn check_part(objects: Node, name: Node, object: Node, found: &mut Least)
-    ensures { found.new ≡ least found.old (part (members_of (tree objects.entry)) (trees (name.entry, object.entry))) }
+/// The array of parents of a city object of the second level; None where there is none, and of any other.
+pub fn parents_of_part<'a>(object: Node<'a>) -> Option<Node<'a>>
+    ensures { option_map tree result ≡ part_parents (tree object.entry) }
 {
     let Some(value) = object.get("parents") else {
-        return;
+        return None;
     };
     match value.kind() {
-        Kind::Array => {
-            if is_part(object) {
-                if !has_known_item(objects, value) {
-                    add(object, Reason::NoParent, found);
-                }
-            }
-        }
-        _ => {}
+        Kind::Array if is_part(object) => Some(value),
+        _ => None,
+    }
+}
+
+/// Of the parents of a city object of the second level, one is in the feature.
+fn check_part(objects: Node, name: Node, object: Node, found: &mut Least)
+    ensures { found.new ≡ least found.old (part (members_of (tree objects.entry)) (trees (name.entry, object.entry))) }
+{
+    let Some(value) = parents_of_part(object) else {
+        return;
+    };
+    if !has_known_item(objects, value) {
+        add(object, Reason::NoParent, found);
     }
 }
 

@@ -4,17 +4,18 @@ ghost use Rattle.std.specs.Prelude.{◌≡◌, ◌++◌, IsTrue, codes, true};
 ghost use Rattle.std.specs.List.{flat_map, list_any};
 ghost use Rattle.std.specs.Str.{chars};
 ghost use Rattle.cj_spans.specs.Finding.{least};
-ghost use Rattle.cj_spans.specs.Parts.{members_of};
+ghost use Rattle.cj_spans.specs.Parts.{items_of, members_of};
 ghost use Rattle.cj_spans.specs.View.{tree, trees};
 ghost use Rattle.cj_feature.specs.Links.{is_known as is_known_in, listed_in, child, parent, children, parents, part, object_links};
 ghost use Rattle.cj_feature.specs.Absent.{AreAbsent};
 ghost use Rattle.cj_feature.specs.Pairs.{ArePairsOf};
 
 use crate::feature::absent::Absent;
+use crate::feature::ids::is_known;
 use crate::feature::links::{self, is_group};
 use crate::feature::pairs::{Ahead, Table};
-use cj_geometry::rule::is_told_before;
-use cj_spans::{Least, Members, Node};
+use cj_geometry::rule::{add, is_told_before};
+use cj_spans::{Least, Members, Node, Reason};
 
 /// A child is in the feature, and lists the city object that is gone over as a parent.
 fn check_child<'a>(
@@ -136,10 +137,44 @@ fn check_parents<'a>(
     known
 }
 
+/// Whether an item of the array of parents is an id in the feature.
+fn has_known_item<'a>(
+    objects: Node<'a>,
+    name: Node<'a>,
+    array: Node<'a>,
+    later: Members<'a>,
+    absent: &mut Absent<'a>,
+) -> bool
+    requires { AreAbsent (members_of (tree objects)) absent.old.texts }
+    ensures known { result ≡ list_any (is_known_in (members_of (tree objects.entry))) (items_of (tree array.entry)) }
+    ensures absent { AreAbsent (members_of (tree objects.entry)) absent.new.texts }
+{
+    let mut items = array.items();
+    while let Some(item) = items.next() {
+        let ahead = Ahead { name, items, later };
+        if !absent.finds(objects, item, ahead) {
+            if is_known(objects, item) {
+                return true;
+            }
+        }
+    }
+    false
+}
+
 /// Of the parents of a city object of the second level, one is in the feature, as may be known.
-fn check_part(objects: Node, name: Node, object: Node, known: bool, found: &mut Least)
-    requires { IsTrue known → list_any (is_known_in (members_of (tree objects))) (listed_in (chars (codes "parents")) (tree object)) ≡ true }
-    ensures { found.new ≡ least found.old (part (members_of (tree objects.entry)) (trees (name.entry, object.entry))) }
+fn check_part<'a>(
+    objects: Node<'a>,
+    name: Node<'a>,
+    object: Node<'a>,
+    later: Members<'a>,
+    known: bool,
+    absent: &mut Absent<'a>,
+    found: &mut Least,
+)
+    requires known { IsTrue known → list_any (is_known_in (members_of (tree objects))) (listed_in (chars (codes "parents")) (tree object)) ≡ true }
+    requires absent { AreAbsent (members_of (tree objects)) absent.old.texts }
+    ensures found { found.new ≡ least found.old (part (members_of (tree objects.entry)) (trees (name.entry, object.entry))) }
+    ensures absent { AreAbsent (members_of (tree objects.entry)) absent.new.texts }
 {
     if known {
         return;
@@ -147,7 +182,12 @@ fn check_part(objects: Node, name: Node, object: Node, known: bool, found: &mut 
     if is_told_before(*found, object) {
         return;
     }
-    links::check_part(objects, name, object, found);
+    let Some(value) = links::parents_of_part(object) else {
+        return;
+    };
+    if !has_known_item(objects, name, value, later, absent) {
+        add(object, Reason::NoParent, found);
+    }
 }
 
 /// The parents of all city objects. What is found takes 800 KB of the stack.
@@ -160,7 +200,7 @@ fn check_all_parents(objects: Node, found: &mut Least)
     let mut later = objects.members();
     while let Some((name, object)) = later.next() {
         let known = check_parents(objects, name, object, later, &mut table, &mut absent, found);
-        check_part(objects, name, object, known, found);
+        check_part(objects, name, object, later, known, &mut absent, found);
     }
 }
 
