@@ -6,7 +6,6 @@ pub mod Links
 pub mod Members
 pub mod Relations
 pub mod Shown
-pub mod TreeSet
 pub mod Typed
 pub mod View
 pub mod Walks
