@@ -2,10 +2,13 @@
 # Measures `cityseq check` on lines that are made to cost, of 125 KB, 1 MB and 8 MB, each beside a usual line of the same
 # length, and how the time grows by a doubling of the length. A run of more than SECONDS is ended.
 #
-#   bench/hostile.sh [SECONDS]      (20 if left out)
+#   bench/hostile.sh [SECONDS [WORD]]      (20 seconds if left out; with a WORD only shapes whose names have it)
 #
-# It builds the program by `rt run`. Needs rt and python3. It is no part of the gate.
+# It builds the program by `rt run`. Needs rt, python3 and cc. It is no part of the gate.
 set -euo pipefail
 cd "$(dirname "$0")"
 (cd ../crates/cityseq && rt run -- filter < ../../examples/sample.city.jsonl > /dev/null)
-python3 hostile/measure.py ../crates/cityseq/out/cityseq "${1:-20}"
+meeting=$(mktemp)
+trap 'rm -f "$meeting"' EXIT
+cc -O2 -o "$meeting" hostile/meeting.c
+python3 hostile/measure.py ../crates/cityseq/out/cityseq "$meeting" "${1:-20}" "${2:-}"

@@ -1,7 +1,10 @@
 #!/usr/bin/env python3
 """Times `cityseq check`, and `cityseq info` where the rules alone do not cost, on lines that are made to cost, each of
-several lengths, beside a usual line of the same length: measure.py PROGRAM SECONDS. A run that takes more than SECONDS is ended, and no longer line of its shape is tried.
-Times are of the processor, so that other work on the machine does not count; what the program takes to start is in them."""
+several lengths, beside a usual line of the same length: measure.py PROGRAM MEETING SECONDS [WORD]. MEETING is the program
+of meeting.c. A run that takes more than SECONDS is ended, and no longer line of its shape is tried. With a WORD only shapes
+whose names have it are measured. Times are of the processor, so that other work on the machine does not count; what the
+program takes to start is in them."""
+import itertools
 import json
 import os
 import resource
@@ -98,10 +101,28 @@ def absent_children(n):
     return feature(building() + "," + group + "," + half)
 
 
-def instances(n):
-    matrix = ",".join(["1"] * 16)
-    last = n // 80 - 1
-    listed = many(n, lambda i: f'{{"type":"GeometryInstance","template":{last},"boundaries":[0],"transformationMatrix":[{matrix}]}}')
+def found(kind, count):
+    """So many lines of the program of meeting.c."""
+    return subprocess.run([sys.argv[2], kind, str(count)], capture_output=True, text=True, check=True).stdout.splitlines()
+
+
+def names_of_few_marks(n):
+    """Names whose marks are nearly all set by a block of them."""
+    return ",".join(f'"{text}":0' for text in found("marks", n // 11))
+
+
+def names_of_one_hash(n):
+    """Names that all have one hash of 64 bits: one of each pair of texts, in order."""
+    count = next(count for count in itertools.count(1) if 2 ** count * (8 * count + 5) > n)
+    pairs = [pair.split(" ") for pair in found("whole", count)]
+    texts = itertools.product(*pairs)
+    return many(n, lambda i: f'"{"".join(next(texts))}":0')
+
+
+def instances(n, template):
+    """Instances, each of the template of a number that is told by its own and by how many there are."""
+    matrix, count = ",".join(["1"] * 16), n // 80
+    listed = many(n, lambda i: f'{{"type":"GeometryInstance","template":{template(i, count)},"boundaries":[0],"transformationMatrix":[{matrix}]}}')
     return feature(building(f',"geometry":[{listed}]'), "[0,0,0]")
 
 
@@ -109,6 +130,11 @@ def many_templates(n):
     template = '{"type":"MultiSurface","lod":"2","boundaries":[[[0,0,0]]]}'
     listed = ",".join([template] * (n // 80))
     return f',"geometry-templates":{{"templates":[{listed}],"vertices-templates":[[0,0,0]]}}'
+
+
+def wide_template(n):
+    template = f'{{"type":"MultiSurface",{many(n, name)},"lod":"2","boundaries":[[[0,0,0]]]}}'
+    return f',"geometry-templates":{{"templates":[{template}],"vertices-templates":[[0,0,0]]}}'
 
 
 SHAPES = {
@@ -121,6 +147,8 @@ SHAPES = {
         geometry("[[0,0,0]]", f',"semantics":{{"surfaces":[{{"type":"+A",{many(n, name)}}}],"values":[0]}}'), "[0,0,0]"),
     "names of one length, alike at both ends": lambda n: feature(
         building("," + many(n, lambda i: f'"{spread("ab", i, True)}{"x" * 16}":0'))),
+    "names that meet in the marks": lambda n: feature(building("," + names_of_few_marks(n))),
+    "names of one hash": lambda n: feature(building("," + names_of_one_hash(n))),
     "names by escapes": lambda n: feature(
         building("," + many(n, lambda i: '"' + "".join(f"\\u{ord(c):04x}" for c in str(i)) + '":0'))),
     "one parent of all": one_parent,
@@ -129,7 +157,9 @@ SHAPES = {
     "a pair listed again and again": pairs_again,
     "parents that are not there": absent_parents,
     "a group's children that are not there": absent_children,
-    "info: instances of the last template": instances,
+    "info: instances of the last template": lambda n: instances(n, lambda i, count: count - 1),
+    "info: instances of templates far apart": lambda n: instances(n, lambda i, count: (i * 7919 + i % 2 * (count // 2)) % count),
+    "info: instances of a template of many members": lambda n: instances(n, lambda i, count: 0),
     "many surfaces": many_surfaces,
     "nests of 60": lambda n: feature(building(f',"attributes":[{many(n, lambda i: "[" * 56 + "]" * 56)}]')),
     "a string of escapes": lambda n: feature(building(f',"attributes":{{"a":"{chr(92)}u0041' + "\\n" * (n // 2) + '"}')),
@@ -137,6 +167,14 @@ SHAPES = {
     "a coordinate of many digits": lambda n: feature(building(), f'[0,0,{"0" if n < 1 else "1"}.{"0" * n}]'),
     "an id of many letters": lambda n: feature(
         building(f',"children":["{"a" * (n // 4)}"]') + f',"{"a" * (n // 4)}":{{"type":"Building","parents":["b"]}}'),
+}
+
+
+# What stands in the header beside lines of a shape; none where it is not told here.
+HEADERS = {
+    "info: instances of the last template": many_templates,
+    "info: instances of templates far apart": many_templates,
+    "info: instances of a template of many members": wide_template,
 }
 
 
@@ -166,14 +204,17 @@ def seconds_of(program, command, path, most):
 
 
 def main():
-    program, most = sys.argv[1], float(sys.argv[2])
+    program, most = sys.argv[1], float(sys.argv[3])
+    word = sys.argv[4] if len(sys.argv) > 4 else ""
     usual_seconds = {}
-    print(f"{'shape':<42}" + "".join(f"{length:>12,}{'of usual':>10}" for length in LENGTHS) + f"{'growth by a doubling':>24}")
+    print(f"{'shape':<46}" + "".join(f"{length:>12,}{'of usual':>10}" for length in LENGTHS) + f"{'growth by a doubling':>24}")
     for shape, line in SHAPES.items():
+        if word not in shape and shape != "usual":
+            continue
         shown, last = "", None
         command = "info" if shape.startswith("info: ") else "check"
         for length in LENGTHS:
-            templates = many_templates(length) if line is instances else ""
+            templates = HEADERS[shape](length) if shape in HEADERS else ""
             with tempfile.NamedTemporaryFile(delete=False) as stream:
                 stream.write((HEADER % templates + line(length)).encode())
             took = seconds_of(program, command, stream.name, most)
@@ -185,7 +226,7 @@ def main():
             growth = (took / last) ** (1 / 3) if last else None
             last = took
             shown += f"{took:>12.3f}{took / usual_seconds[length]:>10.1f}"
-        print(f"{shape:<42}{shown}" + (f"{growth:>24.2f}" if growth else ""))
+        print(f"{shape:<46}{shown}" + (f"{growth:>24.2f}" if growth else ""))
 
 
 if __name__ == "__main__":

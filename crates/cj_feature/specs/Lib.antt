@@ -9,7 +9,6 @@ pub mod Pairs
 pub mod Part
 pub mod Relations
 pub mod Shown
-pub mod TreeSet
 pub mod Typed
 pub mod View
 pub mod Walks

@@ -5,7 +5,7 @@ ghost use Rattle.cj_spans.specs.Parts.{member_of};
 ghost use Rattle.cj_spans.specs.View.{document, document_line, tree, line_of};
 ghost use Rattle.cj_geometry.specs.Given.{given};
 ghost use Rattle.cj_feature.specs.Feature.{feature, templates_of};
-ghost use Rattle.cj_feature.specs.TreeSet.{tree_if-set, given-set};
+ghost use Rattle.cj_geometry.specs.TreeSet.{tree_if-set, given-set};
 
 mod absent;
 mod check;

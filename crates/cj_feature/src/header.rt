@@ -10,12 +10,14 @@ mod check;
 mod parts;
 mod reading;
 mod rules;
+mod templates;
 
 pub use check::check_header;
 use cj_decimal::{Affine, Decimal};
 use cj_geometry::Templates;
-use cj_spans::{Doc, Kind};
+use cj_spans::Doc;
 pub use parts::HeaderParts;
+use templates::template_list;
 
 /// A valid header.
 #[derive(Clone, Copy)]
@@ -23,22 +25,6 @@ pub struct Header<'a> {
     doc: Doc<'a>,
     parts: HeaderParts,
     ghost known: { ArePartsOf (document doc) parts },
-}
-
-/// The templates of a header, by its document.
-pub(crate) fn templates_in(header: Doc) -> Templates
-    ensures { given result ≡ templates_of (document header.entry) }
-{
-    let Some(templates) = header.root().get("geometry-templates") else {
-        return Templates::empty();
-    };
-    let Some(list) = templates.get("templates") else {
-        return Templates::empty();
-    };
-    match list.kind() {
-        Kind::Array => Templates::list(list),
-        _ => Templates::empty(),
-    }
 }
 
 impl<'a> Header<'a> {
@@ -79,7 +65,10 @@ impl<'a> Header<'a> {
     pub fn templates(&self) -> Templates<'a>
         ensures { given result ≡ templates_of (header_tree self.now) }
     {
-        templates_in(self.doc)
+        match template_list(self.doc.root()) {
+            Some(list) => Templates::counted(list, self.parts.templates),
+            None => Templates::empty(),
+        }
     }
 
     /// The document that it is.

@@ -3,6 +3,7 @@ pub mod Grammars
 pub mod Numbers
 pub mod ObjectTypes
 pub mod OfKind
+pub mod Places
 pub mod Repeats
 pub mod Sequences
 pub mod Shapes

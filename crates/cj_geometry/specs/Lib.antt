@@ -6,6 +6,9 @@ pub mod Geometry
 pub mod Given
 pub mod Grammar
 pub mod Lod
+pub mod Lods
 pub mod ObjectTypes
+pub mod Places
 pub mod Rule
 pub mod Table
+pub mod TreeSet

@@ -1,8 +1,8 @@
 //! The level of detail of a geometry (CityJSON 2.0, section 3.1).
 ghost use Rattle.std.specs.Prelude.{◌≡◌, codes, option_map, slice_get};
 ghost use Rattle.std.specs.Str.{chars};
-ghost use Rattle.cj_spans.specs.Parts.{items_of, member_of};
-ghost use Rattle.cj_spans.specs.View.{tree};
+ghost use Rattle.cj_spans.specs.Parts.{member_of};
+ghost use Rattle.cj_spans.specs.View.{tree, items_left};
 ghost use Rattle.cj_geometry.specs.Given.{given};
 ghost use Rattle.cj_geometry.specs.Lod.{chosen, template_lod, is_instance, lod};
 ghost use Rattle.cj_geometry.specs.Rule.{whole_of};
@@ -10,14 +10,14 @@ ghost use Rattle.cj_geometry.specs.Rule.{whole_of};
 use crate::form::INSTANCE;
 use crate::rule::read_whole;
 use crate::templates::Templates;
-use cj_spans::Node;
+use cj_spans::{Items, Node};
 
-/// The item at this index, from 0.
-fn item_at<'a>(node: Node<'a>, index: u64) -> Option<Node<'a>>
-    ensures { option_map tree result ≡ slice_get (items_of (tree node.entry)) index }
+/// The item of this number, from 0, of what is left of a walk.
+pub(crate) fn item_at<'a>(items: Items<'a>, number: u64) -> Option<Node<'a>>
+    ensures { option_map tree result ≡ slice_get (items_left items.entry) number }
 {
-    let mut left = index;
-    for item in node.items() {
+    let mut left = number;
+    for item in items {
         if left == 0 {
             return Some(item);
         }
@@ -32,7 +32,7 @@ fn choose<'a>(index: Node, templates: Templates<'a>) -> Option<Node<'a>>
 {
     match templates.nodes() {
         Some(list) => match read_whole(index) {
-            Some(whole) if whole >= 0 => item_at(list, whole as u64),
+            Some(whole) if whole >= 0 => item_at(list.items(), whole as u64),
             _ => None,
         },
         None => None,
@@ -40,7 +40,7 @@ fn choose<'a>(index: Node, templates: Templates<'a>) -> Option<Node<'a>>
 }
 
 /// Whether the geometry is an instance of a template.
-fn is_an_instance(node: Node) -> bool
+pub(crate) fn is_an_instance(node: Node) -> bool
     ensures { result ≡ is_instance (tree node.entry) }
 {
     match node.get("type") {
@@ -63,7 +63,7 @@ fn lod_of_template<'a>(node: Node, templates: Templates<'a>) -> Option<Node<'a>>
 }
 
 /// The level of detail of a geometry: its `lod`, and of an instance that of its template. None where
-/// there is none.
+/// there is none. [`crate::Lods`] finds those of many instances faster.
 pub fn lod_of<'a>(node: Node<'a>, templates: Templates<'a>) -> Option<Node<'a>>
     ensures { option_map tree result ≡ lod (given templates.entry) (tree node.entry) }
 {

@@ -6,7 +6,7 @@ ghost use Rattle.cj_spans.specs.View.{tree};
 use crate::rule::count_items;
 use cj_spans::Node;
 
-/// A list of templates. It is counted once, when it is made, and not for each instance.
+/// A list of templates. It is counted once, and not for each instance.
 #[derive(Clone, Copy)]
 struct List<'a> {
     node: Node<'a>,
@@ -29,7 +29,7 @@ pub struct Templates<'a> {
 }
 
 impl<'a> Templates<'a> {
-    ghost use Rattle.std.specs.Prelude.{option_map};
+    ghost use Rattle.std.specs.Prelude.{option_map, nat_eq};
     ghost use Rattle.cj_spans.specs.declared.token.Kind.TheVariants.{Array};
     ghost use Rattle.cj_spans.specs.Parts.{kind_of};
     ghost use Rattle.cj_geometry.specs.Geometry.{listed, empty, itself, list_of, template_count, is_itself};
@@ -40,7 +40,15 @@ impl<'a> Templates<'a> {
         requires { kind_of (tree node) ≡ Array }
         ensures { given result ≡ listed (tree node.entry) }
     {
-        let count = count_items(node);
+        Templates::counted(node, count_items(node))
+    }
+
+    /// Those of the header's list, which is an array and was counted before: it is not gone over.
+    pub fn counted(node: Node<'a>, count: u64) -> Templates<'a>
+        requires list { kind_of (tree node) ≡ Array }
+        requires count { count ≡ length (items_of (tree node)) }
+        ensures { given result ≡ listed (tree node.entry) }
+    {
         Templates {
             choice: Choice::Listed(List { node, count }),
         }
@@ -62,6 +70,13 @@ impl<'a> Templates<'a> {
         Templates {
             choice: Choice::Itself,
         }
+    }
+
+    /// Whether there is none to name.
+    pub fn is_empty(self) -> bool
+        ensures { result ≡ nat_eq (template_count (given self.entry)) 0 }
+    {
+        self.count() == 0
     }
 
     /// The list, if there is one.

@@ -1,5 +1,5 @@
 -- Counts that go up, number by number.
-use Rattle.std.proofs.Common.{◌≡◌, ℕ, ◌+◌, ◌-◌, ◌^◌, ◌<◌, List, [], ◌∷◌, length, get_or, sym, ap, subst, refl, ◌∙◌, cond, arith, Bool, true, false, nat_eq}
+use Rattle.std.proofs.Common.{◌≡◌, ℕ, ◌+◌, ◌^◌, ◌<◌, List, [], ◌∷◌, length, get_or, sym, ap, subst, refl, ◌∙◌, cond, arith, Bool, true, false, nat_eq}
 use Rattle.std.specs.List.{filter}
 use Rattle.std.proofs.Math.ListN.{set, length-set}
 use Rattle.std.proofs.lemmas.Bool.{eqb-true, eqb-false}

@@ -12,6 +12,7 @@ ghost use Rattle.cj_feature.specs.Members.{items_if};
 ghost use Rattle.cj_feature.specs.Shown.{value_of, first_maps, are_fixed, parts_box, ArePartsOf};
 
 use crate::header::HeaderParts;
+use crate::header::templates::count_templates;
 use cj_decimal::{Affine, Decimal};
 use cj_spans::{Items, Node};
 
@@ -110,5 +111,6 @@ pub fn read_parts(root: Node, with_box: bool) -> HeaderParts
         translate,
         with_box,
         maps,
+        templates: count_templates(root),
     }
 }

@@ -1,8 +1,8 @@
 //! The level of detail of a geometry: a row wants the place and the spelling of the value that is
 //! answered.
 use super::{Given, line_of, list_line, templates_of, tokens_of};
-use crate::lod_of;
-use cj_spans::{Doc, Node};
+use crate::{Lods, Templates, lod_of};
+use cj_spans::{Doc, Kind, Node};
 use std::alloc::{AllocError, Global};
 use std::process::Abort;
 use std::test::Fail;
@@ -130,5 +130,65 @@ fn instances_of_no_template_have_none(rt: HostRuntime) -> Result<(), Fail> {
     answers(&rt, rt.alloc(), Given::Empty, instance, OF_NO_TEMPLATE)?;
     answers(&rt, rt.alloc(), Given::Itself, instance, OF_NO_TEMPLATE)?;
     answers(&rt, rt.alloc(), Given::List("[]"), instance, OF_NO_TEMPLATE)?;
+    Ok(())
+}
+
+/// A list of so many templates, each with its number as its level of detail.
+fn numbered(alloc: Global, count: u32) -> Result<String, AllocError> {
+    let mut list = String::from_str(alloc, "[0")?;
+    for number in 0..count {
+        let template = format!(in alloc; ",{{\"lod\":{number}}}")?;
+        list.push_str(template.as_str())?;
+    }
+    list.push_str("]")?;
+    Ok(list)
+}
+
+/// The level of detail of each of these geometries, asked one after another.
+fn asked_in_turn(
+    rt: &impl Abort,
+    alloc: Global,
+    geometries: Node,
+    list: Node,
+) -> Result<String, AllocError> {
+    let templates = match list.kind() {
+        Kind::Array => Templates::list(list),
+        _ => panic!(rt; "no list of templates"),
+    };
+    let mut lods = Lods::beside(templates);
+    let mut found = String::new(alloc);
+    for geometry in geometries.items() {
+        let bytes = match lods.lod_of(geometry) {
+            Some(lod) => lod.bytes(),
+            None => b"none",
+        };
+        found.push_str(str::from_utf8(bytes).expect(rt, "a text"))?;
+        found.push_str(" ")?;
+    }
+    Ok(found)
+}
+
+#[test]
+fn instances_of_a_long_list_find_their_templates(rt: HostRuntime) -> Result<(), Fail> {
+    let line = r#"[
+        {"type":"GeometryInstance","template":300}, {"type":"GeometryInstance","template":300},
+        {"type":"GeometryInstance","template":1}, {"type":"GeometryInstance","template":299},
+        {"type":"GeometryInstance","template":0}, {"type":"Solid","lod":"own","template":7},
+        {"type":"GeometryInstance","template":301}, {"type":"GeometryInstance","template":151},
+        {"type":"GeometryInstance","template":150}, {"type":"GeometryInstance","template":152}
+        ]"#;
+    let list = numbered(rt.alloc(), 300)?;
+    let list_tokens = tokens_of(&rt, rt.alloc(), list.as_bytes());
+    let tokens = tokens_of(&rt, rt.alloc(), line.as_bytes());
+    let found = asked_in_turn(
+        &rt,
+        rt.alloc(),
+        Doc::of(line.as_bytes(), tokens.as_slice()).root(),
+        Doc::of(list.as_bytes(), list_tokens.as_slice()).root(),
+    )?;
+    assert_eq!(rt;
+        found.as_str(),
+        "299 299 0 298 none \"own\" none 150 149 151 "
+    );
     Ok(())
 }

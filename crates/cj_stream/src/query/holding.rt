@@ -1,14 +1,12 @@
 //! Whether a feature has one of some ids, types or LoDs.
-ghost use Rattle.std.specs.Prelude.{◌≡◌, map, string_bytes};
+ghost use Rattle.std.specs.Prelude.{◌≡◌, map, option_map, string_bytes};
 ghost use Rattle.cj_spans.specs.View.{tree};
-ghost use Rattle.cj_geometry.specs.Given.{given};
-ghost use Rattle.cj_geometry.specs.Lod.{lod as lod_in};
 ghost use Rattle.cj_feature.specs.HeaderView.{header_tree};
 ghost use Rattle.cj_feature.specs.View.{feature_tree};
 ghost use Rattle.cj_stream.specs.Asked.{there_is, is_one_of as is_one, has_id as asked_id, has_type as asked_type, has_lod as asked_lod};
 
 use cj_feature::{Feature, Header};
-use cj_geometry::{Templates, lod_of};
+use cj_geometry::{Lods, lod_of};
 use cj_spans::Node;
 
 /// Whether a node is one of these texts.
@@ -42,25 +40,50 @@ pub fn has_type(types: &[bool; 33], feature: &Feature) -> bool
     false
 }
 
-/// Whether the LoD of a geometry is one of these.
-fn has_one(lods: &[String], geometry: Node, templates: Templates) -> bool
-    ensures { result ≡ there_is (is_one (map string_bytes lods.now)) (lod_in (given templates.entry) (tree geometry.entry)) }
+/// Whether there is an LoD, and it is one of these.
+fn is_one_lod(lods: &[String], lod: Option<Node>) -> bool
+    ensures { result ≡ there_is (is_one (map string_bytes lods.now)) (option_map tree lod.entry) }
 {
-    match lod_of(geometry, templates) {
+    match lod {
         Some(lod) => is_one_of(lods, lod),
         None => false,
     }
+}
+
+/// Whether the LoD of some geometry is one of these, each looked up alone.
+fn has_lod_alone(lods: &[String], feature: &Feature, header: &Header) -> bool
+    ensures { result ≡ asked_lod (map string_bytes lods.now) (header_tree header.now) (feature_tree feature.now) }
+{
+    let templates = header.templates();
+    for geometry in feature.geometries() {
+        if is_one_lod(lods, lod_of(geometry, templates)) {
+            return true;
+        }
+    }
+    false
+}
+
+/// The same, with what is kept of earlier look-ups. It takes 12 KiB of the stack, and some time for that.
+#[inline(never)]
+fn has_lod_together(lods: &[String], feature: &Feature, header: &Header) -> bool
+    ensures { result ≡ asked_lod (map string_bytes lods.now) (header_tree header.now) (feature_tree feature.now) }
+{
+    let mut known = Lods::beside(header.templates());
+    for geometry in feature.geometries() {
+        if is_one_lod(lods, known.lod_of(geometry)) {
+            return true;
+        }
+    }
+    false
 }
 
 /// Whether the LoD of some geometry is one of these. An instance has that of its template.
 pub fn has_lod(lods: &[String], feature: &Feature, header: &Header) -> bool
     ensures { result ≡ asked_lod (map string_bytes lods.now) (header_tree header.now) (feature_tree feature.now) }
 {
-    let templates = header.templates();
-    for geometry in feature.geometries() {
-        if has_one(lods, geometry, templates) {
-            return true;
-        }
+    if header.templates().is_empty() {
+        has_lod_alone(lods, feature, header)
+    } else {
+        has_lod_together(lods, feature, header)
     }
-    false
 }

@@ -6,7 +6,7 @@ ghost use Rattle.cj_stream.specs.Tallied.{class_of as lod_class, type_numbers, l
 ghost use Rattle.cj_stream.specs.TallySink.{RisesBy, Widens};
 
 use cj_feature::Feature;
-use cj_geometry::lod_of;
+use cj_geometry::{Lods, lod_of};
 use cj_spans::Node;
 
 /// The class of an LoD that does not begin with `0` to `4`, and of none.
@@ -41,14 +41,37 @@ pub fn count_types(counts: &mut [u64; 33], feature: &Feature)
     }
 }
 
-/// Counts the geometries of a feature by the classes of their LoDs.
-pub fn count_lods(counts: &mut [u64; 6], feature: &Feature)
+/// Counts the geometries of a feature by the classes of their LoDs, each looked up alone.
+fn count_alone(counts: &mut [u64; 6], feature: &Feature)
     ensures { RisesBy 6 counts.old (lod_classes (feature_header feature.now) (feature_tree feature.now)) counts.new }
 {
     let templates = feature.templates();
     for geometry in feature.geometries() {
         let class = class_of(lod_of(geometry, templates));
         counts[class] = counts[class].saturating_add(1);
+    }
+}
+
+/// The same, with what is kept of earlier look-ups. It takes 12 KiB of the stack, and some time for that.
+#[inline(never)]
+fn count_together(counts: &mut [u64; 6], feature: &Feature)
+    ensures { RisesBy 6 counts.old (lod_classes (feature_header feature.now) (feature_tree feature.now)) counts.new }
+{
+    let mut lods = Lods::beside(feature.templates());
+    for geometry in feature.geometries() {
+        let class = class_of(lods.lod_of(geometry));
+        counts[class] = counts[class].saturating_add(1);
+    }
+}
+
+/// Counts the geometries of a feature by the classes of their LoDs.
+pub fn count_lods(counts: &mut [u64; 6], feature: &Feature)
+    ensures { RisesBy 6 counts.old (lod_classes (feature_header feature.now) (feature_tree feature.now)) counts.new }
+{
+    if feature.templates().is_empty() {
+        count_alone(counts, feature);
+    } else {
+        count_together(counts, feature);
     }
 }
 

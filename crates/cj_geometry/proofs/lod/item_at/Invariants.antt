@@ -1,7 +1,6 @@
 use Rattle.std.proofs.Common.{◌≡◌, slice_get}
-use Rattle.cj_spans.specs.Parts.{items_of}
-use Rattle.cj_spans.specs.View.{tree, items_left}
+use Rattle.cj_spans.specs.View.{items_left}
 use Rattle.cj_geometry.proofs.lod.item_at.Given as goal
 
 abbrev pub invariant-loop-item : goal.invariant-loop-item
-invariant-loop-item l = slice_get (items_left l.item-iterator) l.left ≡ slice_get (items_of (tree l.node)) l.index
+invariant-loop-item l = slice_get (items_left l.item-iterator) l.left ≡ slice_get (items_left l.items) l.number

@@ -6,7 +6,7 @@ use Rattle.cj_feature.specs.Walks.{geometries_left}
 use Rattle.cj_feature.specs.HeaderView.{header_tree}
 use Rattle.cj_feature.specs.View.{feature_tree}
 use Rattle.cj_stream.specs.Asked.{there_is, is_one_of, has_lod}
-use Rattle.cj_stream.proofs.query.holding.has_lod.Given as goal
+use Rattle.cj_stream.proofs.query.holding.has_lod_alone.Given as goal
 
 abbrev pub invariant-loop-geometry : goal.invariant-loop-geometry
 invariant-loop-geometry l = list_any (λ g. there_is (is_one_of (map string_bytes l.lods)) (lod (given l.templates) g)) (geometries_left l.geometry-iterator) ≡ has_lod (map string_bytes l.lods) (header_tree l.header) (feature_tree l.feature)

@@ -5,7 +5,7 @@ use Rattle.cj_feature.specs.View.{feature_tree, feature_header}
 use Rattle.cj_feature.specs.Walks.{geometries_left}
 use Rattle.cj_stream.specs.Tallied.{class_of, lod_classes}
 use Rattle.cj_stream.proofs.Counted.{Counting}
-use Rattle.cj_stream.proofs.tally.adding.count_lods.Given as goal
+use Rattle.cj_stream.proofs.tally.adding.count_alone.Given as goal
 
 abbrev pub invariant-loop-geometry : goal.invariant-loop-geometry
 invariant-loop-geometry l =

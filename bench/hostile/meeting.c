@@ -1,0 +1,106 @@
+/* Finds names that meet in the hash by which names are looked up (hash_of, in cj_spans/specs/Hash.antt).
+ *
+ *   meeting marks COUNT     so many names, one a line, whose marks all lie in one 32nd of the places for marks: a block
+ *                           of them sets nearly all marks there, so that both marks of each other one are set
+ *   meeting whole PAIRS     so many pairs of texts, a pair a line with a space between. However one of each pair is
+ *                           taken, in order, these texts together have one and the same hash of 64 bits: N pairs are
+ *                           2^N names
+ */
+#include <stdint.h>
+#include <stdio.h>
+#include <stdlib.h>
+#include <string.h>
+
+static const uint64_t START = 14695981039346656037u, FACTOR = 11400714819323198485u;
+static const char LETTERS[] = "ABCDEFGHIJKLMNOPQRSTUVWXYZabcdefghijklmnopqrstuvwxyz0123456789-_";
+
+/* Of texts of five letters so many are tried, in a table of so many places. */
+enum { DIGITS = 5, ALL = 1 << 30, TEXTS = 3 << 23, PLACES = 1 << 25 };
+
+/* The state after one code point more. */
+static uint64_t step(uint64_t state, uint32_t point) {
+    uint64_t product = (state ^ point) * FACTOR;
+    return product ^ product >> 32;
+}
+
+/* The text of a number, in digits of 64, and the state after it. */
+static uint64_t text_of(uint64_t state, uint64_t number, int digits, char *text) {
+    for (int i = 0; i < digits; i++) {
+        text[i] = LETTERS[number >> 6 * i & 63];
+        state = step(state, (uint32_t)text[i]);
+    }
+    text[digits] = 0;
+    return state;
+}
+
+static void names_of_few_marks(long count) {
+    char text[16];
+    for (uint64_t number = 0; count > 0; number++) {
+        uint64_t hash = text_of(START, number, 6, text);
+        if ((hash & 65535) < 2048 && (hash >> 32 & 65535) < 2048) {
+            puts(text);
+            count--;
+        }
+    }
+}
+
+/* Whether a code point can stand in a JSON string as it is. */
+static int is_plain(uint32_t point) {
+    return point >= 32 && point != '"' && point != '\\' && point != 127 && (point < 0xD800 || point > 0xDFFF);
+}
+
+/* Writes a code point in UTF-8. */
+static void put_point(uint32_t point) {
+    if (point < 0x80) {
+        putchar((int)point);
+    } else if (point < 0x800) {
+        printf("%c%c", 0xC0 | point >> 6, 0x80 | (point & 63));
+    } else if (point < 0x10000) {
+        printf("%c%c%c", 0xE0 | point >> 12, 0x80 | (point >> 6 & 63), 0x80 | (point & 63));
+    } else {
+        printf("%c%c%c%c", 0xF0 | point >> 18, 0x80 | (point >> 12 & 63), 0x80 | (point >> 6 & 63), 0x80 | (point & 63));
+    }
+}
+
+/* Two texts of `DIGITS` letters whose states differ in the lowest 20 bits alone: a last code point for each makes the
+ * states the same. They are written; the answer is the state after both. */
+static uint64_t pair_from(uint64_t state, uint32_t *table) {
+    char text[16], other[16];
+    memset(table, 0xFF, PLACES * sizeof *table);
+    for (uint32_t tried = 0; tried < TEXTS; tried++) {
+        uint32_t number = tried * 2654435769u % ALL;
+        uint64_t mine = text_of(state, number, DIGITS, text);
+        uint64_t place = (mine >> 20) * FACTOR >> 39;
+        for (; table[place] != UINT32_MAX; place = (place + 1) % PLACES) {
+            uint64_t difference = text_of(state, table[place], DIGITS, other) ^ mine;
+            if (difference >> 20) continue;
+            for (uint32_t last = 'a'; last <= 'z'; last++) {
+                if (!is_plain(last ^ (uint32_t)difference)) continue;
+                printf("%s%c %s", text, (int)last, other);
+                put_point(last ^ (uint32_t)difference);
+                putchar('\n');
+                return step(mine, last);
+            }
+        }
+        table[place] = number;
+    }
+    fputs("no pair was found\n", stderr);
+    exit(1);
+}
+
+int main(int count, char **words) {
+    if (count == 3 && !strcmp(words[1], "marks")) {
+        names_of_few_marks(atol(words[2]));
+        return 0;
+    }
+    if (count == 3 && !strcmp(words[1], "whole")) {
+        uint32_t *table = malloc(PLACES * sizeof *table);
+        uint64_t state = START;
+        if (!table) return 1;
+        for (long left = atol(words[2]); left > 0; left--) state = pair_from(state, table);
+        free(table);
+        return 0;
+    }
+    fputs("meeting marks COUNT | meeting whole PAIRS\n", stderr);
+    return 2;
+}
