@@ -13,8 +13,8 @@ ghost use Rattle.cj_geometry.specs.Rule.{one, repeats_of, repeats, distinct};
 ghost use Rattle.cj_geometry.specs.Blocks.{is_named, repeats_in, number_of, are_marked};
 ghost use Rattle.cj_geometry.specs.Gathered.{gathered};
 
-use crate::rule::{add, is_told_before};
 use crate::rule::blocks::{Block, MARKS, clear, mark};
+use crate::rule::{add, is_told_before};
 use cj_spans::{Least, Members, Node, Reason};
 
 /// At most so many names are compared each with each.
