@@ -19,11 +19,11 @@ HEADER = ('{"type":"CityJSON","version":"2.0","transform":{"scale":[1,1,1],"tran
 
 
 def many(length, item):
-    """Items from the 0th on, with commas between them, of about this length together."""
+    """Items from the 0th on, with commas between them, of about so many bytes together."""
     parts, taken = [], 0
     while taken < length:
         parts.append(item(len(parts)))
-        taken += len(parts[-1]) + 1
+        taken += len(parts[-1].encode()) + 1
     return ",".join(parts)
 
 
