@@ -1,15 +1,13 @@
 -- Texts that are no ids.
-use Rattle.std.proofs.Common.{◌≡◌, ℕ, zero, suc, ◌<◌, ◌/◌, ◌%◌, Bool, true, false, ◌||◌, get_or, List, [], ◌∷◌, Option, Some, None, arith, refl, sym, ap, ◌∙◌}
+use Rattle.std.proofs.Common.{◌≡◌, ℕ, zero, suc, true, false, ◌||◌, get_or, List, [], ◌∷◌, Option, Some, None, arith, refl, sym, ap, ◌∙◌}
 use Rattle.std.specs.List.{list_any}
 use Rattle.std.proofs.Math.ListN.{replicate}
 use Rattle.std.proofs.lemmas.List.{get_or_past}
 use Rattle.cj_spans.specs.declared.node.Node.{Node}
 use Rattle.cj_spans.specs.Tree.{Tree}
 use Rattle.cj_spans.specs.Parts.{text_of, are_same_texts}
-use Rattle.cj_spans.specs.Hash.{hash_of}
 use Rattle.cj_geometry.proofs.Repeats.{same_texts}
 use Rattle.cj_feature.specs.Links.{same_text, is_known}
-use Rattle.cj_feature.specs.Absent.{bucket_of}
 
 all_none : (n i : ℕ) → get_or (replicate {A = Option Node} n None) i None ≡ None
 all_none zero i = get_or_past [] i None (omega arith)
@@ -19,11 +17,6 @@ all_none (suc n) (suc i) = all_none n i
 -- no place holds a text at first
 pub none_noted : (n i : ℕ) (t : Node) → get_or (replicate n None) i None ≡ Some t → ⊥
 none_noted n i t e = let none = all_none n i in let no : None ≡ Some t = sym none ∙ e in cc
-
--- texts of two buckets differ
-pub other_bucket : (t u : Tree) (v : Bool) → same_text t u ≡ v → (bucket_of t ≡ bucket_of u → v ≡ false) → v ≡ false
-other_bucket t u true e h = h (ap (λ x. hash_of x % 512) (same_texts (text_of t) (text_of u) e))
-other_bucket t u false e h = refl
 
 -- a text is an id wherever one of the same text is
 pub known_same : (objects : List (Tree × Tree)) (t u : Tree) → same_text t u ≡ true → is_known objects t ≡ false → is_known objects u ≡ false

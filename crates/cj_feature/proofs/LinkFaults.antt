@@ -66,10 +66,6 @@ to-flat_map g (y ∷ xs) a x h k = go (first-or y xs x h) (λ r. to-flat_map g x
 false-not : (b : Bool) → b ≡ false → b ≡ true → ⊥
 false-not b f t = cc
 
-two-ways : (b : Bool) → (b ≡ true) ⊎ (b ≡ false)
-two-ways true = inl refl
-two-ways false = inr refl
-
 from-and : (a b : Bool) → a && b ≡ true → (a ≡ true) × (b ≡ true)
 from-and true b h = (refl, h)
 from-and false b h = cc
@@ -108,9 +104,6 @@ from-texts (Some s) (Some t) h = (s, refl, ap (λ z. Some z) (sym ((bytes_decide
 
 to-texts : (o p : Option (List ℕ)) (t : List ℕ) → o ≡ Some t → p ≡ Some t → are_same_texts o p ≡ true
 to-texts o p t h k = rw (h, k) ((bytes_decides t t).1 refl)
-
-same_some : (s t : List ℕ) → Some s ≡ Some t → s ≡ t
-same_some s t h = cc
 
 -- a text of the one is the text of the other
 carried : (t u : Tree) (b : List ℕ) → same_text t u ≡ true → text_of u ≡ Some b → text_of t ≡ Some b
