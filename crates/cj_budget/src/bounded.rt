@@ -86,8 +86,9 @@ impl<T: Copy> Bounded<T> {
         }
     }
 
-    /// The same of a list that is not full, for callers who know that it is not: it costs a test of
-    /// the room and a store.
+    /// Adds an element at the end of a list that is not full, for callers who know that it is not: it
+    /// costs a test of the room and a store. A refusal changes nothing. Where there is room for the limit
+    /// it takes no memory.
     #[inline(always)]
     pub fn put(&mut self, x: T) -> Result<(), NoMemory>
         requires { length self.old.elements < self.old.limit }
