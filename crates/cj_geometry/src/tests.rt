@@ -12,6 +12,7 @@ mod names;
 mod object_types;
 mod pairs;
 mod surfaces;
+mod templates;
 mod types;
 mod values;
 mod wholes;

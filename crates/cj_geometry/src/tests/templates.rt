@@ -1,0 +1,72 @@
+//! How many templates there are to name: a row wants whether there is none, and the numbers below 4 that
+//! name one.
+use super::tokens_of;
+use crate::rule::count_items;
+use crate::{Templates, check_geometry};
+use cj_spans::{Doc, Kind, Least, Node};
+use std::alloc::{AllocError, Global};
+use std::process::Abort;
+use std::test::Fail;
+
+/// The templates of a list that was counted to have so many items.
+fn counted<'a>(rt: &impl Abort, list: Node<'a>, count: u64) -> Templates<'a> {
+    assert!(rt; count_items(list) == count);
+    match list.kind() {
+        Kind::Array => Templates::counted(list, count),
+        _ => panic!(rt; "no list of templates"),
+    }
+}
+
+/// Whether an instance may name the template of this number.
+fn is_named(
+    rt: &impl Abort,
+    alloc: Global,
+    templates: Templates,
+    number: u64,
+) -> Result<bool, AllocError> {
+    let line = format!(in alloc;
+        r#"{{"type":"GeometryInstance","template":{number},"boundaries":[0],"transformationMatrix":[1,0,0,0,0,1,0,0,0,0,1,0,0,0,0,1]}}"#
+    )?;
+    let tokens = tokens_of(rt, alloc, line.as_bytes());
+    let node = Doc::of(line.as_bytes(), tokens.as_slice()).root();
+    let mut found = Least::new();
+    check_geometry(node, Some(1), templates, &mut found);
+    Ok(found.get().is_none())
+}
+
+/// Templates as a row tells them.
+fn shown(rt: &impl Abort, alloc: Global, templates: Templates) -> Result<String, AllocError> {
+    let mut text = String::from_str(alloc, if templates.is_empty() { "none" } else { "some" })?;
+    for number in 0..4 {
+        if is_named(rt, alloc, templates, number)? {
+            let word = format!(in alloc; " {number}")?;
+            text.push_str(word.as_str())?;
+        }
+    }
+    Ok(text)
+}
+
+#[test]
+fn lists_that_were_counted(rt: HostRuntime) -> Result<(), Fail> {
+    let rows: [(&str, u64, &str); 3] = [
+        ("[]", 0, "none"),
+        ("[{}]", 1, "some 0"),
+        ("[{},null,[0,1]]", 3, "some 0 1 2"),
+    ];
+    for (line, count, want) in rows.iter() {
+        let tokens = tokens_of(&rt, rt.alloc(), line.as_bytes());
+        let list = Doc::of(line.as_bytes(), tokens.as_slice()).root();
+        let found = shown(&rt, rt.alloc(), counted(&rt, list, *count))?;
+        assert_eq!(&rt; found.as_str(), *want, "{line}");
+    }
+    Ok(())
+}
+
+#[test]
+fn no_list_has_none_to_name(rt: HostRuntime) -> Result<(), Fail> {
+    let empty = shown(&rt, rt.alloc(), Templates::empty())?;
+    assert_eq!(&rt; empty.as_str(), "none");
+    let itself = shown(&rt, rt.alloc(), Templates::template())?;
+    assert_eq!(&rt; itself.as_str(), "none");
+    Ok(())
+}
