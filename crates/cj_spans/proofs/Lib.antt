@@ -13,6 +13,7 @@ pub mod Fronts
 pub mod Forests
 pub mod Standing
 pub mod WholeNumbers
+pub mod Colons
 pub mod Vectors
 pub mod Verdicts
 pub mod Endings

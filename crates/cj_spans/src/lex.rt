@@ -1,7 +1,8 @@
 //! How far the spelling of a scalar or a name has been read.
-ghost use Rattle.std.specs.Prelude.{◌≡◌, ◌≤◌, ◌<◌, ℕ, length, suc, Some, true};
+ghost use Rattle.std.specs.Prelude.{◌≡◌, ◌≤◌, ◌<◌, ℕ, length, suc, IsTrue, Some, true};
 ghost use Rattle.cj_spans.specs.declared.lex.Lex.{Lex as LexOf};
-ghost use Rattle.cj_spans.specs.declared.lex.Lex.TheVariants.{InText};
+ghost use Rattle.cj_spans.specs.declared.lex.Lex.TheVariants.{InText, TextDone};
+ghost use Rattle.cj_spans.specs.Json.{byte as byte_of};
 ghost use Rattle.cj_spans.specs.Machine.{is_digit as is_digit_of, lex_start as lex_start_of, lex_step as lex_step_of, lex_kind as lex_kind_of, one as one_of, hex as hex_of, mark as mark_of, point_or_mark as point_or_mark_of, zero_or_whole as zero_or_whole_of, sign_mark as sign_mark_of, text_step as text_step_of, escape_step as escape_step_of, digit_or as digit_or_of, Continues, Halts};
 
 use crate::bytes::{is_digit, is_escape, is_hex, is_plain};
@@ -288,7 +289,19 @@ pub struct Reach {
     pub read: Lex,
 }
 
-/// Reads on in the scalar that began at `start`, up to the first byte that does not go on with it.
+/// Whether the quote stands here that ends a string, of which what stands before it has been read.
+#[inline(always)]
+fn ends_text(line: &[u8], place: usize, read: Lex) -> bool
+    ensures { IsTrue result → (place < length line.now) × (lex_step_of read (byte_of line.now place) ≡ Some TextDone) }
+{
+    match read {
+        Lex::InText => place < line.len() && line[place] == b'"',
+        _ => false,
+    }
+}
+
+/// Reads on in the scalar that began at `start`, up to the first byte that does not go on with it. Most strings
+/// end at the first byte that does not stand for itself.
 #[inline(always)]
 pub fn read_atom(line: &[u8], start: usize, first: Lex) -> Reach
     requires within { start < length line.now }
@@ -297,8 +310,14 @@ pub fn read_atom(line: &[u8], start: usize, first: Lex) -> Reach
     ensures order { start < result.stop }
     ensures end { result.stop ≤ length line.now }
 {
-    let mut read = first;
     let mut stop = skip(line, first, start + 1);
+    if ends_text(line, stop, first) {
+        return Reach {
+            stop: stop + 1,
+            read: Lex::TextDone,
+        };
+    }
+    let mut read = first;
     while stop < line.len() {
         match lex_step(read, line[stop]) {
             Some(next) => {

@@ -10,7 +10,8 @@ ghost use Rattle.cj_spans.specs.Begins.{IsFirstFault, IsFirstTooDeep};
 ghost use Rattle.cj_spans.specs.Scan.{IsScanOf, AreSized, KeepsLaw};
 ghost use Rattle.cj_spans.specs.Judgement.{Judgement, IsAnswerOf};
 ghost use Rattle.cj_spans.specs.Json.{byte as byte_of};
-ghost use Rattle.cj_spans.specs.Machine.{state, in_atom, phase_after, EndAnswers, Grown, BeginsAtom, BeginsValueNext, InArray, StaysInArrayNext, RunAnswers};
+ghost use Rattle.cj_spans.specs.declared.token.Token.{Token as TokenOf};
+ghost use Rattle.cj_spans.specs.Machine.{State, state, between, in_atom, ComesTo, phase_after, EndAnswers, Grown, BeginsAtom, BeginsValueNext, InArray, StaysInArrayNext, RunAnswers};
 
 use crate::fault::ScanFault;
 use crate::lex::{Lex, lex_kind, read_atom};
@@ -57,7 +58,30 @@ fn end_atom(
     }
 }
 
-/// Goes on after a move: past a scalar or a name, past the numbers of an array, or to the next byte.
+/// Goes on past the colon that stands right behind a name.
+#[inline(always)]
+fn pass_colon(line: &[u8], from: Next) -> Next
+    ensures answer { (s : State) (ks : List ℕ) (ts : List TokenOf) (p : ℕ) → ComesTo line.now s (state (between from.mode) ks ts from.place p)
+        → ComesTo line.now s (state (between result.mode) ks ts result.place p) }
+    ensures order { from.place ≤ result.place }
+    ensures end { from.place ≤ length line.now → result.place ≤ length line.now }
+{
+    match from.mode {
+        Mode::AfterName => {
+            if from.place < line.len() && line[from.place] == b':' {
+                Next {
+                    mode: Mode::Ready,
+                    place: from.place + 1,
+                }
+            } else {
+                from
+            }
+        }
+        _ => from,
+    }
+}
+
+/// Goes on after a move: past a scalar, a name and its colon, past the numbers of an array, or to the next byte.
 #[inline(always)]
 fn follow(
     line: &[u8],
@@ -88,7 +112,10 @@ fn follow(
         }),
         Move::To(mode) => Ok(pass_numbers(line, place, mode, depth, tokens)),
         Move::Open(mode) => Ok(pass_numbers(line, place, mode, depth, tokens)),
-        Move::Atom(next, first) => end_atom(line, place, next, first, tokens),
+        Move::Atom(next, first) => match end_atom(line, place, next, first, tokens) {
+            Ok(next) => Ok(pass_colon(line, next)),
+            Err(fault) => Err(fault),
+        },
     }
 }
 

@@ -115,6 +115,9 @@ fn begin_value(
     requires room { length tokens.old.elements < tokens.old.limit }
     ensures { ReadsByte (begin_value_of byte) place result tokens.old tokens.new stack.old stack.new }
 {
+    if byte == b'"' {
+        return Ok(Move::Atom(Mode::After, Lex::InText));
+    }
     if byte == b'[' {
         return open(Kind::Array, Mode::FirstItem, place, tokens, stack);
     }

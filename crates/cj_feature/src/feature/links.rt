@@ -143,11 +143,14 @@ fn check_part(objects: Node, name: Node, object: Node, found: &mut Least)
     }
 }
 
-/// The links of a city object.
+/// The links of a city object. Where it lists no parents, nothing can be wrong with them.
 fn check_object_links(objects: Node, name: Node, object: Node, found: &mut Least)
     ensures { found.new ≡ least found.old (object_links (members_of (tree objects.entry)) (trees (name.entry, object.entry))) }
 {
     check_children(objects, name, object, found);
+    if object.get("parents").is_none() {
+        return;
+    }
     check_parents(objects, name, object, found);
     check_part(objects, name, object, found);
 }

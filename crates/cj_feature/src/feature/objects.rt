@@ -2,9 +2,11 @@
 ghost use Rattle.std.specs.Prelude.{◌≡◌, codes, option_map};
 ghost use Rattle.std.specs.Str.{chars};
 ghost use Rattle.cj_spans.specs.Finding.{least};
+ghost use Rattle.cj_spans.specs.Tree.{Tree};
 ghost use Rattle.cj_spans.specs.Parts.{member_of};
 ghost use Rattle.cj_spans.specs.View.{tree};
 ghost use Rattle.cj_geometry.specs.Given.{given};
+ghost use Rattle.cj_geometry.specs.ObjectTypes.{row_at, row_of, is_second_level as is_second_level_of};
 ghost use Rattle.cj_geometry.specs.Rule.{needs, may_have};
 ghost use Rattle.cj_feature.specs.Feature.{object_type, geometries, texts, second_level, city_object, city_objects};
 ghost use Rattle.cj_feature.specs.Links.{is_part as is_part_of};
@@ -14,26 +16,41 @@ use cj_geometry::rule::{add, check_array, check_names, check_object, check_text,
 use cj_geometry::{ObjectType, Templates, check_geometry};
 use cj_spans::{Kind, Least, Node, Reason};
 
-/// The value is the name of a type.
-fn check_type(node: Node, found: &mut Least)
-    ensures { found.new ≡ least found.old (object_type (tree node.entry)) }
+/// Whether the type, if there is one, is of the second level.
+fn is_second_level(object_type: Option<ObjectType>) -> bool
+    ensures { (t : Tree) → option_map row_at object_type ≡ row_of t → result ≡ is_second_level_of t }
 {
+    match object_type {
+        Some(object_type) => object_type.is_second_level(),
+        None => false,
+    }
+}
+
+/// The value is the name of a type; answers whether of the second level.
+fn check_type(node: Node, found: &mut Least) -> bool
+    ensures second { result ≡ is_second_level_of (tree node.entry) }
+    ensures found { found.new ≡ least found.old (object_type (tree node.entry)) }
+{
+    let object_type = ObjectType::of(node);
     match node.kind() {
         Kind::Text => {
-            if ObjectType::of(node).is_none() {
+            if object_type.is_none() {
                 add(node, Reason::UnknownObjectType, found);
             }
         }
         _ => add(node, Reason::WrongKind, found),
     }
+    is_second_level(object_type)
 }
 
-/// The city object has a type.
-fn check_type_member(object: Node, found: &mut Least)
-    ensures { found.new ≡ least found.old (needs (chars (codes "type")) object_type (tree object.entry)) }
+/// The city object has a type; answers whether it is of the second level, so that its type is read once.
+fn check_type_member(object: Node, found: &mut Least) -> bool
+    ensures second { result ≡ is_part_of (tree object.entry) }
+    ensures found { found.new ≡ least found.old (needs (chars (codes "type")) object_type (tree object.entry)) }
 {
-    if let Some(value) = needed(object, "type", found) {
-        check_type(value, found);
+    match needed(object, "type", found) {
+        Some(value) => check_type(value, found),
+        None => false,
     }
 }
 
@@ -87,19 +104,17 @@ pub fn is_part(object: Node) -> bool
     ensures { result ≡ is_part_of (tree object.entry) }
 {
     match object.get("type") {
-        Some(name) => match ObjectType::of(name) {
-            Some(object_type) => object_type.is_second_level(),
-            None => false,
-        },
+        Some(name) => is_second_level(ObjectType::of(name)),
         None => false,
     }
 }
 
-/// A city object of the second level has parents.
-fn check_second_level(object: Node, found: &mut Least)
+/// A city object has parents, if it is of the second level.
+fn check_second_level(object: Node, second: bool, found: &mut Least)
+    requires { second ≡ is_part_of (tree object) }
     ensures { found.new ≡ least found.old (second_level (tree object.entry)) }
 {
-    if is_part(object) {
+    if second {
         if let Some(parents) = needed(object, "parents", found) {
             check_array(parents, found);
         }
@@ -112,11 +127,11 @@ fn check_city_object(node: Node, vertices: Option<u64>, templates: Templates, fo
 {
     if check_object(node, found) {
         check_names(node, found);
-        check_type_member(node, found);
+        let second = check_type_member(node, found);
         check_geometry_member(node, vertices, templates, found);
         check_texts_member(node, "children", found);
         check_texts_member(node, "parents", found);
-        check_second_level(node, found);
+        check_second_level(node, second, found);
     }
 }
 

@@ -1,7 +1,8 @@
-use Rattle.std.proofs.Common.{◌+◌, ◌*◌, ◌/◌, ◌≤◌, length, arith, refl, sym, subst}
+use Rattle.std.proofs.Common.{suc, ◌+◌, ◌*◌, ◌/◌, ◌≤◌, length, Ok, Err, arith, refl, sym, subst}
+use Rattle.std.specs.Prelude.{IsTrue}
 use Rattle.cj_spans.specs.declared.step.Move.TheVariants.{Stay, To, Open}
 use Rattle.cj_spans.specs.Json.{byte}
-use Rattle.cj_spans.specs.Machine.{BeginsValueNext, StaysInArrayNext}
+use Rattle.cj_spans.specs.Machine.{state, phase_after, EndAnswers, BeginsValueNext, StaysInArrayNext}
 use Rattle.cj_spans.proofs.Atoms.{settles_at}
 use Rattle.cj_spans.proofs.WholeNumbers.{moved_on}
 use Rattle.cj_spans.proofs.scanner.follow.Goals as goal
@@ -26,3 +27,18 @@ returns-in-Open-clause-answer c = λ ks p h a.
     let n = c.pass_numbers-in-Open in
     let order = n.ensures.order in
     (moved_on c.args.line.now c.args.mode c.in-Open.mode c.args.place p _ (Open c.in-Open.mode) ks c.args.tokens.now.elements _ c.in-Open.is refl (n.ensures.answer ks p h (λ e. a (subst (λ v. StaysInArrayNext (byte c.args.line.now c.args.place) v) (sym c.in-Open.is) e))), omega arith, n.ensures.end)
+
+pub returns-in-Ok-clause-answer : goal.returns-in-Ok-clause-answer
+returns-in-Ok-clause-answer c = λ ks p h a.
+    let ts = c.args.tokens.now.elements in
+    let e = c.in-Ok.ensures.answer ks p in
+    let n = c.pass_colon in
+    let order = n.ensures.order in
+    let reached = e.1 in
+    subst (λ v. EndAnswers c.args.line.now (state (phase_after c.args.mode c.args.place v) ks ts (suc c.args.place) p) (IsTrue c.args.tokens.now.reserved) (Ok n.result) c.end_atom.new.tokens.elements) (sym c.in-Atom.is)
+    (n.ensures.answer _ ks _ p e.0, omega arith, n.ensures.end e.2)
+
+pub returns-in-Err-clause-answer : goal.returns-in-Err-clause-answer
+returns-in-Err-clause-answer c = λ ks p h a.
+    let ts = c.args.tokens.now.elements in
+    subst (λ v. EndAnswers c.args.line.now (state (phase_after c.args.mode c.args.place v) ks ts (suc c.args.place) p) (IsTrue c.args.tokens.now.reserved) (Err c.in-Err.fault) c.end_atom.new.tokens.elements) (sym c.in-Atom.is) (c.in-Err.ensures.answer ks p)
