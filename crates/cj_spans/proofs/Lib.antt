@@ -23,4 +23,5 @@ pub mod Texts
 pub mod Views
 pub mod Scanned
 pub mod Sizes
+pub mod Walks
 pub mod Strings

@@ -21,7 +21,7 @@ use Rattle.cj_spans.proofs.Links.{before_one, before_zero}
 
 -- ---- one tree at the front
 
-below : (b : List ℕ) (ts : List Token) (k : ℕ) → k < length ts → (t : Token) × (slice_get ts k ≡ Some t)
+pub below : (b : List ℕ) (ts : List Token) (k : ℕ) → k < length ts → (t : Token) × (slice_get ts k ≡ Some t)
     × (tree_at b (spans_of ts) k ≡ node b (kind_by (byte b t.start)) t.start t.stop (held t.stop (forest b (drop (suc k) (spans_of ts)))))
     × (forest b (drop k (spans_of ts)) ≡ tree_at b (spans_of ts) k ∷ past t.stop (forest b (drop (suc k) (spans_of ts))))
 unfolding forest tree_at
@@ -51,17 +51,13 @@ below_at b ts k t h =
 
 -- ---- trees up to a place, and past it
 
-past_here : (t : Tree) (ts : List Tree) (j : ℕ) → j ≤ start_of t → past j (t ∷ ts) ≡ t ∷ ts
+pub past_here : (t : Tree) (ts : List Tree) (j : ℕ) → j ≤ start_of t → past j (t ∷ ts) ≡ t ∷ ts
 past_here t ts j h = grind (arith)
 
-held_none : (t : Tree) (ts : List Tree) (j : ℕ) → j ≤ start_of t → held j (t ∷ ts) ≡ []
+pub held_none : (t : Tree) (ts : List Tree) (j : ℕ) → j ≤ start_of t → held j (t ∷ ts) ≡ []
 held_none t ts j h = grind (arith)
 
-held-zero : (ts : List Tree) → held 0 ts ≡ []
-held-zero [] = refl
-held-zero (t ∷ ts) = held_none t ts 0 (omega arith)
-
-past-past : (ts : List Tree) (i j : ℕ) → i ≤ j → past j (past i ts) ≡ past j ts
+pub past-past : (ts : List Tree) (i j : ℕ) → i ≤ j → past j (past i ts) ≡ past j ts
 past-past [] i j h = refl
 past-past (t ∷ ts) i j h =
     elim (cases_lt (start_of t) i) [
@@ -110,22 +106,9 @@ link_past b (t ∷ ts) zero j r s e =
           ap (λ n. forest b (drop n (spans_of (t ∷ ts)))) q ∙ sym (skip_end b (t ∷ ts) 0 j t (below_at b (t ∷ ts) 0 t refl) g)
     ]
 
--- ---- one step of a walk over the trees before a place
-
-pub walk_one : (b : List ℕ) (ts : List Token) (k j : ℕ) (t : Token) (rest : List Tree) → Below b ts k t → t.start < j → rest ≡ past t.stop (forest b (drop (k + 1) (spans_of ts))) → held j (forest b (drop k (spans_of ts))) ≡ tree_at b (spans_of ts) k ∷ held j rest
-walk_one b ts k j t rest h l e =
-    let s = h.start in
-    ap (held j) h.front ∙ held_on (tree_at b (spans_of ts) k) (past t.stop (forest b (drop (k + 1) (spans_of ts)))) j (omega arith) ∙ ap (λ xs. tree_at b (spans_of ts) k ∷ held j xs) (sym e)
-
-pub walk_end : (b : List ℕ) (ts : List Token) (k j : ℕ) (t : Token) → Below b ts k t → j ≤ t.start → held j (forest b (drop k (spans_of ts))) ≡ []
-walk_end b ts k j t h l = let s = h.start in ap (held j) h.front ∙ held_none (tree_at b (spans_of ts) k) (past t.stop (forest b (drop (k + 1) (spans_of ts)))) j (omega arith)
-
-pub walk_out : (b : List ℕ) (ts : List Token) (k j : ℕ) → length ts ≤ k → held j (forest b (drop k (spans_of ts))) ≡ []
-walk_out b ts k j h = ap (held j) (forest_out b ts k h)
-
 -- ---- what a node shows
 
-kind-node : (b : List ℕ) (k : Kind) (i j : ℕ) (ts : List Tree) → kind_of (node b k i j ts) ≡ k
+pub kind-node : (b : List ℕ) (k : Kind) (i j : ℕ) (ts : List Tree) → kind_of (node b k i j ts) ≡ k
 kind-node b Null i j ts = refl
 kind-node b Truth i j ts = refl
 kind-node b Number i j ts = refl
@@ -141,17 +124,9 @@ spelling-node b Text i j ts = refl
 spelling-node b Array i j ts = refl
 spelling-node b Object i j ts = refl
 
-list-items_from : (ts : List Tree) → list_items (items_from ts) ≡ ts
+pub list-items_from : (ts : List Tree) → list_items (items_from ts) ≡ ts
 list-items_from [] = refl
 list-items_from (t ∷ ts) = ap (λ xs. t ∷ xs) (list-items_from ts)
-
-items-node : (b : List ℕ) (k : Kind) (i j : ℕ) (f : List Tree) → held (items_end k j) f ≡ items_of (node b k i j (held j f))
-items-node b Null i j f = held-zero f
-items-node b Truth i j f = held-zero f
-items-node b Number i j f = held-zero f
-items-node b Text i j f = held-zero f
-items-node b Array i j f = sym (list-items_from (held j f))
-items-node b Object i j f = held-zero f
 
 kind_text : (k : Kind) → is_text k ≡ true → k ≡ Text
 kind_text Null h = cc
@@ -166,21 +141,13 @@ name_is (scalar k a) h = ap (λ k. scalar k a) (kind_text k h)
 name_is (array i j ts) h = cc
 name_is (object i j ms) h = cc
 
-list-members_from : (ts : List Tree) → are_members ts ≡ true → pairs_of ts ≡ list_members (members_from ts)
+pub list-members_from : (ts : List Tree) → are_members ts ≡ true → pairs_of ts ≡ list_members (members_from ts)
 list-members_from [] h = refl
 list-members_from (n ∷ []) h = refl
 list-members_from (n ∷ t ∷ ts) h =
     ap (λ m. (m, t) ∷ pairs_of ts) (name_is n (first_so _ _ h)) ∙ ap (λ xs. (scalar Text (atom_of n), t) ∷ xs) (list-members_from ts (second_so _ _ h))
 
-members-node : (b : List ℕ) (k : Kind) (i j : ℕ) (f : List Tree) → (k ≡ Object → are_members (held j f) ≡ true) → pairs_of (held (members_end k j) f) ≡ members_of (node b k i j (held j f))
-members-node b Null i j f h = ap pairs_of (held-zero f)
-members-node b Truth i j f h = ap pairs_of (held-zero f)
-members-node b Number i j f h = ap pairs_of (held-zero f)
-members-node b Text i j f h = ap pairs_of (held-zero f)
-members-node b Array i j f h = ap pairs_of (held-zero f)
-members-node b Object i j f h = list-members_from (held j f) (h refl)
-
-kind_object : (c : ℕ) → kind_by c ≡ Object → c ≡ 123
+pub kind_object : (c : ℕ) → kind_by c ≡ Object → c ≡ 123
 kind_object c h = grind (arith, nat_tests)
 
 pub kind_shown : (b : List ℕ) (ts : List Token) (k : ℕ) (t : Token) (r : Kind) → slice_get ts k ≡ Some t → r ≡ kind_by (byte b t.start) → r ≡ kind_of (tree_at b (spans_of ts) k)
@@ -192,41 +159,7 @@ start_shown b ts k t h = sym (below_at b ts k t h).start
 pub spelling_shown : (b : List ℕ) (ts : List Token) (k : ℕ) (t : Token) → slice_get ts k ≡ Some t → slice_range b t.start t.stop ≡ spelling_of b (tree_at b (spans_of ts) k)
 spelling_shown b ts k t h = let w = below_at b ts k t h in sym (spelling-node b (kind_by (byte b t.start)) t.start t.stop _) ∙ sym (ap (spelling_of b) w.tree)
 
-pub items_shown : (b : List ℕ) (ts : List Token) (k : ℕ) (t : Token) (r : Kind) (j : ℕ) → slice_get ts k ≡ Some t → r ≡ kind_of (tree_at b (spans_of ts) k) → j ≡ items_end r t.stop → held j (forest b (drop (k + 1) (spans_of ts))) ≡ items_of (tree_at b (spans_of ts) k)
-items_shown b ts k t r j h e f =
-    let w = below_at b ts k t h in
-    let d = kind_by (byte b t.start) in
-    let rest = forest b (drop (k + 1) (spans_of ts)) in
-    let q : r ≡ d = e ∙ ap kind_of w.tree ∙ kind-node b d t.start t.stop (held t.stop rest) in
-    ap (λ n. held n rest) (f ∙ ap (λ x. items_end x t.stop) q) ∙ items-node b d t.start t.stop rest ∙ sym (ap items_of w.tree)
-
-pub members_shown : (b : List ℕ) (ts : List Token) (k : ℕ) (t : Token) (r : Kind) (j : ℕ) → slice_get ts k ≡ Some t → r ≡ kind_of (tree_at b (spans_of ts) k) → j ≡ members_end r t.stop
-    → (byte b t.start ≡ 123 → are_members (held t.stop (forest b (drop (k + 1) (spans_of ts)))) ≡ true) → pairs_of (held j (forest b (drop (k + 1) (spans_of ts)))) ≡ members_of (tree_at b (spans_of ts) k)
-members_shown b ts k t r j h e f named =
-    let w = below_at b ts k t h in
-    let d = kind_by (byte b t.start) in
-    let rest = forest b (drop (k + 1) (spans_of ts)) in
-    let q : r ≡ d = e ∙ ap kind_of w.tree ∙ kind-node b d t.start t.stop (held t.stop rest) in
-    ap (λ n. pairs_of (held n rest)) (f ∙ ap (λ x. members_end x t.stop) q) ∙ members-node b d t.start t.stop rest (λ o. named (kind_object (byte b t.start) o)) ∙ sym (ap members_of w.tree)
-
--- ---- one step of a walk over names and values
-
-pub pair_none : (xs : List Tree) → xs ≡ [] → pairs_of xs ≡ []
-pair_none xs h = ap pairs_of h
-
-pub pair_lone : (n : Tree) (xs ys : List Tree) → xs ≡ n ∷ ys → ys ≡ [] → pairs_of xs ≡ []
-pair_lone n xs ys h e = ap pairs_of h ∙ ap (λ zs. pairs_of (n ∷ zs)) e
-
-pub pair_both : (n t : Tree) (xs ys zs : List Tree) → xs ≡ n ∷ ys → ys ≡ t ∷ zs → pairs_of xs ≡ (n, t) ∷ pairs_of zs
-pair_both n t xs ys zs h e = ap pairs_of h ∙ ap (λ us. pairs_of (n ∷ us)) e
-
 -- ---- no more trees than tokens
-
-length-held : (j : ℕ) (ts : List Tree) → length (held j ts) ≤ length ts
-length-held j [] = omega arith
-length-held j (t ∷ ts) =
-    let l = length-held j ts in
-    elim (cases_lt (start_of t) j) [ inl h ↦ let e = ap (λ (us : List Tree). length us) (held_on t ts j h) in omega arith | inr h ↦ let e = ap (λ (us : List Tree). length us) (held_none t ts j h) in omega arith ]
 
 length-past : (j : ℕ) (ts : List Tree) → length (past j ts) ≤ length ts
 length-past j [] = omega arith
@@ -234,25 +167,12 @@ length-past j (t ∷ ts) =
     let l = length-past j ts in
     elim (cases_lt (start_of t) j) [ inl h ↦ let e = ap (λ (us : List Tree). length us) (past_on t ts j h) in omega arith | inr h ↦ let e = ap (λ (us : List Tree). length us) (past_here t ts j h) in omega arith ]
 
-length-forest : (b : List ℕ) (ss : List Span) → length (forest b ss) ≤ length ss
+pub length-forest : (b : List ℕ) (ss : List Span) → length (forest b ss) ≤ length ss
 unfolding forest
 length-forest b [] = omega arith
 length-forest b (s ∷ ss) = let l = length-forest b ss in let m = length-past s.stop (forest b ss) in omega arith
 
-length-spans : (ts : List Token) (k : ℕ) → length (drop k (spans_of ts)) ≤ length ts
-length-spans [] zero = omega arith
-length-spans [] (suc k) = omega arith
-length-spans (t ∷ ts) zero = let l = length-spans ts zero in omega arith
-length-spans (t ∷ ts) (suc k) = let l = length-spans ts k in omega arith
-
-pub few_trees : (b : List ℕ) (ts : List Token) (k j : ℕ) → length (held j (forest b (drop k (spans_of ts)))) ≤ length ts
-few_trees b ts k j =
-    let l = length-held j (forest b (drop k (spans_of ts))) in let m = length-forest b (drop k (spans_of ts)) in let n = length-spans ts k in omega arith
-
-length-pairs : (ts : List Tree) → length (pairs_of ts) ≤ length ts
+pub length-pairs : (ts : List Tree) → length (pairs_of ts) ≤ length ts
 length-pairs [] = omega arith
 length-pairs (n ∷ []) = omega arith
 length-pairs (n ∷ t ∷ ts) = let l = length-pairs ts in omega arith
-
-pub few_pairs : (b : List ℕ) (ts : List Token) (k j : ℕ) → length (pairs_of (held j (forest b (drop k (spans_of ts))))) ≤ length ts
-few_pairs b ts k j = let l = length-pairs (held j (forest b (drop k (spans_of ts)))) in let m = few_trees b ts k j in omega arith

@@ -1,5 +1,5 @@
 -- When tokens show the tree of a line.
-use Rattle.std.specs.Prelude.{◌≡◌, ℕ, suc, ◌+◌, ◌%◌, ◌^◌, ◌<◌, ◌≤◌, List, [], ◌∷◌, length, drop, Bool, true, false, ◌&&◌, cond, nat_lt, Some, slice_get}
+use Rattle.std.specs.Prelude.{◌≡◌, ℕ, suc, ◌+◌, ◌%◌, ◌^◌, ◌<◌, ◌≤◌, List, [], ◌∷◌, length, drop, slice_range, Bool, true, false, ◌&&◌, cond, nat_lt, Some, slice_get}
 use Rattle.cj_spans.specs.declared.token.Kind.TheVariants.{Text, Null, Truth, Number, Array, Object}
 use Rattle.cj_spans.specs.declared.token.Kind.{Kind}
 use Rattle.cj_spans.specs.declared.token.Token.{Token}
@@ -59,7 +59,23 @@ are_members (n ∷ t ∷ ts) = is_name n && are_members ts
 abbrev pub AreNamed : List ℕ → List Token → Type 0
 AreNamed line tokens = (k : ℕ) (t : Token) → slice_get tokens k ≡ Some t → byte line t.start ≡ 123 → are_members (held t.stop (forest line (drop (k + 1) (spans_of tokens)))) ≡ true
 
--- where a walk over the items, or the members, of a value of the kind ends, which stops at j
+-- a string has no parts: its token links to the next one
+abbrev pub AreLone : List ℕ → List Token → Type 0
+AreLone line tokens = (k : ℕ) (t : Token) → slice_get tokens k ≡ Some t → byte line t.start ≡ 34 → link_of t ≡ k + 1
+
+-- there are n tokens, and none of those from the k-th to the n-th links past the n-th
+abbrev pub AreWhole : List Token → ℕ → ℕ → Type 0
+AreWhole tokens k n = (n ≤ length tokens) × ((i : ℕ) (t : Token) → k ≤ i → i < n → slice_get tokens i ≡ Some t → link_of t ≤ n)
+
+-- the trees that the tokens from the k-th to the n-th show
+abbrev pub shown_between : List ℕ → List Token → ℕ → ℕ → List Tree
+shown_between line tokens k n = forest line (slice_range (spans_of tokens) k n)
+
+-- the tokens from the k-th to the n-th show names and values in turn
+abbrev pub ShowMembers : List ℕ → List Token → ℕ → ℕ → Type 0
+ShowMembers line tokens k n = (ts : List Tree) → shown_between line tokens k n ≡ ts → are_members ts ≡ true
+
+-- where a walk over the items, or the members, of a value of the kind ends, whose token links to j
 abbrev pub items_end : Kind → ℕ → ℕ
 items_end Array j = j
 items_end Null j = 0

@@ -1,5 +1,5 @@
 -- What views of a line show: trees that are told by the spans of the tokens and the bytes of the line alone.
-use Rattle.std.specs.Prelude.{◌≡◌, ℕ, zero, suc, List, [], ◌∷◌, drop, Option, IfSome}
+use Rattle.std.specs.Prelude.{◌≡◌, ℕ, zero, suc, List, [], ◌∷◌, Option, IfSome}
 use Rattle.std.specs.Iterator.{YieldsFirstBy}
 use Rattle.cj_spans.specs.declared.token.Kind.TheVariants.{Null}
 use Rattle.cj_spans.specs.declared.node.Doc.{Doc}
@@ -10,6 +10,7 @@ use Rattle.cj_spans.specs.Tree.{Tree, scalar}
 use Rattle.cj_spans.specs.Json.{byte, atom_at}
 use Rattle.cj_spans.specs.Preorder.{Span, spans_of}
 use Rattle.cj_spans.specs.Forest.{forest, held, kind_by, node}
+use Rattle.cj_spans.specs.Sound.{shown_between}
 
 -- the tree that the k-th span shows
 unfoldable pub tree_at : List ℕ → List Span → ℕ → Tree
@@ -37,11 +38,11 @@ line_of n = n.source.line.now
 
 -- the items that are left
 unfoldable pub items_left : Items → List Tree
-items_left w = held w.stop (forest w.source.line.now (drop w.next (spans_of w.source.tokens.now)))
+items_left w = shown_between w.source.line.now w.source.tokens.now w.next w.stop
 
 -- the members that are left
 unfoldable pub members_left : Members → List (Tree × Tree)
-members_left w = pairs_of (held w.stop (forest w.source.line.now (drop w.next (spans_of w.source.tokens.now))))
+members_left w = pairs_of (shown_between w.source.line.now w.source.tokens.now w.next w.stop)
 
 -- the tree of a document, and its line
 unfoldable pub document : Doc → Tree

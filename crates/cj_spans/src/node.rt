@@ -12,12 +12,11 @@
 //! }
 //! ```
 ghost use Rattle.std.specs.Prelude.{◌≡◌, ◌<◌, ◌≤◌, ◌+◌, ◌^◌, ℕ, length, slice_get, Some, List, drop};
-ghost use Rattle.cj_spans.specs.Sound.{AreOf, AreWithin, AreNested, AreNamed, AreLinked};
+ghost use Rattle.cj_spans.specs.Sound.{AreOf, AreWithin, AreNested, AreNamed, AreLinked, AreLone, AreWhole, ShowMembers, before};
 ghost use Rattle.cj_spans.specs.Tree.{Tree};
 ghost use Rattle.cj_spans.specs.declared.token.Token.{Token as TokenOf};
 ghost use Rattle.cj_spans.specs.Json.{Json, byte};
-ghost use Rattle.cj_spans.specs.Preorder.{spans_of};
-ghost use Rattle.cj_spans.specs.Forest.{forest, past, kind_by};
+ghost use Rattle.cj_spans.specs.Forest.{kind_by};
 ghost use Rattle.cj_spans.specs.Sound.{items_end as items_end_of, members_end as members_end_of};
 
 #[cfg(test)]
@@ -39,6 +38,7 @@ struct Source<'a> {
     ghost nested: { AreNested tokens.now },
     ghost named: { AreNamed line.now tokens.now },
     ghost linked: { AreLinked tokens.now },
+    ghost lone: { AreLone line.now tokens.now },
 }
 
 /// The tree of a line.
@@ -62,6 +62,7 @@ pub struct Items<'a> {
     source: Source<'a>,
     next: usize,
     stop: usize,
+    ghost whole: { AreWhole source.tokens.now next stop },
 }
 
 /// The members of an object that are left, in order.
@@ -70,6 +71,8 @@ pub struct Members<'a> {
     source: Source<'a>,
     next: usize,
     stop: usize,
+    ghost whole: { AreWhole source.tokens.now next stop },
+    ghost named: { ShowMembers source.line.now source.tokens.now next stop },
 }
 
 /// Links are below this: the top bit may be a mark.
@@ -99,22 +102,22 @@ fn kind_at(line: &[u8], start: usize) -> Kind
     }
 }
 
-/// Where a walk over the items of a value of this kind ends, which stops at `stop`.
-fn items_end(kind: Kind, stop: usize) -> usize
-    ensures { result ≡ items_end_of kind stop }
+/// Where a walk over the items of a value of this kind ends, whose token links to `link`.
+fn items_end(kind: Kind, link: usize) -> usize
+    ensures { result ≡ items_end_of kind link }
 {
     match kind {
-        Kind::Array => stop,
+        Kind::Array => link,
         _ => 0,
     }
 }
 
-/// Where a walk over the members of a value of this kind ends, which stops at `stop`.
-fn members_end(kind: Kind, stop: usize) -> usize
-    ensures { result ≡ members_end_of kind stop }
+/// Where a walk over the members of a value of this kind ends, whose token links to `link`.
+fn members_end(kind: Kind, link: usize) -> usize
+    ensures { result ≡ members_end_of kind link }
 {
     match kind {
-        Kind::Object => stop,
+        Kind::Object => link,
         _ => 0,
     }
 }
@@ -124,9 +127,8 @@ impl<'a> Source<'a> {
     fn after(self, index: usize) -> usize
         requires { index < length self.tokens.now }
         ensures order { (index < result) × (result ≤ length self.entry.tokens.now) }
-        ensures rest { (t : TokenOf) → slice_get self.entry.tokens.now index ≡ Some t
-            → forest self.entry.line.now (drop result (spans_of self.entry.tokens.now))
-            ≡ past t.stop (forest self.entry.line.now (drop (index + 1) (spans_of self.entry.tokens.now))) }
+        ensures link { (t : TokenOf) → slice_get self.entry.tokens.now index ≡ Some t
+            → result ≡ index + 1 + before t.stop (drop (index + 1) self.entry.tokens.now) }
     {
         (token_at(self.tokens, index).link % LINKS) as usize
     }
@@ -204,8 +206,7 @@ impl<'a> Node<'a> {
         ensures line { items_line result ≡ line_of self.entry }
         ensures few { length (items_left result) < 2 ^ 63 }
     {
-        let token = token_at(self.source.tokens, self.index);
-        let stop = items_end(self.kind(), token.stop as usize);
+        let stop = items_end(self.kind(), self.source.after(self.index));
         Items {
             source: self.source,
             next: self.index + 1,
@@ -220,8 +221,7 @@ impl<'a> Node<'a> {
         ensures line { members_line result ≡ line_of self.entry }
         ensures few { length (members_left result) < 2 ^ 63 }
     {
-        let token = token_at(self.source.tokens, self.index);
-        let stop = members_end(self.kind(), token.stop as usize);
+        let stop = members_end(self.kind(), self.source.after(self.index));
         Members {
             source: self.source,
             next: self.index + 1,
@@ -331,10 +331,7 @@ impl<'a> Iterator for Items<'a> {
     fn next(&mut self) -> Option<Node<'a>> {
         let source = self.source;
         let index = self.next;
-        if index >= source.tokens.len() {
-            return None;
-        }
-        if token_at(source.tokens, index).start as usize >= self.stop {
+        if index >= self.stop {
             return None;
         }
         self.next = source.after(index);
@@ -355,19 +352,10 @@ impl<'a> Iterator for Members<'a> {
     fn next(&mut self) -> Option<(Node<'a>, Node<'a>)> {
         let source = self.source;
         let name = self.next;
-        if name >= source.tokens.len() {
+        if name >= self.stop {
             return None;
         }
-        if token_at(source.tokens, name).start as usize >= self.stop {
-            return None;
-        }
-        let value = source.after(name);
-        if value >= source.tokens.len() {
-            return None;
-        }
-        if token_at(source.tokens, value).start as usize >= self.stop {
-            return None;
-        }
+        let value = name + 1;
         self.next = source.after(value);
         Some((
             Node {

@@ -1,11 +1,20 @@
 use Rattle.std.proofs.Common.{refl, arith, ◌+◌}
 use Rattle.cj_spans.specs.View.{tree, line_of, items_line, items_left}
-use Rattle.cj_spans.proofs.Views.{items_shown, few_trees}
+use Rattle.cj_spans.proofs.Walks.{items_from_link, few_trees}
 use Rattle.cj_spans.proofs.node.Node.items.Goals as goal
+
+pub invariant_of-result : goal.invariant_of-result
+unfolding tree
+invariant_of-result c =
+    let n = c.args.self in
+    let w = items_from_link n.source.line.now n.source.tokens.now n.index c.after.result c.items_end-stop.result c.kind.result n.source.nested n.source.linked n.known c.after.ensures.link c.kind.ensures c.items_end-stop.ensures in
+    record { whole = w.whole }
 
 pub returns-clause-items : goal.returns-clause-items
 unfolding tree items_left
-returns-clause-items c = let s = c.args.self.source in items_shown s.line.now s.tokens.now c.args.self.index c.token_at-token.result c.kind.result _ c.token_at-token.ensures c.kind.ensures c.items_end-stop.ensures
+returns-clause-items c =
+    let n = c.args.self in
+    (items_from_link n.source.line.now n.source.tokens.now n.index c.after.result c.items_end-stop.result c.kind.result n.source.nested n.source.linked n.known c.after.ensures.link c.kind.ensures c.items_end-stop.ensures).shown
 
 pub returns-clause-line : goal.returns-clause-line
 unfolding line_of items_line

@@ -1,13 +1,20 @@
 use Rattle.std.proofs.Common.{refl, arith, ◌+◌}
 use Rattle.cj_spans.specs.View.{tree, line_of, members_line, members_left}
-use Rattle.cj_spans.proofs.Views.{members_shown, few_pairs}
+use Rattle.cj_spans.proofs.Walks.{members_from_link, few_pairs}
 use Rattle.cj_spans.proofs.node.Node.members.Goals as goal
+
+pub invariant_of-result : goal.invariant_of-result
+unfolding tree
+invariant_of-result c =
+    let n = c.args.self in
+    let w = members_from_link n.source.line.now n.source.tokens.now n.index c.after.result c.members_end-stop.result c.kind.result n.source.nested n.source.linked n.source.named n.known c.after.ensures.link c.kind.ensures c.members_end-stop.ensures in
+    record { whole = w.whole; named = w.named }
 
 pub returns-clause-members : goal.returns-clause-members
 unfolding tree members_left
 returns-clause-members c =
-    let s = c.args.self.source in
-    members_shown s.line.now s.tokens.now c.args.self.index c.token_at-token.result c.kind.result _ c.token_at-token.ensures c.kind.ensures c.members_end-stop.ensures (s.named c.args.self.index c.token_at-token.result c.token_at-token.ensures)
+    let n = c.args.self in
+    (members_from_link n.source.line.now n.source.tokens.now n.index c.after.result c.members_end-stop.result c.kind.result n.source.nested n.source.linked n.source.named n.known c.after.ensures.link c.kind.ensures c.members_end-stop.ensures).shown
 
 pub returns-clause-line : goal.returns-clause-line
 unfolding line_of members_line

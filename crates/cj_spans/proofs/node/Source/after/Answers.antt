@@ -1,12 +1,9 @@
 use Rattle.std.proofs.Common.{◌≡◌, ◌+◌, drop, ap, sym, ◌∙◌, arith}
 use Rattle.std.proofs.lemmas.List.{length-drop}
 use Rattle.cj_spans.specs.declared.token.Token.{Token}
-use Rattle.cj_spans.specs.Forest.{forest, past}
-use Rattle.cj_spans.specs.Preorder.{spans_of}
-use Rattle.cj_spans.specs.Sound.{link_of}
+use Rattle.cj_spans.specs.Sound.{before}
 use Rattle.cj_spans.proofs.Links.{before_length}
 use Rattle.cj_spans.proofs.Spellings.{some_same}
-use Rattle.cj_spans.proofs.Views.{link_past}
 use Rattle.cj_spans.proofs.node.Source.after.Goals as goal
 
 pub returns-clause-order : goal.returns-clause-order
@@ -19,10 +16,9 @@ returns-clause-order c =
     let f = length-drop (c.args.index + 1) s.tokens.now in
     (omega arith, omega arith)
 
-pub returns-clause-rest : goal.returns-clause-rest
-returns-clause-rest c = λ t h.
+pub returns-clause-link : goal.returns-clause-link
+returns-clause-link c = λ t h.
     let s = c.args.self in
     let u = c.token_at.result in
-    let e : u ≡ t = some_same u t (sym c.token_at.ensures ∙ h) in
-    let p = link_past s.line.now s.tokens.now (c.args.index + 1) u.stop (link_of u) (s.nested c.args.index u c.token_at.ensures) (s.linked c.args.index u c.token_at.ensures) in
-    p ∙ ap (λ (v : Token). past v.stop (forest s.line.now (drop (c.args.index + 1) (spans_of s.tokens.now)))) e
+    let l = s.linked c.args.index u c.token_at.ensures in
+    l ∙ ap (λ (v : Token). c.args.index + 1 + before v.stop (drop (c.args.index + 1) s.tokens.now)) (some_same u t (sym c.token_at.ensures ∙ h))
