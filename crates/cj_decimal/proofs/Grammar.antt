@@ -44,7 +44,7 @@ pub int_digits : (s : List ℕ) → IsInt s → AllDigits s
 int_digits [] h = absurd h
 int_digits (b ∷ s) h = ⊎_elim (λ zero_alone. ((omega arith, omega arith), all_none s zero_alone.1)) (λ more. ((omega arith, omega arith), more.2)) h
 
-int_test : (s : List ℕ) → IsInt s → is_int s ≡ true
+pub int_test : (s : List ℕ) → IsInt s → is_int s ≡ true
 unfolding is_int is_empty
 int_test [] h = absurd h
 int_test (b ∷ s) h = ⊎_elim (λ zero_alone. rw zero_alone.1 (grind (arith, nat_tests))) (λ more. let low : 49 ≤ b = more.0 in grind (arith, nat_tests)) h

@@ -16,6 +16,6 @@ returns c = λ class.
     let some : 0 < length s = omega arith in
     let first : get_or s 0 0 ≡ 45 = omega arith in
     let minus : begins 45 s ≡ true = begins_at 45 s 0 some ∙ eq-eqb (get_or s 0 0) 45 first in
-    let short = let P : List ℕ → Type 0 = λ t. IsShort t n in subst P (all_left s) c.in_ok-size.ensures in
+    let short = let P : List ℕ → Type 0 = λ t. IsShort t n in subst P (all_left s) c.in_ok-size.ensures.short in
     let cast : neg_ℤ (pos n) ≡ to_z w64 (of_z w64 (pos 0 -ℤ to_z w64 n)) = omega (arith, ints, short.small) in
     answer_minus s n class minus short ∙ ap (λ z. Ok (Some z)) cast
