@@ -2,10 +2,10 @@
 ghost use Rattle.std.specs.Prelude.{◌≡◌, ◌<◌, ◌≤◌, ◌^◌, length, pos, unsigned_abs, IfOk, IfSome, IsSome, ◌↔◌};
 ghost use Rattle.cj_decimal.specs.Class.{Class, whole_answer};
 ghost use Rattle.cj_decimal.specs.Reading.{IsShort};
-ghost use Rattle.cj_decimal.specs.Spelling.{IsInt, IsFewDigits};
+ghost use Rattle.cj_decimal.specs.Spelling.{IsInt, IsFewDigits, IsFewSigned};
 
 use crate::decimal::{Decimal, DecimalFault};
-use crate::spelling::is_int_part;
+use crate::spelling::{after_minus, has_byte, is_int_part};
 
 /// This many digits spell a number below 10^18.
 const FEW: usize = 18;
@@ -62,25 +62,11 @@ fn read_few_digits(digits: &[u8]) -> Option<u64>
     }
 }
 
-/// The value of a spelling that is a minus and a few digits. None where it is anything else.
-fn read_negative(spelling: &[u8]) -> Option<i64>
-    ensures { IfSome result (λ w. (c : Class spelling.now) → whole_answer c ≡ Ok (Some w)) }
-{
-    let [b'-', digits @ ..] = spelling else {
-        return None;
-    };
-    let size = read_few_digits(digits)?;
-    Some(-(size as i64))
-}
-
 /// The value of any spelling.
 #[inline(never)]
 fn read_any(spelling: &[u8]) -> Result<Option<i64>, DecimalFault>
     ensures { (c : Class spelling.now) → result ≡ whole_answer c }
 {
-    if let Some(whole) = read_negative(spelling) {
-        return Ok(Some(whole));
-    }
     match Decimal::read(spelling) {
         Ok(decimal) => Ok(decimal.whole()),
         Err(fault) => Err(fault),
@@ -99,6 +85,26 @@ impl Decimal {
         read_few_digits(spelling)
     }
 
+    /// The number that such digits spell, or a minus and such digits: what nearly all coordinates are. None where
+    /// it is anything else, which may be a whole number too.
+    #[inline(always)]
+    pub fn read_few_signed(spelling: &[u8]) -> Option<i64>
+        ensures answer { IfSome result (λ w. (c : Class spelling.now) → whole_answer c ≡ Ok (Some w)) }
+        ensures small { IfSome result (λ w. unsigned_abs w < 10 ^ 18) }
+        ensures few { IsSome result ↔ IsFewSigned spelling.now }
+    {
+        let negative = has_byte(spelling, 0, b'-');
+        let from = after_minus(spelling, negative);
+        let Some(size) = read_few_digits(&spelling[from..]) else {
+            return None;
+        };
+        if negative {
+            Some(-(size as i64))
+        } else {
+            Some(size as i64)
+        }
+    }
+
     /// Reads the spelling of a number of JSON (RFC 8259, section 6) as a whole number: its value where that
     /// is whole and below 10^18 in size, None where it is a number in range and not so.
     ///
@@ -110,8 +116,8 @@ impl Decimal {
         ensures answer { (c : Class spelling.now) → result ≡ whole_answer c }
         ensures small { IfOk result (λ o. IfSome o (λ w. unsigned_abs w < 10 ^ 18)) }
     {
-        match read_few_digits(spelling) {
-            Some(whole) => Ok(Some(whole as i64)),
+        match Decimal::read_few_signed(spelling) {
+            Some(whole) => Ok(Some(whole)),
             None => read_any(spelling),
         }
     }
