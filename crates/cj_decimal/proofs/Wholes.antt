@@ -145,7 +145,7 @@ answer_digits s n c short =
 -- few digits after the sign, if there is one
 pub signed_from_body : (s : List ℕ) → IsFewDigits (body s) → IsFewSigned s
 signed_from_body s few = elim (begins 45 s) as (λ b. begins 45 s ≡ b → IsFewSigned s) [
-    true ↦ λ e. inr (drop 1 s, begins_is 45 s e, few_at (drop 1 s) (minus_there s e))
+  | true ↦ λ e. inr (drop 1 s, begins_is 45 s e, few_at (drop 1 s) (minus_there s e))
   | false ↦ λ e. inl (few_at s (no_minus s e))
 ] refl
   where
@@ -157,5 +157,6 @@ body_of_signed s few = ⊎_elim (λ plain. at_body s (no_minus s (int_begins s p
   where
     at_body : (t : List ℕ) → body s ≡ t → IsFewDigits t → IsFewDigits (body s)
     at_body t e few = let P : List ℕ → Type 0 = λ u. IsFewDigits u in subst P (sym e) few
+
     int_begins : (t : List ℕ) → IsInt t → begins 45 t ≡ false
     int_begins t int = ap (begins 45) (sym (append_nil t)) ∙ digit_begins 45 t [] (int_is_digits t int) (omega arith)

@@ -1,6 +1,6 @@
 -- What reading a number says of its findings.
 use Rattle.std.proofs.Common.{◌≡◌, ℕ, ◌<◌, ◌^◌, List, [], Bool, true, false, cond, Option, Some, None, Result, Ok, Err, ℤ, to_z, of_z, w64, refl, sym, ap, ◌∙◌, arith}
-use Rattle.std.specs.Prelude.{unsigned_abs}
+use Rattle.std.specs.Prelude.{unsigned_abs, pos, IfSome}
 use Rattle.std.proofs.lemmas.Int.{to_z-of_z, fits_signed_from_abs}
 use Rattle.cj_spans.specs.declared.token.Kind.TheVariants.{Number}
 use Rattle.cj_spans.specs.declared.reason.Reason.{Reason}
@@ -107,3 +107,16 @@ module _ (line : List ℕ) (t : Tree) (kind : kind_of t ≡ Number) where
 
     pub number-read : number t ≡ number-by t q
     number-read = rw kind (number-class (spelling t) t (class (spelling t)) ∙ ap (number-by t) answer)
+
+  -- with the whole number that a call may have read of it
+  module _ (s : List ℕ) (same : s ≡ spelling_of line t) where
+    whole-there : (w : ℤ) → ((c : Class s) → whole_answer c ≡ Ok (Some w)) → whole_of t ≡ Some w
+    whole-there w answer = whole-read s same (Ok (Some w)) (Ok (Some w)) (λ c. sym (answer c)) refl
+
+    pub few-read : (o : Option ℕ) → IfSome o (λ n. (c : Class s) → whole_answer c ≡ Ok (Some (pos n))) → IfSome o (λ n. n < 10 ^ 18) → IfSome o (λ n. (n < 10 ^ 18) × (whole_of t ≡ Some (pos n)))
+    few-read None answer small = answer
+    few-read (Some n) answer small = (small, whole-there (pos n) answer)
+
+    pub few-signed-read : (o : Option ℤ) → IfSome o (λ w. (c : Class s) → whole_answer c ≡ Ok (Some w)) → IfSome o (λ w. whole_of t ≡ Some w)
+    few-signed-read None answer = answer
+    few-signed-read (Some w) answer = whole-there w answer

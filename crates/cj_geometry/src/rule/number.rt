@@ -41,17 +41,28 @@ fn is_outside(count: Option<u64>, whole: i64) -> bool
     }
 }
 
+/// Whether these bytes begin as a number does. It says nothing of the kind, but once it is known that they do,
+/// the question for the kind costs nothing.
+#[inline(always)]
+fn begins_as_number(bytes: &[u8]) -> bool {
+    match bytes {
+        [b'-'..=b'9', ..] => true,
+        _ => false,
+    }
+}
+
 /// The value of a number of few digits: what nearly all indices are. None of any other value.
 #[inline(always)]
 fn read_few(node: Node) -> Option<u64>
     ensures { IfSome result (λ n. (n < 10 ^ 18) × (whole_of (tree node.entry) ≡ Some (pos n))) }
 {
-    match Decimal::read_few(node.bytes()) {
-        Some(whole) => match node.kind() {
-            Kind::Number => Some(whole),
-            _ => None,
-        },
-        None => None,
+    let bytes = node.bytes();
+    if !begins_as_number(bytes) {
+        return None;
+    }
+    match node.kind() {
+        Kind::Number => Decimal::read_few(bytes),
+        _ => None,
     }
 }
 
@@ -61,12 +72,13 @@ fn read_few(node: Node) -> Option<u64>
 fn read_few_signed(node: Node) -> Option<i64>
     ensures { IfSome result (λ w. whole_of (tree node.entry) ≡ Some w) }
 {
-    match Decimal::read_few_signed(node.bytes()) {
-        Some(whole) => match node.kind() {
-            Kind::Number => Some(whole),
-            _ => None,
-        },
-        None => None,
+    let bytes = node.bytes();
+    if !begins_as_number(bytes) {
+        return None;
+    }
+    match node.kind() {
+        Kind::Number => Decimal::read_few_signed(bytes),
+        _ => None,
     }
 }
 
