@@ -41,23 +41,15 @@ fn is_outside(count: Option<u64>, whole: i64) -> bool
     }
 }
 
-/// Whether these bytes begin as a number does. It says nothing of the kind, but once it is known that they do,
-/// the question for the kind costs nothing.
-#[inline(always)]
-fn begins_as_number(bytes: &[u8]) -> bool {
-    match bytes {
-        [b'-'..=b'9', ..] => true,
-        _ => false,
-    }
-}
-
 /// The value of a number of few digits: what nearly all indices are. None of any other value.
+///
+/// Once its first byte is known to be a digit, the question for its kind costs nothing.
 #[inline(always)]
 fn read_few(node: Node) -> Option<u64>
     ensures { IfSome result (λ n. (n < 10 ^ 18) × (whole_of (tree node.entry) ≡ Some (pos n))) }
 {
     let bytes = node.bytes();
-    if !begins_as_number(bytes) {
+    if !bytes[0].is_ascii_digit() {
         return None;
     }
     match node.kind() {
@@ -73,7 +65,7 @@ fn read_few_signed(node: Node) -> Option<i64>
     ensures { IfSome result (λ w. whole_of (tree node.entry) ≡ Some w) }
 {
     let bytes = node.bytes();
-    if !begins_as_number(bytes) {
+    if bytes[0] < b'-' || bytes[0] > b'9' {
         return None;
     }
     match node.kind() {
