@@ -44,7 +44,7 @@ pub int_digits : (s : List ℕ) → IsInt s → AllDigits s
 int_digits [] h = absurd h
 int_digits (b ∷ s) h = ⊎_elim (λ zero_alone. ((omega arith, omega arith), all_none s zero_alone.1)) (λ more. ((omega arith, omega arith), more.2)) h
 
-int_test : (s : List ℕ) → IsInt s → is_int s ≡ true
+pub int_test : (s : List ℕ) → IsInt s → is_int s ≡ true
 unfolding is_int is_empty
 int_test [] h = absurd h
 int_test (b ∷ s) h = ⊎_elim (λ zero_alone. rw zero_alone.1 (grind (arith, nat_tests))) (λ more. let low : 49 ≤ b = more.0 in grind (arith, nat_tests)) h
@@ -56,12 +56,12 @@ int_from_test (b ∷ []) d h = elim (nat_eq b 48) as (λ t. nat_eq b 48 ≡ t �
 int_from_test (b ∷ c ∷ s) d h = let other : b ≢ 48 = grind (arith, nat_tests) in inr (omega (arith, d.0), omega (arith, d.0), d.1)
 
 -- ---- tests of the first byte
-begins_is : (c : ℕ) (s : List ℕ) → begins c s ≡ true → s ≡ c ∷ drop 1 s
+pub begins_is : (c : ℕ) (s : List ℕ) → begins c s ≡ true → s ≡ c ∷ drop 1 s
 unfolding begins
 begins_is c [] h = absurd (cc h)
 begins_is c (b ∷ s) h = let same : b ≡ c = grind (arith, nat_tests) in ap (λ x. x ∷ s) same
 
-begins_own : (c : ℕ) (s : List ℕ) → begins c (c ∷ s) ≡ true
+pub begins_own : (c : ℕ) (s : List ℕ) → begins c (c ∷ s) ≡ true
 unfolding begins
 begins_own c s = grind (arith, nat_tests)
 

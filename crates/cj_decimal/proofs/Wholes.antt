@@ -1,19 +1,21 @@
 -- What reading a whole number answers.
-use Rattle.std.proofs.Common.{◌≡◌, ℕ, ◌*◌, ◌^◌, ◌<◌, ◌≤◌, ◌++◌, List, drop, Bool, true, false, Option, Some, None, Result, Ok, Err, ℤ, pos, negsuc, neg_ℤ, refl, sym, ap, ◌∙◌, subst, arith, rules}
+use Rattle.std.proofs.Common.{◌≡◌, ℕ, ◌*◌, ◌^◌, ◌<◌, ◌≤◌, ◌++◌, List, [], length, drop, get_or, Bool, true, false, Option, Some, None, Result, Ok, Err, ℤ, pos, negsuc, neg_ℤ, inl, inr, ⊎_elim, refl, sym, ap, ◌∙◌, subst, arith, rules}
 use Rattle.std.specs.Prelude.{IfOk, IfSome, IsSome, unsigned_abs}
+use Rattle.std.specs.Char.{is_ascii_digit}
 use Rattle.std.proofs.Math.Nat.{le-mul_of_pos_right}
 use Rattle.std.proofs.lemmas.Int.{ints}
 use Rattle.cj_decimal.specs.Number.{Number, number, signed, IsNormal, IsInRange, IsWhole}
-use Rattle.cj_decimal.specs.Spelling.{IsNumber, IsValue, IsNumberOutOfRange, digits_value}
+use Rattle.cj_decimal.specs.Spelling.{IsNumber, IsValue, IsNumberOutOfRange, IsInt, IsFewDigits, IsFewSigned, digits_value}
 use Rattle.cj_decimal.specs.Class.{Class, no_number, out_of_range, not_whole, whole, whole_answer}
-use Rattle.cj_decimal.specs.Reading.{digits_front, digits_rest, begins, body, IsShort}
+use Rattle.cj_decimal.specs.Reading.{digits_front, digits_rest, is_int, begins, begins_digit, body, Passes, IsShort}
 use Rattle.cj_decimal.specs.declared.decimal.DecimalFault.{DecimalFault}
 use Rattle.cj_decimal.specs.declared.decimal.DecimalFault.TheVariants.{NotANumber, NumberRange}
 use Rattle.cj_decimal.proofs.TenPowers.{ten_pow_pos}
 use Rattle.cj_decimal.proofs.Values.{same_sym, same_trans}
 use Rattle.cj_decimal.proofs.Normal.{normal_form}
 use Rattle.cj_decimal.proofs.Scales.{units_below, far_units, size_of_units}
-use Rattle.cj_decimal.proofs.Grammar.{front_all, front_rest, int_from_test, int_is_digits, digit_begins}
+use Rattle.cj_decimal.proofs.Grammar.{front_all, front_rest, front_append, rest_append, append_nil, int_digits, int_test, int_from_test, int_is_digits, digit_begins, begins_is, begins_own}
+use Rattle.cj_decimal.proofs.Ways.{stops_at_other, drop_at}
 use Rattle.cj_decimal.proofs.Parts.{no_minus, minus_there, integer_read}
 use Rattle.cj_decimal.proofs.Classes.{class}
 use Rattle.cj_decimal.proofs.Law.{has_one_value, value_of_read, not_both, value_is_number}
@@ -78,6 +80,25 @@ pub answer_below : (s : List ℕ) (r : Result (Option ℤ) DecimalFault) → ((c
 answer_below s r answer = rw (answer (class s)) (below s (class s))
 
 -- ---- few digits and nothing else
+-- the tests of an int hold of an int alone
+pub int_alone_reads : (s : List ℕ) → IsInt s → (is_int (digits_front s) ≡ true) × (digits_rest s ≡ [])
+unfolding begins_digit
+int_alone_reads s int =
+    let front = ap digits_front (sym (append_nil s)) ∙ front_append s [] (int_digits s int) refl in
+    let rest = ap digits_rest (sym (append_nil s)) ∙ rest_append s [] (int_digits s int) refl in
+    (ap is_int front ∙ int_test s int, rest)
+
+pub int_alone_read : (s : List ℕ) → is_int (digits_front s) ≡ true → digits_rest s ≡ [] → IsInt s
+int_alone_read s int rest =
+    let all : digits_front s ≡ s = sym (append_nil (digits_front s)) ∙ ap (λ r. digits_front s ++ r) (sym rest) ∙ sym (front_rest s) in
+    let P : List ℕ → Type 0 = λ t. IsInt t in
+    subst P all (int_from_test (digits_front s) (front_all s) int)
+
+pub no_int_past_other : (s : List ℕ) (at : ℕ) → Passes s 0 at → at < length s → is_ascii_digit (get_or s at 0) ≡ false → ¬ IsInt s
+no_int_past_other s at passes here other int =
+    let none = (stops_at_other s 0 at passes here other).rest ∙ (int_alone_reads s int).1 in
+    absurd (cc (sym (drop_at s at here) ∙ none))
+
 -- a whole number below 10^18 is in range
 whole_in_range : (v : Number) (w : ℤ) → IsNormal v → IsWhole v w → IsInRange v
 whole_in_range v w normal is = by_power v.power refl
@@ -102,7 +123,7 @@ size : (negative : Bool) (n : ℕ) → unsigned_abs (signed negative n) ≡ n
 size true n = omega (arith, ints)
 size false n = omega (arith, ints)
 
-signed_answer : (s : List ℕ) (negative : Bool) (n : ℕ) (c : Class s) → negative ≡ begins 45 s → IsShort (body s) n → whole_answer c ≡ Ok (Some (signed negative n))
+pub signed_answer : (s : List ℕ) (negative : Bool) (n : ℕ) (c : Class s) → negative ≡ begins 45 s → IsShort (body s) n → whole_answer c ≡ Ok (Some (signed negative n))
 signed_answer s negative n c sign short =
     let w = signed negative n in
     let read = integer_read s negative n sign short.int short.rest short.value in
@@ -121,5 +142,21 @@ answer_digits s n c short =
     let plain : begins 45 s ≡ false = ap (begins 45) (front_rest s) ∙ digit_begins 45 (digits_front s) (digits_rest s) (int_is_digits _ (int_from_test _ (front_all s) short.int)) (omega arith) in
     signed_answer s false n c (sym plain) (same_short s (body s) n (no_minus s plain) short)
 
-pub answer_minus : (s : List ℕ) (n : ℕ) (c : Class s) → begins 45 s ≡ true → IsShort (drop 1 s) n → whole_answer c ≡ Ok (Some (neg_ℤ (pos n)))
-answer_minus s n c minus short = signed_answer s true n c (sym minus) (same_short (drop 1 s) (body s) n (minus_there s minus) short)
+-- few digits after the sign, if there is one
+pub signed_from_body : (s : List ℕ) → IsFewDigits (body s) → IsFewSigned s
+signed_from_body s few = elim (begins 45 s) as (λ b. begins 45 s ≡ b → IsFewSigned s) [
+  | true ↦ λ e. inr (drop 1 s, begins_is 45 s e, few_at (drop 1 s) (minus_there s e))
+  | false ↦ λ e. inl (few_at s (no_minus s e))
+] refl
+  where
+    few_at : (t : List ℕ) → body s ≡ t → IsFewDigits t
+    few_at t e = let P : List ℕ → Type 0 = λ u. IsFewDigits u in subst P e few
+
+pub body_of_signed : (s : List ℕ) → IsFewSigned s → IsFewDigits (body s)
+body_of_signed s few = ⊎_elim (λ plain. at_body s (no_minus s (int_begins s plain.0)) plain) (λ minus. at_body minus.0 (minus_there s (ap (begins 45) minus.1 ∙ begins_own 45 minus.0) ∙ ap (drop 1) minus.1) minus.2) few
+  where
+    at_body : (t : List ℕ) → body s ≡ t → IsFewDigits t → IsFewDigits (body s)
+    at_body t e few = let P : List ℕ → Type 0 = λ u. IsFewDigits u in subst P (sym e) few
+
+    int_begins : (t : List ℕ) → IsInt t → begins 45 t ≡ false
+    int_begins t int = ap (begins 45) (sym (append_nil t)) ∙ digit_begins 45 t [] (int_is_digits t int) (omega arith)

@@ -21,6 +21,14 @@ abbrev pub IsInt : List ℕ → Type 0
 IsInt [] = ⊥
 IsInt (b ∷ s) = ((b ≡ 48) × (s ≡ [])) ⊎ ((49 ≤ b) × (b ≤ 57) × AllDigits s)
 
+-- an int of at most 18 digits, and nothing else
+abbrev pub IsFewDigits : List ℕ → Type 0
+IsFewDigits s = IsInt s × (length s ≤ 18)
+
+-- the same, or a minus and the same
+abbrev pub IsFewSigned : List ℕ → Type 0
+IsFewSigned s = IsFewDigits s ⊎ ((digits : List ℕ) × (s ≡ 45 ∷ digits) × IsFewDigits digits)
+
 -- minus: `-` where the number is negative, else nothing
 abbrev pub IsMinus : Bool → List ℕ → Type 0
 IsMinus true s = s ≡ 45 ∷ []

@@ -2,7 +2,8 @@
 //!
 //! [`Decimal::read`] reads a spelling of any length into a coefficient of at most 36 digits and a power of ten, in normal
 //! form. `==` is equality of values. [`Decimal::whole`] answers the value of an index or a coordinate, and
-//! [`Decimal::read_whole`] reads one at once, several times as fast; [`Decimal::fixed18`] answers the value of a scale, a
+//! [`Decimal::read_whole`] reads one at once, several times as fast ([`Decimal::read_few`] and
+//! [`Decimal::read_few_signed`] are its usual cases alone, faster still); [`Decimal::fixed18`] answers the value of a scale, a
 //! shift or the edge of a box, in units of 10^-18. [`Affine::compare`] tells how `v * scale + shift` compares with such an
 //! edge, exactly:
 //!

@@ -15,7 +15,7 @@ struct Fraction {
 }
 
 /// Whether this byte stands at a place.
-fn has_byte(spelling: &[u8], at: usize, byte: u8) -> bool
+pub fn has_byte(spelling: &[u8], at: usize, byte: u8) -> bool
     ensures { result ≡ begins byte (drop at spelling.now) }
 {
     at < spelling.len() && spelling[at] == byte
@@ -152,7 +152,7 @@ fn read_exponent(spelling: &[u8], from: usize) -> Option<i128>
 }
 
 /// Where a spelling goes on after its minus sign, if it has one.
-fn after_minus(spelling: &[u8], negative: bool) -> usize
+pub fn after_minus(spelling: &[u8], negative: bool) -> usize
     requires { negative ≡ begins 45 spelling.now }
     ensures body { drop result spelling.now ≡ body spelling.now }
     ensures within { result ≤ length spelling.now }

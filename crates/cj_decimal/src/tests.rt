@@ -55,6 +55,39 @@ const WHOLES: &str = "\
 1111111111111111111111111111111111111|NumberRange\n\
 1e1000001|NumberRange";
 
+/// In each line a spelling, and the number of its few digits, without a sign and with one, by hand.
+const FEW: &str = "\
+0|0|0\n\
+7|7|7\n\
+37|37|37\n\
+482|482|482\n\
+1048|1048|1048\n\
+10482|10482|10482\n\
+104829|104829|104829\n\
+1048290|1048290|1048290\n\
+10482907|10482907|10482907\n\
+104829075|104829075|104829075\n\
+999999999999999999|999999999999999999|999999999999999999\n\
+1000000000000000000|none|none\n\
+00|none|none\n\
+048|none|none\n\
+048290|none|none\n\
+1:48290|none|none\n\
+10482/0|none|none\n\
+104829:|none|none\n\
+1048.90|none|none\n\
+10482e1|none|none\n\
+-0|none|0\n\
+-37|none|-37\n\
+-10482|none|-10482\n\
+-999999999999999999|none|-999999999999999999\n\
+-1000000000000000000|none|none\n\
+-048|none|none\n\
+--48|none|none\n\
+48-|none|none\n\
+-|none|none\n\
+|none|none";
+
 /// What reading a spelling answers, as a pair of numbers.
 fn parts(spelling: &[u8]) -> Result<(i128, i32), DecimalFault> {
     match Decimal::read(spelling) {
@@ -120,6 +153,21 @@ fn whole_numbers_are_read(rt: HostRuntime) -> Result<(), Fail> {
         let (text, wanted) = line.split_once('|').expect(&rt, "two fields");
         let answer = whole_of(rt.alloc(), text)?;
         assert_eq!(rt; answer.as_str(), wanted, "{text}");
+    }
+    Ok(())
+}
+
+#[test]
+fn few_digits_are_read(rt: HostRuntime) -> Result<(), Fail> {
+    for line in FEW.lines() {
+        let text = match line.split_once('|') {
+            Some((text, _)) => text,
+            None => line,
+        };
+        let few = shown(rt.alloc(), Decimal::read_few(text.as_bytes()))?;
+        let signed = shown(rt.alloc(), Decimal::read_few_signed(text.as_bytes()))?;
+        let answer = format!(in rt.alloc(); "{text}|{few}|{signed}")?;
+        assert_eq!(rt; answer.as_str(), line);
     }
     Ok(())
 }

@@ -1,12 +1,13 @@
 -- What reading a number says of its findings.
-use Rattle.std.proofs.Common.{◌≡◌, ℕ, ◌<◌, ◌^◌, List, [], cond, Option, Some, None, Result, Ok, Err, ℤ, to_z, of_z, w64, refl, sym, ap, ◌∙◌, arith}
-use Rattle.std.specs.Prelude.{unsigned_abs}
+use Rattle.std.proofs.Common.{◌≡◌, ℕ, ◌<◌, ◌^◌, List, [], Bool, true, false, cond, Option, Some, None, Result, Ok, Err, ℤ, to_z, of_z, w64, refl, sym, ap, ◌∙◌, arith}
+use Rattle.std.specs.Prelude.{unsigned_abs, pos, IfSome}
 use Rattle.std.proofs.lemmas.Int.{to_z-of_z, fits_signed_from_abs}
 use Rattle.cj_spans.specs.declared.token.Kind.TheVariants.{Number}
 use Rattle.cj_spans.specs.declared.reason.Reason.{Reason}
 use Rattle.cj_spans.specs.declared.reason.Reason.TheVariants.{NotWhole}
 use Rattle.cj_spans.specs.declared.finding.Finding.{Finding}
 use Rattle.cj_spans.specs.Tree.{Tree, scalar, array, object}
+use Rattle.cj_spans.specs.Kinds.{is_number}
 use Rattle.cj_spans.specs.Parts.{kind_of, spelling_of}
 use Rattle.cj_decimal.specs.declared.decimal.DecimalFault.{DecimalFault}
 use Rattle.cj_decimal.specs.declared.decimal.DecimalFault.TheVariants.{NotANumber, NumberRange as OutOfRange}
@@ -62,6 +63,20 @@ whole-class s (whole v w value range is) = refl
 pub whole-fits : (w : ℤ) → unsigned_abs w < 10 ^ 18 → to_z w64 (of_z w64 w) ≡ w
 whole-fits w small = to_z-of_z w64 w (fits_signed_from_abs w64 w (omega arith))
 
+-- ---- of a tree that has a whole number
+by-whole : (s : List ℕ) (t : Tree) (c : Class s) (w : ℤ) → whole_by c ≡ Some w → (reason : Reason) (count : Option ℕ) → index_findings reason count t c ≡ cond (is_outside count w) (one reason t) []
+by-whole s t (no_number n) w is reason count = absurd (cc is)
+by-whole s t (out_of_range n) w is reason count = absurd (cc is)
+by-whole s t (not_whole v value range n) w is reason count = absurd (cc is)
+by-whole s t (whole v x value range are) w is reason count = let same : x ≡ w = cc is in rw same refl
+
+pub index-of-whole : (t : Tree) (w : ℤ) → whole_of t ≡ Some w → (reason : Reason) (count : Option ℕ) → index reason count t ≡ cond (is_outside count w) (one reason t) []
+index-of-whole t w is reason count = go (is_number (kind_of t)) refl
+  where
+    go : (b : Bool) → is_number (kind_of t) ≡ b → index reason count t ≡ cond (is_outside count w) (one reason t) []
+    go true e = rw e (by-whole (spelling t) t (class (spelling t)) w (rw e at is) reason count)
+    go false e = absurd (cc (rw e at is))
+
 -- ---- of a tree of the kind
 
 module _ (line : List ℕ) (t : Tree) (kind : kind_of t ≡ Number) where
@@ -92,3 +107,16 @@ module _ (line : List ℕ) (t : Tree) (kind : kind_of t ≡ Number) where
 
     pub number-read : number t ≡ number-by t q
     number-read = rw kind (number-class (spelling t) t (class (spelling t)) ∙ ap (number-by t) answer)
+
+  -- with the whole number that a call may have read of it
+  module _ (s : List ℕ) (same : s ≡ spelling_of line t) where
+    whole-there : (w : ℤ) → ((c : Class s) → whole_answer c ≡ Ok (Some w)) → whole_of t ≡ Some w
+    whole-there w answer = whole-read s same (Ok (Some w)) (Ok (Some w)) (λ c. sym (answer c)) refl
+
+    pub few-read : (o : Option ℕ) → IfSome o (λ n. (c : Class s) → whole_answer c ≡ Ok (Some (pos n))) → IfSome o (λ n. n < 10 ^ 18) → IfSome o (λ n. (n < 10 ^ 18) × (whole_of t ≡ Some (pos n)))
+    few-read None answer small = answer
+    few-read (Some n) answer small = (small, whole-there (pos n) answer)
+
+    pub few-signed-read : (o : Option ℤ) → IfSome o (λ w. (c : Class s) → whole_answer c ≡ Ok (Some w)) → IfSome o (λ w. whole_of t ≡ Some w)
+    few-signed-read None answer = answer
+    few-signed-read (Some w) answer = whole-there w answer

@@ -1,5 +1,5 @@
 //! Numbers that rules read.
-ghost use Rattle.std.specs.Prelude.{◌≡◌};
+ghost use Rattle.std.specs.Prelude.{◌≡◌, ℕ, ◌<◌, ◌^◌, nat_lt, not, pos, Some, IfSome};
 ghost use Rattle.cj_spans.specs.Finding.{least};
 ghost use Rattle.cj_spans.specs.View.{tree};
 ghost use Rattle.cj_geometry.specs.Rule.{number, index, whole_number, is_outside as is_outside_of, whole_of, fault_reason};
@@ -41,9 +41,42 @@ fn is_outside(count: Option<u64>, whole: i64) -> bool
     }
 }
 
-/// The value of a number that is in range and whole; None of any other number and of any other value.
+/// The value of a number of few digits: what nearly all indices are. None of any other value.
+///
+/// Once its first byte is known to be a digit, the question for its kind costs nothing.
 #[inline(always)]
-pub fn read_whole(node: Node) -> Option<i64>
+fn read_few(node: Node) -> Option<u64>
+    ensures { IfSome result (λ n. (n < 10 ^ 18) × (whole_of (tree node.entry) ≡ Some (pos n))) }
+{
+    let bytes = node.bytes();
+    if !bytes[0].is_ascii_digit() {
+        return None;
+    }
+    match node.kind() {
+        Kind::Number => Decimal::read_few(bytes),
+        _ => None,
+    }
+}
+
+/// The value of a number of few digits, perhaps behind a minus: what nearly all coordinates are. None of any
+/// other value.
+#[inline(always)]
+fn read_few_signed(node: Node) -> Option<i64>
+    ensures { IfSome result (λ w. whole_of (tree node.entry) ≡ Some w) }
+{
+    let bytes = node.bytes();
+    if bytes[0] < b'-' || bytes[0] > b'9' {
+        return None;
+    }
+    match node.kind() {
+        Kind::Number => Decimal::read_few_signed(bytes),
+        _ => None,
+    }
+}
+
+/// The value of any number that is in range and whole.
+#[inline(never)]
+fn read_any_whole(node: Node) -> Option<i64>
     ensures { result ≡ whole_of (tree node.entry) }
 {
     match node.kind() {
@@ -55,10 +88,31 @@ pub fn read_whole(node: Node) -> Option<i64>
     }
 }
 
-/// The value is a number in range and whole, and names one of `count` things, counted from 0, if that is
-/// known: where it names none it has `outside`.
+/// The value of a number that is in range and whole; None of any other number and of any other value.
 #[inline(always)]
-pub fn check_index(node: Node, outside: Reason, count: Option<u64>, found: &mut Least)
+pub fn read_whole(node: Node) -> Option<i64>
+    ensures { result ≡ whole_of (tree node.entry) }
+{
+    match read_few_signed(node) {
+        Some(whole) => Some(whole),
+        None => read_any_whole(node),
+    }
+}
+
+/// From what number on a number of few digits is outside: from the count on, if that is known.
+#[inline(always)]
+fn bound_of(count: Option<u64>) -> u64
+    ensures { (n : ℕ) → n < 10 ^ 18 → is_outside_of count (pos n) ≡ not (nat_lt n result) }
+{
+    match count {
+        Some(count) => count,
+        None => u64::MAX,
+    }
+}
+
+/// The index of any value, as [`check_index`] has it.
+#[inline(never)]
+fn check_any_index(node: Node, outside: Reason, count: Option<u64>, found: &mut Least)
     ensures { found.new ≡ least found.old (index outside count (tree node.entry)) }
 {
     match node.kind() {
@@ -75,10 +129,28 @@ pub fn check_index(node: Node, outside: Reason, count: Option<u64>, found: &mut 
     }
 }
 
+/// The value is a number in range and whole, and names one of `count` things, counted from 0, if that is
+/// known: where it names none it has `outside`.
+#[inline(always)]
+pub fn check_index(node: Node, outside: Reason, count: Option<u64>, found: &mut Least)
+    ensures { found.new ≡ least found.old (index outside count (tree node.entry)) }
+{
+    match read_few(node) {
+        Some(whole) => {
+            if whole >= bound_of(count) {
+                add(node, outside, found);
+            }
+        }
+        None => check_any_index(node, outside, count, found),
+    }
+}
+
 /// The value is a number in range and whole, of any sign and size.
 #[inline(always)]
 pub fn check_whole(node: Node, found: &mut Least)
     ensures { found.new ≡ least found.old (whole_number (tree node.entry)) }
 {
-    check_index(node, Reason::NotWhole, None, found);
+    if read_few_signed(node).is_none() {
+        check_any_index(node, Reason::NotWhole, None, found);
+    }
 }

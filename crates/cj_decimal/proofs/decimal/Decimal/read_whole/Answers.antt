@@ -1,21 +1,13 @@
-use Rattle.std.proofs.Common.{◌≡◌, ◌<◌, ◌^◌, Ok, Some, pos, w64, to_z, sym, ap, ◌∙◌, arith}
-use Rattle.std.specs.Prelude.{unsigned_abs}
-use Rattle.std.proofs.lemmas.Int.{ints}
-use Rattle.cj_decimal.proofs.Wholes.{answer_below, answer_digits}
+use Rattle.std.proofs.Common.{◌≡◌, Ok, Some, w64, to_z, of_z, sym, ap, ◌∙◌, arith}
+use Rattle.std.proofs.lemmas.Int.{to_z-of_z, fits_signed_from_abs}
+use Rattle.cj_decimal.proofs.Wholes.{answer_below}
 use Rattle.cj_decimal.proofs.decimal.Decimal.read_whole.Goals as goal
 
 pub returns-in-Some-clause-answer : goal.returns-in-Some-clause-answer
 returns-in-Some-clause-answer c = λ class.
-    let n = c.in-Some.whole in
-    let cast : pos n ≡ to_z w64 n = omega (arith, ints, c.in-Some.ensures.small) in
-    sym (answer_digits c.args.spelling.now n class c.in-Some.ensures ∙ ap (λ z. Ok (Some z)) cast)
-
-pub returns-in-Some-clause-small : goal.returns-in-Some-clause-small
-returns-in-Some-clause-small c =
-    let n = c.in-Some.whole in
-    let cast : pos n ≡ to_z w64 n = omega (arith, ints, c.in-Some.ensures.small) in
-    let few : unsigned_abs (pos n) < 10 ^ 18 = omega (arith, c.in-Some.ensures.small) in
-    rw (← cast) few
+    let w = c.in-Some.whole in
+    let same : to_z w64 (of_z w64 w) ≡ w = to_z-of_z w64 w (fits_signed_from_abs w64 w (omega (arith, c.in-Some.ensures.small))) in
+    ap (λ z. Ok (Some z)) same ∙ sym (c.in-Some.ensures.answer class)
 
 pub returns-in-None-clause-small : goal.returns-in-None-clause-small
 returns-in-None-clause-small c = answer_below c.args.spelling.now c.read_any.result c.read_any.ensures

@@ -2,7 +2,7 @@ use Rattle.std.proofs.Common.{◌≡◌, ◌∙◌, sym, ap, refl, Ok, true, fal
 use Rattle.cj_spans.specs.View.{tree, line_of}
 use Rattle.cj_geometry.specs.Rule.{is_outside}
 use Rattle.cj_geometry.proofs.Numbers.{index-read, whole-fits}
-use Rattle.cj_geometry.proofs.rule.number.check_index.Goals as goal
+use Rattle.cj_geometry.proofs.rule.number.check_any_index.Goals as goal
 
 pub returns-then-is_outside : goal.returns-then-is_outside
 returns-then-is_outside c =
