@@ -1,7 +1,8 @@
 -- Characters and code points, read one at a time.
-use Rattle.std.proofs.Common.{◌≡◌, ℕ, zero, suc, ◌+◌, ◌-◌, ◌*◌, ◌<◌, ◌≤◌, List, [], ◌∷◌, length, take, drop, get_or, Bool, true, false, cond, not, ◌&&◌, nat_eq, nat_lt, Option, Some, None, refl, sym, ap, arith, ◌∙◌, add-one, drop-cons}
+use Rattle.std.proofs.Common.{◌≡◌, ℕ, zero, suc, ◌+◌, ◌-◌, ◌*◌, ◌<◌, ◌≤◌, List, [], ◌∷◌, length, take, drop, get_or, Bool, true, false, cond, not, ◌&&◌, nat_eq, nat_lt, Option, Some, None, inl, inr, refl, sym, ap, arith, ◌∙◌, add-one, drop-cons}
 use Rattle.std.specs.Cmp.Derive.{both_true}
-use Rattle.std.proofs.lemmas.List.{drop-drop, drop-take}
+use Rattle.std.proofs.lemmas.Bool.{cases_lt}
+use Rattle.std.proofs.lemmas.List.{drop-drop, drop-take, length-take}
 use Rattle.std.proofs.lemmas.Bool.Decides.{nat_tests}
 use Rattle.std.proofs.lemmas.Grind.{common_steps}
 use Rattle.cj_spans.specs.declared.text.Point.{Point}
@@ -296,6 +297,45 @@ body_place s (suc n) =
 pub points_between : (s : List ℕ) → points_after 0 (left (take (length s - 1) s) 1) ≡ text s
 unfolding text
 points_between s = ap (λ bs. points_after 0 (chars bs)) (body_place s (length s - 1))
+
+-- ---- the first byte between the quotes
+
+second_taken : (s : List ℕ) (n : ℕ) → 1 < n → get_or (take n s) 1 0 ≡ get_or s 1 0
+second_taken s zero h = absurd (omega arith)
+second_taken s (suc zero) h = absurd (omega arith)
+second_taken [] (suc (suc n)) h = refl
+second_taken (a ∷ []) (suc (suc n)) h = refl
+second_taken (a ∷ c ∷ s) (suc (suc n)) h = refl
+
+-- of a string that is not empty it is the first point, where it stands for itself
+text_front : (s : List ℕ) → 2 < length s → get_or s 1 0 < 128 → nat_eq (get_or s 1 0) 92 ≡ false → (ps : List ℕ) × (text s ≡ get_or s 1 0 ∷ ps)
+text_front s h l n =
+    let m = length s - 1 in
+    let bs = take m s in
+    let e : get_or bs 1 0 ≡ get_or s 1 0 = second_taken s m (omega arith) in
+    let k = length-take m s in
+    let p = plain_code bs 1 (omega arith) (omega arith) (ap (λ c. nat_eq c 92) e ∙ n) in
+    (points_from bs 2, sym (points_between s) ∙ p ∙ ap (λ c. c ∷ points_from bs 2) e)
+
+text_empty : (s : List ℕ) → length s ≤ 2 → text s ≡ []
+text_empty s h = let k = length-take (length s - 1) s in sym (points_between s) ∙ points_done (take (length s - 1) s) 1 (chars_past (take (length s - 1) s) 1 (omega arith))
+
+others_differ : (x y : ℕ) (xs ys : List ℕ) → nat_eq x y ≡ false → are_same (x ∷ xs) (y ∷ ys) ≡ false
+others_differ x y xs ys h = ap (λ v. v && are_same xs ys) h
+
+front_differs : (s ys : List ℕ) (y : ℕ) → 1 < length s → get_or s 1 0 < 128 → nat_eq (get_or s 1 0) 92 ≡ false → nat_eq (get_or s 1 0) y ≡ false → are_same (text s) (y ∷ ys) ≡ false
+front_differs s ys y h l n d =
+    elim (cases_lt 2 (length s)) [
+      | inl o ↦ let p = text_front s o l n in ap (λ xs. are_same xs (y ∷ ys)) p.1 ∙ others_differ (get_or s 1 0) y p.0 ys d
+      | inr g ↦ ap (λ xs. are_same xs (y ∷ ys)) (text_empty s g)
+    ]
+
+-- texts that differ in it are others
+pub other_text : (s w : List ℕ) → 1 < length s → 0 < length w → (get_or s 1 0 < 128) × (get_or w 0 0 < 128) → (nat_eq (get_or s 1 0) 92 ≡ false) × (nat_eq (get_or w 0 0) 92 ≡ false) → nat_eq (get_or s 1 0) (get_or w 0 0) ≡ false → are_same (text s) (chars w) ≡ false
+other_text s w h o a n d = ap (are_same (text s)) (plain_character w 0 o a.1) ∙ front_differs s (left w 1) (get_or w 0 0) h a.0 n.0 d
+
+pub other_texts : (s o : List ℕ) → 1 < length s → 2 < length o → (get_or s 1 0 < 128) × (get_or o 1 0 < 128) → (nat_eq (get_or s 1 0) 92 ≡ false) × (nat_eq (get_or o 1 0) 92 ≡ false) → nat_eq (get_or s 1 0) (get_or o 1 0) ≡ false → are_same (text s) (text o) ≡ false
+other_texts s o h k a n d = let p = text_front o k a.1 n.1 in ap (are_same (text s)) p.1 ∙ front_differs s p.0 (get_or o 1 0) h a.0 n.0 d
 
 -- ---- the relation has one answer, the function's
 

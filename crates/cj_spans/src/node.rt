@@ -26,7 +26,7 @@ mod examples;
 #[cfg(test)]
 mod tests;
 
-use crate::text::{Characters, Points, hash, is_same_text, is_text};
+use crate::text::{Points, hash, spell_one_text, spells};
 use crate::token::{Kind, Token};
 
 /// A line with the tokens that show its tree.
@@ -235,16 +235,28 @@ impl<'a> Node<'a> {
     ghost use Rattle.std.specs.Str.{chars};
     ghost use Rattle.cj_spans.specs.Parts.{text_of, are_same_texts, has_text, first_code_of, member_of};
     ghost use Rattle.cj_spans.specs.Decoding.{points_left};
+    ghost use Rattle.cj_spans.specs.Text.{text};
     ghost use Rattle.cj_spans.specs.Hash.{hash_of};
     ghost use Rattle.cj_spans.specs.View.{tree, line_of};
+
+    /// A string or a name as it is spelled, with its quotes; None for any other value.
+    fn spelling(self) -> Option<&'a [u8]>
+        ensures text { option_map (λ s. text s.now) result ≡ text_of (tree self.entry) }
+        ensures filled { IfSome result (λ s. 0 < length s.now) }
+    {
+        match self.kind() {
+            Kind::Text => Some(self.bytes()),
+            _ => None,
+        }
+    }
 
     /// The code points of a string or a name, one at a time; None for any other value.
     fn points(self) -> Option<Points<'a>>
         ensures { option_map points_left result ≡ text_of (tree self.entry) }
     {
-        match self.kind() {
-            Kind::Text => Some(Points::of(self.bytes())),
-            _ => None,
+        match self.spelling() {
+            Some(spelling) => Some(Points::of(spelling)),
+            None => None,
         }
     }
 
@@ -270,8 +282,8 @@ impl<'a> Node<'a> {
         ensures test { result ≡ has_text (chars text.now) (tree self.entry) }
         ensures means { IsTrue result ↔ (text_of (tree self.entry) ≡ Some (chars text.now)) }
     {
-        match self.points() {
-            Some(points) => is_text(points, Characters::of(text)),
+        match self.spelling() {
+            Some(spelling) => spells(spelling, text),
             None => false,
         }
     }
@@ -282,9 +294,9 @@ impl<'a> Node<'a> {
         ensures means { IsTrue result ↔ ((t : List ℕ) × (text_of (tree self.entry) ≡ Some t)
             × (text_of (tree other.entry) ≡ Some t)) }
     {
-        match self.points() {
-            Some(points) => match other.points() {
-                Some(others) => is_same_text(points, others),
+        match self.spelling() {
+            Some(spelling) => match other.spelling() {
+                Some(others) => spell_one_text(spelling, others),
                 None => false,
             },
             None => false,

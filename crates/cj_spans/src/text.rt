@@ -367,7 +367,7 @@ fn is_text_slowly(points: Points, characters: Characters) -> bool
 /// Whether a string's text is these characters.
 #[tactic(auto, using(crate::proofs::Texts::text_ends))]
 #[inline]
-pub(crate) fn is_text(points: Points, characters: Characters) -> bool
+fn is_text(points: Points, characters: Characters) -> bool
     ensures { result ≡ are_same (points_left points.entry) (characters_left characters.entry) }
 {
     let mut left = points;
@@ -411,7 +411,7 @@ fn is_same_text_slowly(points: Points, others: Points) -> bool
 /// Whether two strings have one text.
 #[tactic(auto, using(crate::proofs::Texts::texts_end))]
 #[inline]
-pub(crate) fn is_same_text(points: Points, others: Points) -> bool
+fn is_same_text(points: Points, others: Points) -> bool
     ensures { result ≡ are_same (points_left points.entry) (points_left others.entry) }
 {
     let mut left = points;
@@ -430,6 +430,47 @@ pub(crate) fn is_same_text(points: Points, others: Points) -> bool
         return true;
     }
     is_same_text_slowly(left, right)
+}
+
+/// Whether the first bytes of two texts tell them apart: other bytes, each of which stands for itself.
+#[tactic(auto, using(std::proofs::lemmas::Bool::Decides::nat_tests))]
+#[inline(always)]
+fn tell_apart(first: u8, second: u8) -> bool
+    ensures differ { result ≡ true → nat_eq first second ≡ false }
+    ensures ascii { result ≡ true → (first < 128) × (second < 128) }
+    ensures plain { result ≡ true → (nat_eq first 92 ≡ false) × (nat_eq second 92 ≡ false) }
+{
+    first != second && first < 128 && second < 128 && first != b'\\' && second != b'\\'
+}
+
+/// Whether a string, given with its quotes, has this text. Most names that are passed over differ in their first
+/// byte, so it is compared before anything else is set up.
+#[tactic(auto, using(crate::proofs::Texts::other_text))]
+#[inline(always)]
+pub(crate) fn spells(spelling: &[u8], wanted: &str) -> bool
+    requires { 0 < length spelling.now }
+    ensures { result ≡ are_same (text spelling.now) (chars wanted.now) }
+{
+    let characters = wanted.as_bytes();
+    if spelling.len() > 1 && !characters.is_empty() && tell_apart(spelling[1], characters[0]) {
+        return false;
+    }
+    is_text(Points::of(spelling), Characters::of(wanted))
+}
+
+/// Whether two strings, given with their quotes, have one text. Their first bytes are compared before anything else, where
+/// the second has one between its quotes.
+#[tactic(auto, using(crate::proofs::Texts::other_texts))]
+#[inline(always)]
+pub(crate) fn spell_one_text(spelling: &[u8], other: &[u8]) -> bool
+    requires first { 0 < length spelling.now }
+    requires second { 0 < length other.now }
+    ensures { result ≡ are_same (text spelling.now) (text other.now) }
+{
+    if spelling.len() > 1 && other.len() > 2 && tell_apart(spelling[1], other[1]) {
+        return false;
+    }
+    is_same_text(Points::of(spelling), Points::of(other))
 }
 
 /// What the hash of a text begins with.
