@@ -1,7 +1,7 @@
 -- Walks over tokens, and the trees that they show.
 use Rattle.std.proofs.Common.{◌≡◌, ℕ, zero, suc, ◌+◌, ◌<◌, ◌≤◌, List, [], ◌∷◌, length, drop, slice_get, slice_range, inl, inr, true, Some, refl, sym, ap, subst, arith, ◌∙◌}
 use Rattle.cj_spans.proofs.Spellings.{some_same}
-use Rattle.cj_spans.proofs.Forests.{held_on, past_on, start-node}
+use Rattle.cj_spans.proofs.Forests.{past_on, start-node}
 use Rattle.std.specs.Cmp.{first_so, second_so}
 use Rattle.std.proofs.lemmas.Bool.{cases_lt}
 use Rattle.std.proofs.lemmas.Option.{slice_get_within}
@@ -13,9 +13,9 @@ use Rattle.cj_spans.specs.Tree.{Tree, scalar, array, object, start_of}
 use Rattle.cj_spans.specs.Json.{byte}
 use Rattle.cj_spans.specs.Preorder.{Span, spans_of}
 use Rattle.cj_spans.specs.Forest.{kind_by, held, past, atom_of, items_from, members_from, node, forest}
-use Rattle.cj_spans.specs.Parts.{kind_of, spelling_of, list_items, items_of, list_members, members_of}
+use Rattle.cj_spans.specs.Parts.{kind_of, spelling_of, list_items, list_members}
 use Rattle.cj_spans.specs.Kinds.{is_text}
-use Rattle.cj_spans.specs.Sound.{StopBefore, before, is_name, are_members, items_end, members_end}
+use Rattle.cj_spans.specs.Sound.{StopBefore, before, is_name, are_members}
 use Rattle.cj_spans.specs.View.{tree_at, pairs_of}
 use Rattle.cj_spans.proofs.Links.{before_one, before_zero}
 

@@ -1,6 +1,6 @@
 use Rattle.std.proofs.Common.{rules, refl, ap, length, arith}
 use Rattle.cj_spans.specs.View.{tree, line_of, items_left, items_line}
-use Rattle.cj_spans.proofs.Walks.{item_on, shown_none, whole_later}
+use Rattle.cj_spans.proofs.Walks.{item_on, shown_none}
 use Rattle.cj_spans.proofs.node.ItemsIterator.next.Goals as goal
 
 pub returns-then-index-self-clause-steps : goal.returns-then-index-self-clause-steps
