@@ -121,6 +121,25 @@ fn texts_and_words_that_are_none(rt: HostRuntime) -> Result<(), Fail> {
 }
 
 #[test]
+fn names_and_their_colons(rt: HostRuntime) -> Result<(), Fail> {
+    let rows = [
+        at_64(b"{\"a\" :1,\"b\": 2,\"c\":\"d\"}", Ok((7, 1))),
+        at_64(b"[\"\",\"a\\\"b\",\"\\\\\"]", Ok((4, 1))),
+        at_64(b"{\"a\":}", Err(ScanFault::Syntax(5))),
+        at_64(b"{\"a\"::1}", Err(ScanFault::Syntax(5))),
+        at_64(b"{\"a\":", Err(ScanFault::Syntax(5))),
+        at_64(b"{\"a\"", Err(ScanFault::Syntax(4))),
+        at_64(b"{\"a\":1:2}", Err(ScanFault::Syntax(6))),
+        at_64(b"[\"a\":1]", Err(ScanFault::Syntax(4))),
+        at_64(b"\"a\":1", Err(ScanFault::Syntax(3))),
+    ];
+    for r in &rows {
+        meets(&rt, rt.alloc(), r);
+    }
+    Ok(())
+}
+
+#[test]
 fn lines_that_are_no_texts(rt: HostRuntime) -> Result<(), Fail> {
     let rows = [
         at_64(b"", Err(ScanFault::Syntax(0))),
