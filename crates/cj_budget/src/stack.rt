@@ -55,13 +55,14 @@ impl Stack {
         ensures adds { Adds self.old item (item ∷ self.old.elements) result self.new }
         ensures inline { length self.old.elements < 64 → length self.old.elements < self.old.limit → IsOk result }
     {
-        if self.items.len() == self.limit {
+        let length = self.items.len();
+        if length == self.limit {
             return Err(Refused::Full(item));
         }
         if self.items.push(item).is_err() {
             return Err(Refused::Memory(item));
         }
-        self.peak = self.peak.max(self.items.len());
+        self.peak = self.peak.max(length + 1);
         Ok(())
     }
 

@@ -12,6 +12,7 @@ pub mod Facts
 pub mod Fronts
 pub mod Forests
 pub mod Standing
+pub mod Nested
 pub mod WholeNumbers
 pub mod Colons
 pub mod Vectors

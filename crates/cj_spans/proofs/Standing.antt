@@ -13,25 +13,10 @@ use Rattle.cj_spans.specs.declared.step.Next.{Next}
 use Rattle.cj_spans.specs.Json.{byte}
 use Rattle.cj_spans.specs.Scan.{KeepsLaw}
 use Rattle.cj_spans.specs.Machine.{State, state, step, read, Reaches, here, on, start, ComesTo, Sticks, phase_after, deepest_after, Answers, EndAnswers, Kept, Grown, BeginsValue, BeginsAtom, SticksAt, RunAnswers}
+use Rattle.cj_spans.specs.Pass.{Standing}
 use Rattle.cj_spans.proofs.Spellings.{some_same}
 use Rattle.cj_spans.proofs.Runs.{idle, settled, same_mode}
 use Rattle.cj_spans.proofs.Facts.{IsLawful, goes, lawful_reaches, lawful_settles, reaches_both}
-
--- the machine has come to the mode m at the place i, and the lists are those that it has
-pub record Standing (b : List ℕ) (tokens0 : BoundedList Token) (stack0 : BoundedList ℕ) (tokens : BoundedList Token) (stack : BoundedList ℕ) (m : Mode) (i : ℕ) : Type 0 where
-  pub deepest : ℕ
-  pub settles : ComesTo b start (idle m stack.elements tokens.elements i deepest)
-  pub place : i ≤ length b
-  pub kept : Kept tokens0 tokens
-  pub stack_limit : stack.limit ≡ stack0.limit
-  pub stack_peak : stack.peak ≡ max stack0.peak deepest
-  pub stack_room : IsTrue stack0.reserved → IsTrue stack.reserved
-  pub stack_within : IsWithin stack
-
--- the room for the tokens of a line, under a limit of open containers
-pub record HasRoom (b : List ℕ) (tokens0 : BoundedList Token) (stack0 : BoundedList ℕ) : Type 0 where
-  pub short : length b ≤ 1073741824
-  pub room : (length b + stack0.limit + 1) / 2 ≤ tokens0.limit
 
 -- ---- the beginning
 
@@ -103,7 +88,7 @@ pub record Stepped (b : List ℕ) (tokens0 : BoundedList Token) (stack0 : Bounde
   pub stack_room : IsTrue stack0.reserved → IsTrue stack.reserved
   pub stack_within : IsWithin stack
 
-kept_both : (x y z : BoundedList Token) → Kept x y → Grown y z → Kept x z
+pub kept_both : (x y z : BoundedList Token) → Kept x y → Grown y z → Kept x z
 kept_both x y z k g =
     let a = k.peak in let c = g.kept.peak in let d = g.longer in
     record { limit = g.kept.limit ∙ k.limit; peak = omega arith; room = λ r. g.kept.room (k.room r); within = g.kept.within }
@@ -176,6 +161,13 @@ stepped_on b tokens0 stack0 tokens tokens1 stack m i v n s g h = record {
   stack_room = s.stack_room;
   stack_within = s.stack_within;
 }
+
+-- the same after the byte that made the move
+pub followed : (b : List ℕ) (tokens0 : BoundedList Token) (stack0 : BoundedList ℕ) (tokens tokens1 tokens2 : BoundedList Token) (stack stack1 : BoundedList ℕ) (m : Mode) (i : ℕ) (v : Move) (n : Next) → Standing b tokens0 stack0 tokens stack m i → i < length b → Grown tokens tokens1 → Kept stack stack1
+    → ((p : ℕ) → read m (byte b i) (idle m stack.elements tokens.elements i p) ≡ Some (state (phase_after m i v) stack1.elements tokens1.elements (suc i) (deepest_after v p (length stack1.elements)))) → Grown tokens1 tokens2
+    → ((p : ℕ) → ComesTo b (state (phase_after m i v) stack1.elements tokens1.elements (suc i) p) (idle n.mode stack1.elements tokens2.elements n.place p) × (suc i ≤ n.place) × (n.place ≤ length b))
+    → Standing b tokens0 stack0 tokens2 stack1 n.mode n.place
+followed b tokens0 stack0 tokens tokens1 tokens2 stack stack1 m i v n s l g k h f c = stepped_on b tokens0 stack0 tokens1 tokens2 stack1 m i v n (standing_step b tokens0 stack0 tokens tokens1 stack stack1 m i v s l g k h) f c
 
 -- ---- the law at every exit
 

@@ -1,5 +1,5 @@
 -- Whole numbers in an array: the machine over them.
-use Rattle.std.proofs.Common.{◌≡◌, ℕ, suc, ◌+◌, ◌*◌, ◌/◌, ◌<◌, ◌≤◌, List, [], ◌∷◌, ◌++◌, length, Bool, true, false, nat_eq, Option, Some, None, refl, sym, ap, subst, arith, ◌∙◌, ◌⊎◌, inl, inr, slice_get, max, length-append}
+use Rattle.std.proofs.Common.{◌≡◌, ℕ, suc, ◌+◌, ◌<◌, ◌≤◌, List, [], ◌∷◌, ◌++◌, length, Bool, true, false, nat_eq, Option, Some, None, refl, sym, ap, subst, arith, ◌∙◌, ◌⊎◌, inl, inr, slice_get, max, length-append}
 use Rattle.std.proofs.lemmas.Bool.{cond-false}
 use Rattle.std.specs.Prelude.{IfSome, option_map}
 use Rattle.std.proofs.lemmas.Bool.Decides.{nat_tests}
@@ -16,13 +16,12 @@ use Rattle.cj_spans.specs.declared.step.Mode.TheVariants.{Ready, FirstItem, Afte
 use Rattle.cj_spans.specs.Spelling.{is_white_space}
 use Rattle.cj_spans.specs.Json.{byte}
 use Rattle.cj_spans.specs.Preorder.{token_at}
-use Rattle.cj_spans.specs.Machine.{open_kind, State, state, between, in_atom, phase_after, read, after_top, after_token, after_in, moved, step, lex_start, lex_step, Continues, still, further, Reaches, here, on, ComesTo, BeginsValue, InArray, Grown, StaysInArray, StaysInArrayNext, BeginsValueNext, IsNumberItem, is_digit}
+use Rattle.cj_spans.specs.Machine.{open_kind, State, state, between, in_atom, phase_after, read, after_top, after_token, after_in, moved, step, lex_start, lex_step, Continues, still, further, Reaches, on, ComesTo, BeginsValue, InArray, Grown, StaysInArray, StaysInArrayNext, BeginsValueNext, IsNumberItem, is_digit}
 use Rattle.cj_spans.proofs.Spellings.{some_same, none_some}
 use Rattle.cj_spans.proofs.Lists.{slice_get-append, slice_get-seam}
 use Rattle.cj_spans.proofs.Runs.{idle, settled, atom_ends, IsEnd, comma, bracket}
 use Rattle.cj_spans.proofs.Atoms.{ends_ok}
-use Rattle.cj_spans.proofs.Facts.{lawful_reaches, IsLawful}
-use Rattle.cj_spans.proofs.Standing.{settles_both, count_before, Stepped}
+use Rattle.cj_spans.proofs.Standing.{settles_both}
 
 -- ---- one step of the machine
 
@@ -154,10 +153,15 @@ pub behind_minus_stop : (b : List ℕ) (i : ℕ) (r : Option ℕ) → byte b i �
 behind_minus_stop b i None e h = tt
 behind_minus_stop b i (Some k) e h = minus_is b i k e h
 
-pub stays_begins : (c : ℕ) (m : Mode) → StaysInArray c m → BeginsValue m
+stays_begins : (c : ℕ) (m : Mode) → StaysInArray c m → BeginsValue m
 stays_begins c Ready h = tt
 stays_begins c FirstItem h = tt
 stays_begins c _ h = absurd h
+
+pub stays_next : (c : ℕ) (v : Move) → StaysInArrayNext c v → BeginsValueNext v
+stays_next c (To m) h = stays_begins c m h
+stays_next c (Open m) h = stays_begins c m h
+stays_next c _ h = absurd h
 
 -- ---- the list of tokens
 
@@ -182,12 +186,9 @@ in_digits c r e h = let f = sym e ∙ h in (low c f, high c f)
     high : (c : ℕ) → is_digit c ≡ true → c ≤ 57
     high c f = grind (arith, nat_tests)
 
-pub settled_here : (b : List ℕ) (m : Mode) (ks : List ℕ) (ts : List Token) (i p : ℕ) → ComesTo b (idle m ks ts i p) (idle m ks ts i p)
-settled_here b m ks ts i p = record { last = idle m ks ts i p; reached = here; settles = refl; same = λ _. refl }
-
 -- ---- an array is innermost after `[`, and after a comma behind which a value comes
 
-in_array_same : (ks ls : List ℕ) (ts us : List Token) → ks ≡ ls → ts ≡ us → InArray ks ts → InArray ls us
+pub in_array_same : (ks ls : List ℕ) (ts us : List Token) → ks ≡ ls → ts ≡ us → InArray ks ts → InArray ls us
 in_array_same ks ls ts us e f a = subst (λ z. InArray ls z) f (subst (λ z. InArray z ts) e a)
 
 next_name : {A : Type 0} → between NextName ≡ between Ready → A
@@ -258,25 +259,3 @@ module _ (ks ls : List ℕ) (ts us : List Token) (i p j q : ℕ) where
   array_next m c (To n) e h = array_mode m n c e h
   array_next m c (Open n) e h = array_mode m n c e h
   array_next m c _ e h = absurd e
-
--- the state after the move of a sign or a bracket
-pub moved_on : (b : List ℕ) (m n : Mode) (i p : ℕ) (v w : Move) (ks : List ℕ) (ts : List Token) (u : State) → v ≡ w → phase_after m i w ≡ between n → ComesTo b (idle n ks ts (i + 1) p) u → ComesTo b (state (phase_after m i v) ks ts (suc i) p) u
-moved_on b m n i p v w ks ts u e f h =
-    let g : i + 1 ≡ suc i = omega arith in
-    let q : between n ≡ phase_after m i v = sym (ap (phase_after m i) e ∙ f) in
-    subst (λ z. ComesTo b (state z ks ts (suc i) p) u) q (subst (λ z. ComesTo b (idle n ks ts z p) u) g h)
-
--- ---- room for the numbers
-
-numbers_count : (m : Mode) (i p : ℕ) (v : Move) (ks : List ℕ) (ts : List Token) → IsLawful (state (phase_after m i v) ks ts (suc i) p) → BeginsValueNext v → 2 * length ts ≤ suc i + length ks
-numbers_count m i p (To n) ks ts l h = count_before n ks ts (suc i) p l h
-numbers_count m i p (Open n) ks ts l h = count_before n ks ts (suc i) p l h
-numbers_count m i p _ ks ts l h = absurd h
-
-pub stepped_numbers : (b : List ℕ) (tokens0 : BoundedList Token) (stack0 : BoundedList ℕ) (tokens : BoundedList Token) (stack : BoundedList ℕ) (m : Mode) (i d : ℕ) (v : Move) → Stepped b tokens0 stack0 tokens stack m i v → (length b + stack0.limit + 1) / 2 ≤ tokens0.limit → d ≡ length stack.elements
-    → BeginsValueNext v → (2 * length tokens.elements ≤ i + 1 + d) × ((length b + d + 1) / 2 ≤ tokens.limit)
-stepped_numbers b tokens0 stack0 tokens stack m i d v s r e h =
-    let c = numbers_count m i s.deepest v stack.elements tokens.elements (lawful_reaches _ s.reached) h in
-    let g : length stack.elements ≤ stack0.limit = let p = s.stack_within.below_peak in let q = s.stack_within.below_limit in let f = s.stack_limit in omega arith in
-    let k = s.kept.limit in
-    (omega arith, omega arith)

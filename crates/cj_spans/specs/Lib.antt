@@ -7,6 +7,7 @@ pub mod Preorder
 pub mod Forest
 pub mod Hash
 pub mod Scan
+pub mod Pass
 pub mod Begins
 pub mod Reason
 pub mod Machine

@@ -28,6 +28,7 @@
 //! ```
 #![tactic(auto)]
 
+mod arrays;
 mod bytes;
 #[cfg(test)]
 mod examples;

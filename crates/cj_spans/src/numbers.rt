@@ -1,15 +1,12 @@
-//! Whole numbers in an array, with a comma between two and no white space: most of a city model.
-//!
-//! The pass reads any line without this, one byte after another. Here several numbers and their commas
-//! are read in one go, and what is not of this form is left to the pass.
-ghost use Rattle.std.specs.Prelude.{◌≡◌, ◌+◌, ◌*◌, ◌/◌, ◌^◌, ◌≤◌, ◌<◌, ◌↔◌, ◌⊎◌, length, List, ℕ, IfSome, IsTrue};
-ghost use Rattle.cj_budget.specs.Bounded.{IsWithin};
+//! Whole numbers that are items of an array, with no white space before what ends them.
+ghost use Rattle.std.specs.Prelude.{◌≡◌, ◌+◌, ◌^◌, ◌≤◌, ◌<◌, ◌++◌, ◌∷◌, ◌↔◌, ◌⊎◌, [], length, IfSome, IfNone, IsTrue};
+ghost use Rattle.cj_budget.specs.Bounded.{Becomes};
 ghost use Rattle.cj_spans.specs.Json.{byte as byte_of};
-ghost use Rattle.cj_spans.specs.Machine.{State, state, between, ComesTo, Grown, BeginsValue, IsNumberItem, InArray, StaysInArray};
+ghost use Rattle.cj_spans.specs.Preorder.{token_at};
+ghost use Rattle.cj_spans.specs.Machine.{IsNumberItem};
 
 use crate::bytes::is_digit;
 use crate::lex::{Lex, skip_digits};
-use crate::step::{Mode, Next};
 use crate::token::Token;
 use cj_budget::Bounded;
 
@@ -58,93 +55,26 @@ fn number_stop(line: &[u8], place: usize) -> Option<usize>
     digits_stop(line, place + 1)
 }
 
-/// Reads numbers from a place on where a value may begin in an array. It stops before what is no such
-/// number, and where no memory is granted.
+/// Reads the whole number that begins at `place` and keeps its token; where it ends. None where there is no such
+/// number with the end of an item behind it, or no memory is granted.
 #[inline(always)]
-fn read_numbers(line: &[u8], from: Next, depth: usize, tokens: &mut Bounded<Token>) -> Next
-    requires small { (length line.now < 2 ^ 31) × (depth < 2 ^ 31) }
-    requires within { from.place ≤ length line.now }
-    requires begins { BeginsValue from.mode }
-    requires lists { IsWithin tokens.old }
-    requires room { (2 * length tokens.old.elements ≤ from.place + depth)
-        × ((length line.now + depth + 1) / 2 ≤ tokens.old.limit) }
-    ensures answer { (s : State) (ks : List ℕ) (p : ℕ) → length ks ≡ depth
-        → InArray ks tokens.old.elements
-        → ComesTo line.now s (state (between from.mode) ks tokens.old.elements from.place p)
-        → ComesTo line.now s (state (between result.mode) ks tokens.new.elements result.place p) }
-    ensures order { from.place ≤ result.place }
-    ensures end { result.place ≤ length line.now }
-    ensures tokens { Grown tokens.old tokens.new }
-{
-    let mut next = from;
-    while next.place < line.len() {
-        let Some(stop) = number_stop(line, next.place) else {
-            return next;
-        };
-        let token = Token {
-            start: next.place as u32,
-            stop: stop as u32,
-            link: tokens.len() as u32 + 1,
-        };
-        match tokens.put(token) {
-            Ok(()) => {}
-            Err(_) => return next,
-        }
-        if line[stop] != b',' {
-            return Next {
-                mode: Mode::After,
-                place: stop,
-            };
-        }
-        next = Next {
-            mode: Mode::Ready,
-            place: stop + 1,
-        };
-    }
-    next
-}
-
-/// Whether a byte after which the mode comes leaves an array innermost, and a value may begin.
-#[inline(always)]
-fn stays_in_array(byte: u8, mode: Mode) -> bool
-    ensures { IsTrue result ↔ StaysInArray byte mode }
-{
-    match mode {
-        Mode::Ready => byte == b',',
-        Mode::FirstItem => byte == b'[',
-        _ => false,
-    }
-}
-
-/// Goes on behind the byte at `place`, after which the mode comes: past the numbers that follow, where
-/// the byte left an array innermost.
-#[inline(always)]
-pub fn pass_numbers(
-    line: &[u8],
-    place: usize,
-    mode: Mode,
-    depth: usize,
-    tokens: &mut Bounded<Token>,
-) -> Next
-    requires small { (length line.now < 2 ^ 31) × (depth < 2 ^ 31) }
+pub fn read_number(line: &[u8], place: usize, tokens: &mut Bounded<Token>) -> Option<usize>
+    requires short { length line.now < 2 ^ 31 }
     requires within { place < length line.now }
-    requires lists { IsWithin tokens.old }
-    requires room { BeginsValue mode → (2 * length tokens.old.elements ≤ place + 1 + depth)
-        × ((length line.now + depth + 1) / 2 ≤ tokens.old.limit) }
-    ensures answer { (ks : List ℕ) (p : ℕ) → length ks ≡ depth
-        → (StaysInArray (byte_of line.now place) mode → InArray ks tokens.old.elements)
-        → ComesTo line.now (state (between mode) ks tokens.old.elements (place + 1) p)
-        (state (between result.mode) ks tokens.new.elements result.place p) }
-    ensures order { place < result.place }
-    ensures end { result.place ≤ length line.now }
-    ensures tokens { Grown tokens.old tokens.new }
+    requires small { length tokens.old.elements < 2 ^ 31 }
+    requires room { length tokens.old.elements < tokens.old.limit }
+    ensures number { IfSome result (λ k. IsNumberItem line.now place k
+        × Becomes tokens.old (tokens.old.elements ++ token_at place k (length tokens.old.elements + 1) ∷ []) tokens.new) }
+    ensures none { IfNone result (tokens.new ≡ tokens.old) }
 {
-    let next = Next {
-        mode,
-        place: place + 1,
+    let stop = number_stop(line, place)?;
+    let token = Token {
+        start: place as u32,
+        stop: stop as u32,
+        link: tokens.len() as u32 + 1,
     };
-    if stays_in_array(line[place], mode) {
-        return read_numbers(line, next, depth, tokens);
+    match tokens.put(token) {
+        Ok(()) => Some(stop),
+        Err(_) => None,
     }
-    next
 }

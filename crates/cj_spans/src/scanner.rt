@@ -1,7 +1,7 @@
 //! The pass over a line.
-ghost use Rattle.std.specs.Prelude.{◌≡◌, ◌+◌, ◌*◌, ◌/◌, ◌^◌, ◌≤◌, ◌<◌, ◌↔◌, ◌⊎◌, [], length, List, ℕ, suc, OnOk, OnErr, IsOk, IsErrOf, IsTrue, IsUtf8};
+ghost use Rattle.std.specs.Prelude.{◌≡◌, ◌+◌, ◌*◌, ◌/◌, ◌^◌, ◌≤◌, ◌<◌, ◌↔◌, ◌⊎◌, [], length, List, ℕ, suc, OnOk, OnErr, IfOk, IsOk, IsErrOf, IsTrue, IsUtf8};
 ghost use Rattle.std.specs.Str.{IsValidUpTo};
-ghost use Rattle.cj_budget.specs.Bounded.{IsWithin};
+ghost use Rattle.cj_budget.specs.Bounded.{BoundedList, IsWithin};
 ghost use Rattle.cj_spans.specs.declared.step.Mode.TheVariants.{After};
 ghost use Rattle.cj_spans.specs.Tree.{Tree, nest};
 ghost use Rattle.cj_spans.specs.Json.{Json};
@@ -11,11 +11,12 @@ ghost use Rattle.cj_spans.specs.Scan.{IsScanOf, AreSized, KeepsLaw};
 ghost use Rattle.cj_spans.specs.Judgement.{Judgement, IsAnswerOf};
 ghost use Rattle.cj_spans.specs.Json.{byte as byte_of};
 ghost use Rattle.cj_spans.specs.declared.token.Token.{Token as TokenOf};
-ghost use Rattle.cj_spans.specs.Machine.{State, state, between, in_atom, ComesTo, phase_after, EndAnswers, Grown, BeginsAtom, BeginsValueNext, InArray, StaysInArrayNext, RunAnswers};
+ghost use Rattle.cj_spans.specs.Machine.{State, state, between, in_atom, ComesTo, phase_after, EndAnswers, Grown, BeginsAtom, BeginsValue, BeginsValueNext, InArray, StaysInArrayNext, RunAnswers};
+ghost use Rattle.cj_spans.specs.Pass.{Standing, Stands, GoesOn};
 
+use crate::arrays::{enters_array, read_arrays};
 use crate::fault::ScanFault;
 use crate::lex::{Lex, lex_kind, read_atom};
-use crate::numbers::pass_numbers;
 use crate::step::{Mode, Move, Next, read_byte};
 use crate::token::Token;
 use cj_budget::{Bounded, Stack};
@@ -81,27 +82,23 @@ fn pass_colon(line: &[u8], from: Next) -> Next
     }
 }
 
-/// Goes on after a move: past a scalar, a name and its colon, past the numbers of an array, or to the next byte.
+/// Goes on after a move: past a scalar, a name and its colon, or to the next byte.
 #[inline(always)]
 fn follow(
     line: &[u8],
     place: usize,
     mode: Mode,
     taken: Move,
-    depth: usize,
     tokens: &mut Bounded<Token>,
 ) -> Result<Next, ScanFault>
-    requires small { (length line.now < 2 ^ 31) × (depth < 2 ^ 31)
-        × (length tokens.old.elements < 2 ^ 31) }
+    requires small { (length line.now < 2 ^ 31) × (length tokens.old.elements < 2 ^ 31) }
     requires within { place < length line.now }
     requires lists { IsWithin tokens.old }
     requires room { BeginsAtom taken → length tokens.old.elements < tokens.old.limit }
-    requires numbers { BeginsValueNext taken → (2 * length tokens.old.elements ≤ place + 1 + depth)
-        × ((length line.now + depth + 1) / 2 ≤ tokens.old.limit) }
-    ensures answer { (ks : List ℕ) (p : ℕ) → length ks ≡ depth
-        → (StaysInArrayNext (byte_of line.now place) taken → InArray ks tokens.old.elements) → EndAnswers line.now
+    ensures answer { (ks : List ℕ) (p : ℕ) → EndAnswers line.now
         (state (phase_after mode place taken) ks tokens.old.elements (suc place) p)
         (IsTrue tokens.old.reserved) result tokens.new.elements }
+    ensures signs { BeginsValueNext taken → (tokens.new ≡ tokens.old) × IfOk result (λ n. BeginsValue n.mode) }
     ensures tokens { Grown tokens.old tokens.new }
     ensures err { OnErr result (tokens.new ≡ tokens.old) }
 {
@@ -110,13 +107,44 @@ fn follow(
             mode,
             place: place + 1,
         }),
-        Move::To(mode) => Ok(pass_numbers(line, place, mode, depth, tokens)),
-        Move::Open(mode) => Ok(pass_numbers(line, place, mode, depth, tokens)),
+        Move::To(mode) => Ok(Next {
+            mode,
+            place: place + 1,
+        }),
+        Move::Open(mode) => Ok(Next {
+            mode,
+            place: place + 1,
+        }),
         Move::Atom(next, first) => match end_atom(line, place, next, first, tokens) {
             Ok(next) => Ok(pass_colon(line, next)),
             Err(fault) => Err(fault),
         },
     }
+}
+
+/// Goes on behind the byte at `place`, whose move came to `next`: past the arrays and numbers that follow, where
+/// the byte left an array innermost.
+#[inline(always)]
+fn pass_arrays(
+    line: &[u8],
+    place: usize,
+    taken: Move,
+    next: Next,
+    tokens: &mut Bounded<Token>,
+    stack: &mut Stack,
+) -> Result<Next, ScanFault>
+    requires within { place < length line.now }
+    requires stands { Stands line.now tokens.old stack.old next.mode next.place }
+    requires array { StaysInArrayNext (byte_of line.now place) taken
+        → InArray stack.old.elements tokens.old.elements × BeginsValue next.mode }
+    ensures answer { (ts : BoundedList TokenOf) (ks : BoundedList ℕ) → Standing line.now ts ks tokens.old stack.old next.mode next.place
+        → GoesOn line.now ts ks result tokens.new stack.new }
+    ensures order { IfOk result (λ n. next.place ≤ n.place) }
+{
+    if enters_array(line[place], taken) {
+        return read_arrays(line, next, tokens, stack);
+    }
+    Ok(next)
 }
 
 /// Whether a text may end here.
@@ -147,7 +175,11 @@ fn run(line: &[u8], tokens: &mut Bounded<Token>, stack: &mut Stack) -> Result<()
             Ok(taken) => taken,
             Err(fault) => return Err(fault),
         };
-        match follow(line, place, mode, taken, stack.len(), tokens) {
+        let next = match follow(line, place, mode, taken, tokens) {
+            Ok(next) => next,
+            Err(fault) => return Err(fault),
+        };
+        match pass_arrays(line, place, taken, next, tokens, stack) {
             Ok(next) => {
                 mode = next.mode;
                 place = next.place;

@@ -74,7 +74,7 @@ fn open_kind(token: Token) -> Kind
 
 /// Opens a container.
 #[inline(always)]
-fn open(
+pub fn open(
     kind: Kind,
     next: Mode,
     place: usize,

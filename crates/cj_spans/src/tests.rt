@@ -253,6 +253,54 @@ fn lines_that_are_too_deep(rt: HostRuntime) -> Result<(), Fail> {
 }
 
 #[test]
+fn arrays_of_numbers(rt: HostRuntime) -> Result<(), Fail> {
+    let rows = [
+        at_depth(
+            4,
+            "arrays in arrays, in an object",
+            b"{\"a\":[[1,-2],[[3]]],\"b\":0}",
+            Ok((11, 4)),
+        ),
+        at_depth(2, "white space behind an array", b"[[1] ,[2]]", Ok((5, 2))),
+        at_depth(
+            2,
+            "an array closed as an object",
+            b"[[1}]",
+            Err(ScanFault::Syntax(3)),
+        ),
+        at_depth(
+            2,
+            "an object closed as an array",
+            b"{\"a\":[1]]",
+            Err(ScanFault::Syntax(8)),
+        ),
+        at_depth(2, "a bracket too many", b"[[1]]]", Err(ScanFault::Syntax(5))),
+        at_depth(
+            2,
+            "a comma before a bracket",
+            b"[[1],]",
+            Err(ScanFault::Syntax(5)),
+        ),
+        at_depth(
+            2,
+            "a number for a name",
+            b"{\"a\":[1],2}",
+            Err(ScanFault::Syntax(9)),
+        ),
+        at_depth(
+            2,
+            "too deep behind a number",
+            b"[1,[2,[3]]]",
+            Err(ScanFault::TooDeep(6)),
+        ),
+    ];
+    for r in &rows {
+        meets(&rt, rt.alloc(), r);
+    }
+    Ok(())
+}
+
+#[test]
 fn a_thousand_brackets(rt: HostRuntime) -> Result<(), Fail> {
     let line = [b'['; 1_025];
     let alloc = rt.alloc();

@@ -1,5 +1,5 @@
-use Rattle.std.proofs.Common.{arith, ◌∙◌}
-use Rattle.cj_spans.proofs.Sizes.{past_tree, few_tokens}
+use Rattle.std.proofs.Common.{◌∙◌}
+use Rattle.cj_spans.proofs.Sizes.{past_tree}
 use Rattle.cj_spans.proofs.next.slow_next.Goals as goal
 
 pub returns : goal.returns

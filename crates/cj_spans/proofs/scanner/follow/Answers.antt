@@ -1,35 +1,21 @@
-use Rattle.std.proofs.Common.{suc, ◌+◌, ◌*◌, ◌/◌, ◌≤◌, length, Ok, Err, arith, refl, sym, subst}
+use Rattle.std.proofs.Common.{suc, Ok, Err, arith, refl, sym, subst}
 use Rattle.std.specs.Prelude.{IsTrue}
 use Rattle.cj_spans.specs.declared.step.Move.TheVariants.{Stay, To, Open}
-use Rattle.cj_spans.specs.Json.{byte}
-use Rattle.cj_spans.specs.Machine.{state, phase_after, EndAnswers, BeginsValueNext, StaysInArrayNext}
+use Rattle.cj_spans.specs.Machine.{state, phase_after, EndAnswers}
 use Rattle.cj_spans.proofs.Atoms.{settles_at}
-use Rattle.cj_spans.proofs.WholeNumbers.{moved_on}
 use Rattle.cj_spans.proofs.scanner.follow.Goals as goal
 
 pub returns-in-Stay-clause-answer : goal.returns-in-Stay-clause-answer
-returns-in-Stay-clause-answer c = λ ks p h a. (settles_at c.args.line.now c.args.mode c.args.mode c.args.place _ p _ Stay ks c.args.tokens.now.elements c.in-Stay.is refl refl, omega arith, omega arith)
-
-pub pass_numbers-requires-clause-room : goal.pass_numbers-requires-clause-room
-pass_numbers-requires-clause-room c = subst (λ v. BeginsValueNext v → (2 * length c.args.tokens.now.elements ≤ c.args.place + 1 + c.args.depth) × ((length c.args.line.now + c.args.depth + 1) / 2 ≤ c.args.tokens.now.limit)) c.in-To.is c.requires.numbers
+returns-in-Stay-clause-answer c = λ ks p. (settles_at c.args.line.now c.args.mode c.args.mode c.args.place _ p _ Stay ks c.args.tokens.now.elements c.in-Stay.is refl refl, omega arith, omega arith)
 
 pub returns-in-To-clause-answer : goal.returns-in-To-clause-answer
-returns-in-To-clause-answer c = λ ks p h a.
-    let n = c.pass_numbers in
-    let order = n.ensures.order in
-    (moved_on c.args.line.now c.args.mode c.in-To.mode c.args.place p _ (To c.in-To.mode) ks c.args.tokens.now.elements _ c.in-To.is refl (n.ensures.answer ks p h (λ e. a (subst (λ v. StaysInArrayNext (byte c.args.line.now c.args.place) v) (sym c.in-To.is) e))), omega arith, n.ensures.end)
-
-pub pass_numbers-requires-in-Open-clause-room : goal.pass_numbers-requires-in-Open-clause-room
-pass_numbers-requires-in-Open-clause-room c = subst (λ v. BeginsValueNext v → (2 * length c.args.tokens.now.elements ≤ c.args.place + 1 + c.args.depth) × ((length c.args.line.now + c.args.depth + 1) / 2 ≤ c.args.tokens.now.limit)) c.in-Open.is c.requires.numbers
+returns-in-To-clause-answer c = λ ks p. (settles_at c.args.line.now c.args.mode c.in-To.mode c.args.place _ p _ (To c.in-To.mode) ks c.args.tokens.now.elements c.in-To.is refl refl, omega arith, omega arith)
 
 pub returns-in-Open-clause-answer : goal.returns-in-Open-clause-answer
-returns-in-Open-clause-answer c = λ ks p h a.
-    let n = c.pass_numbers-in-Open in
-    let order = n.ensures.order in
-    (moved_on c.args.line.now c.args.mode c.in-Open.mode c.args.place p _ (Open c.in-Open.mode) ks c.args.tokens.now.elements _ c.in-Open.is refl (n.ensures.answer ks p h (λ e. a (subst (λ v. StaysInArrayNext (byte c.args.line.now c.args.place) v) (sym c.in-Open.is) e))), omega arith, n.ensures.end)
+returns-in-Open-clause-answer c = λ ks p. (settles_at c.args.line.now c.args.mode c.in-Open.mode c.args.place _ p _ (Open c.in-Open.mode) ks c.args.tokens.now.elements c.in-Open.is refl refl, omega arith, omega arith)
 
 pub returns-in-Ok-clause-answer : goal.returns-in-Ok-clause-answer
-returns-in-Ok-clause-answer c = λ ks p h a.
+returns-in-Ok-clause-answer c = λ ks p.
     let ts = c.args.tokens.now.elements in
     let e = c.in-Ok.ensures.answer ks p in
     let n = c.pass_colon in
@@ -39,6 +25,6 @@ returns-in-Ok-clause-answer c = λ ks p h a.
     (n.ensures.answer _ ks _ p e.0, omega arith, n.ensures.end e.2)
 
 pub returns-in-Err-clause-answer : goal.returns-in-Err-clause-answer
-returns-in-Err-clause-answer c = λ ks p h a.
+returns-in-Err-clause-answer c = λ ks p.
     let ts = c.args.tokens.now.elements in
     subst (λ v. EndAnswers c.args.line.now (state (phase_after c.args.mode c.args.place v) ks ts (suc c.args.place) p) (IsTrue c.args.tokens.now.reserved) (Err c.in-Err.fault) c.end_atom.new.tokens.elements) (sym c.in-Atom.is) (c.in-Err.ensures.answer ks p)

@@ -1,4 +1,4 @@
-use Rattle.std.proofs.Common.{subst, sym}
+use Rattle.std.proofs.Common.{subst}
 use Rattle.cj_spans.specs.Machine.{state, between, ComesTo}
 use Rattle.cj_spans.proofs.Colons.{colon_read}
 use Rattle.cj_spans.proofs.scanner.pass_colon.Goals as goal

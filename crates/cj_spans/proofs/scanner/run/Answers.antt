@@ -1,6 +1,7 @@
-use Rattle.std.proofs.Common.{arith, sym, suc}
-use Rattle.cj_spans.proofs.Standing.{standing_first, standing_small, standing_room, standing_step, standing_law, standing_fault, stepped_small, stepped_room, stepped_on, stepped_law, stepped_fault, ended_law, ended_fault, not_so}
-use Rattle.cj_spans.proofs.WholeNumbers.{array_next, stepped_numbers}
+use Rattle.std.proofs.Common.{arith, suc, subst, sym}
+use Rattle.cj_spans.specs.Machine.{InArray}
+use Rattle.cj_spans.proofs.Standing.{standing_first, standing_small, standing_room, standing_step, standing_law, standing_fault, stepped_small, stepped_room, followed, stepped_law, stepped_fault, ended_law, ended_fault, not_so}
+use Rattle.cj_spans.proofs.WholeNumbers.{array_next, stays_next}
 use Rattle.cj_spans.proofs.scanner.run.Goals as goal
 
 pub loop-place-init : goal.loop-place-init
@@ -23,41 +24,58 @@ follow-requires-clause-small c =
     let s = standing_step c.args.line.now c.args.tokens.now c.args.stack.now c.loop-place.tokens c.read_byte.new.tokens c.loop-place.stack c.read_byte.new.stack c.loop-place.mode c.loop-place.place c.in-Ok.taken c.loop-place.invariant c.loop-place-test.true c.in-Ok.ensures.tokens c.in-Ok.ensures.stack c.in-Ok.ensures.answer in
     let q = stepped_small _ _ _ _ _ _ _ _ s c.requires.short c.loop-place-test.true in
     let h = c.requires.short in
-    let e = c.len.ensures.value in
-    (omega arith, omega (arith, q.0), q.1)
+    (omega arith, q.1)
 
 pub follow-requires-clause-room : goal.follow-requires-clause-room
 follow-requires-clause-room c =
     let s = standing_step c.args.line.now c.args.tokens.now c.args.stack.now c.loop-place.tokens c.read_byte.new.tokens c.loop-place.stack c.read_byte.new.stack c.loop-place.mode c.loop-place.place c.in-Ok.taken c.loop-place.invariant c.loop-place-test.true c.in-Ok.ensures.tokens c.in-Ok.ensures.stack c.in-Ok.ensures.answer in
     stepped_room _ _ _ _ _ _ _ _ s c.requires.room c.loop-place-test.true
 
-pub follow-requires-clause-numbers : goal.follow-requires-clause-numbers
-follow-requires-clause-numbers c =
-    let s = standing_step c.args.line.now c.args.tokens.now c.args.stack.now c.loop-place.tokens c.read_byte.new.tokens c.loop-place.stack c.read_byte.new.stack c.loop-place.mode c.loop-place.place c.in-Ok.taken c.loop-place.invariant c.loop-place-test.true c.in-Ok.ensures.tokens c.in-Ok.ensures.stack c.in-Ok.ensures.answer in
-    stepped_numbers c.args.line.now c.args.tokens.now c.args.stack.now c.read_byte.new.tokens c.read_byte.new.stack c.loop-place.mode c.loop-place.place _ c.in-Ok.taken s c.requires.room c.len.ensures.value
-
-pub loop-place-smaller : goal.loop-place-smaller
-loop-place-smaller c =
-    let a = c.in-Ok-follow.ensures.answer c.read_byte.new.stack.elements 0 (sym c.len.ensures.value) (λ e. array_next c.loop-place.stack.elements c.read_byte.new.stack.elements c.loop-place.tokens.elements c.read_byte.new.tokens.elements c.loop-place.place 0 (suc c.loop-place.place) _ c.loop-place.mode _ c.in-Ok.taken e (c.in-Ok.ensures.answer 0)) in
-    let g = a.1 in let l = a.2 in let t = c.loop-place-test.true in
-    omega arith
-
-pub loop-place-preserved : goal.loop-place-preserved
-loop-place-preserved c =
-    let s = standing_step c.args.line.now c.args.tokens.now c.args.stack.now c.loop-place.tokens c.read_byte.new.tokens c.loop-place.stack c.read_byte.new.stack c.loop-place.mode c.loop-place.place c.in-Ok.taken c.loop-place.invariant c.loop-place-test.true c.in-Ok.ensures.tokens c.in-Ok.ensures.stack c.in-Ok.ensures.answer in
-    stepped_on c.args.line.now c.args.tokens.now c.args.stack.now c.read_byte.new.tokens c.follow.new.tokens c.read_byte.new.stack c.loop-place.mode c.loop-place.place c.in-Ok.taken c.in-Ok-follow.next s c.in-Ok-follow.ensures.tokens
-    (λ p. c.in-Ok-follow.ensures.answer c.read_byte.new.stack.elements p (sym c.len.ensures.value) (λ e. array_next c.loop-place.stack.elements c.read_byte.new.stack.elements c.loop-place.tokens.elements c.read_byte.new.tokens.elements c.loop-place.place 0 (suc c.loop-place.place) _ c.loop-place.mode _ c.in-Ok.taken e (c.in-Ok.ensures.answer 0)))
-
 pub returns-in-Err-follow-clause-answer : goal.returns-in-Err-follow-clause-answer
 returns-in-Err-follow-clause-answer c =
     let s = standing_step c.args.line.now c.args.tokens.now c.args.stack.now c.loop-place.tokens c.read_byte.new.tokens c.loop-place.stack c.read_byte.new.stack c.loop-place.mode c.loop-place.place c.in-Ok.taken c.loop-place.invariant c.loop-place-test.true c.in-Ok.ensures.tokens c.in-Ok.ensures.stack c.in-Ok.ensures.answer in
     stepped_fault (Unit {0}) c.args.line.now c.args.tokens.now c.args.stack.now c.read_byte.new.tokens c.follow.new.tokens c.read_byte.new.stack c.loop-place.mode c.loop-place.place c.in-Ok.taken c.in-Err-follow.fault s
-    (λ p. c.in-Err-follow.ensures.answer c.read_byte.new.stack.elements p (sym c.len.ensures.value) (λ e. array_next c.loop-place.stack.elements c.read_byte.new.stack.elements c.loop-place.tokens.elements c.read_byte.new.tokens.elements c.loop-place.place 0 (suc c.loop-place.place) _ c.loop-place.mode _ c.in-Ok.taken e (c.in-Ok.ensures.answer 0)))
+    (λ p. c.in-Err-follow.ensures.answer c.read_byte.new.stack.elements p)
 
 pub returns-in-Err-follow-clause-law : goal.returns-in-Err-follow-clause-law
 returns-in-Err-follow-clause-law c =
     let s = standing_step c.args.line.now c.args.tokens.now c.args.stack.now c.loop-place.tokens c.read_byte.new.tokens c.loop-place.stack c.read_byte.new.stack c.loop-place.mode c.loop-place.place c.in-Ok.taken c.loop-place.invariant c.loop-place-test.true c.in-Ok.ensures.tokens c.in-Ok.ensures.stack c.in-Ok.ensures.answer in
     stepped_law c.args.line.now c.args.tokens.now c.args.stack.now c.read_byte.new.tokens c.follow.new.tokens c.read_byte.new.stack c.loop-place.mode c.loop-place.place c.in-Ok.taken s c.loop-place-test.true c.in-Err-follow.ensures.tokens c.in-Err-follow.ensures.err
+
+pub pass_arrays-requires-clause-stands : goal.pass_arrays-requires-clause-stands
+pass_arrays-requires-clause-stands c = record {
+  tokens0 = c.args.tokens.now;
+  stack0 = c.args.stack.now;
+  standing = followed c.args.line.now c.args.tokens.now c.args.stack.now c.loop-place.tokens c.read_byte.new.tokens c.follow.new.tokens c.loop-place.stack c.read_byte.new.stack c.loop-place.mode c.loop-place.place c.in-Ok.taken c.in-Ok-follow.next c.loop-place.invariant c.loop-place-test.true c.in-Ok.ensures.tokens c.in-Ok.ensures.stack c.in-Ok.ensures.answer c.in-Ok-follow.ensures.tokens (λ p. c.in-Ok-follow.ensures.answer c.read_byte.new.stack.elements p);
+  room = record { short = c.requires.short; room = c.requires.room };
+}
+
+pub pass_arrays-requires-clause-array : goal.pass_arrays-requires-clause-array
+pass_arrays-requires-clause-array c = λ e.
+    let q = c.in-Ok-follow.ensures.signs (stays_next _ _ e) in
+    let a = array_next c.loop-place.stack.elements c.read_byte.new.stack.elements c.loop-place.tokens.elements c.read_byte.new.tokens.elements c.loop-place.place 0 (suc c.loop-place.place) _ c.loop-place.mode _ c.in-Ok.taken e (c.in-Ok.ensures.answer 0) in
+    (subst (λ t. InArray c.read_byte.new.stack.elements t.elements) (sym q.0) a, q.1)
+
+pub loop-place-smaller : goal.loop-place-smaller
+loop-place-smaller c =
+    let a = c.in-Ok-follow.ensures.answer c.read_byte.new.stack.elements 0 in
+    let g = a.1 in let o = c.in-Ok-pass_arrays.ensures.order in let t = c.loop-place-test.true in
+    omega arith
+
+pub loop-place-preserved : goal.loop-place-preserved
+loop-place-preserved c =
+    let s = followed c.args.line.now c.args.tokens.now c.args.stack.now c.loop-place.tokens c.read_byte.new.tokens c.follow.new.tokens c.loop-place.stack c.read_byte.new.stack c.loop-place.mode c.loop-place.place c.in-Ok.taken c.in-Ok-follow.next c.loop-place.invariant c.loop-place-test.true c.in-Ok.ensures.tokens c.in-Ok.ensures.stack c.in-Ok.ensures.answer c.in-Ok-follow.ensures.tokens (λ p. c.in-Ok-follow.ensures.answer c.read_byte.new.stack.elements p) in
+    c.in-Ok-pass_arrays.ensures.answer c.args.tokens.now c.args.stack.now s
+
+pub returns-in-Err-pass_arrays-clause-answer : goal.returns-in-Err-pass_arrays-clause-answer
+returns-in-Err-pass_arrays-clause-answer c =
+    let s = followed c.args.line.now c.args.tokens.now c.args.stack.now c.loop-place.tokens c.read_byte.new.tokens c.follow.new.tokens c.loop-place.stack c.read_byte.new.stack c.loop-place.mode c.loop-place.place c.in-Ok.taken c.in-Ok-follow.next c.loop-place.invariant c.loop-place-test.true c.in-Ok.ensures.tokens c.in-Ok.ensures.stack c.in-Ok.ensures.answer c.in-Ok-follow.ensures.tokens (λ p. c.in-Ok-follow.ensures.answer c.read_byte.new.stack.elements p) in
+    (c.in-Err-pass_arrays.ensures.answer c.args.tokens.now c.args.stack.now s).0
+
+pub returns-in-Err-pass_arrays-clause-law : goal.returns-in-Err-pass_arrays-clause-law
+returns-in-Err-pass_arrays-clause-law c =
+    let s = followed c.args.line.now c.args.tokens.now c.args.stack.now c.loop-place.tokens c.read_byte.new.tokens c.follow.new.tokens c.loop-place.stack c.read_byte.new.stack c.loop-place.mode c.loop-place.place c.in-Ok.taken c.in-Ok-follow.next c.loop-place.invariant c.loop-place-test.true c.in-Ok.ensures.tokens c.in-Ok.ensures.stack c.in-Ok.ensures.answer c.in-Ok-follow.ensures.tokens (λ p. c.in-Ok-follow.ensures.answer c.read_byte.new.stack.elements p) in
+    (c.in-Err-pass_arrays.ensures.answer c.args.tokens.now c.args.stack.now s).1
 
 pub returns-then-is_end-clause-law : goal.returns-then-is_end-clause-law
 returns-then-is_end-clause-law c = ended_law _ _ _ _ _ _ _ c.loop-place.invariant

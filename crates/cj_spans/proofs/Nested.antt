@@ -1,0 +1,108 @@
+-- Arrays of whole numbers: where the pass stands behind each of their parts.
+use Rattle.std.proofs.Common.{◌≡◌, ℕ, suc, ◌+◌, ◌<◌, List, [], ◌∷◌, ◌++◌, length, Option, Some, Ok, Err, refl, sym, ap, subst, arith, ◌∙◌}
+use Rattle.std.specs.Prelude.{IsTrue}
+use Rattle.cj_budget.specs.Bounded.{BoundedList, Becomes}
+use Rattle.cj_spans.specs.declared.fault.ScanFault.{ScanFault}
+use Rattle.cj_spans.specs.declared.token.Kind.TheVariants.{Array}
+use Rattle.cj_spans.specs.declared.token.Token.{Token}
+use Rattle.cj_spans.specs.declared.step.Mode.{Mode}
+use Rattle.cj_spans.specs.declared.step.Mode.TheVariants.{Ready, FirstItem, After}
+use Rattle.cj_spans.specs.declared.step.Move.{Move}
+use Rattle.cj_spans.specs.declared.step.Move.TheVariants.{To}
+use Rattle.cj_spans.specs.Json.{byte}
+use Rattle.cj_spans.specs.Preorder.{token_at}
+use Rattle.cj_spans.specs.Machine.{State, state, between, start, read, with_opened, phase_after, deepest_after, Answers, ReadsByte, BeginsValue, InArray, IsNumberItem, FitsToken, Grown, Kept}
+use Rattle.cj_spans.specs.Pass.{Standing, Stands, GoesOn, IsComma}
+use Rattle.cj_spans.proofs.Spellings.{some_same}
+use Rattle.cj_spans.proofs.Lists.{slice_get-seam}
+use Rattle.cj_spans.proofs.Runs.{idle}
+use Rattle.cj_spans.proofs.Atoms.{settles_at}
+use Rattle.cj_spans.proofs.WholeNumbers.{number_read, comma_read, in_array_same, grown_more}
+use Rattle.cj_spans.proofs.Standing.{standing_small, standing_room, standing_step, standing_fault, standing_law, stepped_on, grown_same, kept_both}
+
+-- what goes on from where a pass stands leaves one that stands
+pub stands_on : (b : List ℕ) (ts ts1 : BoundedList Token) (ks ks1 : BoundedList ℕ) (m n : Mode) (i j : ℕ) → Stands b ts ks m i → ((t0 : BoundedList Token) (s0 : BoundedList ℕ) → Standing b t0 s0 ts ks m i → Standing b t0 s0 ts1 ks1 n j) → Stands b ts1 ks1 n j
+stands_on b ts ts1 ks ks1 m n i j s f = record { tokens0 = s.tokens0; stack0 = s.stack0; standing = f s.tokens0 s.stack0 s.standing; room = s.room }
+
+-- what the calls need
+pub stands_small : (b : List ℕ) (ts : BoundedList Token) (ks : BoundedList ℕ) (m : Mode) (i : ℕ) → Stands b ts ks m i → i < length b → FitsToken i ts
+stands_small b ts ks m i s l = standing_small b s.tokens0 s.stack0 ts ks m i s.standing s.room.short l
+
+pub stands_room : (b : List ℕ) (ts : BoundedList Token) (ks : BoundedList ℕ) (m : Mode) (i : ℕ) → Stands b ts ks m i → i < length b → BeginsValue m → length ts.elements < ts.limit
+stands_room b ts ks m i s l v = standing_room b s.tokens0 s.stack0 ts ks m i s.standing s.room.room l v
+
+module _ (b : List ℕ) (t0 : BoundedList Token) (s0 : BoundedList ℕ) where
+  -- behind a byte after which the mode n comes
+  standing_moved : (ts ts1 : BoundedList Token) (ks ks1 : BoundedList ℕ) (m n : Mode) (i : ℕ) (v : Move) → Standing b t0 s0 ts ks m i → i < length b → Grown ts ts1 → Kept ks ks1 → phase_after m i v ≡ between n
+      → ((p : ℕ) → read m (byte b i) (idle m ks.elements ts.elements i p) ≡ Some (state (phase_after m i v) ks1.elements ts1.elements (suc i) (deepest_after v p (length ks1.elements)))) → Standing b t0 s0 ts1 ks1 n (i + 1)
+  standing_moved ts ts1 ks ks1 m n i v s l g k e h =
+      let r = standing_step b t0 s0 ts ts1 ks ks1 m i v s l g k h in
+      stepped_on b t0 s0 ts1 ts1 ks1 m i v (record { mode = n; place = i + 1 }) r (grown_same ts1 r.kept.within) (λ p. (settles_at b m n i (i + 1) p v v ks1.elements ts1.elements refl e refl, omega arith, omega arith))
+
+  -- behind the bracket that closes an array
+  pub standing_closed : (ts ts1 : BoundedList Token) (ks ks1 : BoundedList ℕ) (i : ℕ) → Standing b t0 s0 ts ks After i → i < length b → byte b i ≡ 93 → Grown ts ts1 → Kept ks ks1
+      → ((p : ℕ) → read After 93 (idle After ks.elements ts.elements i p) ≡ Some (idle After ks1.elements ts1.elements (suc i) p)) → Standing b t0 s0 ts1 ks1 After (i + 1)
+  standing_closed ts ts1 ks ks1 i s l e g k h = standing_moved ts ts1 ks ks1 After After i (To After) s l g k refl (λ p. ap (λ c. read After c (idle After ks.elements ts.elements i p)) e ∙ h p)
+
+  -- behind the comma of an array
+  pub standing_comma : (ts : BoundedList Token) (ks : BoundedList ℕ) (i : ℕ) → Standing b t0 s0 ts ks After i → IsComma b ts ks i → Standing b t0 s0 ts ks Ready (i + 1)
+  standing_comma ts ks i s c = record {
+    deepest = s.deepest;
+    settles = comma_read b start ks.elements ts.elements i s.deepest c.array c.within c.comma s.settles;
+    place = let l = c.within in omega arith;
+    kept = s.kept;
+    stack_limit = s.stack_limit;
+    stack_peak = s.stack_peak;
+    stack_room = s.stack_room;
+    stack_within = s.stack_within;
+  }
+
+  -- behind a number
+  pub standing_number : (ts ts1 : BoundedList Token) (ks : BoundedList ℕ) (m : Mode) (i k : ℕ) → Standing b t0 s0 ts ks m i → BeginsValue m → IsNumberItem b i k → Becomes ts (ts.elements ++ token_at i k (length ts.elements + 1) ∷ []) ts1 → Standing b t0 s0 ts1 ks After k
+  standing_number ts ts1 ks m i k s v n e =
+      let inside = n.within in
+      record {
+        deepest = s.deepest;
+        settles = number_read b start m ks.elements ts.elements ts1.elements i k (length ts.elements) s.deepest n v refl e.elements s.settles;
+        place = omega arith;
+        kept = kept_both t0 ts ts1 s.kept (grown_more ts ts ts1 _ (grown_same ts s.kept.within) e);
+        stack_limit = s.stack_limit;
+        stack_peak = s.stack_peak;
+        stack_room = s.stack_room;
+        stack_within = s.stack_within;
+      }
+
+-- `[` opens an array where a value may begin
+opened_at : (m : Mode) (s : State) → BeginsValue m → read m 91 s ≡ Some (with_opened Array FirstItem s)
+opened_at Ready s v = refl
+opened_at FirstItem s v = refl
+opened_at _ s v = absurd v
+
+bracket_at : (m : Mode) (c : ℕ) (s : State) → BeginsValue m → c ≡ 91 → read m c s ≡ Some (with_opened Array FirstItem s)
+bracket_at m c s v e = ap (λ n. read m n s) e ∙ opened_at m s v
+
+-- what a call does that opens an array
+abbrev opens : State → Option State
+opens s = Some (with_opened Array FirstItem s)
+
+module _ (b : List ℕ) (ts ts1 : BoundedList Token) (ks ks1 : BoundedList ℕ) (m : Mode) (i : ℕ) where
+  -- behind the bracket that opens an array
+  pub standing_opened : (v : Move) → ReadsByte opens i (Ok v) ts ts1 ks ks1 → BeginsValue m → i < length b → byte b i ≡ 91 → (t0 : BoundedList Token) (s0 : BoundedList ℕ) → Standing b t0 s0 ts ks m i → Standing b t0 s0 ts1 ks1 FirstItem (i + 1)
+  standing_opened v r w l e t0 s0 s =
+      let f : phase_after m i v ≡ between FirstItem = sym (ap (λ u. u.phase) (some_same _ _ (r.answer m 0))) in
+      standing_moved b t0 s0 ts ts1 ks ks1 m FirstItem i v s l r.tokens r.stack f (λ p. bracket_at m (byte b i) (idle m ks.elements ts.elements i p) w e ∙ r.answer m p)
+
+  pub opened_in : (v : Move) → ReadsByte opens i (Ok v) ts ts1 ks ks1 → InArray ks1.elements ts1.elements
+  opened_in v r =
+      let e = some_same _ _ (r.answer m 0) in
+      let t = token_at i 0 0 in
+      in_array_same (length ts.elements ∷ ks.elements) ks1.elements (ts.elements ++ t ∷ []) ts1.elements (ap (λ u. u.stack) e) (ap (λ u. u.tokens) e)
+      (record { top = length ts.elements; token = t; innermost = refl; there = slice_get-seam ts.elements [] t; array = refl })
+
+  -- where it is refused
+  pub standing_refused : (f : ScanFault) → ReadsByte opens i (Err f) ts ts1 ks ks1 → BeginsValue m → i < length b → byte b i ≡ 91 → (t0 : BoundedList Token) (s0 : BoundedList ℕ) → Standing b t0 s0 ts ks m i → GoesOn b t0 s0 (Err f) ts1 ks1
+  standing_refused f r w l e t0 s0 s = (
+    standing_fault (Unit {0}) b t0 s0 ts ts1 ks ks1 m i f s l
+    (λ p. subst (λ o. Answers o m i p ks.limit (IsTrue ts.reserved × IsTrue ks.reserved) (Err f) ks1.elements ts1.elements) (sym (bracket_at m (byte b i) (idle m ks.elements ts.elements i p) w e)) (r.answer m p)),
+    standing_law b t0 s0 ts ts1 ks ks1 m i s r.tokens r.stack r.err.0 r.err.1,
+  )

@@ -1,0 +1,44 @@
+-- Where the pass over a line stands in the machine. Only private clauses cite it.
+use Rattle.std.specs.Prelude.{◌≡◌, ℕ, ◌+◌, ◌/◌, ◌<◌, ◌≤◌, List, length, max, Result, Ok, Err, IsTrue}
+use Rattle.cj_budget.specs.Bounded.{BoundedList, IsWithin}
+use Rattle.cj_spans.specs.declared.fault.ScanFault.{ScanFault}
+use Rattle.cj_spans.specs.declared.token.Token.{Token}
+use Rattle.cj_spans.specs.declared.step.Mode.{Mode}
+use Rattle.cj_spans.specs.declared.step.Next.{Next}
+use Rattle.cj_spans.specs.Json.{byte}
+use Rattle.cj_spans.specs.Scan.{KeepsLaw}
+use Rattle.cj_spans.specs.Machine.{state, between, start, ComesTo, Kept, InArray, RunAnswers}
+
+-- the machine has come to the mode m at the place i, and the lists are those that it has, from these on
+pub record Standing (b : List ℕ) (tokens0 : BoundedList Token) (stack0 : BoundedList ℕ) (tokens : BoundedList Token) (stack : BoundedList ℕ) (m : Mode) (i : ℕ) : Type 0 where
+  pub deepest : ℕ
+  pub settles : ComesTo b start (state (between m) stack.elements tokens.elements i deepest)
+  pub place : i ≤ length b
+  pub kept : Kept tokens0 tokens
+  pub stack_limit : stack.limit ≡ stack0.limit
+  pub stack_peak : stack.peak ≡ max stack0.peak deepest
+  pub stack_room : IsTrue stack0.reserved → IsTrue stack.reserved
+  pub stack_within : IsWithin stack
+
+-- the room for the tokens of a line, under a limit of open containers
+pub record HasRoom (b : List ℕ) (tokens0 : BoundedList Token) (stack0 : BoundedList ℕ) : Type 0 where
+  pub short : length b ≤ 1073741824
+  pub room : (length b + stack0.limit + 1) / 2 ≤ tokens0.limit
+
+-- the same from some lists on, which have room for the line
+pub record Stands (b : List ℕ) (tokens : BoundedList Token) (stack : BoundedList ℕ) (m : Mode) (i : ℕ) : Type 0 where
+  pub tokens0 : BoundedList Token
+  pub stack0 : BoundedList ℕ
+  pub standing : Standing b tokens0 stack0 tokens stack m i
+  pub room : HasRoom b tokens0 stack0
+
+-- what a call answers that goes on with the pass: where it stands, or what the pass answers
+abbrev pub GoesOn : List ℕ → BoundedList Token → BoundedList ℕ → Result Next ScanFault → BoundedList Token → BoundedList ℕ → Type 0
+GoesOn b tokens0 stack0 (Ok n) tokens stack = Standing b tokens0 stack0 tokens stack n.mode n.place
+GoesOn b tokens0 stack0 (Err f) tokens stack = RunAnswers {X = Unit {0}} b stack0 (IsTrue tokens0.reserved × IsTrue stack0.reserved) (Err f) tokens stack × KeepsLaw b tokens0 tokens stack0 stack
+
+-- the comma of an array stands at the place i
+pub record IsComma (b : List ℕ) (tokens : BoundedList Token) (stack : BoundedList ℕ) (i : ℕ) : Type 0 where
+  pub within : i < length b
+  pub comma : byte b i ≡ 44
+  pub array : InArray stack.elements tokens.elements
