@@ -120,16 +120,7 @@ pub fn read_arrays(
 {
     let mut next = from;
     while next.place < line.len() {
-        if line[next.place] == b'[' {
-            match open(Kind::Array, Mode::FirstItem, next.place, tokens, stack) {
-                Ok(_) => {}
-                Err(fault) => return Err(fault),
-            }
-            next = Next {
-                mode: Mode::FirstItem,
-                place: next.place + 1,
-            };
-        } else {
+        if line[next.place] != b'[' {
             let Some(stop) = read_number(line, next.place, tokens) else {
                 return Ok(next);
             };
@@ -143,6 +134,15 @@ pub fn read_arrays(
             next = Next {
                 mode: Mode::Ready,
                 place: behind.place + 1,
+            };
+        } else {
+            match open(Kind::Array, Mode::FirstItem, next.place, tokens, stack) {
+                Ok(_) => {}
+                Err(fault) => return Err(fault),
+            }
+            next = Next {
+                mode: Mode::FirstItem,
+                place: next.place + 1,
             };
         }
     }

@@ -46,10 +46,10 @@ fn number_stop(line: &[u8], place: usize) -> Option<usize>
     requires { place < length line.now }
     ensures { IfSome result (λ k. IsNumberItem line.now place k) }
 {
-    if line[place] != b'-' {
+    if is_digit(line[place]) {
         return digits_stop(line, place);
     }
-    if place + 1 == line.len() {
+    if line[place] != b'-' || place + 1 == line.len() {
         return None;
     }
     digits_stop(line, place + 1)

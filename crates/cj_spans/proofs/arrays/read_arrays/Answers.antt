@@ -17,14 +17,14 @@ open-requires-clause-room c = stands_room _ _ _ _ _ c.loop-next.invariant.stands
 pub returns-in-Err-clause-answer : goal.returns-in-Err-clause-answer
 returns-in-Err-clause-answer c = λ ts ks s.
     let l = c.loop-next in
-    standing_refused c.args.line.now l.tokens c.open.new.tokens l.stack c.open.new.stack l.next.mode l.next.place c.in-Err.fault c.in-Err.ensures l.invariant.begins c.loop-next-test.true c.if-line-next-eq91.true ts ks (l.invariant.answer ts ks s)
+    standing_refused c.args.line.now l.tokens c.open.new.tokens l.stack c.open.new.stack l.next.mode l.next.place c.in-Err.fault c.in-Err.ensures l.invariant.begins c.loop-next-test.true c.if-line-next-ne91.false ts ks (l.invariant.answer ts ks s)
 
-pub loop-next-preserved-then-line-next-eq91 : goal.loop-next-preserved-then-line-next-eq91
-loop-next-preserved-then-line-next-eq91 c =
+pub loop-next-preserved : goal.loop-next-preserved
+loop-next-preserved c =
     let l = c.loop-next in
     let o = c.open.new in
     let order = l.invariant.order in
-    let go = standing_opened c.args.line.now l.tokens o.tokens l.stack o.stack l.next.mode l.next.place c.in-Ok.field-0 c.in-Ok.ensures l.invariant.begins c.loop-next-test.true c.if-line-next-eq91.true in
+    let go = standing_opened c.args.line.now l.tokens o.tokens l.stack o.stack l.next.mode l.next.place c.in-Ok.field-0 c.in-Ok.ensures l.invariant.begins c.loop-next-test.true c.if-line-next-ne91.false in
     record {
       stands = stands_on c.args.line.now l.tokens o.tokens l.stack o.stack l.next.mode FirstItem l.next.place (l.next.place + 1) l.invariant.stands go;
       answer = λ ts ks s. go ts ks (l.invariant.answer ts ks s);
@@ -59,8 +59,8 @@ set : (x : Bool) → not x ≡ false → IsTrue x
 set true h = refl
 set false h = cc
 
-pub loop-next-preserved : goal.loop-next-preserved
-loop-next-preserved c =
+pub loop-next-preserved-then-line-next-ne91 : goal.loop-next-preserved-then-line-next-ne91
+loop-next-preserved-then-line-next-ne91 c =
     let l = c.loop-next in
     let n = c.in-Some.ensures.number in
     let e = c.end_number-behind in
