@@ -103,6 +103,6 @@ module _ (b : List ℕ) (ts ts1 : BoundedList Token) (ks ks1 : BoundedList ℕ) 
   pub standing_refused : (f : ScanFault) → ReadsByte opens i (Err f) ts ts1 ks ks1 → BeginsValue m → i < length b → byte b i ≡ 91 → (t0 : BoundedList Token) (s0 : BoundedList ℕ) → Standing b t0 s0 ts ks m i → GoesOn b t0 s0 (Err f) ts1 ks1
   standing_refused f r w l e t0 s0 s = (
     standing_fault (Unit {0}) b t0 s0 ts ts1 ks ks1 m i f s l
-    (λ p. subst (λ o. Answers o m i p ks.limit (IsTrue ts.reserved × IsTrue ks.reserved) (Err f) ks1.elements ts1.elements) (sym (bracket_at m (byte b i) (idle m ks.elements ts.elements i p) w e)) (r.answer m p)),
+        (λ p. subst (λ o. Answers o m i p ks.limit (IsTrue ts.reserved × IsTrue ks.reserved) (Err f) ks1.elements ts1.elements) (sym (bracket_at m (byte b i) (idle m ks.elements ts.elements i p) w e)) (r.answer m p)),
     standing_law b t0 s0 ts ts1 ks ks1 m i s r.tokens r.stack r.err.0 r.err.1,
   )

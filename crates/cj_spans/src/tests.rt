@@ -274,7 +274,12 @@ fn arrays_of_numbers(rt: HostRuntime) -> Result<(), Fail> {
             b"{\"a\":[1]]",
             Err(ScanFault::Syntax(8)),
         ),
-        at_depth(2, "a bracket too many", b"[[1]]]", Err(ScanFault::Syntax(5))),
+        at_depth(
+            2,
+            "a bracket too many",
+            b"[[1]]]",
+            Err(ScanFault::Syntax(5)),
+        ),
         at_depth(
             2,
             "a comma before a bracket",

@@ -21,7 +21,7 @@ loop-place-preserved c =
     let a = c.close_array in
     let order = l.invariant.order in
     let go : (ts : BoundedList Token) (ks : BoundedList ℕ) → Standing c.args.line.now ts ks l.tokens l.stack After l.place → Standing c.args.line.now ts ks a.new.tokens a.new.stack After (l.place + 1)
-          = λ ts ks s. standing_closed c.args.line.now ts ks l.tokens a.new.tokens l.stack a.new.stack l.place s c.loop-place-test.true c.if-line-place-eq93.true a.ensures.tokens a.ensures.stack a.ensures.closed in
+    = λ ts ks s. standing_closed c.args.line.now ts ks l.tokens a.new.tokens l.stack a.new.stack l.place s c.loop-place-test.true c.if-line-place-eq93.true a.ensures.tokens a.ensures.stack a.ensures.closed in
     record {
       stands = stands_on c.args.line.now l.tokens a.new.tokens l.stack a.new.stack After After l.place (l.place + 1) l.invariant.stands go;
       answer = λ ts ks s. go ts ks (l.invariant.answer ts ks s);

@@ -67,7 +67,7 @@ loop-next-preserved-then-line-next-ne91 c =
     let order = l.invariant.order in let further = n.0.order in let last = e.ensures.order in
     let comma = e.ensures.comma (set _ c.if-not-behind.false) in
     let go : (ts : BoundedList Token) (ks : BoundedList ℕ) → Standing c.args.line.now ts ks l.tokens l.stack l.next.mode l.next.place → Standing c.args.line.now ts ks e.new.tokens e.new.stack Ready (e.result.place + 1)
-          = λ ts ks s. standing_comma c.args.line.now ts ks e.new.tokens e.new.stack e.result.place (e.ensures.answer ts ks (standing_number c.args.line.now ts ks l.tokens c.read_number.new.tokens l.stack l.next.mode l.next.place c.in-Some.stop s l.invariant.begins n.0 n.1)) comma in
+    = λ ts ks s. standing_comma c.args.line.now ts ks e.new.tokens e.new.stack e.result.place (e.ensures.answer ts ks (standing_number c.args.line.now ts ks l.tokens c.read_number.new.tokens l.stack l.next.mode l.next.place c.in-Some.stop s l.invariant.begins n.0 n.1)) comma in
     record {
       stands = stands_on c.args.line.now l.tokens e.new.tokens l.stack e.new.stack l.next.mode Ready l.next.place (e.result.place + 1) l.invariant.stands go;
       answer = λ ts ks s. go ts ks (l.invariant.answer ts ks s);
