@@ -364,9 +364,33 @@ fn is_text_slowly(points: Points, characters: Characters) -> bool
     rest.next().is_none()
 }
 
+/// Whether a string is spelled by these characters, each of which stands for itself, as nearly every name is that has the
+/// text. Where the characters are known when the program is compiled, a byte costs one comparison.
+#[tactic(auto, using(crate::proofs::Texts::text_ends))]
+#[inline(always)]
+fn is_spelled_so(points: Points, characters: Characters) -> bool
+    ensures { result ≡ true → are_same (points_left points.entry) (characters_left characters.entry) ≡ true }
+{
+    let mut left = points;
+    let mut wanted = characters;
+    if left.bytes.len().saturating_sub(left.place)
+        != wanted.bytes.len().saturating_sub(wanted.place)
+    {
+        return false;
+    }
+    while let Some(byte) = plain_at(wanted.bytes, wanted.place) {
+        if !is_at(left.bytes, left.place, byte) {
+            return false;
+        }
+        left.place += 1;
+        wanted.place += 1;
+    }
+    left.place >= left.bytes.len() && wanted.place >= wanted.bytes.len()
+}
+
 /// Whether a string's text is these characters.
 #[tactic(auto, using(crate::proofs::Texts::text_ends))]
-#[inline]
+#[inline(never)]
 fn is_text(points: Points, characters: Characters) -> bool
     ensures { result ≡ are_same (points_left points.entry) (characters_left characters.entry) }
 {
@@ -455,7 +479,9 @@ pub(crate) fn spells(spelling: &[u8], wanted: &str) -> bool
     if spelling.len() > 1 && !characters.is_empty() && tell_apart(spelling[1], characters[0]) {
         return false;
     }
-    is_text(Points::of(spelling), Characters::of(wanted))
+    let points = Points::of(spelling);
+    let wanted = Characters::of(wanted);
+    is_spelled_so(points, wanted) || is_text(points, wanted)
 }
 
 /// Whether two strings, given with their quotes, have one text. Their first bytes are compared before anything else, where

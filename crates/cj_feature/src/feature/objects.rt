@@ -91,6 +91,7 @@ fn check_texts(node: Node, found: &mut Least)
 }
 
 /// The city object may have a member of this name, which is an array of texts.
+#[inline(always)]
 fn check_texts_member(object: Node, name: &str, found: &mut Least)
     ensures { found.new ≡ least found.old (may_have (chars name.now) texts (tree object.entry)) }
 {
