@@ -331,6 +331,19 @@ fn plain_at(bytes: &[u8], place: usize) -> Option<u8>
     }
 }
 
+/// Whether a byte that stands for itself is at a place of the text: one that [`plain_at`] answers elsewhere.
+#[tactic(auto, using(crate::proofs::Texts::plain_character, crate::proofs::Texts::plain_code, std::proofs::lemmas::Bool::Decides::nat_tests))]
+#[inline(always)]
+fn is_here(bytes: &[u8], place: usize, byte: u8) -> bool
+    requires within { place < length bytes.now }
+    requires ascii { byte < 128 }
+    requires plain { nat_eq byte 92 ≡ false }
+    ensures character { result ≡ true → left bytes.now place ≡ byte ∷ left bytes.now (place + 1) }
+    ensures point { result ≡ true → points_from bytes.now place ≡ byte ∷ points_from bytes.now (place + 1) }
+{
+    bytes[place] == byte
+}
+
 /// Whether a byte that stands for itself is at a place: one that [`plain_at`] answers elsewhere.
 #[tactic(auto, using(crate::proofs::Texts::plain_character, crate::proofs::Texts::plain_code, std::proofs::lemmas::Bool::Decides::nat_tests))]
 #[inline(always)]
@@ -364,28 +377,33 @@ fn is_text_slowly(points: Points, characters: Characters) -> bool
     rest.next().is_none()
 }
 
-/// Whether a string is spelled by these characters, each of which stands for itself, as nearly every name is that has the
-/// text. Where the characters are known when the program is compiled, a byte costs one comparison.
-#[tactic(auto, using(crate::proofs::Texts::text_ends))]
+/// Whether a string, given with its quotes, has this text, where bytes that stand for themselves tell it; None elsewhere.
+/// Where the text is known when the program is compiled, a byte of it costs one comparison.
+#[tactic(auto, using(crate::proofs::Texts::points_between, crate::proofs::Texts::text_ends))]
 #[inline(always)]
-fn is_spelled_so(points: Points, characters: Characters) -> bool
-    ensures { result ≡ true → are_same (points_left points.entry) (characters_left characters.entry) ≡ true }
+fn spells_plainly(spelling: &[u8], wanted: &str) -> Option<bool>
+    requires { 0 < length spelling.now }
+    ensures { IfSome result (λ b. b ≡ are_same (text spelling.now) (chars wanted.now)) }
 {
-    let mut left = points;
-    let mut wanted = characters;
-    if left.bytes.len().saturating_sub(left.place)
-        != wanted.bytes.len().saturating_sub(wanted.place)
-    {
-        return false;
+    let characters = wanted.as_bytes();
+    let body = &spelling[..spelling.len() - 1];
+    if body.len() <= characters.len() {
+        return None;
     }
-    while let Some(byte) = plain_at(wanted.bytes, wanted.place) {
-        if !is_at(left.bytes, left.place, byte) {
-            return false;
+    let mut count = 0;
+    while let Some(byte) = plain_at(characters, count) {
+        if !is_here(body, count + 1, byte) {
+            return match plain_at(body, count + 1) {
+                Some(other) if other != byte => Some(false),
+                _ => None,
+            };
         }
-        left.place += 1;
-        wanted.place += 1;
+        count += 1;
     }
-    left.place >= left.bytes.len() && wanted.place >= wanted.bytes.len()
+    if count >= characters.len() && count >= body.len() - 1 {
+        return Some(true);
+    }
+    None
 }
 
 /// Whether a string's text is these characters.
@@ -479,9 +497,10 @@ pub(crate) fn spells(spelling: &[u8], wanted: &str) -> bool
     if spelling.len() > 1 && !characters.is_empty() && tell_apart(spelling[1], characters[0]) {
         return false;
     }
-    let points = Points::of(spelling);
-    let wanted = Characters::of(wanted);
-    is_spelled_so(points, wanted) || is_text(points, wanted)
+    match spells_plainly(spelling, wanted) {
+        Some(answer) => answer,
+        None => is_text(Points::of(spelling), Characters::of(wanted)),
+    }
 }
 
 /// Whether two strings, given with their quotes, have one text. Their first bytes are compared before anything else, where
