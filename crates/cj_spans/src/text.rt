@@ -377,33 +377,27 @@ fn is_text_slowly(points: Points, characters: Characters) -> bool
     rest.next().is_none()
 }
 
-/// Whether a string, given with its quotes, has this text, where bytes that stand for themselves tell it; None elsewhere.
-/// Where the text is known when the program is compiled, a byte of it costs one comparison.
+/// Whether a string, given with its quotes, is spelled by just the bytes of this text, each of which stands for itself, as
+/// nearly every name is. Where the text is known when the program is compiled, a byte of it costs one comparison.
 #[tactic(auto, using(crate::proofs::Texts::points_between, crate::proofs::Texts::text_ends))]
 #[inline(always)]
-fn spells_plainly(spelling: &[u8], wanted: &str) -> Option<bool>
+fn is_spelled_so(spelling: &[u8], wanted: &str) -> bool
     requires { 0 < length spelling.now }
-    ensures { IfSome result (λ b. b ≡ are_same (text spelling.now) (chars wanted.now)) }
+    ensures { result ≡ true → are_same (text spelling.now) (chars wanted.now) ≡ true }
 {
     let characters = wanted.as_bytes();
     let body = &spelling[..spelling.len() - 1];
-    if body.len() <= characters.len() {
-        return None;
+    if body.is_empty() || body.len() - 1 != characters.len() {
+        return false;
     }
     let mut count = 0;
     while let Some(byte) = plain_at(characters, count) {
         if !is_here(body, count + 1, byte) {
-            return match plain_at(body, count + 1) {
-                Some(other) if other != byte => Some(false),
-                _ => None,
-            };
+            return false;
         }
         count += 1;
     }
-    if count >= characters.len() && count >= body.len() - 1 {
-        return Some(true);
-    }
-    None
+    count >= characters.len()
 }
 
 /// Whether a string's text is these characters.
@@ -497,10 +491,7 @@ pub(crate) fn spells(spelling: &[u8], wanted: &str) -> bool
     if spelling.len() > 1 && !characters.is_empty() && tell_apart(spelling[1], characters[0]) {
         return false;
     }
-    match spells_plainly(spelling, wanted) {
-        Some(answer) => answer,
-        None => is_text(Points::of(spelling), Characters::of(wanted)),
-    }
+    is_spelled_so(spelling, wanted) || is_text(Points::of(spelling), Characters::of(wanted))
 }
 
 /// Whether two strings, given with their quotes, have one text. Their first bytes are compared before anything else, where
