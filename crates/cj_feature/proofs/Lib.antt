@@ -7,6 +7,7 @@ pub mod None
 pub mod Pairs
 pub mod Passes
 pub mod Typed
+pub mod Unlinked
 pub mod Valid
 pub mod Values
 pub mod Verdict
