@@ -3,6 +3,7 @@ pub mod Fixed
 pub mod FixedRule
 pub mod Lengths
 pub mod LinkFaults
+pub mod Listed
 pub mod None
 pub mod Pairs
 pub mod Passes
