@@ -3,10 +3,12 @@ pub mod Fixed
 pub mod FixedRule
 pub mod Lengths
 pub mod LinkFaults
+pub mod Listed
 pub mod None
 pub mod Pairs
 pub mod Passes
 pub mod Typed
+pub mod Unlinked
 pub mod Valid
 pub mod Values
 pub mod Verdict

@@ -22,6 +22,7 @@ pub fn check_there(object: Node, member: Option<Node>, found: &mut Least)
 }
 
 /// The value is this text; another text has `reason`.
+#[inline(always)]
 fn check_name(node: Node, text: &str, reason: Reason, found: &mut Least)
     ensures { found.new ≡ least found.old (of_kind is_text (is_named reason (chars text.now)) (tree node.entry)) }
 {
@@ -36,6 +37,7 @@ fn check_name(node: Node, text: &str, reason: Reason, found: &mut Least)
 }
 
 /// The object has a member of this name, which is this text; another text has `reason`.
+#[inline(always)]
 pub fn check_name_member(object: Node, name: &str, text: &str, reason: Reason, found: &mut Least)
     ensures { found.new ≡ least found.old (has_member_named (chars name.now) reason (chars text.now) (tree object.entry)) }
 {

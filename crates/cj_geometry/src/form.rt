@@ -27,18 +27,18 @@ impl Form {
     }
 }
 
-/// The form of a type of this name.
+/// The form of a type of this name. Most geometries are surfaces, so their name is asked for before those that begin as it does.
 pub fn form_of(name: Node) -> Option<Form>
     ensures { option_map form_value result ≡ form_of (tree name.entry) }
 {
+    if name.text_is("MultiSurface") {
+        return Some(Form::parts(3, Some(1)));
+    }
     if name.text_is("MultiPoint") {
         return Some(Form::parts(1, None));
     }
     if name.text_is("MultiLineString") {
         return Some(Form::parts(2, None));
-    }
-    if name.text_is("MultiSurface") {
-        return Some(Form::parts(3, Some(1)));
     }
     if name.text_is("CompositeSurface") {
         return Some(Form::parts(3, Some(1)));

@@ -317,6 +317,7 @@ impl<'a> Node<'a> {
 
     /// The value of the first member whose name has this text; None where there is none, and for any
     /// value that is no object.
+    #[inline(always)]
     pub fn get(self, name: &str) -> Option<Node<'a>>
         ensures value { option_map tree result ≡ member_of (chars name.now) (tree self.entry) }
         ensures line { IfSome result (λ n. line_of n ≡ line_of self.entry) }

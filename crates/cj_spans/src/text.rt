@@ -331,6 +331,19 @@ fn plain_at(bytes: &[u8], place: usize) -> Option<u8>
     }
 }
 
+/// Whether a byte that stands for itself is at a place of the text: one that [`plain_at`] answers elsewhere.
+#[tactic(auto, using(crate::proofs::Texts::plain_character, crate::proofs::Texts::plain_code, std::proofs::lemmas::Bool::Decides::nat_tests))]
+#[inline(always)]
+fn is_here(bytes: &[u8], place: usize, byte: u8) -> bool
+    requires within { place < length bytes.now }
+    requires ascii { byte < 128 }
+    requires plain { nat_eq byte 92 ≡ false }
+    ensures character { result ≡ true → left bytes.now place ≡ byte ∷ left bytes.now (place + 1) }
+    ensures point { result ≡ true → points_from bytes.now place ≡ byte ∷ points_from bytes.now (place + 1) }
+{
+    bytes[place] == byte
+}
+
 /// Whether a byte that stands for itself is at a place: one that [`plain_at`] answers elsewhere.
 #[tactic(auto, using(crate::proofs::Texts::plain_character, crate::proofs::Texts::plain_code, std::proofs::lemmas::Bool::Decides::nat_tests))]
 #[inline(always)]
@@ -364,9 +377,32 @@ fn is_text_slowly(points: Points, characters: Characters) -> bool
     rest.next().is_none()
 }
 
+/// Whether a string, given with its quotes, is spelled by just the bytes of this text, each of which stands for itself, as
+/// nearly every name is. Where the text is known when the program is compiled, a byte of it costs one comparison.
+#[tactic(auto, using(crate::proofs::Texts::points_between, crate::proofs::Texts::text_ends))]
+#[inline(always)]
+fn is_spelled_so(spelling: &[u8], wanted: &str) -> bool
+    requires { 0 < length spelling.now }
+    ensures { result ≡ true → are_same (text spelling.now) (chars wanted.now) ≡ true }
+{
+    let characters = wanted.as_bytes();
+    let body = &spelling[..spelling.len() - 1];
+    if body.is_empty() || body.len() - 1 != characters.len() {
+        return false;
+    }
+    let mut count = 0;
+    while let Some(byte) = plain_at(characters, count) {
+        if !is_here(body, count + 1, byte) {
+            return false;
+        }
+        count += 1;
+    }
+    count >= characters.len()
+}
+
 /// Whether a string's text is these characters.
 #[tactic(auto, using(crate::proofs::Texts::text_ends))]
-#[inline]
+#[inline(never)]
 fn is_text(points: Points, characters: Characters) -> bool
     ensures { result ≡ are_same (points_left points.entry) (characters_left characters.entry) }
 {
@@ -455,7 +491,7 @@ pub(crate) fn spells(spelling: &[u8], wanted: &str) -> bool
     if spelling.len() > 1 && !characters.is_empty() && tell_apart(spelling[1], characters[0]) {
         return false;
     }
-    is_text(Points::of(spelling), Characters::of(wanted))
+    is_spelled_so(spelling, wanted) || is_text(Points::of(spelling), Characters::of(wanted))
 }
 
 /// Whether two strings, given with their quotes, have one text. Their first bytes are compared before anything else, where

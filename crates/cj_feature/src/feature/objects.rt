@@ -1,5 +1,5 @@
 //! City objects (CityJSON 2.0, section 2).
-ghost use Rattle.std.specs.Prelude.{◌≡◌, codes, option_map};
+ghost use Rattle.std.specs.Prelude.{◌≡◌, [], List, Some, None, false, codes, option_map};
 ghost use Rattle.std.specs.Str.{chars};
 ghost use Rattle.cj_spans.specs.Finding.{least};
 ghost use Rattle.cj_spans.specs.Tree.{Tree};
@@ -9,7 +9,7 @@ ghost use Rattle.cj_geometry.specs.Given.{given};
 ghost use Rattle.cj_geometry.specs.ObjectTypes.{row_at, row_of, is_second_level as is_second_level_of};
 ghost use Rattle.cj_geometry.specs.Rule.{needs, may_have};
 ghost use Rattle.cj_feature.specs.Feature.{object_type, geometries, texts, second_level, city_object, city_objects};
-ghost use Rattle.cj_feature.specs.Links.{is_part as is_part_of};
+ghost use Rattle.cj_feature.specs.Links.{is_part as is_part_of, object_links, links};
 
 use crate::member::check_there;
 use cj_geometry::rule::{add, check_array, check_names, check_object, check_text, needed};
@@ -90,12 +90,18 @@ fn check_texts(node: Node, found: &mut Least)
     }
 }
 
-/// The city object may have a member of this name, which is an array of texts.
-fn check_texts_member(object: Node, name: &str, found: &mut Least)
-    ensures { found.new ≡ least found.old (may_have (chars name.now) texts (tree object.entry)) }
+/// The city object may have a member of this name, which is an array of texts; answers whether it has one.
+#[inline(always)]
+fn check_texts_member(object: Node, name: &str, found: &mut Least) -> bool
+    ensures none { result ≡ false → member_of (chars name.now) (tree object.entry) ≡ None }
+    ensures found { found.new ≡ least found.old (may_have (chars name.now) texts (tree object.entry)) }
 {
-    if let Some(value) = object.get(name) {
-        check_texts(value, found);
+    match object.get(name) {
+        Some(value) => {
+            check_texts(value, found);
+            true
+        }
+        None => false,
     }
 }
 
@@ -121,45 +127,66 @@ fn check_second_level(object: Node, second: bool, found: &mut Least)
     }
 }
 
-/// The value is a city object, over so many vertices if that is known.
-fn check_city_object(node: Node, vertices: Option<u64>, templates: Templates, found: &mut Least)
-    ensures { found.new ≡ least found.old (city_object vertices (given templates.entry) (tree node.entry)) }
+/// The value is a city object, over so many vertices if that is known; answers whether it may have links.
+fn check_city_object(
+    node: Node,
+    vertices: Option<u64>,
+    templates: Templates,
+    found: &mut Least,
+) -> bool
+    ensures unlinked { result ≡ false → (all : List (Tree × Tree)) → (name : Tree) → object_links all (name, tree node.entry) ≡ [] }
+    ensures found { found.new ≡ least found.old (city_object vertices (given templates.entry) (tree node.entry)) }
 {
     if check_object(node, found) {
         check_names(node, found);
         let second = check_type_member(node, found);
         check_geometry_member(node, vertices, templates, found);
-        check_texts_member(node, "children", found);
-        check_texts_member(node, "parents", found);
+        let children = check_texts_member(node, "children", found);
+        let parents = check_texts_member(node, "parents", found);
         check_second_level(node, second, found);
+        children | parents
+    } else {
+        true
     }
 }
 
-/// The value is an object of city objects.
-fn check_city_objects(node: Node, vertices: Option<u64>, templates: Templates, found: &mut Least)
-    ensures { found.new ≡ least found.old (city_objects vertices (given templates.entry) (tree node.entry)) }
+/// The value is an object of city objects; answers whether they may have links.
+fn check_city_objects(
+    node: Node,
+    vertices: Option<u64>,
+    templates: Templates,
+    found: &mut Least,
+) -> bool
+    ensures unlinked { result ≡ false → links (Some (tree node.entry)) ≡ [] }
+    ensures found { found.new ≡ least found.old (city_objects vertices (given templates.entry) (tree node.entry)) }
 {
     if check_object(node, found) {
         check_names(node, found);
+        let mut linked = false;
         for (_, object) in node.members() {
-            check_city_object(object, vertices, templates, found);
+            linked |= check_city_object(object, vertices, templates, found);
         }
+        linked
+    } else {
+        true
     }
 }
 
-/// The feature has city objects.
+/// The feature has city objects; answers whether they may have links.
 pub fn check_city_objects_member(
     object: Node,
     objects: Option<Node>,
     vertices: Option<u64>,
     templates: Templates,
     found: &mut Least,
-)
+) -> bool
     requires { option_map tree objects ≡ member_of (chars (codes "CityObjects")) (tree object) }
-    ensures { found.new ≡ least found.old (needs (chars (codes "CityObjects")) (city_objects vertices (given templates.entry)) (tree object.entry)) }
+    ensures unlinked { result ≡ false → links (option_map tree objects.entry) ≡ [] }
+    ensures found { found.new ≡ least found.old (needs (chars (codes "CityObjects")) (city_objects vertices (given templates.entry)) (tree object.entry)) }
 {
     check_there(object, objects, found);
-    if let Some(value) = objects {
-        check_city_objects(value, vertices, templates, found);
+    match objects {
+        Some(value) => check_city_objects(value, vertices, templates, found),
+        None => false,
     }
 }

@@ -1,5 +1,5 @@
 //! The rules on features, one after another.
-ghost use Rattle.std.specs.Prelude.{◌≡◌, codes, length, option_map};
+ghost use Rattle.std.specs.Prelude.{◌≡◌, [], false, codes, length, option_map};
 ghost use Rattle.std.specs.List.{flat_map};
 ghost use Rattle.std.specs.Str.{chars};
 ghost use Rattle.cj_spans.specs.declared.reason.Reason.TheVariants.{NotThree};
@@ -11,6 +11,7 @@ ghost use Rattle.cj_geometry.specs.Geometry.{count_if, count_of};
 ghost use Rattle.cj_geometry.specs.Given.{given};
 ghost use Rattle.cj_geometry.specs.Rule.{of_kind, needs, whole_number, of_length};
 ghost use Rattle.cj_feature.specs.Feature.{vertex_list, feature_rules};
+ghost use Rattle.cj_feature.specs.Links.{links};
 
 use crate::feature::ids::check_id_member;
 use crate::feature::links::check_links;
@@ -75,6 +76,17 @@ fn check_vertices_member(object: Node, vertices: Option<Node>, found: &mut Least
     }
 }
 
+/// The links of the city objects, which have none where they are not linked.
+#[inline(always)]
+fn check_links_if(linked: bool, objects: Option<Node>, found: &mut Least)
+    requires { linked ≡ false → links (option_map tree objects) ≡ [] }
+    ensures { found.new ≡ least found.old (links (option_map tree objects.entry)) }
+{
+    if linked {
+        check_links(objects, found);
+    }
+}
+
 /// The value is a feature, with these members, beside these templates. Vertices come before the city
 /// objects, which ask for their number.
 pub fn check_root(
@@ -93,7 +105,7 @@ pub fn check_root(
         check_name_member(node, "type", "CityJSONFeature", Reason::WrongType, found);
         check_id_member(node, objects, found);
         let count = check_vertices_member(node, vertices, found);
-        check_city_objects_member(node, objects, count, templates, found);
-        check_links(objects, found);
+        let linked = check_city_objects_member(node, objects, count, templates, found);
+        check_links_if(linked, objects, found);
     }
 }

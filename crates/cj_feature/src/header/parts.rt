@@ -9,5 +9,5 @@ pub struct HeaderParts {
     pub(crate) translate: [Decimal; 3],
     pub(crate) with_box: bool,
     pub(crate) maps: Option<[Affine; 2]>,
-    pub(crate) templates: u64,
+    pub(crate) templates: Option<u64>,
 }

@@ -1,9 +1,9 @@
 //! The templates of a header, which instances of later lines name.
-ghost use Rattle.std.specs.Prelude.{◌≡◌, MatchOption};
+ghost use Rattle.std.specs.Prelude.{◌≡◌, MatchOption, length, option_map};
 ghost use Rattle.cj_spans.specs.declared.token.Kind.TheVariants.{Array};
-ghost use Rattle.cj_spans.specs.Parts.{kind_of};
+ghost use Rattle.cj_spans.specs.Parts.{kind_of, items_of};
 ghost use Rattle.cj_spans.specs.View.{tree};
-ghost use Rattle.cj_geometry.specs.Geometry.{listed, empty, template_count};
+ghost use Rattle.cj_geometry.specs.Geometry.{listed, empty, list_of};
 ghost use Rattle.cj_feature.specs.Feature.{templates_of};
 
 use cj_geometry::rule::count_items;
@@ -26,12 +26,12 @@ pub fn template_list(root: Node) -> Option<Node>
     }
 }
 
-/// How many templates a header has. It goes over them.
-pub fn count_templates(root: Node) -> u64
-    ensures { result ≡ template_count (templates_of (tree root.entry)) }
+/// How many templates the list of a header has, if it has one. It goes over them.
+pub fn count_templates(root: Node) -> Option<u64>
+    ensures { result ≡ option_map (λ list. length (items_of list)) (list_of (templates_of (tree root.entry))) }
 {
     match template_list(root) {
-        Some(list) => count_items(list),
-        None => 0,
+        Some(list) => Some(count_items(list)),
+        None => None,
     }
 }

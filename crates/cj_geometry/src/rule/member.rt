@@ -25,6 +25,7 @@ pub fn needed<'a>(object: Node<'a>, name: &str, found: &mut Least) -> Option<Nod
 }
 
 /// The object has a member of this name, which is a string.
+#[inline(always)]
 pub fn check_text_member(object: Node, name: &str, found: &mut Least)
     ensures { found.new ≡ least found.old (needs (chars name.now) (of_kind is_text nothing) (tree object.entry)) }
 {

@@ -140,12 +140,9 @@ fn check_many(object: Node, found: &mut Least)
     check_blocks(object, &mut numbers, &mut marks, found);
 }
 
-/// Whether an object has more than `FEW` names.
-#[inline]
-fn has_many(object: Node) -> bool {
-    if object.bytes().len() <= FEW_BYTES {
-        return false;
-    }
+/// Whether an object has more than `FEW` names, told by a walk over them.
+#[inline(never)]
+fn walks_over_many(object: Node) -> bool {
     let mut left = object.members();
     for _ in 0..FEW {
         if left.next().is_none() {
@@ -155,7 +152,14 @@ fn has_many(object: Node) -> bool {
     left.next().is_some()
 }
 
+/// Whether an object has more than `FEW` names.
+#[inline(always)]
+fn has_many(object: Node) -> bool {
+    object.bytes().len() > FEW_BYTES && walks_over_many(object)
+}
+
 /// The names of an object are distinct: each that has the text of an earlier one has a finding.
+#[inline(always)]
 pub fn check_names(object: Node, found: &mut Least)
     ensures { found.new ≡ least found.old (distinct (tree object.entry)) }
 {

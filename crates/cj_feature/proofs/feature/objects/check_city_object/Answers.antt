@@ -9,8 +9,8 @@ use Rattle.cj_geometry.proofs.OfKind.{of_kind-then}
 use Rattle.cj_feature.specs.Feature.{object_type, geometries, texts, second_level}
 use Rattle.cj_feature.proofs.feature.objects.check_city_object.Goals as goal
 
-pub returns-then-check_object : goal.returns-then-check_object
-returns-then-check_object c =
+pub returns-then-check_object-clause-found : goal.returns-then-check_object-clause-found
+returns-then-check_object-clause-found c =
     let n = tree c.args.node in
     let o = c.check_object.new.found in
     let name = needs (chars (codes "type")) object_type in
@@ -18,6 +18,6 @@ returns-then-check_object c =
     let children = may_have (chars (codes "children")) texts in
     let parents = may_have (chars (codes "parents")) texts in
     let three = least-three o _ _ _ (distinct n) (name n) (geometry n) c.check_names.ensures c.check_type_member-second.ensures.found c.check_geometry_member.ensures in
-    let five = least-three o _ _ _ (distinct n ++ name n ++ geometry n) (children n) (parents n) three c.check_texts_member.ensures c.check_texts_member-then-check_object.ensures in
+    let five = least-three o _ _ _ (distinct n ++ name n ++ geometry n) (children n) (parents n) three c.check_texts_member-children.ensures.found c.check_texts_member-parents.ensures.found in
     let six = least-two o _ _ (distinct n ++ name n ++ geometry n ++ children n ++ parents n) (second_level n) five c.check_second_level.ensures in
     of_kind-then is_object (λ u. distinct u ++ name u ++ geometry u ++ children u ++ parents u ++ second_level u) n _ _ _ (sym c.if-check_object.ensures.is) c.check_object.ensures.found six
