@@ -38,6 +38,7 @@ fn check_later(name: Node, rest: Members, found: &mut Least)
 }
 
 /// The names of an object are distinct: each is compared with each later one.
+#[inline(always)]
 fn check_few(object: Node, found: &mut Least)
     ensures { found.new ≡ least found.old (distinct (tree object.entry)) }
 {
