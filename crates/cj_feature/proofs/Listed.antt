@@ -1,12 +1,11 @@
 -- The templates of a header that has no list of them.
-use Rattle.std.proofs.Common.{◌≡◌, ℕ, Bool, true, false, cond, Option, Some, None, refl}
+use Rattle.std.proofs.Common.{◌≡◌, Bool, true, false, cond, Option, Some, None, refl}
 use Rattle.std.specs.Prelude.{option_map, length}
 use Rattle.cj_spans.specs.Tree.{Tree}
 use Rattle.cj_spans.specs.Kinds.{is_array}
-use Rattle.cj_spans.specs.Parts.{kind_of, items_of, member_of}
+use Rattle.cj_spans.specs.Parts.{kind_of, items_of}
 use Rattle.cj_geometry.specs.Geometry.{listed, empty, list_of}
 use Rattle.cj_feature.specs.Feature.{given_list, templates_of}
-use Rattle.cj_feature.specs.Members.{member_if}
 
 listed_if : (v : Bool) (t : Tree) → option_map (λ list. length (items_of list)) (list_of (cond v (listed t) empty)) ≡ None → cond v (listed t) empty ≡ empty
 listed_if true t h = absurd (cc h)

@@ -1,5 +1,5 @@
 -- Pairs that are listed.
-use Rattle.std.proofs.Common.{◌≡◌, ℕ, zero, suc, get_or, List, [], Option, Some, None, arith, refl, sym, ◌∙◌}
+use Rattle.std.proofs.Common.{◌≡◌, ℕ, zero, suc, get_or, [], Option, Some, None, arith, refl, sym, ◌∙◌}
 use Rattle.std.proofs.Math.ListN.{replicate}
 use Rattle.std.proofs.lemmas.List.{get_or_past}
 use Rattle.cj_feature.specs.declared.feature.pairs.Pair.{Pair}

@@ -1,5 +1,5 @@
 -- The parents of a city object of the second level.
-use Rattle.std.specs.Prelude.{List, Bool, cond, Option, Some, None, codes}
+use Rattle.std.specs.Prelude.{cond, Option, Some, None, codes}
 use Rattle.std.specs.Str.{chars}
 use Rattle.cj_spans.specs.Tree.{Tree}
 use Rattle.cj_spans.specs.Kinds.{is_array}
