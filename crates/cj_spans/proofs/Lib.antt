@@ -13,6 +13,7 @@ pub mod Fronts
 pub mod Forests
 pub mod Standing
 pub mod Nested
+pub mod Named
 pub mod WholeNumbers
 pub mod Colons
 pub mod Vectors

@@ -18,7 +18,7 @@ use Rattle.cj_spans.proofs.Lists.{slice_get-seam}
 use Rattle.cj_spans.proofs.Runs.{idle}
 use Rattle.cj_spans.proofs.Atoms.{settles_at}
 use Rattle.cj_spans.proofs.WholeNumbers.{number_read, comma_read, in_array_same, grown_more}
-use Rattle.cj_spans.proofs.Standing.{standing_small, standing_room, standing_step, standing_fault, standing_law, stepped_on, grown_same, kept_both}
+use Rattle.cj_spans.proofs.Standing.{standing_small, standing_room, standing_step, standing_fault, standing_law, stepped_on, standing_with, grown_same}
 
 -- what goes on from where a pass stands leaves one that stands
 pub stands_on : (b : List ℕ) (ts ts1 : BoundedList Token) (ks ks1 : BoundedList ℕ) (m n : Mode) (i j : ℕ) → Stands b ts ks m i → ((t0 : BoundedList Token) (s0 : BoundedList ℕ) → Standing b t0 s0 ts ks m i → Standing b t0 s0 ts1 ks1 n j) → Stands b ts1 ks1 n j
@@ -46,31 +46,15 @@ module _ (b : List ℕ) (t0 : BoundedList Token) (s0 : BoundedList ℕ) where
 
   -- behind the comma of an array
   pub standing_comma : (ts : BoundedList Token) (ks : BoundedList ℕ) (i : ℕ) → Standing b t0 s0 ts ks After i → IsComma b ts ks i → Standing b t0 s0 ts ks Ready (i + 1)
-  standing_comma ts ks i s c = record {
-    deepest = s.deepest;
-    settles = comma_read b start ks.elements ts.elements i s.deepest c.array c.within c.comma s.settles;
-    place = let l = c.within in omega arith;
-    kept = s.kept;
-    stack_limit = s.stack_limit;
-    stack_peak = s.stack_peak;
-    stack_room = s.stack_room;
-    stack_within = s.stack_within;
-  }
+  standing_comma ts ks i s c =
+      let l = c.within in
+      standing_with b t0 s0 ts ts ks After Ready i (i + 1) s (grown_same ts s.kept.within) (omega arith) (λ p. comma_read b start ks.elements ts.elements i p c.array c.within c.comma)
 
   -- behind a number
   pub standing_number : (ts ts1 : BoundedList Token) (ks : BoundedList ℕ) (m : Mode) (i k : ℕ) → Standing b t0 s0 ts ks m i → BeginsValue m → IsNumberItem b i k → Becomes ts (ts.elements ++ token_at i k (length ts.elements + 1) ∷ []) ts1 → Standing b t0 s0 ts1 ks After k
   standing_number ts ts1 ks m i k s v n e =
       let inside = n.within in
-      record {
-        deepest = s.deepest;
-        settles = number_read b start m ks.elements ts.elements ts1.elements i k (length ts.elements) s.deepest n v refl e.elements s.settles;
-        place = omega arith;
-        kept = kept_both t0 ts ts1 s.kept (grown_more ts ts ts1 _ (grown_same ts s.kept.within) e);
-        stack_limit = s.stack_limit;
-        stack_peak = s.stack_peak;
-        stack_room = s.stack_room;
-        stack_within = s.stack_within;
-      }
+      standing_with b t0 s0 ts ts1 ks m After i k s (grown_more ts ts ts1 _ (grown_same ts s.kept.within) e) (omega arith) (λ p. number_read b start m ks.elements ts.elements ts1.elements i k (length ts.elements) p n v refl e.elements)
 
 -- `[` opens an array where a value may begin
 opened_at : (m : Mode) (s : State) → BeginsValue m → read m 91 s ≡ Some (with_opened Array FirstItem s)

@@ -12,7 +12,7 @@ use Rattle.cj_spans.specs.declared.step.Move.TheVariants.{Stay, To, Open, Atom}
 use Rattle.cj_spans.specs.declared.step.Next.{Next}
 use Rattle.cj_spans.specs.Json.{byte}
 use Rattle.cj_spans.specs.Scan.{KeepsLaw}
-use Rattle.cj_spans.specs.Machine.{State, state, step, read, Reaches, here, on, start, ComesTo, Sticks, phase_after, deepest_after, Answers, EndAnswers, Kept, Grown, BeginsValue, BeginsAtom, SticksAt, RunAnswers}
+use Rattle.cj_spans.specs.Machine.{State, state, step, read, Reaches, here, on, start, ComesTo, Sticks, phase_after, deepest_after, Answers, EndAnswers, Kept, Grown, BeginsValue, BeginsName, BeginsAtom, SticksAt, RunAnswers}
 use Rattle.cj_spans.specs.Pass.{Standing}
 use Rattle.cj_spans.proofs.Spellings.{some_same}
 use Rattle.cj_spans.proofs.Runs.{idle, settled, same_mode}
@@ -67,14 +67,44 @@ standing_small b tokens0 stack0 tokens stack m i s h l =
     let o = w.open_count in
     (omega arith, omega arith)
 
-pub standing_room : (b : List ℕ) (tokens0 : BoundedList Token) (stack0 : BoundedList ℕ) (tokens : BoundedList Token) (stack : BoundedList ℕ) (m : Mode) (i : ℕ) → Standing b tokens0 stack0 tokens stack m i → (length b + stack0.limit + 1) / 2 ≤ tokens0.limit → i < length b
-    → BeginsValue m → length tokens.elements < tokens.limit
-standing_room b tokens0 stack0 tokens stack m i s r l h =
-    let w = standing_lawful b tokens0 stack0 tokens stack m i s in
-    let c = count_before m stack.elements tokens.elements i s.deepest w h in
+room_left : (b : List ℕ) (tokens0 : BoundedList Token) (stack0 : BoundedList ℕ) (tokens : BoundedList Token) (stack : BoundedList ℕ) (m : Mode) (i : ℕ) → Standing b tokens0 stack0 tokens stack m i → (length b + stack0.limit + 1) / 2 ≤ tokens0.limit → i < length b
+    → 2 * length tokens.elements ≤ i + length stack.elements → length tokens.elements < tokens.limit
+room_left b tokens0 stack0 tokens stack m i s r l c =
     let g : length stack.elements ≤ stack0.limit = let p = s.stack_within.below_peak in let q = s.stack_within.below_limit in let e = s.stack_limit in omega arith in
     let e = s.kept.limit in
     subst (λ n. length tokens.elements < n) (sym e) (half_room (length tokens.elements) i (length b) (length stack.elements) stack0.limit tokens0.limit c l g r)
+
+pub standing_room : (b : List ℕ) (tokens0 : BoundedList Token) (stack0 : BoundedList ℕ) (tokens : BoundedList Token) (stack : BoundedList ℕ) (m : Mode) (i : ℕ) → Standing b tokens0 stack0 tokens stack m i → (length b + stack0.limit + 1) / 2 ≤ tokens0.limit → i < length b
+    → BeginsValue m → length tokens.elements < tokens.limit
+standing_room b tokens0 stack0 tokens stack m i s r l h = room_left b tokens0 stack0 tokens stack m i s r l (count_before m stack.elements tokens.elements i s.deepest (standing_lawful b tokens0 stack0 tokens stack m i s) h)
+
+count_name : (m : Mode) (ks : List ℕ) (ts : List Token) (i p : ℕ) → IsLawful (idle m ks ts i p) → BeginsName m → 2 * length ts ≤ i + length ks
+count_name FirstName ks ts i p l h = l.token_count
+count_name NextName ks ts i p l h = l.token_count
+count_name _ ks ts i p l h = absurd h
+
+pub standing_name_room : (b : List ℕ) (tokens0 : BoundedList Token) (stack0 : BoundedList ℕ) (tokens : BoundedList Token) (stack : BoundedList ℕ) (m : Mode) (i : ℕ) → Standing b tokens0 stack0 tokens stack m i → (length b + stack0.limit + 1) / 2 ≤ tokens0.limit → i < length b
+    → BeginsName m → length tokens.elements < tokens.limit
+standing_name_room b tokens0 stack0 tokens stack m i s r l h = room_left b tokens0 stack0 tokens stack m i s r l (count_name m stack.elements tokens.elements i s.deepest (standing_lawful b tokens0 stack0 tokens stack m i s) h)
+
+pub kept_both : (x y z : BoundedList Token) → Kept x y → Grown y z → Kept x z
+kept_both x y z k g =
+    let a = k.peak in let c = g.kept.peak in let d = g.longer in
+    record { limit = g.kept.limit ∙ k.limit; peak = omega arith; room = λ r. g.kept.room (k.room r); within = g.kept.within }
+
+-- what goes on over the tokens alone
+pub standing_with : (b : List ℕ) (tokens0 : BoundedList Token) (stack0 : BoundedList ℕ) (tokens tokens1 : BoundedList Token) (stack : BoundedList ℕ) (m n : Mode) (i j : ℕ) → Standing b tokens0 stack0 tokens stack m i → Grown tokens tokens1 → j ≤ length b
+    → ((p : ℕ) → ComesTo b start (idle m stack.elements tokens.elements i p) → ComesTo b start (idle n stack.elements tokens1.elements j p)) → Standing b tokens0 stack0 tokens1 stack n j
+standing_with b tokens0 stack0 tokens tokens1 stack m n i j s g l h = record {
+  deepest = s.deepest;
+  settles = h s.deepest s.settles;
+  place = l;
+  kept = kept_both tokens0 tokens tokens1 s.kept g;
+  stack_limit = s.stack_limit;
+  stack_peak = s.stack_peak;
+  stack_room = s.stack_room;
+  stack_within = s.stack_within;
+}
 
 -- ---- one byte
 
@@ -87,11 +117,6 @@ pub record Stepped (b : List ℕ) (tokens0 : BoundedList Token) (stack0 : Bounde
   pub stack_peak : stack.peak ≡ max stack0.peak deepest
   pub stack_room : IsTrue stack0.reserved → IsTrue stack.reserved
   pub stack_within : IsWithin stack
-
-pub kept_both : (x y z : BoundedList Token) → Kept x y → Grown y z → Kept x z
-kept_both x y z k g =
-    let a = k.peak in let c = g.kept.peak in let d = g.longer in
-    record { limit = g.kept.limit ∙ k.limit; peak = omega arith; room = λ r. g.kept.room (k.room r); within = g.kept.within }
 
 pub standing_step : (b : List ℕ) (tokens0 : BoundedList Token) (stack0 : BoundedList ℕ) (tokens tokens1 : BoundedList Token) (stack stack1 : BoundedList ℕ) (m : Mode) (i : ℕ) (v : Move) → Standing b tokens0 stack0 tokens stack m i → i < length b → Grown tokens tokens1 → Kept stack stack1
     → ((p : ℕ) → read m (byte b i) (idle m stack.elements tokens.elements i p) ≡ Some (state (phase_after m i v) stack1.elements tokens1.elements (suc i) (deepest_after v p (length stack1.elements))))

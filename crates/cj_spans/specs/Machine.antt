@@ -368,6 +368,46 @@ pub record InArray (ks : List ℕ) (ts : List Token) : Type 0 where
   pub there : slice_get ts top ≡ Some token
   pub array : open_kind token ≡ Array
 
+-- the innermost open container is an object
+pub record InObject (ks : List ℕ) (ts : List Token) : Type 0 where
+  pub top : ℕ
+  pub token : Token
+  pub innermost : slice_get ks 0 ≡ Some top
+  pub there : slice_get ts top ≡ Some token
+  pub object : open_kind token ≡ Object
+
+-- a name may begin in the mode
+abbrev pub BeginsName : Mode → Type 0
+BeginsName FirstName = Unit {0}
+BeginsName NextName = Unit {0}
+BeginsName _ = ⊥
+
+-- a string in the first mode is followed by the second
+abbrev pub TextLeads : Mode → Mode → Type 0
+TextLeads Ready After = Unit {0}
+TextLeads FirstName AfterName = Unit {0}
+TextLeads NextName AfterName = Unit {0}
+TextLeads _ _ = ⊥
+
+-- the bytes from i to k are a string with its quotes
+pub record IsQuoted (b : List ℕ) (i k : ℕ) : Type 0 where
+  pub opens : byte b i ≡ 34
+  pub goes : Continues b (suc i) InText k TextDone
+  pub order : i < k
+  pub within : k ≤ length b
+
+-- a name may begin after the move of a sign or a bracket
+abbrev pub BeginsNameNext : Move → Type 0
+BeginsNameNext (To m) = BeginsName m
+BeginsNameNext (Open m) = BeginsName m
+BeginsNameNext _ = ⊥
+
+-- the byte c is `{` or the comma of an object, by the move that it makes
+abbrev pub StaysInObjectNext : ℕ → Move → Type 0
+StaysInObjectNext c (To NextName) = c ≡ 44
+StaysInObjectNext c (Open FirstName) = c ≡ 123
+StaysInObjectNext c _ = ⊥
+
 -- the byte c, after which the mode comes, is `[` or the comma of an array
 abbrev pub StaysInArray : ℕ → Mode → Type 0
 StaysInArray c Ready = c ≡ 44

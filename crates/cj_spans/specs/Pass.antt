@@ -7,7 +7,7 @@ use Rattle.cj_spans.specs.declared.step.Mode.{Mode}
 use Rattle.cj_spans.specs.declared.step.Next.{Next}
 use Rattle.cj_spans.specs.Json.{byte}
 use Rattle.cj_spans.specs.Scan.{KeepsLaw}
-use Rattle.cj_spans.specs.Machine.{state, between, start, ComesTo, Kept, InArray, RunAnswers}
+use Rattle.cj_spans.specs.Machine.{state, between, start, ComesTo, Kept, InArray, InObject, RunAnswers}
 
 -- the machine has come to the mode m at the place i, and the lists are those that it has, from these on
 pub record Standing (b : List ℕ) (tokens0 : BoundedList Token) (stack0 : BoundedList ℕ) (tokens : BoundedList Token) (stack : BoundedList ℕ) (m : Mode) (i : ℕ) : Type 0 where
@@ -42,3 +42,14 @@ pub record IsComma (b : List ℕ) (tokens : BoundedList Token) (stack : BoundedL
   pub within : i < length b
   pub comma : byte b i ≡ 44
   pub array : InArray stack.elements tokens.elements
+
+-- a pass over the line stands so, and an object is innermost
+pub record StandsInObject (b : List ℕ) (tokens : BoundedList Token) (m : Mode) (i : ℕ) : Type 0 where
+  pub stack : BoundedList ℕ
+  pub stands : Stands b tokens stack m i
+  pub object : InObject stack.elements tokens.elements
+
+-- a call that leaves the stack takes a pass, where an object is innermost, from the mode m at the place i to n at j
+abbrev pub Leads : List ℕ → BoundedList Token → Mode → ℕ → BoundedList Token → Mode → ℕ → Type 0
+Leads b tokens m i tokens1 n j = (tokens0 : BoundedList Token) (stack0 stack : BoundedList ℕ) → InObject stack.elements tokens.elements → Standing b tokens0 stack0 tokens stack m i
+    → InObject stack.elements tokens1.elements × Standing b tokens0 stack0 tokens1 stack n j

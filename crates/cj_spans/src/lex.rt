@@ -1,9 +1,9 @@
 //! How far the spelling of a scalar or a name has been read.
-ghost use Rattle.std.specs.Prelude.{◌≡◌, ◌≤◌, ◌<◌, ℕ, length, suc, IsTrue, Some, true};
+ghost use Rattle.std.specs.Prelude.{◌≡◌, ◌≤◌, ◌<◌, ℕ, length, suc, IfSome, IsTrue, Some, true};
 ghost use Rattle.cj_spans.specs.declared.lex.Lex.{Lex as LexOf};
 ghost use Rattle.cj_spans.specs.declared.lex.Lex.TheVariants.{InText, TextDone};
 ghost use Rattle.cj_spans.specs.Json.{byte as byte_of};
-ghost use Rattle.cj_spans.specs.Machine.{is_digit as is_digit_of, lex_start as lex_start_of, lex_step as lex_step_of, lex_kind as lex_kind_of, one as one_of, hex as hex_of, mark as mark_of, point_or_mark as point_or_mark_of, zero_or_whole as zero_or_whole_of, sign_mark as sign_mark_of, text_step as text_step_of, escape_step as escape_step_of, digit_or as digit_or_of, Continues, Halts};
+ghost use Rattle.cj_spans.specs.Machine.{is_digit as is_digit_of, lex_start as lex_start_of, lex_step as lex_step_of, lex_kind as lex_kind_of, one as one_of, hex as hex_of, mark as mark_of, point_or_mark as point_or_mark_of, zero_or_whole as zero_or_whole_of, sign_mark as sign_mark_of, text_step as text_step_of, escape_step as escape_step_of, digit_or as digit_or_of, Continues, Halts, IsQuoted};
 
 use crate::bytes::{is_digit, is_escape, is_hex, is_plain};
 use crate::lanes::{find_other, find_special};
@@ -297,6 +297,24 @@ fn ends_text(line: &[u8], place: usize, read: Lex) -> bool
     match read {
         Lex::InText => place < line.len() && line[place] == b'"',
         _ => false,
+    }
+}
+
+/// Where the string that begins at `place` ends, if the first of its bytes that does not stand for itself is the
+/// closing quote. None where no string begins there, or another one.
+#[inline(always)]
+pub fn plain_text_stop(line: &[u8], place: usize) -> Option<usize>
+    requires { place < length line.now }
+    ensures { IfSome result (λ k. IsQuoted line.now place k) }
+{
+    if line[place] != b'"' {
+        return None;
+    }
+    let stop = skip_plain(line, place + 1);
+    if ends_text(line, stop, Lex::InText) {
+        Some(stop + 1)
+    } else {
+        None
     }
 }
 

@@ -38,6 +38,7 @@ mod lanes;
 pub mod laws;
 mod least;
 mod lex;
+mod members;
 mod next;
 mod node;
 mod numbers;

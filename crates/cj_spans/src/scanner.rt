@@ -11,12 +11,13 @@ ghost use Rattle.cj_spans.specs.Scan.{IsScanOf, AreSized, KeepsLaw};
 ghost use Rattle.cj_spans.specs.Judgement.{Judgement, IsAnswerOf};
 ghost use Rattle.cj_spans.specs.Json.{byte as byte_of};
 ghost use Rattle.cj_spans.specs.declared.token.Token.{Token as TokenOf};
-ghost use Rattle.cj_spans.specs.Machine.{State, state, between, in_atom, ComesTo, phase_after, EndAnswers, Grown, BeginsAtom, BeginsValue, BeginsValueNext, InArray, StaysInArrayNext, RunAnswers};
+ghost use Rattle.cj_spans.specs.Machine.{State, state, between, in_atom, ComesTo, phase_after, EndAnswers, Grown, BeginsAtom, BeginsValue, BeginsValueNext, BeginsNameNext, InArray, InObject, StaysInArrayNext, StaysInObjectNext, RunAnswers};
 ghost use Rattle.cj_spans.specs.Pass.{Standing, Stands, GoesOn};
 
 use crate::arrays::{enters_array, read_arrays};
 use crate::fault::ScanFault;
 use crate::lex::{Lex, lex_kind, read_atom};
+use crate::members::{enters_object, read_members};
 use crate::step::{Mode, Move, Next, read_byte};
 use crate::token::Token;
 use cj_budget::{Bounded, Stack};
@@ -99,6 +100,7 @@ fn follow(
         (state (phase_after mode place taken) ks tokens.old.elements (suc place) p)
         (IsTrue tokens.old.reserved) result tokens.new.elements }
     ensures signs { BeginsValueNext taken → (tokens.new ≡ tokens.old) × IfOk result (λ n. BeginsValue n.mode) }
+    ensures names { BeginsNameNext taken → tokens.new ≡ tokens.old }
     ensures tokens { Grown tokens.old tokens.new }
     ensures err { OnErr result (tokens.new ≡ tokens.old) }
 {
@@ -122,10 +124,10 @@ fn follow(
     }
 }
 
-/// Goes on behind the byte at `place`, whose move came to `next`: past the arrays and numbers that follow, where
-/// the byte left an array innermost.
+/// Goes on behind the byte at `place`, whose move came to `next`: past the arrays and numbers that follow where the
+/// byte left an array innermost, and past names and strings where it left an object.
 #[inline(always)]
-fn pass_arrays(
+fn pass_parts(
     line: &[u8],
     place: usize,
     taken: Move,
@@ -137,12 +139,17 @@ fn pass_arrays(
     requires stands { Stands line.now tokens.old stack.old next.mode next.place }
     requires array { StaysInArrayNext (byte_of line.now place) taken
         → InArray stack.old.elements tokens.old.elements × BeginsValue next.mode }
+    requires object { StaysInObjectNext (byte_of line.now place) taken
+        → InObject stack.old.elements tokens.old.elements }
     ensures answer { (ts : BoundedList TokenOf) (ks : BoundedList ℕ) → Standing line.now ts ks tokens.old stack.old next.mode next.place
         → GoesOn line.now ts ks result tokens.new stack.new }
     ensures order { IfOk result (λ n. next.place ≤ n.place) }
 {
     if enters_array(line[place], taken) {
         return read_arrays(line, next, tokens, stack);
+    }
+    if enters_object(line[place], taken) {
+        return Ok(read_members(line, next, tokens));
     }
     Ok(next)
 }
@@ -179,7 +186,7 @@ fn run(line: &[u8], tokens: &mut Bounded<Token>, stack: &mut Stack) -> Result<()
             Ok(next) => next,
             Err(fault) => return Err(fault),
         };
-        match pass_arrays(line, place, taken, next, tokens, stack) {
+        match pass_parts(line, place, taken, next, tokens, stack) {
             Ok(next) => {
                 mode = next.mode;
                 place = next.place;

@@ -306,6 +306,53 @@ fn arrays_of_numbers(rt: HostRuntime) -> Result<(), Fail> {
 }
 
 #[test]
+fn members_that_are_texts(rt: HostRuntime) -> Result<(), Fail> {
+    let rows = [
+        at_depth(1, "two texts", b"{\"a\":\"b\",\"c\":\"d\"}", Ok((5, 1))),
+        at_depth(
+            1,
+            "a text with an escape, and an empty one",
+            b"{\"a\":\"\\n\",\"b\":\"\"}",
+            Ok((5, 1)),
+        ),
+        at_depth(
+            1,
+            "a comma before a brace",
+            b"{\"a\":\"b\",}",
+            Err(ScanFault::Syntax(9)),
+        ),
+        at_depth(
+            1,
+            "an object closed as an array behind a text",
+            b"{\"a\":\"b\"]",
+            Err(ScanFault::Syntax(8)),
+        ),
+        at_depth(
+            1,
+            "a name without a value",
+            b"{\"a\":\"b\",\"c\"}",
+            Err(ScanFault::Syntax(12)),
+        ),
+        at_depth(
+            1,
+            "a member in an array",
+            b"[\"a\",\"b\":1]",
+            Err(ScanFault::Syntax(8)),
+        ),
+        at_depth(
+            2,
+            "a member in an array of an object",
+            b"{\"a\":[\"b\",\"c\":0]}",
+            Err(ScanFault::Syntax(13)),
+        ),
+    ];
+    for r in &rows {
+        meets(&rt, rt.alloc(), r);
+    }
+    Ok(())
+}
+
+#[test]
 fn a_thousand_brackets(rt: HostRuntime) -> Result<(), Fail> {
     let line = [b'['; 1_025];
     let alloc = rt.alloc();

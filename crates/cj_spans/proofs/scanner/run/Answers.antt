@@ -1,7 +1,8 @@
 use Rattle.std.proofs.Common.{arith, suc, subst, sym}
-use Rattle.cj_spans.specs.Machine.{InArray}
+use Rattle.cj_spans.specs.Machine.{InArray, InObject}
 use Rattle.cj_spans.proofs.Standing.{standing_first, standing_small, standing_room, standing_step, standing_law, standing_fault, stepped_small, stepped_room, followed, stepped_law, stepped_fault, ended_law, ended_fault, not_so}
 use Rattle.cj_spans.proofs.WholeNumbers.{array_next, stays_next}
+use Rattle.cj_spans.proofs.Named.{object_next, names_next}
 use Rattle.cj_spans.proofs.scanner.run.Goals as goal
 
 pub loop-place-init : goal.loop-place-init
@@ -42,40 +43,46 @@ returns-in-Err-follow-clause-law c =
     let s = standing_step c.args.line.now c.args.tokens.now c.args.stack.now c.loop-place.tokens c.read_byte.new.tokens c.loop-place.stack c.read_byte.new.stack c.loop-place.mode c.loop-place.place c.in-Ok.taken c.loop-place.invariant c.loop-place-test.true c.in-Ok.ensures.tokens c.in-Ok.ensures.stack c.in-Ok.ensures.answer in
     stepped_law c.args.line.now c.args.tokens.now c.args.stack.now c.read_byte.new.tokens c.follow.new.tokens c.read_byte.new.stack c.loop-place.mode c.loop-place.place c.in-Ok.taken s c.loop-place-test.true c.in-Err-follow.ensures.tokens c.in-Err-follow.ensures.err
 
-pub pass_arrays-requires-clause-stands : goal.pass_arrays-requires-clause-stands
-pass_arrays-requires-clause-stands c = record {
+pub pass_parts-requires-clause-stands : goal.pass_parts-requires-clause-stands
+pass_parts-requires-clause-stands c = record {
   tokens0 = c.args.tokens.now;
   stack0 = c.args.stack.now;
   standing = followed c.args.line.now c.args.tokens.now c.args.stack.now c.loop-place.tokens c.read_byte.new.tokens c.follow.new.tokens c.loop-place.stack c.read_byte.new.stack c.loop-place.mode c.loop-place.place c.in-Ok.taken c.in-Ok-follow.next c.loop-place.invariant c.loop-place-test.true c.in-Ok.ensures.tokens c.in-Ok.ensures.stack c.in-Ok.ensures.answer c.in-Ok-follow.ensures.tokens (λ p. c.in-Ok-follow.ensures.answer c.read_byte.new.stack.elements p);
   room = record { short = c.requires.short; room = c.requires.room };
 }
 
-pub pass_arrays-requires-clause-array : goal.pass_arrays-requires-clause-array
-pass_arrays-requires-clause-array c = λ e.
+pub pass_parts-requires-clause-array : goal.pass_parts-requires-clause-array
+pass_parts-requires-clause-array c = λ e.
     let q = c.in-Ok-follow.ensures.signs (stays_next _ _ e) in
     let a = array_next c.loop-place.stack.elements c.read_byte.new.stack.elements c.loop-place.tokens.elements c.read_byte.new.tokens.elements c.loop-place.place 0 (suc c.loop-place.place) _ c.loop-place.mode _ c.in-Ok.taken e (c.in-Ok.ensures.answer 0) in
     (subst (λ t. InArray c.read_byte.new.stack.elements t.elements) (sym q.0) a, q.1)
 
+pub pass_parts-requires-clause-object : goal.pass_parts-requires-clause-object
+pass_parts-requires-clause-object c = λ e.
+    let q = c.in-Ok-follow.ensures.names (names_next _ _ e) in
+    let o = object_next c.loop-place.stack.elements c.read_byte.new.stack.elements c.loop-place.tokens.elements c.read_byte.new.tokens.elements c.loop-place.place 0 (suc c.loop-place.place) _ c.loop-place.mode _ c.in-Ok.taken e (c.in-Ok.ensures.answer 0) in
+    subst (λ t. InObject c.read_byte.new.stack.elements t.elements) (sym q) o
+
 pub loop-place-smaller : goal.loop-place-smaller
 loop-place-smaller c =
     let a = c.in-Ok-follow.ensures.answer c.read_byte.new.stack.elements 0 in
-    let g = a.1 in let o = c.in-Ok-pass_arrays.ensures.order in let t = c.loop-place-test.true in
+    let g = a.1 in let o = c.in-Ok-pass_parts.ensures.order in let t = c.loop-place-test.true in
     omega arith
 
 pub loop-place-preserved : goal.loop-place-preserved
 loop-place-preserved c =
     let s = followed c.args.line.now c.args.tokens.now c.args.stack.now c.loop-place.tokens c.read_byte.new.tokens c.follow.new.tokens c.loop-place.stack c.read_byte.new.stack c.loop-place.mode c.loop-place.place c.in-Ok.taken c.in-Ok-follow.next c.loop-place.invariant c.loop-place-test.true c.in-Ok.ensures.tokens c.in-Ok.ensures.stack c.in-Ok.ensures.answer c.in-Ok-follow.ensures.tokens (λ p. c.in-Ok-follow.ensures.answer c.read_byte.new.stack.elements p) in
-    c.in-Ok-pass_arrays.ensures.answer c.args.tokens.now c.args.stack.now s
+    c.in-Ok-pass_parts.ensures.answer c.args.tokens.now c.args.stack.now s
 
-pub returns-in-Err-pass_arrays-clause-answer : goal.returns-in-Err-pass_arrays-clause-answer
-returns-in-Err-pass_arrays-clause-answer c =
+pub returns-in-Err-pass_parts-clause-answer : goal.returns-in-Err-pass_parts-clause-answer
+returns-in-Err-pass_parts-clause-answer c =
     let s = followed c.args.line.now c.args.tokens.now c.args.stack.now c.loop-place.tokens c.read_byte.new.tokens c.follow.new.tokens c.loop-place.stack c.read_byte.new.stack c.loop-place.mode c.loop-place.place c.in-Ok.taken c.in-Ok-follow.next c.loop-place.invariant c.loop-place-test.true c.in-Ok.ensures.tokens c.in-Ok.ensures.stack c.in-Ok.ensures.answer c.in-Ok-follow.ensures.tokens (λ p. c.in-Ok-follow.ensures.answer c.read_byte.new.stack.elements p) in
-    (c.in-Err-pass_arrays.ensures.answer c.args.tokens.now c.args.stack.now s).0
+    (c.in-Err-pass_parts.ensures.answer c.args.tokens.now c.args.stack.now s).0
 
-pub returns-in-Err-pass_arrays-clause-law : goal.returns-in-Err-pass_arrays-clause-law
-returns-in-Err-pass_arrays-clause-law c =
+pub returns-in-Err-pass_parts-clause-law : goal.returns-in-Err-pass_parts-clause-law
+returns-in-Err-pass_parts-clause-law c =
     let s = followed c.args.line.now c.args.tokens.now c.args.stack.now c.loop-place.tokens c.read_byte.new.tokens c.follow.new.tokens c.loop-place.stack c.read_byte.new.stack c.loop-place.mode c.loop-place.place c.in-Ok.taken c.in-Ok-follow.next c.loop-place.invariant c.loop-place-test.true c.in-Ok.ensures.tokens c.in-Ok.ensures.stack c.in-Ok.ensures.answer c.in-Ok-follow.ensures.tokens (λ p. c.in-Ok-follow.ensures.answer c.read_byte.new.stack.elements p) in
-    (c.in-Err-pass_arrays.ensures.answer c.args.tokens.now c.args.stack.now s).1
+    (c.in-Err-pass_parts.ensures.answer c.args.tokens.now c.args.stack.now s).1
 
 pub returns-then-is_end-clause-law : goal.returns-then-is_end-clause-law
 returns-then-is_end-clause-law c = ended_law _ _ _ _ _ _ _ c.loop-place.invariant

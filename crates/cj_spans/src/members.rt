@@ -1,0 +1,146 @@
+//! Members of an object, names with their colons and values that are strings, with no white space.
+//!
+//! The pass reads any line without this, one byte after another. Here several names and strings are read in one go,
+//! and what is not of this form is left to the pass.
+ghost use Rattle.std.specs.Prelude.{◌≡◌, ◌+◌, ◌^◌, ◌≤◌, ◌<◌, ◌++◌, ◌∷◌, ◌↔◌, [], length, IfSome, IfNone, IsTrue};
+ghost use Rattle.cj_budget.specs.Bounded.{Becomes};
+ghost use Rattle.cj_spans.specs.declared.step.Mode.TheVariants.{Ready};
+ghost use Rattle.cj_spans.specs.Json.{byte as byte_of};
+ghost use Rattle.cj_spans.specs.Preorder.{token_at};
+ghost use Rattle.cj_spans.specs.Machine.{IsQuoted, BeginsName, StaysInObjectNext};
+ghost use Rattle.cj_spans.specs.Pass.{StandsInObject, Leads};
+
+use crate::lex::plain_text_stop;
+use crate::step::{Mode, Move, Next};
+use crate::token::Token;
+use cj_budget::Bounded;
+
+/// Whether this byte stands at the place.
+#[inline(always)]
+fn stands_at(line: &[u8], place: usize, byte: u8) -> bool
+    ensures { IsTrue result → (place < length line.now) × (byte_of line.now place ≡ byte) }
+{
+    place < line.len() && line[place] == byte
+}
+
+/// Reads the string that begins at `place` and keeps its token; where it ends. None where no string begins there
+/// whose bytes all stand for themselves, or no memory is granted.
+#[inline(always)]
+fn read_text(line: &[u8], place: usize, tokens: &mut Bounded<Token>) -> Option<usize>
+    requires short { length line.now < 2 ^ 31 }
+    requires small { length tokens.old.elements < 2 ^ 31 }
+    requires within { place < length line.now }
+    requires room { length tokens.old.elements < tokens.old.limit }
+    ensures text { IfSome result (λ k. IsQuoted line.now place k
+        × Becomes tokens.old (tokens.old.elements ++ token_at place k (length tokens.old.elements + 1) ∷ []) tokens.new) }
+    ensures none { IfNone result (tokens.new ≡ tokens.old) }
+{
+    let stop = plain_text_stop(line, place)?;
+    let token = Token {
+        start: place as u32,
+        stop: stop as u32,
+        link: tokens.len() as u32 + 1,
+    };
+    match tokens.put(token) {
+        Ok(()) => Some(stop),
+        Err(_) => None,
+    }
+}
+
+/// Goes on from where a name may begin: past it and its colon, or past what of them stands there.
+#[inline(always)]
+fn read_name(line: &[u8], from: Next, tokens: &mut Bounded<Token>) -> Next
+    requires stands { StandsInObject line.now tokens.old from.mode from.place }
+    requires within { from.place < length line.now }
+    requires begins { BeginsName from.mode }
+    ensures leads { Leads line.now tokens.old from.mode from.place tokens.new result.mode result.place }
+    ensures further { result.mode ≡ Ready → from.place < result.place }
+    ensures order { from.place ≤ result.place }
+{
+    let Some(stop) = read_text(line, from.place, tokens) else {
+        return from;
+    };
+    if stands_at(line, stop, b':') {
+        return Next {
+            mode: Mode::Ready,
+            place: stop + 1,
+        };
+    }
+    Next {
+        mode: Mode::AfterName,
+        place: stop,
+    }
+}
+
+/// Goes on from where the value of a member may begin: past a string and the comma behind it, or past what of them
+/// stands there.
+#[inline(always)]
+fn read_string(line: &[u8], place: usize, tokens: &mut Bounded<Token>) -> Next
+    requires stands { StandsInObject line.now tokens.old Ready place }
+    ensures leads { Leads line.now tokens.old Ready place tokens.new result.mode result.place }
+    ensures order { place ≤ result.place }
+{
+    let ready = Next {
+        mode: Mode::Ready,
+        place,
+    };
+    if place >= line.len() {
+        return ready;
+    }
+    let Some(stop) = read_text(line, place, tokens) else {
+        return ready;
+    };
+    if stands_at(line, stop, b',') {
+        return Next {
+            mode: Mode::NextName,
+            place: stop + 1,
+        };
+    }
+    Next {
+        mode: Mode::After,
+        place: stop,
+    }
+}
+
+/// Whether a name may begin in the mode.
+#[inline(always)]
+fn begins_name(mode: Mode) -> bool
+    ensures { IsTrue result ↔ BeginsName mode }
+{
+    match mode {
+        Mode::FirstName => true,
+        Mode::NextName => true,
+        _ => false,
+    }
+}
+
+/// Reads names, colons, strings and commas from a place on where a name may begin. It stops before what is no
+/// such part, and where no memory is granted.
+pub fn read_members(line: &[u8], from: Next, tokens: &mut Bounded<Token>) -> Next
+    requires stands { StandsInObject line.now tokens.old from.mode from.place }
+    ensures leads { Leads line.now tokens.old from.mode from.place tokens.new result.mode result.place }
+    ensures order { from.place ≤ result.place }
+{
+    let mut next = from;
+    while next.place < line.len() && begins_name(next.mode) {
+        let named = read_name(line, next, tokens);
+        match named.mode {
+            Mode::Ready => {}
+            _ => return named,
+        }
+        next = read_string(line, named.place, tokens);
+    }
+    next
+}
+
+/// Whether the byte of this move leaves an object innermost in which a name may begin: it is `{`, or a comma of an object.
+#[inline(always)]
+pub fn enters_object(byte: u8, taken: Move) -> bool
+    ensures { IsTrue result ↔ StaysInObjectNext byte taken }
+{
+    match taken {
+        Move::To(Mode::NextName) => byte == b',',
+        Move::Open(Mode::FirstName) => byte == b'{',
+        _ => false,
+    }
+}
