@@ -1,20 +1,11 @@
-//! Tests of what no clause says: worked rows, printed texts, and devices that fail.
+//! Tests of what no clause says: printed texts, statuses, and devices that fail. What is read of a stream
+//! is tested with the engine, in `cj_stream`.
 //!
-//! `rows`, `blank_lines`, `long_lines`, `lines`, `order`, `queries` and `options` have inputs with their answers, `lent` and
-//! `tally` what sinks see of them, `devices` the readers and writers that fail, and `calls` what all tests share. A
-//! body of many asserts is dear to prove, and a call is not: a row is one call of a function that checks
-//! it.
-mod blank_lines;
+//! `command_rows` and `options` have inputs with what the program says of them, `texts` a header and a feature,
+//! `devices` the readers and writers that fail, and `calls` what all tests share. A body of many asserts
+//! is dear to prove, and a call is not: a row is one call of a function that checks it.
 mod calls;
 mod command_rows;
 mod devices;
-mod engine_rows;
-mod faults;
-mod lent;
-mod lines;
-mod long_lines;
 mod options;
-mod order;
-mod queries;
-mod rows;
-mod tally;
+mod texts;

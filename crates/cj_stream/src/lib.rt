@@ -37,6 +37,8 @@ mod sink;
 mod source;
 mod tally;
 mod tallying;
+#[cfg(test)]
+mod tests;
 
 pub use copying::{Copied, copy, copy_out, copy_pieces, put_pieces};
 pub use count::CountSink;

@@ -1,7 +1,7 @@
 //! Rows of the program: what it writes and says where a stream is refused, and where a device fails.
 use super::calls::{Written, check_bytes, check_number, check_written, commanded, joined, refused};
 use super::devices::{SlowReader, SlowWriter};
-use super::rows::{FEATURE, HEADER};
+use super::texts::{FEATURE, HEADER};
 use crate::ask::{Ask, perform};
 use crate::output::Output;
 use crate::report::{status, write_fault_line};

@@ -8,7 +8,6 @@ pub struct SlowReader<'a> {
     pub step: usize,
     pub reads: u64,
     pub fails_at: u64,
-    pub fault: ErrorKind,
 }
 
 impl<'a> SlowReader<'a> {
@@ -19,7 +18,6 @@ impl<'a> SlowReader<'a> {
             step,
             reads: 0,
             fails_at: 0,
-            fault: ErrorKind::Other,
         }
     }
 }
@@ -28,7 +26,7 @@ impl Read for SlowReader<'_> {
     fn read(&mut self, buf: &mut [u8]) -> Result<usize> {
         self.reads = self.reads.saturating_add(1);
         if self.reads == self.fails_at {
-            return Err(Error::from(self.fault));
+            return Err(Error::from(ErrorKind::Other));
         }
         let n = self.step.min(self.bytes.len()).min(buf.len());
         let bytes = self.bytes;
@@ -44,9 +42,8 @@ impl Read for SlowReader<'_> {
 pub struct SlowWriter {
     pub bytes: Vec<u8>,
     pub step: usize,
-    pub writes: u64,
+    writes: u64,
     pub fails_at: u64,
-    pub fault: ErrorKind,
     pub flush_fails: bool,
 }
 
@@ -58,7 +55,6 @@ impl SlowWriter {
             step,
             writes: 0,
             fails_at: 0,
-            fault: ErrorKind::Other,
             flush_fails: false,
         }
     }
@@ -68,7 +64,7 @@ impl Write for SlowWriter {
     fn write(&mut self, buf: &[u8]) -> Result<usize> {
         self.writes = self.writes.saturating_add(1);
         if self.writes == self.fails_at {
-            return Err(Error::from(self.fault));
+            return Err(Error::from(ErrorKind::Other));
         }
         let n = self.step.min(buf.len());
         self.bytes.extend_from_slice(&buf[..n])?;

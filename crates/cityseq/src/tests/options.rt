@@ -1,7 +1,7 @@
 //! Rows of the command line: which words ask for what.
 use super::calls::{check_bytes, check_number, check_written, commanded, joined};
 use super::devices::{SlowReader, SlowWriter};
-use super::rows::{FEATURE, HEADER};
+use super::texts::{FEATURE, HEADER};
 use crate::ask::{Ask, perform};
 use crate::output::Output;
 use cj_budget::Limits;

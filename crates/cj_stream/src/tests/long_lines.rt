@@ -1,8 +1,8 @@
 //! Lines longer than one read, given at once and in very many pieces.
 use super::calls::{check_bytes, check_feed, check_finish, check_outcome, held, joined, outcome};
 use super::rows::{FEATURE, HEADER, Wanted, attributed, check_run};
+use crate::{End, Engine, Query, WriteSink};
 use cj_budget::Limits;
-use cj_stream::{End, Engine, Query, WriteSink};
 use std::alloc::Global;
 use std::process::Abort;
 use std::test::Fail;

@@ -1,9 +1,9 @@
 //! Rows of an engine that is called step by step.
 use super::calls::{check_bytes, check_feed, check_finish, check_number, held, joined, refused};
 use super::rows::{FEATURE, HEADER, with_last_index};
+use crate::{End, Engine, Query, WriteSink};
 use cj_budget::{Limits, Peaks};
 use cj_spans::Reason;
-use cj_stream::{End, Engine, Query, WriteSink};
 use std::process::Abort;
 use std::test::Fail;
 

@@ -3,9 +3,9 @@ use super::calls::{
     check_bytes, check_ended, check_outcome, copied, held, joined, outcome, refused,
 };
 use super::devices::SlowReader;
+use crate::{End, Outcome, Query, WriteSink, box_laws, copy_pieces, laws};
 use cj_budget::{Limits, Peaks};
 use cj_spans::Reason;
-use cj_stream::{End, Outcome, Query, WriteSink, box_laws, copy_pieces, laws};
 use std::alloc::Global;
 use std::process::Abort;
 use std::test::Fail;

@@ -1,13 +1,12 @@
 //! Rows of lines that are judged for what they say: a header, or a line after one. A table has a row a
 //! line, with bars between its cells: a name, what stands in the hole `_` of the table's line, and what
-//! the program says of the run, or `none` where it is complete. Each row runs by whole reads and by
-//! single bytes.
+//! is said of the run, or `none` where it is complete: the line that is refused, the place, and the
+//! reason's code and text. Each row runs by whole reads and by single bytes.
 use super::calls::{check_bytes, check_number, copied, joined};
 use super::devices::SlowReader;
 use super::rows::FEATURE;
-use crate::report::write_fault_line;
+use crate::{End, Outcome};
 use cj_budget::Limits;
-use cj_stream::{End, Outcome};
 use std::alloc::{AllocError, Global};
 use std::process::Abort;
 use std::test::Fail;
@@ -21,10 +20,20 @@ const TEMPLATES: &str =
     r#"{"type":"CityJSON","version":"2.0","transform":{"scale":[0.001,0.001,0.001],"translate":[1000.0,2000.0,0.0]},"CityObjects":{},"vertices":[],"geometry-templates":{"templates":[{"type":"MultiSurface","lod":"1","boundaries":[[[0,1,2]]]}],"vertices-templates":[[0.0,0.0,0.0],[1.0,0.0,0.0],[0.0,1.0,0.0]]}}"#;
 
 // What is said of an end.
-fn said(alloc: Global, end: End) -> Vec<u8> {
-    let mut said = Vec::new(alloc);
-    let _ = write_fault_line(&mut said, end);
-    said
+fn said(alloc: Global, end: End) -> Result<String, AllocError> {
+    match end {
+        End::Complete => Ok(String::new(alloc)),
+        End::Refused {
+            line,
+            place,
+            reason,
+        } => format!(in alloc;
+            "line {line}, byte {place}: {} {}\n",
+            reason.code(),
+            reason.text()
+        ),
+        _ => String::from_str(alloc, "no line is refused\n"),
+    }
 }
 
 // What a row wants to be said.
@@ -68,8 +77,8 @@ fn check_step(
 ) -> Result<(), Fail> {
     let mut reader = SlowReader::new(text, step);
     let (outcome, written) = copied(alloc, &mut reader, Limits::new(8_388_608, 64)?);
-    let said = said(alloc, outcome.ended);
-    check_bytes(rt, &said, wanted.said, wanted.row, step as u64);
+    let said = said(alloc, outcome.ended)?;
+    check_bytes(rt, said.as_bytes(), wanted.said, wanted.row, step as u64);
     check_counts(rt, &outcome, wanted, step as u64);
     check_bytes(rt, &written, wanted.written, wanted.row, step as u64);
     Ok(())

@@ -5,9 +5,9 @@ use super::calls::{
 };
 use super::devices::{SlowReader, SlowWriter};
 use super::rows::{FEATURE, HEADER, with_last_index};
+use crate::{End, Engine, LentSink, LineSink, Outcome, Query, WriteSink, copy, run};
 use cj_budget::Limits;
 use cj_spans::Reason;
-use cj_stream::{End, Engine, LentSink, LineSink, Outcome, Query, WriteSink, copy, run};
 use std::alloc::Global;
 use std::io::ErrorKind;
 use std::process::Abort;

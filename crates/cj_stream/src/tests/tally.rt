@@ -2,9 +2,9 @@
 use super::calls::{check_bytes, joined};
 use super::devices::SlowReader;
 use super::rows::FEATURE;
+use crate::{LineSink, Query, TallySink, WriteFault, run, tally_pieces, tally_stream};
 use cj_budget::Limits;
 use cj_feature::{Feature, Header};
-use cj_stream::{LineSink, Query, TallySink, WriteFault, run, tally_pieces, tally_stream};
 use std::alloc::{AllocError, Global};
 use std::process::Abort;
 use std::test::Fail;

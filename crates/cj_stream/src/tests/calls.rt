@@ -1,0 +1,98 @@
+//! What the tests share: comparisons, and the calls that are tested without what their contracts
+//! say. A test compares values when it runs, and its proof grows with each fact that a call leaves.
+use super::devices::{SlowReader, SlowWriter};
+use crate::{End, Engine, LineSink, Outcome, Query, WriteSink, copy, copy_out};
+use cj_budget::{Limits, Peaks};
+use cj_spans::Reason;
+use std::alloc::Global;
+use std::process::Abort;
+use std::test::Fail;
+
+/// Compares bytes, at a place of a row. The asserts stand in functions of their own, since each one
+/// makes the proof of its function dearer.
+pub fn check_bytes(rt: &impl Abort, got: &[u8], wanted: &[u8], row: &str, at: u64) {
+    assert_eq!(rt; got, wanted, "{row}, at {at}");
+}
+
+/// Compares numbers.
+pub fn check_number(rt: &impl Abort, got: u64, wanted: u64, row: &str, at: u64) {
+    assert_eq!(rt; got, wanted, "{row}, at {at}");
+}
+
+/// Compares ends.
+pub fn check_ended(rt: &impl Abort, got: End, wanted: End, row: &str, at: u64) {
+    assert_eq!(rt; got, wanted, "{row}, at {at}");
+}
+
+/// Compares outcomes.
+pub fn check_outcome(rt: &impl Abort, got: Outcome, wanted: Outcome, row: &str, at: u64) {
+    assert_eq!(rt; got, wanted, "{row}, at {at}");
+}
+
+/// What was held at most.
+pub const fn held(bytes: u64, tokens: u64, depth: u64) -> Peaks {
+    Peaks {
+        bytes,
+        tokens,
+        depth,
+    }
+}
+
+/// The end at a line that is refused.
+pub const fn refused(line: u64, place: u64, reason: Reason) -> End {
+    End::Refused {
+        line,
+        place,
+        reason,
+    }
+}
+
+/// How a run went.
+pub const fn outcome(lines: u64, kept: u64, peaks: Peaks, ended: End) -> Outcome {
+    Outcome {
+        lines,
+        kept,
+        peaks,
+        ended,
+    }
+}
+
+/// The text, in one.
+pub fn joined(alloc: Global, parts: &[&[u8]]) -> Result<Vec<u8>, Fail> {
+    Ok(parts.concat(alloc)?)
+}
+
+/// Runs over what a reader gives: the outcome, and what was written.
+pub fn copied(alloc: Global, reader: &mut SlowReader, limits: Limits) -> (Outcome, Vec<u8>) {
+    let mut sink = WriteSink::new(Vec::new(alloc));
+    let outcome = copy(alloc, reader, &mut sink, limits, &Query::all(alloc));
+    (outcome, sink.into_inner())
+}
+
+/// Runs from a reader to a writer that is lent.
+pub fn copied_to(
+    alloc: Global,
+    reader: &mut SlowReader,
+    writer: &mut SlowWriter,
+    limits: Limits,
+) -> Outcome {
+    copy_out(alloc, reader, writer, limits, &Query::all(alloc))
+}
+
+/// Gives a piece to an engine, which has to answer so.
+pub fn check_feed<S: LineSink>(
+    rt: &impl Abort,
+    engine: &mut Engine,
+    piece: &[u8],
+    sink: &mut S,
+    wanted: Result<(), End>,
+) {
+    assert!(rt; engine.taken() <= 1_000_000_000);
+    assert!(rt; piece.len() <= 1_000_000_000);
+    assert_eq!(rt; engine.feed(piece, sink), wanted);
+}
+
+/// Ends the stream of an engine, which has to answer so.
+pub fn check_finish<S: LineSink>(rt: &impl Abort, engine: &mut Engine, sink: &mut S, wanted: End) {
+    assert_eq!(rt; engine.finish(sink), wanted);
+}
