@@ -110,9 +110,13 @@ class Sources:
 
 
 def end_of(lines, row, indent):
-    """The row that a function ends in: the next with its indent and a brace."""
+    """The row that a function ends in: the next with its indent and a brace; one of a trait that has no body ends above it."""
+    begun = False
     for at in range(row, len(lines)):
+        begun = begun or lines[at].endswith("{")
         if lines[at].startswith(indent + "}") or at == row and lines[at].endswith("}"):
+            return at
+        if not begun and lines[at].endswith(";"):
             return at
     return len(lines) - 1
 
@@ -152,9 +156,12 @@ def word_of(told):
 
 
 def told_of(said, function):
-    """What was said of a function and the parts of its own; None where no name or several fit."""
+    """What was said of a function and the parts of its own; None where no name or several fit. One of a type has the type's module."""
     module, owner, name = function
     path = f"{module}::{owner}::{name}" if owner else f"{module}::{name}"
+    others = [key for key in said if owner and key.endswith(f"::{owner}::{name}")]
+    if path not in said and len(others) == 1:
+        path = others[0]
     words = [word for key, word in said.items() if key == path or key.startswith(f"{path}+")]
     for word in ("refused", "waits", "proved"):
         if word in words:
