@@ -1,8 +1,10 @@
 pub mod Asking
+pub mod EndRows
 pub mod OptionRows
 pub mod Options
 pub mod Output
 pub mod Performed
+pub mod RefusalRows
 pub mod Report
 pub mod Summary
 pub mod SummaryRows

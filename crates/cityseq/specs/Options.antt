@@ -1,11 +1,11 @@
 -- What the options of `filter` ask for.
-use Rattle.std.specs.Prelude.{ℕ, List, [], ◌∷◌, Bool, true, Option, Some, None, Result, Ok, Err, slice_set, option_map, option_and_then}
+use Rattle.std.specs.Prelude.{◌≡◌, ◌⊎◌, ℕ, List, [], ◌∷◌, Bool, true, Option, Some, None, Result, Ok, Err, IsSome, IsOk, slice_set, option_map, option_and_then}
 use Rattle.cj_geometry.specs.ObjectTypes.{ObjectRow, row_named}
 use Rattle.cj_stream.specs.Asked.{Asked, Box}
 use Rattle.cj_stream.specs.Asking.{no_types}
 use Rattle.cj_stream.specs.BoxText.{fields, box_text}
 use Rattle.cj_stream.specs.declared.query.fault.QueryFault.{QueryFault}
-use Rattle.cj_stream.specs.declared.query.fault.QueryFault.TheVariants.{UnknownTypeName}
+use Rattle.cj_stream.specs.declared.query.fault.QueryFault.TheVariants.{Memory, UnknownTypeName, BadBox, BoxRange, EmptyBox}
 
 -- the texts of the options that were given
 pub record Texts : Type 0 where
@@ -46,3 +46,16 @@ asked_with ids lods (Ok types) (Ok box) = Ok (record { ids = ids; types = types;
 -- what the texts ask for: ids, types and LoDs are what stands between the commas, be it nothing
 abbrev pub asked_by : Texts → Result Asked QueryFault
 asked_by t = asked_with (option_map fields t.ids) (option_map fields t.lods) (types_asked t.types) (box_asked t.box)
+
+-- memory is wanted for ids, or for LoDs, which come after types that are not refused
+abbrev pub WantsMemory : Texts → Type 0
+WantsMemory t = IsSome t.ids ⊎ (IsSome t.lods × IsOk (types_asked t.types))
+
+-- A fault is the first refusal of the texts, set in the order ids, types, LoDs and box: where memory was refused they
+-- want some, and else it is what is wrong with the types or the box.
+abbrev pub RefusesBy : Texts → QueryFault → Type 0
+RefusesBy t Memory = WantsMemory t
+RefusesBy t UnknownTypeName = asked_by t ≡ Err UnknownTypeName
+RefusesBy t BadBox = asked_by t ≡ Err BadBox
+RefusesBy t BoxRange = asked_by t ≡ Err BoxRange
+RefusesBy t EmptyBox = asked_by t ≡ Err EmptyBox

@@ -1,7 +1,10 @@
 -- What the program does of what it is asked.
-use Rattle.std.specs.Prelude.{◌≡◌, ◌⊎◌, ℕ, List, Option, Result, Ok, Err, length}
+use Rattle.std.specs.Prelude.{◌≡◌, ◌≢◌, ◌⊎◌, ℕ, List, Option, Result, Ok, Err, OnOk, OnErr, length}
 use Rattle.std.specs.List.{filter}
 use Rattle.std.specs.Io.KnownBytes.{Appends, Keeps}
+use Rattle.clap.specs.declared.error.kind.ErrorKind.{ErrorKind}
+use Rattle.clap.specs.declared.error.kind.ErrorKind.TheVariants.{OutOfMemory, DisplayHelp, DisplayVersion}
+use Rattle.clap.specs.declared.parser.matches.ArgMatches.{ArgMatches}
 use Rattle.cj_budget.specs.Limits.{LimitPair}
 use Rattle.cj_budget.specs.declared.limits.Peaks.{Peaks}
 use Rattle.cj_stream.specs.Asked.{everything}
@@ -14,9 +17,11 @@ use Rattle.cj_stream.specs.TallySink.{Tally, IsTallyOf}
 use Rattle.cj_stream.specs.Verdict.{Rules, good, kept}
 use Rattle.cj_stream.specs.declared.ending.End.{End}
 use Rattle.cj_stream.specs.declared.ending.End.TheVariants.{Complete, Refused, ReadFault, ReadLimit, WriteFault, Memory}
+use Rattle.cj_stream.specs.declared.query.fault.QueryFault.{QueryFault}
 use Rattle.cj_stream.specs.declared.sink.WriteFault.{WriteFault as Unwritten}
-use Rattle.cityseq.specs.Report.{Reports, status_of}
+use Rattle.cityseq.specs.Report.{Reports, fault_line, query_line, status_of, status_of_query}
 use Rattle.cityseq.specs.Summary.{check_text, report}
+use Rattle.cityseq.specs.Words.{CannotAsk}
 use Rattle.cityseq.specs.declared.ask.Ask.{Ask}
 use Rattle.cityseq.specs.declared.ask.Ask.TheVariants.{Check, Filter, Info}
 use Rattle.cityseq.specs.declared.report.Shown.{Shown}
@@ -92,8 +97,48 @@ pub record TellsHelp (answer : ℕ) (old_out new_out : Option (List ℕ)) (flush
   pub reports : Reports told flushed shown old_err new_err
   pub status : answer ≡ status_of shown.end
 
--- Nothing is done with the stream: the words are wrong or memory was refused, and standard output got nothing; or they
--- ask for help.
-abbrev pub Declines : ℕ → Option (List ℕ) → Option (List ℕ) → Option (Result (Unit {0}) Unwritten) → Option (List ℕ) → Option (List ℕ) → Type 0
-Declines answer old_out new_out flushed old_err new_err =
-    (((answer ≡ 2) ⊎ (answer ≡ 5)) × (new_out ≡ old_out)) ⊎ TellsHelp answer old_out new_out flushed old_err new_err
+-- standard error has got all of this line, or a front of it where it failed; and the answer is the status that is due
+pub record TellsFault (line : List ℕ) (due answer : ℕ) (old_err new_err : Option (List ℕ)) : Type 0 where
+  pub written : Result (Unit {0}) Unwritten
+  pub whole : OnOk written (Appends old_err new_err line)
+  pub front : OnErr written (AppendsPart old_err new_err line)
+  pub status : answer ≡ due
+
+-- no memory was granted
+abbrev pub TellsMemory : ℕ → Option (List ℕ) → Option (List ℕ) → Type 0
+TellsMemory answer old_err new_err = TellsFault (fault_line Memory) (status_of Memory) answer old_err new_err
+
+-- the words are wrong, as some text says
+abbrev pub TellsWrongWords : ℕ → Option (List ℕ) → Option (List ℕ) → Type 0
+TellsWrongWords answer old_err new_err = (text : List ℕ) × TellsFault text 2 answer old_err new_err
+
+-- a command of some name and options is one whose query cannot be asked, and its fault is told
+pub record TellsQuery (answer : ℕ) (old_err new_err : Option (List ℕ)) : Type 0 where
+  pub name : List ℕ
+  pub options : ArgMatches
+  pub fault : QueryFault
+  pub refused : CannotAsk name options fault
+  pub told : TellsFault (query_line fault) (status_of_query fault) answer old_err new_err
+
+-- nothing was written to standard output, and it was not flushed
+abbrev pub StaysSilent : Option (List ℕ) → Option (List ℕ) → Option (Result (Unit {0}) Unwritten) → Option (Result (Unit {0}) Unwritten) → Type 0
+StaysSilent old_out new_out noted flushed = (new_out ≡ old_out) × (flushed ≡ noted)
+
+-- an error of the words asks for no help
+abbrev pub IsNoHelp : ErrorKind → Type 0
+IsNoHelp kind = (kind ≢ DisplayHelp) × (kind ≢ DisplayVersion)
+
+-- an error of the words is told by its kind; memory may be refused to its text
+abbrev pub TellsError : ErrorKind → ℕ → Option (List ℕ) → Option (List ℕ) → Option (Result (Unit {0}) Unwritten) → Option (Result (Unit {0}) Unwritten) → Option (List ℕ) → Option (List ℕ) → Type 0
+TellsError kind answer old_out new_out noted flushed old_err new_err =
+    (StaysSilent old_out new_out noted flushed × TellsMemory answer old_err new_err)
+    ⊎ ((kind ≢ OutOfMemory) × IsNoHelp kind × StaysSilent old_out new_out noted flushed × TellsWrongWords answer old_err new_err)
+    ⊎ (¬ IsNoHelp kind × TellsHelp answer old_out new_out flushed old_err new_err)
+
+-- Nothing is done with the stream: memory was refused, the words are wrong or their query cannot be asked, and standard
+-- output got nothing; or they ask for help.
+abbrev pub Declines : ℕ → Option (List ℕ) → Option (List ℕ) → Option (Result (Unit {0}) Unwritten) → Option (Result (Unit {0}) Unwritten) → Option (List ℕ) → Option (List ℕ) → Type 0
+Declines answer old_out new_out noted flushed old_err new_err =
+    (StaysSilent old_out new_out noted flushed
+    × (TellsMemory answer old_err new_err ⊎ TellsWrongWords answer old_err new_err ⊎ TellsQuery answer old_err new_err))
+    ⊎ TellsHelp answer old_out new_out flushed old_err new_err

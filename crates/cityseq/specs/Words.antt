@@ -1,12 +1,11 @@
 -- What the words of a command line say, as `clap` found it.
-use Rattle.std.specs.Prelude.{◌≡◌, ◌⊎◌, ℕ, ◌<◌, ◌^◌, List, Some, None, Ok, Err, codes, decimal}
+use Rattle.std.specs.Prelude.{◌≡◌, ℕ, ◌<◌, ◌^◌, List, Some, None, Ok, codes, decimal}
 use Rattle.clap.specs.Words.{found_of, first_value, one_text}
 use Rattle.clap.specs.declared.parser.matches.ArgMatches.{ArgMatches}
 use Rattle.cj_budget.specs.Limits.{LimitPair}
 use Rattle.cj_stream.specs.Query.{asked}
 use Rattle.cj_stream.specs.declared.query.fault.QueryFault.{QueryFault}
-use Rattle.cj_stream.specs.declared.query.fault.QueryFault.TheVariants.{Memory}
-use Rattle.cityseq.specs.Options.{Texts, asked_by}
+use Rattle.cityseq.specs.Options.{Texts, asked_by, RefusesBy}
 use Rattle.cityseq.specs.declared.ask.Ask.{Ask}
 use Rattle.cityseq.specs.declared.ask.Ask.TheVariants.{Check, Filter, Info}
 
@@ -35,6 +34,6 @@ AsksBy name m (Check limits) = (name ≡ codes "check") × HasLimits m limits
 AsksBy name m (Filter limits query) = (name ≡ codes "filter") × HasLimits m limits × (asked_by (texts_in m) ≡ Ok (asked query))
 AsksBy name m (Info limits) = (name ≡ codes "info") × HasLimits m limits
 
--- it cannot be asked, since no memory was granted or by what its options ask for
-abbrev pub CannotAsk : ArgMatches → QueryFault → Type 0
-CannotAsk m fault = (fault ≡ Memory) ⊎ (asked_by (texts_in m) ≡ Err fault)
+-- it cannot be asked: it is `filter`, and this is the first refusal of its options
+abbrev pub CannotAsk : List ℕ → ArgMatches → QueryFault → Type 0
+CannotAsk name m fault = (name ≡ codes "filter") × RefusesBy (texts_in m) fault

@@ -1,10 +1,10 @@
 //! What the options of `filter` ask for.
-ghost use Rattle.std.specs.Prelude.{◌≡◌, ◌⊎◌, Some, Ok, Err, IfOk, IfErr, IsSome, OnOk, MatchOption};
+ghost use Rattle.std.specs.Prelude.{◌≡◌, Some, Ok, Err, IfOk, IfErr, OnOk, MatchOption};
 ghost use Rattle.cj_stream.specs.Asking.{no_types};
 ghost use Rattle.cj_stream.specs.BoxText.{fields};
 ghost use Rattle.cj_stream.specs.Query.{asked};
 ghost use Rattle.cj_stream.specs.declared.query.fault.QueryFault.TheVariants.{Memory, UnknownTypeName};
-ghost use Rattle.cityseq.specs.Options.{asked_by, flags_with};
+ghost use Rattle.cityseq.specs.Options.{asked_by, flags_with, RefusesBy};
 ghost use Rattle.cityseq.specs.Asking.{texts_of};
 
 use cj_stream::{Query, QueryFault};
@@ -28,12 +28,11 @@ pub struct QueryTexts<'a> {
 ///
 /// # Errors
 ///
-/// The first refusal: `UnknownTypeName`, or what is wrong with the box; or `Memory` where none was granted
-/// for ids or LoDs. Types and a box take no memory.
+/// The first refusal: `Memory` where none was granted for ids; `UnknownTypeName`; `Memory` where none was
+/// granted for LoDs; or what is wrong with the box. Types and a box take no memory.
 pub fn query_of(alloc: Global, texts: &QueryTexts) -> Result<Query, QueryFault>
     ensures ok { IfOk result (λ query. asked_by (texts_of texts.now) ≡ Ok (asked query)) }
-    ensures err { IfErr result (λ fault. (fault ≡ Memory) ⊎ (asked_by (texts_of texts.now) ≡ Err fault)) }
-    ensures memory { result ≡ Err Memory → IsSome texts.now.ids ⊎ IsSome texts.now.lods }
+    ensures err { IfErr result (λ fault. RefusesBy (texts_of texts.now) fault) }
 {
     let mut query = Query::all(alloc);
     if let Some(ids) = texts.ids {

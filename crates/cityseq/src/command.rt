@@ -1,8 +1,11 @@
 //! The command line.
 ghost use Rattle.std.specs.Prelude.{◌≡◌, ◌⊎◌, ℕ, List, IfOk, IsErrOf};
 ghost use Rattle.std.specs.Io.KnownBytes.{Consumes, IsAtEnd};
+ghost use Rattle.clap.specs.Words.{kind_of};
+ghost use Rattle.clap.specs.declared.parser.matches.ArgMatches.{ArgMatches};
 ghost use Rattle.cityseq.specs.Output.{output_writer, flush_answer};
-ghost use Rattle.cityseq.specs.Performed.{Performs, Declines};
+ghost use Rattle.cityseq.specs.Performed.{Performs, Declines, TellsError, TellsFault, TellsHelp, TellsMemory, TellsWrongWords};
+ghost use Rattle.cityseq.specs.Report.{query_line, status_of_query};
 ghost use Rattle.cityseq.specs.Words.{AsksBy, CannotAsk};
 ghost use Rattle.cityseq.specs.declared.ask.Ask.{Ask};
 ghost use Rattle.cj_stream.specs.declared.query.fault.QueryFault.{QueryFault};
@@ -35,7 +38,7 @@ enum NoAsk {
 // What a command with these options asks for.
 fn ask_of(alloc: Global, name: &str, options: &ArgMatches) -> Result<Ask, NoAsk>
     ensures ok { IfOk result (λ ask. AsksBy name.now options.now ask) }
-    ensures err { (fault : QueryFault) → IsErrOf result (NoAsk.Query fault) → CannotAsk options.now fault }
+    ensures err { (fault : QueryFault) → IsErrOf result (NoAsk.Query fault) → CannotAsk name.now options.now fault }
 {
     let limits = match limits_of(options) {
         Ok(limits) => limits,
@@ -53,7 +56,10 @@ fn ask_of(alloc: Global, name: &str, options: &ArgMatches) -> Result<Ask, NoAsk>
 }
 
 // What the words ask for.
-fn read_ask(alloc: Global, words: &[String]) -> Result<Ask, NoAsk> {
+fn read_ask(alloc: Global, words: &[String]) -> Result<Ask, NoAsk>
+    ensures ok { IfOk result (λ ask. (name : List ℕ) × (options : ArgMatches) × AsksBy name options ask) }
+    ensures err { (fault : QueryFault) → IsErrOf result (NoAsk.Query fault) → (name : List ℕ) × (options : ArgMatches) × CannotAsk name options fault }
+{
     let matches = match read_words(alloc, words) {
         Ok(matches) => matches,
         Err(error) => return Err(NoAsk::Words(error)),
@@ -66,10 +72,45 @@ fn read_ask(alloc: Global, words: &[String]) -> Result<Ask, NoAsk> {
 
 // Says that memory was refused, and answers the status of that.
 fn out_of_memory<E: Write>(err: &mut E) -> u8
-    ensures { result ≡ 5 }
+    ensures { TellsMemory result (E.contents err.old) (E.contents err.new) }
 {
     let _ = write_fault_line(err, End::Memory);
     status(End::Memory)
+}
+
+// Says what is wrong with the words, and answers the status of that.
+fn wrong_words<E: Write>(text: &str, err: &mut E) -> u8
+    ensures { TellsFault text.now 2 result (E.contents err.old) (E.contents err.new) }
+{
+    let _ = write_whole(err, text.as_bytes());
+    WRONG_WORDS
+}
+
+// Says that a query cannot be asked, and answers the status of that.
+fn refused_query<E: Write>(fault: QueryFault, err: &mut E) -> u8
+    ensures { TellsFault (query_line fault) (status_of_query fault) result (E.contents err.old) (E.contents err.new) }
+{
+    let _ = write_query_fault(err, fault);
+    query_status(fault)
+}
+
+// Says that a limit is out of its range.
+fn refused_limit<E: Write>(alloc: Global, fault: LimitFault, err: &mut E) -> u8
+    ensures { TellsMemory result (E.contents err.old) (E.contents err.new) ⊎ TellsWrongWords result (E.contents err.old) (E.contents err.new) }
+{
+    match format!(in alloc; "{fault}\n") {
+        Ok(text) => wrong_words(&text, err),
+        Err(_) => out_of_memory(err),
+    }
+}
+
+// Writes the help that was asked for to `out`, flushes it, and says on `err` how that ended.
+fn help<W: Write + Drop, E: Write>(text: &str, out: &mut Output<W>, err: &mut E) -> u8
+    ensures { TellsHelp result (W.contents (output_writer out.old)) (W.contents (output_writer out.new)) (flush_answer out.new)
+        (E.contents err.old) (E.contents err.new) }
+{
+    let told = end_of_text(write_whole(out, text.as_bytes()));
+    status(show(out.flush(), told, err).end)
 }
 
 // Writes the help that was asked for to `out`, or what is wrong with the words to `err`.
@@ -79,8 +120,8 @@ fn tell<W: Write + Drop, E: Write>(
     out: &mut Output<W>,
     err: &mut E,
 ) -> u8
-    ensures { Declines result (W.contents (output_writer out.old)) (W.contents (output_writer out.new)) (flush_answer out.new)
-        (E.contents err.old) (E.contents err.new) }
+    ensures { TellsError (kind_of error.now) result (W.contents (output_writer out.old)) (W.contents (output_writer out.new))
+        (flush_answer out.old) (flush_answer out.new) (E.contents err.old) (E.contents err.new) }
 {
     if error.kind() == ErrorKind::OutOfMemory {
         return out_of_memory(err);
@@ -89,11 +130,10 @@ fn tell<W: Write + Drop, E: Write>(
         return out_of_memory(err);
     };
     if error.use_stderr() {
-        let _ = write_whole(err, text.as_bytes());
-        return WRONG_WORDS;
+        wrong_words(&text, err)
+    } else {
+        help(&text, out, err)
     }
-    let told = end_of_text(write_whole(out, text.as_bytes()));
-    status(show(out.flush(), told, err).end)
 }
 
 /// Does what the words ask for, and answers the status; the first word is the program's name. Where they
@@ -105,23 +145,17 @@ pub fn command<R: Read, W: Write + Drop, E: Write>(
     out: &mut Output<W>,
     err: &mut E,
 ) -> u8
-    ensures { ((ask : Ask) × (r : List ℕ) × Consumes (R.remaining reader.old) (R.remaining reader.new) r
+    ensures { ((name : List ℕ) × (options : ArgMatches) × (ask : Ask) × AsksBy name options ask × (r : List ℕ) × Consumes (R.remaining reader.old) (R.remaining reader.new) r
         × Performs ask r (IsAtEnd (R.remaining reader.new)) result (W.contents (output_writer out.old)) (W.contents (output_writer out.new))
         (flush_answer out.new) (E.contents err.old) (E.contents err.new))
-        ⊎ ((reader.new ≡ reader.old) × Declines result (W.contents (output_writer out.old)) (W.contents (output_writer out.new)) (flush_answer out.new)
-        (E.contents err.old) (E.contents err.new)) }
+        ⊎ ((reader.new ≡ reader.old) × Declines result (W.contents (output_writer out.old)) (W.contents (output_writer out.new))
+        (flush_answer out.old) (flush_answer out.new) (E.contents err.old) (E.contents err.new)) }
 {
     match read_ask(alloc, words) {
         Ok(ask) => perform(alloc, &ask, reader, out, err),
         Err(NoAsk::Words(error)) => tell(alloc, &error, out, err),
-        Err(NoAsk::Query(fault)) => {
-            let _ = write_query_fault(err, fault);
-            query_status(fault)
-        }
-        Err(NoAsk::Limits(fault)) => {
-            let _ = writeln!(err, "{fault}");
-            WRONG_WORDS
-        }
-        Err(NoAsk::NoCommand) => WRONG_WORDS,
+        Err(NoAsk::Query(fault)) => refused_query(fault, err),
+        Err(NoAsk::Limits(fault)) => refused_limit(alloc, fault, err),
+        Err(NoAsk::NoCommand) => wrong_words("", err),
     }
 }

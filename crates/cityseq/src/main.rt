@@ -5,12 +5,13 @@
 //! `words` reads the command line by `clap`, `asking` makes a query of its options, and `command` tells what
 //! is asked for; `ask` does it by the engine of `cj_stream`, over standard input and output. `summary` writes
 //! what `check` and `info` say, `report` how a run ended, and `output` notes what a flush answers.
-//! `option_laws` and `text_laws` are worked rows of their definitions, as theorems.
+//! `option_laws`, `end_laws` and `text_laws` are worked rows of their definitions, as theorems.
 #![tactic(auto)]
 
 mod ask;
 mod asking;
 mod command;
+mod end_laws;
 mod option_laws;
 mod output;
 mod report;

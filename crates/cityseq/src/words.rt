@@ -1,5 +1,5 @@
 //! The words of the command line, read by `clap`.
-ghost use Rattle.std.specs.Prelude.{◌≡◌, IfOk};
+ghost use Rattle.std.specs.Prelude.{◌≡◌, IfOk, decimal};
 ghost use Rattle.cityseq.specs.Asking.{texts_of as texts_given};
 ghost use Rattle.cityseq.specs.Words.{texts_in, HasNumber, HasLimits};
 
@@ -70,19 +70,33 @@ and translation, city objects by type, geometries by LoD, the least and the grea
 vertices on each axis, and the most bytes, tokens and open containers that were held. See
 'cityseq --help' for the exit status.";
 
+// The line limit where none is given, as the text that `clap` reads and shows.
+fn usual_line() -> &'static str
+    ensures { result.now ≡ decimal 8388608 }
+{
+    "8388608"
+}
+
+// The depth limit where none is given, as the text that `clap` reads and shows.
+fn usual_depth() -> &'static str
+    ensures { result.now ≡ decimal 64 }
+{
+    "64"
+}
+
 // The options that all commands have.
 fn with_limits(command: Command<'_>, alloc: Global) -> Result<Command<'_>, AllocError> {
     let line = Arg::new(alloc, LINE_LIMIT)
         .long(LINE_LIMIT)
         .value_name("BYTES")
         .value_parser(value_parser!(u64).range(1..=1_073_741_824))
-        .default_value("8388608")
+        .default_value(usual_line())
         .help("Refuse a line that is longer, from 1 to 1073741824");
     let depth = Arg::new(alloc, DEPTH)
         .long(DEPTH)
         .value_name("LEVELS")
         .value_parser(value_parser!(u64).range(1..=1_024))
-        .default_value("64")
+        .default_value(usual_depth())
         .help("Refuse a line with more arrays and objects open at once, from 1 to 1024");
     command.arg(line)?.arg(depth)
 }

@@ -14,7 +14,7 @@ use Rattle.cj_stream.specs.BoxRows.{BoxRow, FieldRows, RangeRows, EmptyRow, Orde
 use Rattle.cj_stream.proofs.BoxTextLemmas.{in-class, no-class}
 
 -- a field is a number of this value
-abbrev Number_is : List ℕ → Number → Type 0
+abbrev pub Number_is : List ℕ → Number → Type 0
 Number_is s v = (is_number s ≡ true) × (value_by (class s) ≡ Some v)
 
 told : (s : List ℕ) (v : Number) → spells_number s ≡ true → SameValue (number_of (written_of s)) v → IsNormal v → IsInRange v → Number_is s v
@@ -23,7 +23,7 @@ told s v test same normal range = in-class s v (record { written = written_of s;
 untold : (s : List ℕ) → spells_number s ≡ false → is_number s ≡ false
 untold s e = no-class s (λ n. absurd (cc (e, (spells_test s n.0 n.1).0))) (class s)
 
-one : Number_is (codes "1") (number (pos 1) (pos 0))
+pub one : Number_is (codes "1") (number (pos 1) (pos 0))
 unfolding digits_front digits_rest begins is_empty begins_digit body is_int is_frac frac_digits after_frac exp_digits is_whole_digits is_exp exp_value
 one = told (codes "1") (number (pos 1) (pos 0)) refl (record { coefficients = refl }) (record { normal = λ e. cc e }) (record { digits = lit< tt; power_low = omega (arith, ints); power_high = omega (arith, ints) })
 
@@ -63,7 +63,7 @@ fine : Number_is (codes "1e-19") (number (pos 1) (neg_ℤ (pos 19)))
 unfolding digits_front digits_rest begins is_empty begins_digit body is_int is_frac frac_digits after_frac exp_digits is_whole_digits is_exp exp_value
 fine = told (codes "1e-19") (number (pos 1) (neg_ℤ (pos 19))) refl (record { coefficients = refl }) (record { normal = λ e. cc e }) (record { digits = lit< tt; power_low = omega (arith, ints); power_high = omega (arith, ints) })
 
-zero : Number_is (codes "0") (number (pos 0) (pos 0))
+pub zero : Number_is (codes "0") (number (pos 0) (pos 0))
 unfolding digits_front digits_rest begins is_empty begins_digit body is_int is_frac frac_digits after_frac exp_digits is_whole_digits is_exp exp_value
 zero = told (codes "0") (number (pos 0) (pos 0)) refl (record { coefficients = refl }) zero_normal (record { digits = lit< tt; power_low = omega (arith, ints); power_high = omega (arith, ints) })
 

@@ -1,8 +1,10 @@
 pub mod Apart
 pub mod BlankLemmas
+pub mod BoundRowLemmas
 pub mod BoxLemmas
 pub mod BoxRowLemmas
 pub mod BoxTextLemmas
+pub mod CountRowLemmas
 pub mod Counted
 pub mod CutLemmas
 pub mod DeviceLemmas
@@ -16,9 +18,11 @@ pub mod JudgeLemmas
 pub mod JudgingLemmas
 pub mod KnownLemmas
 pub mod LineLemmas
+pub mod LineRowLemmas
 pub mod OutputLemmas
 pub mod PieceLemmas
 pub mod PieceSlices
+pub mod QueryRowLemmas
 pub mod Ranges
 pub mod ReadingLemmas
 pub mod RowLemmas

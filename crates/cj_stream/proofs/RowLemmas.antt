@@ -54,11 +54,11 @@ module _ {b : List ℕ} {d : ℕ} (t : Tree) (json : Json b t) (shallow : nest t
   by-tree rules n header (broken i s m) = absurd (say_same (broken i s m) (spelled t json shallow))
   by-tree rules n header (sunk i s) = absurd (say_same (sunk i s) (spelled t json shallow))
 
-header_json : Json small_header plain_header
+pub header_json : Json small_header plain_header
 unfolding forest
 header_json = spelled-tree small_header _ _ _ plain_header refl refl refl
 
-feature_json : Json small_feature plain_feature.tree
+pub feature_json : Json small_feature plain_feature.tree
 unfolding forest
 feature_json = spelled-tree small_feature _ _ _ plain_feature.tree refl refl refl
 
@@ -105,7 +105,7 @@ euro_text = IsUtf8-from_is_utf8 euro_feature refl
 header_tree : tree_of 64 small_header ≡ plain_header
 header_tree = judged plain_header header_json (lit≤ tt) (judgement small_header 64)
 
-header_first : (t : Tree) → verdict_at wide_rules 1 t small_header ≡ Valid
+pub header_first : (t : Tree) → verdict_at wide_rules 1 t small_header ≡ Valid
 header_first t = sound 1 t small_header plain_header header_json (lit≤ tt) 8388608 (lit≤ tt) header_text refl ∙ tree-valid wide_rules 1 t plain_header plain_header-valid refl
 
 header_tight : (t : Tree) → verdict_at tight_rules 1 t small_header ≡ Valid
@@ -119,7 +119,7 @@ feature_second : verdict_at wide_rules 2 (tree_of 64 small_header) small_feature
 feature_second =
     rw header_tree (sound 2 plain_header small_feature plain_feature.tree feature_json (lit≤ tt) 8388608 (lit≤ tt) feature_text refl ∙ tree-valid wide_rules 2 plain_header plain_feature.tree plain_feature-valid (holds-everything plain_header plain_feature.tree))
 
-feature_third : verdict_at wide_rules 3 (tree_of 64 small_header) small_feature ≡ Valid
+pub feature_third : verdict_at wide_rules 3 (tree_of 64 small_header) small_feature ≡ Valid
 feature_third =
     rw header_tree (sound 3 plain_header small_feature plain_feature.tree feature_json (lit≤ tt) 8388608 (lit≤ tt) feature_text refl ∙ tree-valid wide_rules 3 plain_header plain_feature.tree plain_feature-valid (holds-everything plain_header plain_feature.tree))
 
@@ -164,7 +164,7 @@ module _ (header : Tree) where
 
 module _ (rules : Rules) where
   -- what is written of some lines
-  abbrev written : List Line → List ℕ
+  abbrev pub written : List Line → List ℕ
   written ls = flat_map raw_item (kept_from rules [] (good_from rules [] ls))
 
   module _ (place : ℕ) (reason : Reason) where
@@ -183,7 +183,7 @@ module _ (rules : Rules) where
     two-good : (f : Line) → verdict rules (h ∷ []) f.content ≡ Valid → (ending_of rules (h ∷ f ∷ []) ≡ Complete) × (written (h ∷ f ∷ []) ≡ raw h ++ (raw f ++ []))
     two-good f good = rw (valid, good) (refl, rw (valid, good) refl)
 
-    blank-between : (b f : Line) → verdict rules (h ∷ []) b.content ≡ Blank → verdict rules (h ∷ b ∷ []) f.content ≡ Valid
+    pub blank-between : (b f : Line) → verdict rules (h ∷ []) b.content ≡ Blank → verdict rules (h ∷ b ∷ []) f.content ≡ Valid
         → (ending_of rules (h ∷ b ∷ f ∷ []) ≡ Complete) × (written (h ∷ b ∷ f ∷ []) ≡ raw h ++ (raw f ++ []))
     blank-between b f blank good = rw (valid, blank, good) (refl, rw (valid, blank, good) refl)
 
@@ -206,11 +206,11 @@ bad = third-refused wide_rules 31 IdNotFound (ended_line small_header) (header_f
 
 -- the last line, after the small header
 module _ (c : List ℕ) (place : ℕ) (reason : Reason) where
-  after_header : verdict_at wide_rules 2 (tree_of 64 small_header) c ≡ Refuse place reason → (l : Line) → l.content ≡ c
+  pub after_header : verdict_at wide_rules 2 (tree_of 64 small_header) c ≡ Refuse place reason → (l : Line) → l.content ≡ c
       → (ending_of wide_rules (ended_line small_header ∷ l ∷ []) ≡ Refused 2 place reason) × (written wide_rules (ended_line small_header ∷ l ∷ []) ≡ small_header ++ 10 ∷ [])
   after_header refused l same = second-refused wide_rules place reason (ended_line small_header) (header_first _) l [] (rw same refused)
 
-abbrev open_line : List ℕ → Line
+abbrev pub open_line : List ℕ → Line
 open_line c = record { content = c; lf = false }
 
 module _ (l : Line) (same : l.content ≡ small_header ++ 32 ∷ []) where

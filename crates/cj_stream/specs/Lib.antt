@@ -1,8 +1,10 @@
 pub mod Asked
 pub mod Asking
 pub mod Bound
+pub mod BoundRows
 pub mod BoxRows
 pub mod BoxText
+pub mod CountRows
 pub mod CountSink
 pub mod Cut
 pub mod Device
@@ -13,8 +15,10 @@ pub mod IsLines
 pub mod Item
 pub mod Judging
 pub mod LentSink
+pub mod LineRows
 pub mod Lines
 pub mod Query
+pub mod QueryRows
 pub mod Reading
 pub mod Rows
 pub mod Run

@@ -32,6 +32,7 @@ pub mod laws;
 mod lent;
 mod promise;
 mod query;
+pub mod row_laws;
 mod running;
 mod sink;
 mod source;

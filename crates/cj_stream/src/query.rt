@@ -1,5 +1,6 @@
 //! What is asked of a stream.
-ghost use Rattle.std.specs.Prelude.{◌≡◌, Some, Ok, Err, [], IfErr, OnOk, OnErr, MatchOption, MatchResult};
+ghost use Rattle.std.specs.Prelude.{◌≡◌, true, Some, Ok, Err, [], IfErr, OnOk, OnErr, MatchOption, MatchResult};
+ghost use Rattle.cj_spans.specs.Tree.{Tree};
 ghost use Rattle.cj_feature.specs.HeaderView.{header_tree, has_box};
 ghost use Rattle.cj_feature.specs.View.{feature_tree};
 ghost use Rattle.cj_stream.specs.Asked.{everything, if_set, asks_box, has_id as asked_id, has_type as asked_type, has_lod as asked_lod, is_in as in_box, holds as satisfies};
@@ -37,9 +38,10 @@ pub struct Query {
 
 impl Query {
     /// No part is set, so every feature satisfies it. It takes no memory.
-    #[tactic(auto, unfolding(crate::specs::Query::asked))]
+    #[tactic(auto, unfolding(crate::specs::Query::asked, crate::specs::Asked::holds))]
     pub fn all(alloc: Global) -> Query
         ensures all { asked result ≡ everything }
+        ensures every { (header t : Tree) → satisfies (asked result) header t ≡ true }
     {
         Query {
             alloc,

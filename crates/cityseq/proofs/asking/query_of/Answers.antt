@@ -1,4 +1,4 @@
-use Rattle.std.proofs.Common.{◌≡◌, ◌∙◌, ℕ, List, Bool, true, false, not, Option, Some, None, Result, Ok, Err, refl, sym, ap, inr}
+use Rattle.std.proofs.Common.{◌≡◌, ◌∙◌, ℕ, List, Bool, true, false, not, Option, Some, None, Result, Ok, Err, refl, sym, ap, inl, inr}
 use Rattle.std.specs.Prelude.{if◌then◌else◌, MatchOption, MatchResult, option_map}
 use Rattle.std.specs.List.{list_all}
 use Rattle.std.proofs.lemmas.Result.{err_from_is_err_and}
@@ -7,7 +7,7 @@ use Rattle.cj_stream.specs.BoxText.{fields, is_edge, box_between, is_empty, are_
 use Rattle.cj_stream.specs.Query.{asked}
 use Rattle.cj_stream.specs.declared.query.fault.QueryFault.{QueryFault}
 use Rattle.cj_stream.specs.declared.query.fault.QueryFault.TheVariants.{Memory, UnknownTypeName, BadBox, BoxRange, EmptyBox}
-use Rattle.cityseq.specs.Options.{types_or_fault, types_asked, box_or_fault, box_asked}
+use Rattle.cityseq.specs.Options.{Texts, types_or_fault, types_asked, box_or_fault, box_asked, asked_by, RefusesBy}
 use Rattle.cityseq.specs.Asking.{texts_of}
 use Rattle.cityseq.proofs.asking.query_of.Goals.{in-Some+in_ok-ask_ids, in_default, in-Some-types+in_ok-ask_types, in_default-types, in-Some-lods+in_ok-ask_lods, in_default-lods, in-Some-bbox+in_ok-bbox, in_default-bbox}
 use Rattle.cityseq.proofs.asking.query_of.Goals as goal
@@ -23,6 +23,10 @@ module _ (r : Result (Unit {0}) QueryFault) (old new : Asked) where
   types-set : (flags : Option (List Bool)) → SetsTypes flags → r ≡ Ok tt → (types_or_fault flags ≡ Ok new.types) × (new ≡ record old { types = new.types })
   types-set None h ok = absurd (cc (h, ok))
   types-set (Some flags) h ok = (ap (λ a. Ok a.types) (sym h.1), h.1 ∙ ap (λ types. record old { types = types }) (sym (ap (λ a. a.types) h.1)))
+
+  types-refused : (fault : QueryFault) (flags : Option (List Bool)) → SetsTypes flags → r ≡ Err fault → (fault ≡ UnknownTypeName) × (flags ≡ None)
+  types-refused fault None h err = (cc (h, err), refl)
+  types-refused fault (Some flags) h err = absurd (cc (h.0, err))
 
   box-set : (box : Result Box QueryFault) → SetsBox box → r ≡ Ok tt → (box_or_fault box ≡ Ok new.box) × (new ≡ record old { box = new.box })
   box-set (Ok box) h ok = (ap (λ a. Ok a.box) (sym h.1), h.1 ∙ ap (λ box. record old { box = box }) (sym (ap (λ a. a.box) h.1)))
@@ -71,6 +75,39 @@ returns-clause-ok c =
     ] in
     rw (types.0, box.0, box.1, lods, types.1, ids) refl
 
+-- a refusal that is no want of memory is what the texts ask for
+refused : (t : Texts) (fault : QueryFault) → asked_by t ≡ Err fault → (fault ≡ Memory → ⊥) → RefusesBy t fault
+refused t Memory asks other = absurd (other refl)
+refused t UnknownTypeName asks other = asks
+refused t BadBox asks other = asks
+refused t BoxRange asks other = asks
+refused t EmptyBox asks other = asks
+
+pub returns-in_err-ask_ids-clause-err : goal.returns-in_err-ask_ids-clause-err
+returns-in_err-ask_ids-clause-err c =
+    let returned = err_from_is_err_and c.from_residual.result c.from_residual.ensures.1 in
+    let memory : c.in_err-ask_ids.field-0.0 ≡ Memory = c.in_err-ask_ids.ensures.memory in
+    rw (returned.1, returned.2, memory) (inl (rw c.in-Some.is refl))
+
+pub returns-in_err-ask_types-clause-err : goal.returns-in_err-ask_types-clause-err
+returns-in_err-ask_types-clause-err c =
+    let texts = texts_of c.args.texts.now in
+    let returned = err_from_is_err_and c.from_residual-in_err-ask_types.result c.from_residual-in_err-ask_types.ensures.1 in
+    let types = types-refused c.ask_types.result (asked c.match-texts.query) (asked c.ask_types.new.query) c.in_err-ask_types.field-0.0 _ c.ask_types.ensures c.in_err-ask_types.was in
+    rw (returned.1, returned.2, types.0) (rw (c.in-Some-types.is, types.1) refl)
+
+pub returns-in_err-ask_lods-clause-err : goal.returns-in_err-ask_lods-clause-err
+returns-in_err-ask_lods-clause-err c =
+    let texts = texts_of c.args.texts.now in
+    let returned = err_from_is_err_and c.from_residual-in_err-ask_lods.result c.from_residual-in_err-ask_lods.ensures.1 in
+    let memory : c.in_err-ask_lods.field-0.0 ≡ Memory = c.in_err-ask_lods.ensures.memory in
+    let types : (flags : Option (List Bool)) × (types_asked texts.types ≡ Ok flags) =
+    elim c.match-texts-2.branch [
+      | in-Some-types+in_ok-ask_types w ↦ rw w.in-Some-types.is (_, (types-set w.ask_types.result (asked c.match-texts.query) (asked w.ask_types.new.query) _ w.ask_types.ensures w.in_ok-ask_types.was).0)
+      | in_default-types w ↦ rw w.in_default-types.is (None, refl)
+    ] in
+    rw (returned.1, returned.2, memory) (inr (rw c.in-Some-lods.is refl, rw types.1 refl))
+
 pub returns-in_err-bbox-clause-err : goal.returns-in_err-bbox-clause-err
 returns-in_err-bbox-clause-err c =
     let texts = texts_of c.args.texts.now in
@@ -79,13 +116,8 @@ returns-in_err-bbox-clause-err c =
       | in-Some-types+in_ok-ask_types w ↦ rw w.in-Some-types.is (_, (types-set w.ask_types.result (asked c.match-texts.query) (asked w.ask_types.new.query) _ w.ask_types.ensures w.in_ok-ask_types.was).0)
       | in_default-types w ↦ rw w.in_default-types.is (None, refl)
     ] in
-    let box = box-refused c.bbox.result (asked c.match-texts-3.query) (asked c.bbox.new.self) c.in_err-bbox.field-0.0 (box_text c.in-Some-bbox.bbox.now) c.bbox.ensures c.in_err-bbox.was in
+    let fault = c.in_err-bbox.field-0.0 in
+    let box = box-refused c.bbox.result (asked c.match-texts-3.query) (asked c.bbox.new.self) fault (box_text c.in-Some-bbox.bbox.now) c.bbox.ensures c.in_err-bbox.was in
+    let asks : asked_by texts ≡ Err fault = rw (types.1, c.in-Some-bbox.is, box) refl in
     let returned = err_from_is_err_and c.from_residual-in_err-bbox.result c.from_residual-in_err-bbox.ensures.1 in
-    rw (returned.1, returned.2) (inr (rw (types.1, c.in-Some-bbox.is, box) refl))
-
-pub returns-in_err-bbox-clause-memory : goal.returns-in_err-bbox-clause-memory
-returns-in_err-bbox-clause-memory c e =
-    let box = box-refused c.bbox.result (asked c.match-texts-3.query) (asked c.bbox.new.self) c.in_err-bbox.field-0.0 (box_text c.in-Some-bbox.bbox.now) c.bbox.ensures c.in_err-bbox.was in
-    let returned = err_from_is_err_and c.from_residual-in_err-bbox.result c.from_residual-in_err-bbox.ensures.1 in
-    let same : c.in_err-bbox.field-0.0 ≡ Memory = cc (returned.1, returned.2, e) in
-    absurd (box-takes-none c.in-Some-bbox.bbox.now (box ∙ ap Err same))
+    rw (returned.1, returned.2) (refused texts fault asks (λ same. box-takes-none c.in-Some-bbox.bbox.now (box ∙ ap Err same)))

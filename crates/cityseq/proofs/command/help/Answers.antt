@@ -1,19 +1,18 @@
-use Rattle.std.proofs.Common.{inr}
 use Rattle.cj_stream.specs.declared.ending.End.{End}
 use Rattle.cj_stream.specs.declared.ending.End.TheVariants.{Complete}
 use Rattle.cityseq.specs.Output.{flushed_by}
 use Rattle.cityseq.proofs.PerformLemmas.{Says-kept, Says-told}
-use Rattle.cityseq.proofs.command.tell.Goals as goal
+use Rattle.cityseq.proofs.command.help.Goals as goal
 
 pub returns : goal.returns
 returns g c =
-    let text = c.as_bytes-2.result.now in
+    let text = c.as_bytes.result.now in
     let told : End = c.end_of_text-told.result in
-    inr (record {
+    record {
       text = text;
       told = told;
       shown = c.show.result;
-      says = Says-kept text Complete told _ _ _ (Says-told text c.write_whole-2.result told _ _ c.end_of_text-told.ensures c.write_whole-2.ensures.ok c.write_whole-2.ensures.fault) c.flush.ensures.bytes;
+      says = Says-kept text Complete told _ _ _ (Says-told text c.write_whole.result told _ _ c.end_of_text-told.ensures c.write_whole.ensures.ok c.write_whole.ensures.fault) c.flush.ensures.bytes;
       reports = record {
         flushed = flushed_by c.flush.result;
         told = c.flush.ensures.noted;
@@ -22,4 +21,4 @@ returns g c =
         front = c.show.ensures.front;
       };
       status = c.status.ensures;
-    })
+    }

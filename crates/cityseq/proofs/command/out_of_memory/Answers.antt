@@ -1,0 +1,9 @@
+use Rattle.cityseq.proofs.command.out_of_memory.Goals as goal
+
+pub returns : goal.returns
+returns g c = record {
+  written = c.write_fault_line.result;
+  whole = c.write_fault_line.ensures.ok;
+  front = c.write_fault_line.ensures.fault;
+  status = c.status.ensures;
+}

@@ -1,0 +1,10 @@
+use Rattle.std.proofs.Common.{refl}
+use Rattle.cityseq.proofs.command.wrong_words.Goals as goal
+
+pub returns : goal.returns
+returns g c = record {
+  written = c.write_whole.result;
+  whole = rw c.as_bytes.ensures.value at c.write_whole.ensures.ok;
+  front = rw c.as_bytes.ensures.value at c.write_whole.ensures.fault;
+  status = refl;
+}

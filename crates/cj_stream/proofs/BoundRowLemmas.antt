@@ -1,0 +1,71 @@
+-- What small texts may hold at most, and what they hold, computed.
+use Rattle.std.proofs.Common.{◌≡◌, ℕ, ◌+◌, ◌≤◌, List, [], ◌∷◌, ◌++◌, length, max, refl, ap, arith, lit≤}
+use Rattle.cj_budget.specs.Limits.{LimitPair}
+use Rattle.cj_spans.specs.Json.{Json}
+use Rattle.cj_spans.specs.Judgement.{Judgement, spelled, broken, sunk, judged_size, judged_nest}
+use Rattle.cj_spans.specs.Tree.{Tree, size, nest}
+use Rattle.cj_spans.proofs.Judgements.{judgement, say_same}
+use Rattle.cj_stream.specs.Bound.{tree_size, tree_nest, contents, exact_peaks}
+use Rattle.cj_stream.specs.BoundRows.{usual, held, EmptyRow, HeaderRow, CutRow, EdgeRow, ExactRow}
+use Rattle.cj_stream.specs.Lines.{first_content}
+use Rattle.cj_stream.specs.Rows.{small_header, small_feature}
+use Rattle.cj_feature.specs.Examples.{plain_header}
+use Rattle.cj_feature.proofs.Worked.{plain_feature}
+use Rattle.cj_stream.proofs.RowLemmas.{header_json, feature_json}
+
+pub nothing : EmptyRow
+nothing = (refl, refl)
+
+pub header : HeaderRow
+header = ((refl, refl), (refl, refl), (refl, refl))
+
+pub long : CutRow
+long = ((refl, refl), (refl, refl))
+
+pub edge : EdgeRow
+edge = (
+  record { bytes = lit≤ tt; tokens = lit≤ tt; depth = lit≤ tt },
+  (λ b. let h : 201 ≤ 200 = b.bytes in absurd (omega arith)),
+  (λ b. let h : 134 ≤ 133 = b.tokens in absurd (omega arith)),
+  (λ b. let h : 65 ≤ 64 = b.depth in absurd (omega arith)),
+)
+
+-- ---- what is held at most
+
+-- the size and the nest of a line that spells this tree
+module _ {b : List ℕ} {d : ℕ} (t : Tree) (json : Json b t) (shallow : nest t ≤ d) where
+  sized : (j : Judgement b d) → judged_size j ≡ size t
+  sized (spelled u k m) = ap size (say_same (spelled u k m) (spelled t json shallow))
+  sized (broken i s m) = absurd (say_same (broken i s m) (spelled t json shallow))
+  sized (sunk i s) = absurd (say_same (sunk i s) (spelled t json shallow))
+
+  nested : (j : Judgement b d) → judged_nest j ≡ nest t
+  nested (spelled u k m) = ap nest (say_same (spelled u k m) (spelled t json shallow))
+  nested (broken i s m) = absurd (say_same (broken i s m) (spelled t json shallow))
+  nested (sunk i s) = absurd (say_same (sunk i s) (spelled t json shallow))
+
+-- of one line, and of two
+module _ (limits : LimitPair) (s a : List ℕ) (n d : ℕ) (first : first_content s ≡ a) (size : tree_size limits a ≡ n) (nest : tree_nest limits a ≡ d) where
+  one-line : contents s ≡ a ∷ [] → exact_peaks limits s ≡ held (length a + 0) (n + 0) (max d 0)
+  one-line all = rw (all, first, size, nest) refl
+
+  two-lines : (b : List ℕ) (m e : ℕ) → contents s ≡ a ∷ b ∷ [] → tree_size limits b ≡ m → tree_nest limits b ≡ e → exact_peaks limits s ≡ held (length a + max (length b) 0) (n + max m 0) (max d (max e 0))
+  two-lines b m e all more deep = rw (all, first, size, nest, more, deep) refl
+
+header-size : tree_size usual small_header ≡ 21
+header-size = sized plain_header header_json (lit≤ tt) (judgement small_header 64)
+
+header-nest : tree_nest usual small_header ≡ 3
+header-nest = nested plain_header header_json (lit≤ tt) (judgement small_header 64)
+
+feature-size : tree_size usual small_feature ≡ 13
+feature-size = sized plain_feature.tree feature_json (lit≤ tt) (judgement small_feature 64)
+
+feature-nest : tree_nest usual small_feature ≡ 3
+feature-nest = nested plain_feature.tree feature_json (lit≤ tt) (judgement small_feature 64)
+
+pub exact : ExactRow
+exact = (
+  one-line usual small_header small_header 21 3 refl header-size header-nest refl,
+  two-lines usual (small_header ++ 10 ∷ (small_feature ++ 10 ∷ [])) small_header 21 3 refl header-size header-nest small_feature 13 3 refl feature-size feature-nest,
+)

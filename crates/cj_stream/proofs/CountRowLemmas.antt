@@ -1,0 +1,59 @@
+-- Small counts, computed.
+use Rattle.std.proofs.Common.{◌≡◌, ℕ, zero, suc, List, [], ◌∷◌, refl, arith, lit<, inl, inr}
+use Rattle.std.specs.Prelude.{replicate}
+use Rattle.std.specs.Str.{chars}
+use lib.Utf8.{encode}
+use Rattle.cj_spans.specs.Text.{text, points_after, first_point, first_width}
+use Rattle.cj_stream.specs.CountRows.{RiseRows, ClassRows, LodRows, three_classes}
+use Rattle.cj_stream.specs.QueryRows.{plain_header}
+use Rattle.cj_stream.specs.Sink.{HasRisen}
+use Rattle.cj_stream.specs.Tallied.{lod_classes}
+use Rattle.cj_stream.specs.TallySink.{RisesBy}
+
+no-rise : HasRisen 0 0 → ⊥
+no-rise (inl less) = absurd (omega arith)
+no-rise (inr full) = absurd (omega arith)
+
+no-fall : HasRisen 1 0 → ⊥
+no-fall (inl less) = absurd (omega arith)
+no-fall (inr full) = absurd (omega arith)
+
+pub rise : RiseRows
+rise = (inl (lit< tt), no-rise, no-fall, inr (refl, refl))
+
+pub classes : ClassRows
+unfolding text points_after first_point first_width chars encode
+classes = (refl, refl, refl, refl, refl, refl, refl)
+
+-- ---- classes of a feature
+
+its_classes : lod_classes plain_header three_classes ≡ 0 ∷ 4 ∷ 5 ∷ []
+unfolding text points_after first_point first_width chars encode
+its_classes = refl
+
+abbrev Counts : List ℕ → List ℕ → Type 0
+Counts ns new = RisesBy 6 (replicate 6 0) ns new
+
+abbrev three_of : List ℕ
+three_of = 0 ∷ 4 ∷ 5 ∷ []
+
+counted : Counts three_of (1 ∷ 0 ∷ 0 ∷ 0 ∷ 1 ∷ 1 ∷ [])
+counted zero below = refl
+counted (suc zero) below = refl
+counted (suc (suc zero)) below = refl
+counted (suc (suc (suc zero))) below = refl
+counted (suc (suc (suc (suc zero)))) below = refl
+counted (suc (suc (suc (suc (suc zero))))) below = refl
+counted (suc (suc (suc (suc (suc (suc n)))))) below = absurd (omega arith)
+
+differ : ◌≡◌ {A = ℕ} 0 1 → ⊥
+differ e = absurd (omega arith)
+
+pub lods : LodRows
+lods = (
+  its_classes,
+  rw its_classes counted,
+  (λ h. differ ((rw its_classes at h) 0 (lit< tt))),
+  (λ h. differ ((rw its_classes at h) 4 (lit< tt))),
+  (λ h. differ ((rw its_classes at h) 5 (lit< tt))),
+)

@@ -1,0 +1,43 @@
+-- Small texts with a blank line that is not empty, and with a header alone, computed.
+use Rattle.std.proofs.Common.{◌≡◌, [], ◌∷◌, ◌++◌, refl, lit≤}
+use Rattle.std.specs.Str.{is_utf8, chars}
+use Rattle.std.specs.Str.Lossy.{utf8_valid_len}
+use lib.Utf8.{encode}
+use Rattle.cj_spans.specs.declared.reason.Reason.TheVariants.{Syntax}
+use Rattle.cj_spans.specs.Tree.{Tree}
+use Rattle.cj_spans.proofs.Judgements.{judgement, over, by_step, by_depth, sinks, at_end, by_end, text_of, no_end, ends_at}
+use Rattle.cj_stream.specs.declared.ending.End.TheVariants.{Complete, Refused}
+use Rattle.cj_stream.specs.Lines.{Line, raw, ended_line}
+use Rattle.cj_stream.specs.LineRows.{TabRow, HeaderRow}
+use Rattle.cj_stream.specs.Rows.{small_header, small_feature, wide_rules, Gives}
+use Rattle.cj_stream.specs.Verdict.{Rules, Valid, Refuse, verdict, verdict_at, ending_of}
+use Rattle.cj_stream.proofs.RowLemmas.{header_first, feature_third, blank-between, after_header, open_line, written}
+use Rattle.cj_stream.proofs.VerdictLemmas.{verdict-blank}
+
+-- a form feed is no JSON text, whatever the header
+feed_second : (header : Tree) → verdict_at wide_rules 2 header (12 ∷ []) ≡ Refuse 0 Syntax
+unfolding verdict_at is_utf8 chars encode judgement over by_step by_depth at_end by_end text_of no_end ends_at
+feed_second header = refl
+
+-- a valid header alone
+header-alone : (rules : Rules) (h : Line) → verdict rules [] h.content ≡ Valid → (ending_of rules (h ∷ []) ≡ Complete) × (written rules (h ∷ []) ≡ raw h ++ [])
+header-alone rules h valid = rw valid (refl, rw valid refl)
+
+tab_between : Gives wide_rules (small_header ++ 10 ∷ 9 ∷ 10 ∷ small_feature) Complete (small_header ++ 10 ∷ small_feature)
+tab_between = blank-between wide_rules (ended_line small_header) (header_first _) (ended_line (9 ∷ [])) (open_line small_feature) (verdict-blank wide_rules 2 _ (9 ∷ []) (lit≤ tt) refl) feature_third
+
+tab_first : Gives wide_rules (9 ∷ []) (Refused 1 1 Syntax) []
+unfolding verdict_at is_utf8 chars encode utf8_valid_len judgement over by_step by_depth sinks at_end by_end text_of no_end ends_at
+tab_first = (refl, refl)
+
+feed_after : Gives wide_rules (small_header ++ 10 ∷ 12 ∷ []) (Refused 2 0 Syntax) (small_header ++ 10 ∷ [])
+feed_after = after_header (12 ∷ []) 0 Syntax (feed_second _) (open_line (12 ∷ [])) refl
+
+pub tab : TabRow
+tab = (tab_between, tab_first, feed_after)
+
+pub header : HeaderRow
+header = (
+  header-alone wide_rules (open_line small_header) (header_first _),
+  header-alone wide_rules (ended_line small_header) (header_first _),
+)
