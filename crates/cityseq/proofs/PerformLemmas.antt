@@ -1,22 +1,27 @@
 -- What is told of texts that the program writes.
-use Rattle.std.proofs.Common.{◌≡◌, ℕ, List, Option, Some, None, Result, Ok, Err, OnOk, OnErr, length, refl, ap, sym, subst, ◌∙◌, inl, inr}
+use Rattle.std.proofs.Common.{◌≡◌, ℕ, List, Option, Some, None, Result, Ok, Err, length, refl, ap, sym, subst, ◌∙◌}
 use Rattle.std.specs.List.{filter}
-use Rattle.std.specs.Io.KnownBytes.{Appends, Keeps}
+use Rattle.std.specs.Io.KnownBytes.{Keeps}
 use Rattle.cj_budget.specs.declared.limits.Peaks.{Peaks}
 use Rattle.cj_stream.specs.declared.ending.End.{End}
 use Rattle.cj_stream.specs.declared.ending.End.TheVariants.{Complete, Refused, ReadFault, ReadLimit, WriteFault, Memory}
-use Rattle.cj_stream.specs.declared.sink.WriteFault.{WriteFault as Unwritten}
+use Rattle.cj_stream.specs.declared.output.WriteFault.{WriteFault as Unwritten}
+use Rattle.cj_stream.specs.Headline.{Headline}
 use Rattle.cj_stream.specs.Item.{is_feature}
+use Rattle.cj_stream.specs.Output.{Channel}
 use Rattle.cj_stream.specs.Run.{Account}
-use Rattle.cj_stream.specs.Sink.{AppendsPart}
+use Rattle.cj_stream.specs.Sink.{HasRisen, RisesOnErr}
 use Rattle.cj_stream.specs.Verdict.{Rules, good, kept}
 use Rattle.cj_stream.proofs.GoodLemmas.{kept_first-good}
 use Rattle.cj_stream.proofs.KnownLemmas.{Appends-kept, AppendsPart-kept}
 use Rattle.cj_stream.specs.Bound.{exact_peaks}
-use Rattle.cj_stream.specs.TallySink.{Tally, IsTallyOf, no_tally}
+use Rattle.cj_stream.specs.TallySink.{Tally, IsTallyOf, TalliesRun, no_tally}
+use Rattle.cj_stream.specs.Tally.{CountsRun}
+use Rattle.cj_stream.specs.declared.count.CountSink.{CountSink}
 use Rattle.cj_stream.specs.Query.{rules_for}
 use Rattle.cj_stream.proofs.OutputLemmas.{Writes-kept}
 use Rattle.cityseq.specs.Performed.{end_of_text, Says, SaysCheck, SaysReport, Answers}
+use Rattle.cityseq.specs.Report.{Wrote}
 use Rattle.cityseq.specs.declared.ask.Ask.{Ask}
 use Rattle.cityseq.specs.declared.ask.Ask.TheVariants.{Check, Filter, Info}
 use Rattle.cityseq.specs.Summary.{check_text, report}
@@ -31,35 +36,44 @@ Keeps-then (Some xs) None c p q = elim p [ ]
 Keeps-then (Some xs) (Some ys) None p q = elim q [ ]
 Keeps-then (Some xs) (Some ys) (Some zs) p q = q ∙ p
 
--- a text was written after a complete run
-pub Says-text : (text : List ℕ) (written : Result (Unit {0}) Unwritten) (old new : Option (List ℕ)) → OnOk written (Appends old new text) → OnErr written (AppendsPart old new text)
-    → Says text Complete (end_of_text written) old new
-Says-text text (Ok x) old new ok err = inl (refl, ok)
-Says-text text (Err e) old new ok err = inr (refl, err)
+-- a text that was written stays where the writer keeps its bytes
+Wrote-kept : (text : List ℕ) (answer : Result (Unit {0}) Unwritten) (a b c : Channel) → Wrote text answer a b → Keeps b.bytes c.bytes → c.failures ≡ b.failures → Wrote text answer a c
+Wrote-kept text (Ok x) a b c w k f = record { whole = Appends-kept a.bytes b.bytes c.bytes text w.whole k; front = tt; failures = f ∙ w.failures }
+Wrote-kept text (Err e) a b c w k f = record {
+  whole = tt;
+  front = AppendsPart-kept a.bytes b.bytes c.bytes text w.front k;
+  failures = subst (λ n. HasRisen a.failures n) (sym f) w.failures;
+}
 
--- what is told of it
-pub Says-told : (text : List ℕ) (written : Result (Unit {0}) Unwritten) (told : End) (old new : Option (List ℕ)) → told ≡ end_of_text written
-    → OnOk written (Appends old new text) → OnErr written (AppendsPart old new text) → Says text Complete told old new
-Says-told text written told old new tells ok err = subst (λ d. Says text Complete d old new) (sym tells) (Says-text text written old new ok err)
+-- a write fault that is told of a text has its cause
+pub cause-text : (written : Result (Unit {0}) Unwritten) (told : End) (a b : ℕ) → told ≡ end_of_text written → RisesOnErr written a b → told ≡ WriteFault → HasRisen a b
+cause-text (Ok x) told a b tells rises is = let other : Complete ≡ WriteFault = sym tells ∙ is in cc
+cause-text (Err e) told a b tells rises is = rises
+
+-- what counts and tallies never makes a write fault
+pub count-no_fault : (rules : Rules) (r : List ℕ) (e : End) (c : CountSink) → CountsRun rules r e c → e ≡ WriteFault → ⊥
+count-no_fault rules r e c h is = subst (λ x. CountsRun rules r x c) is h
+
+pub tally-no_fault : (rules : Rules) (r : List ℕ) (e : End) (t : Tally) → TalliesRun rules r e t → e ≡ WriteFault → ⊥
+tally-no_fault rules r e t h is = subst (λ x. TalliesRun rules r x t) is h
 
 -- nothing was written after a run that is not complete
-pub Says-nothing : (text : List ℕ) (e : End) (a : Option (List ℕ)) → (e ≡ Complete → ⊥) → Says text e e a a
-Says-nothing text Complete a other = absurd (other refl)
-Says-nothing text (Refused line place reason) a other = (refl, Keeps-refl a)
-Says-nothing text ReadFault a other = (refl, Keeps-refl a)
-Says-nothing text ReadLimit a other = (refl, Keeps-refl a)
-Says-nothing text WriteFault a other = (refl, Keeps-refl a)
-Says-nothing text Memory a other = (refl, Keeps-refl a)
+pub Says-nothing : (text : List ℕ) (e : End) (a : Channel) → (e ≡ Complete → ⊥) → (e ≡ WriteFault → ⊥) → Says text e e a a
+Says-nothing text Complete a other well = absurd (other refl)
+Says-nothing text (Refused line place reason) a other well = (refl, Keeps-refl a.bytes)
+Says-nothing text ReadFault a other well = (refl, Keeps-refl a.bytes)
+Says-nothing text ReadLimit a other well = (refl, Keeps-refl a.bytes)
+Says-nothing text WriteFault a other well = well refl
+Says-nothing text Memory a other well = (refl, Keeps-refl a.bytes)
 
 -- what was said stays where the writer keeps its bytes
-pub Says-kept : (text : List ℕ) (e told : End) (a b c : Option (List ℕ)) → Says text e told a b → Keeps b c → Says text e told a c
-Says-kept text Complete told a b c (inl p) kept = inl (p.0, Appends-kept a b c text p.1 kept)
-Says-kept text Complete told a b c (inr p) kept = inr (p.0, AppendsPart-kept a b c text p.1 kept)
-Says-kept text (Refused line place reason) told a b c p kept = (p.0, Keeps-then a b c p.1 kept)
-Says-kept text ReadFault told a b c p kept = (p.0, Keeps-then a b c p.1 kept)
-Says-kept text ReadLimit told a b c p kept = (p.0, Keeps-then a b c p.1 kept)
-Says-kept text WriteFault told a b c p kept = (p.0, Keeps-then a b c p.1 kept)
-Says-kept text Memory told a b c p kept = (p.0, Keeps-then a b c p.1 kept)
+pub Says-kept : (text : List ℕ) (e told : End) (a b c : Channel) → Says text e told a b → Keeps b.bytes c.bytes → c.failures ≡ b.failures → Says text e told a c
+Says-kept text Complete told a b c p k f = (p.0, p.1, Wrote-kept text p.0 a b c p.2 k f)
+Says-kept text (Refused line place reason) told a b c p k f = (p.0, Keeps-then a.bytes b.bytes c.bytes p.1 k)
+Says-kept text ReadFault told a b c p k f = (p.0, Keeps-then a.bytes b.bytes c.bytes p.1 k)
+Says-kept text ReadLimit told a b c p k f = (p.0, Keeps-then a.bytes b.bytes c.bytes p.1 k)
+Says-kept text WriteFault told a b c p k f = p
+Says-kept text Memory told a b c p k f = (p.0, Keeps-then a.bytes b.bytes c.bytes p.1 k)
 
 -- the features that a complete run kept are those among what is kept
 pub features-kept : (rules : Rules) (r : List ℕ) (at_end : Type 0) (n features : ℕ) (peaks : Peaks) → Account rules r at_end n features peaks Complete
@@ -68,42 +82,55 @@ features-kept rules r at_end n features peaks account =
     account.counts.kept ∙ ap (λ is. length (filter is_feature is)) (kept_first-good rules n r account.ends.1)
 
 -- a check or a report after a complete run, of what that counted
-pub Says-check : (rules : Rules) (r : List ℕ) (n m : ℕ) (written : Result (Unit {0}) Unwritten) (told : End) (old new : Option (List ℕ))
+pub Says-check : (rules : Rules) (r : List ℕ) (n m : ℕ) (written : Result (Unit {0}) Unwritten) (told : End) (old new : Channel)
     → n ≡ length (good rules r) → m ≡ length (filter is_feature (kept rules r)) → told ≡ end_of_text written
-    → OnOk written (Appends old new (check_text n m)) → OnErr written (AppendsPart old new (check_text n m)) → SaysCheck rules r Complete told old new
-Says-check rules r n m written told old new lines features tells ok err =
+    → Wrote (check_text n m) written old new → SaysCheck rules r Complete told old new
+Says-check rules r n m written told old new lines features tells wrote =
     subst (λ y. Says (check_text (length (good rules r)) y) Complete told old new) features
-    (subst (λ x. Says (check_text x m) Complete told old new) lines
-    (Says-told (check_text n m) written told old new tells ok err))
+    (subst (λ x. Says (check_text x m) Complete told old new) lines (written, tells, wrote))
 
-pub Says-report : (rules : Rules) (r : List ℕ) (n : ℕ) (t : Tally) (peaks : Peaks) (written : Result (Unit {0}) Unwritten) (told : End) (old new : Option (List ℕ))
+pub Says-report : (rules : Rules) (r : List ℕ) (n : ℕ) (t : Tally) (peaks : Peaks) (written : Result (Unit {0}) Unwritten) (told : End) (old new : Channel)
     → n ≡ length (good rules r) → IsTallyOf (kept rules r) t → peaks ≡ exact_peaks rules.limits r → told ≡ end_of_text written
-    → OnOk written (Appends old new (report n t peaks)) → OnErr written (AppendsPart old new (report n t peaks)) → SaysReport rules r Complete told old new
-Says-report rules r n t peaks written told old new lines tally held tells ok err = record {
+    → Wrote (report n t peaks) written old new → SaysReport rules r Complete told old new
+Says-report rules r n t peaks written told old new lines tally held tells wrote = record {
   tally = t;
   counted = λ e. tally;
   says = subst (λ p. Says (report (length (good rules r)) t p) Complete told old new) held
-      (subst (λ x. Says (report x t peaks) Complete told old new) lines
-      (Says-told (report n t peaks) written told old new tells ok err));
+      (subst (λ x. Says (report x t peaks) Complete told old new) lines (written, tells, wrote));
 }
 
 -- nothing was reported after a run that is not complete
-pub Says-no_report : (rules : Rules) (r : List ℕ) (e : End) (a : Option (List ℕ)) → (e ≡ Complete → ⊥) → SaysReport rules r e e a a
-Says-no_report rules r e a other = record {
+pub Says-no_report : (rules : Rules) (r : List ℕ) (e : End) (a : Channel) → (e ≡ Complete → ⊥) → (e ≡ WriteFault → ⊥) → SaysReport rules r e e a a
+Says-no_report rules r e a other well = record {
   tally = no_tally;
   counted = λ is. absurd (other is);
-  says = Says-nothing _ e a other;
+  says = Says-nothing _ e a other well;
 }
 
-pub SaysReport-kept : (rules : Rules) (r : List ℕ) (e told : End) (a b c : Option (List ℕ)) → SaysReport rules r e told a b → Keeps b c → SaysReport rules r e told a c
-SaysReport-kept rules r e told a b c says kept = record {
+SaysReport-kept : (rules : Rules) (r : List ℕ) (e told : End) (a b c : Channel) → SaysReport rules r e told a b → Keeps b.bytes c.bytes → c.failures ≡ b.failures → SaysReport rules r e told a c
+SaysReport-kept rules r e told a b c says k f = record {
   tally = says.tally;
   counted = says.counted;
-  says = Says-kept _ e told a b c says.says kept;
+  says = Says-kept _ e told a b c says.says k f;
+}
+
+Headline-kept : (rules : Rules) (text given : List ℕ) (e : End) (peaks : Peaks) (a b c : Channel) → Headline rules text given e peaks a b → Keeps b.bytes c.bytes → c.failures ≡ b.failures
+    → Headline rules text given e peaks a c
+Headline-kept rules text given e peaks a b c h k f = record {
+  writes = λ u. Appends-kept a.bytes b.bytes c.bytes _ (h.writes u) k;
+  ends = h.ends;
+  cause = λ is. subst (λ n. HasRisen a.failures n) (sym f) (h.cause is);
+  held = h.held;
+  exact = h.exact;
 }
 
 -- an answer stays where the writer keeps its bytes
-pub Answers-kept : (ask : Ask) (r : List ℕ) (e told : End) (a b c : Option (List ℕ)) → Answers ask r e told a b → Keeps b c → Answers ask r e told a c
-Answers-kept (Check limits) r e told a b c says kept = Says-kept _ e told a b c says kept
-Answers-kept (Filter limits query) r e told a b c says kept = (says.0, Writes-kept (rules_for limits query) r e a b c says.1 kept)
-Answers-kept (Info limits) r e told a b c says kept = SaysReport-kept _ r e told a b c says kept
+pub Answers-kept : (ask : Ask) (r : List ℕ) (at_end : Type 0) (peaks : Peaks) (e told : End) (a b c : Channel) → Answers ask r at_end peaks e told a b → Keeps b.bytes c.bytes → c.failures ≡ b.failures
+    → Answers ask r at_end peaks e told a c
+Answers-kept (Check limits) r at_end peaks e told a b c says k f = Says-kept _ e told a b c says k f
+Answers-kept (Filter limits query) r at_end peaks e told a b c says k f = (
+  says.0,
+  Writes-kept (rules_for limits query) r e a.bytes b.bytes c.bytes says.1 k,
+  λ rest all u. Headline-kept (rules_for limits query) _ r e peaks a b c (says.2 rest all u) k f,
+)
+Answers-kept (Info limits) r at_end peaks e told a b c says k f = SaysReport-kept _ r e told a b c says k f

@@ -3,7 +3,7 @@ use Rattle.std.specs.Prelude.{◌≡◌, ℕ, List, [], Ok, Err, codes}
 use Rattle.cj_spans.specs.declared.reason.Reason.TheVariants.{NoHeader, VertexIndex}
 use Rattle.cj_stream.specs.declared.ending.End.{End}
 use Rattle.cj_stream.specs.declared.ending.End.TheVariants.{Complete, Refused, ReadFault, ReadLimit, WriteFault, Memory}
-use Rattle.cj_stream.specs.declared.sink.WriteFault.{WriteFault as Unwritten}
+use Rattle.cj_stream.specs.declared.output.WriteFault.{WriteFault as Unwritten}
 use Rattle.cityseq.specs.Report.{fault_line, shown_end, status_of}
 
 -- whatever the end, a write fault is shown where the flush after it failed

@@ -2,7 +2,6 @@ pub mod Asking
 pub mod EndRows
 pub mod OptionRows
 pub mod Options
-pub mod Output
 pub mod Performed
 pub mod RefusalRows
 pub mod Report

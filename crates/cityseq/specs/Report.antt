@@ -2,9 +2,10 @@
 use Rattle.std.specs.Prelude.{◌≡◌, ℕ, List, [], ◌∷◌, Option, Some, Result, Ok, Err, OnOk, OnErr, codes, decimal}
 use Rattle.std.specs.Io.KnownBytes.{Appends}
 use Rattle.cj_stream.specs.Cut.{joined}
-use Rattle.cj_stream.specs.Sink.{AppendsPart}
+use Rattle.cj_stream.specs.Output.{Channel}
+use Rattle.cj_stream.specs.Sink.{AppendsPart, RisesOnErr}
 use Rattle.cityseq.specs.declared.report.Shown.{Shown}
-use Rattle.cj_stream.specs.declared.sink.WriteFault.{WriteFault as Unwritten}
+use Rattle.cj_stream.specs.declared.output.WriteFault.{WriteFault as Unwritten}
 use Rattle.cj_spans.specs.Reason.{code_of, words_of}
 use Rattle.cj_stream.specs.declared.query.fault.QueryFault.{QueryFault}
 use Rattle.cj_stream.specs.declared.query.fault.QueryFault.TheVariants.{Memory as NoMemory, UnknownTypeName, BadBox, BoxRange, EmptyBox}
@@ -53,11 +54,16 @@ abbrev pub shown_end : Result (Unit {0}) Unwritten → End → End
 shown_end (Ok x) e = e
 shown_end (Err f) e = WriteFault
 
+-- a text was written, by this answer: all of it, or a front of it where a write failed
+pub record Wrote (text : List ℕ) (answer : Result (Unit {0}) Unwritten) (old new : Channel) : Type 0 where
+  pub whole : OnOk answer (Appends old.bytes new.bytes text)
+  pub front : OnErr answer (AppendsPart old.bytes new.bytes text)
+  pub failures : RisesOnErr answer old.failures new.failures
+
 -- a run ended so, its output noted this of the flush after it, and this is shown: the run's end, or a write fault where
 -- that flush failed; and the line of that end, of which standard error has taken all, or a front where it failed
-pub record Reports (e : End) (noted : Option (Result (Unit {0}) Unwritten)) (shown : Shown) (old new : Option (List ℕ)) : Type 0 where
+pub record Reports (e : End) (noted : Option (Result (Unit {0}) Unwritten)) (shown : Shown) (old new : Channel) : Type 0 where
   pub flushed : Result (Unit {0}) Unwritten
   pub told : noted ≡ Some flushed
   pub end : shown.end ≡ shown_end flushed e
-  pub whole : OnOk shown.line (Appends old new (fault_line shown.end))
-  pub front : OnErr shown.line (AppendsPart old new (fault_line shown.end))
+  pub line : Wrote (fault_line shown.end) shown.line old new

@@ -3,19 +3,18 @@ ghost use Rattle.std.specs.Prelude.{◌≡◌, ℕ, List};
 ghost use Rattle.std.specs.Io.KnownBytes.{Consumes, IsAtEnd};
 ghost use Rattle.cj_budget.specs.declared.limits.Peaks.{Peaks};
 ghost use Rattle.cj_stream.specs.Asked.{everything};
-ghost use Rattle.cj_stream.specs.Query.{rules_for};
-ghost use Rattle.cj_stream.specs.Run.{Account, Writes};
+ghost use Rattle.cj_stream.specs.Run.{Account};
 ghost use Rattle.cj_stream.specs.Verdict.{Rules};
 ghost use Rattle.cj_stream.specs.declared.ending.End.{End};
-ghost use Rattle.cityseq.specs.Output.{output_writer, flush_answer};
+ghost use Rattle.cj_stream.specs.Output.{output_failures, channel};
+ghost use Rattle.cj_stream.specs.Sink.{HasRisen};
 ghost use Rattle.cityseq.specs.Performed.{all_under, end_of_text as told_after, rules_of_ask, Answers, Performs, SaysCheck, SaysReport};
 ghost use Rattle.cityseq.specs.Report.{Reports, status_of};
 
-use crate::output::Output;
 use crate::report::{Shown, show, status};
 use crate::summary::{write_check, write_report};
 use cj_budget::Limits;
-use cj_stream::{End, Query, WriteFault, copy_out, count_stream, tally_stream};
+use cj_stream::{End, Output, Query, WriteFault, copy_out, count_stream, tally_stream};
 use std::alloc::Global;
 use std::io::{Read, Write};
 
@@ -41,10 +40,16 @@ pub fn end_of_text(written: Result<(), WriteFault>) -> End
 }
 
 // Judges the stream, and says how many lines and features it has where it is valid.
-fn check<R: Read, W: Write>(alloc: Global, limits: Limits, reader: &mut R, out: &mut W) -> End
+fn check<R: Read, W: Write + Drop>(
+    alloc: Global,
+    limits: Limits,
+    reader: &mut R,
+    out: &mut Output<W>,
+) -> End
     ensures { (r : List ℕ) × (n features : ℕ) × (peaks : Peaks) × (e : End) × Consumes (R.remaining reader.old) (R.remaining reader.new) r
         × Account (all_under limits) r (IsAtEnd (R.remaining reader.new)) n features peaks e
-        × SaysCheck (all_under limits) r e result (W.contents out.old) (W.contents out.new) }
+        × SaysCheck (all_under limits) r e result (channel W.contents out.old) (channel W.contents out.new)
+        × (result ≡ End.WriteFault → HasRisen (output_failures out.old) (output_failures out.new)) }
 {
     let query = Query::all(alloc);
     let (_, outcome) = count_stream(alloc, reader, limits, &query);
@@ -55,10 +60,16 @@ fn check<R: Read, W: Write>(alloc: Global, limits: Limits, reader: &mut R, out: 
 }
 
 // Tallies the stream, and reports what is in it where it is valid.
-fn info<R: Read, W: Write>(alloc: Global, limits: Limits, reader: &mut R, out: &mut W) -> End
+fn info<R: Read, W: Write + Drop>(
+    alloc: Global,
+    limits: Limits,
+    reader: &mut R,
+    out: &mut Output<W>,
+) -> End
     ensures { (r : List ℕ) × (n features : ℕ) × (peaks : Peaks) × (e : End) × Consumes (R.remaining reader.old) (R.remaining reader.new) r
         × Account (all_under limits) r (IsAtEnd (R.remaining reader.new)) n features peaks e
-        × SaysReport (all_under limits) r e result (W.contents out.old) (W.contents out.new) }
+        × SaysReport (all_under limits) r e result (channel W.contents out.old) (channel W.contents out.new)
+        × (result ≡ End.WriteFault → HasRisen (output_failures out.old) (output_failures out.new)) }
 {
     let query = Query::all(alloc);
     let (tally, outcome) = tally_stream(alloc, reader, limits, &query);
@@ -69,10 +80,16 @@ fn info<R: Read, W: Write>(alloc: Global, limits: Limits, reader: &mut R, out: &
 }
 
 // Does what is asked with what the reader gives, and tells the end.
-fn answer<R: Read, W: Write>(alloc: Global, ask: &Ask, reader: &mut R, out: &mut W) -> End
+fn answer<R: Read, W: Write + Drop>(
+    alloc: Global,
+    ask: &Ask,
+    reader: &mut R,
+    out: &mut Output<W>,
+) -> End
     ensures { (r : List ℕ) × (n features : ℕ) × (peaks : Peaks) × (e : End) × Consumes (R.remaining reader.old) (R.remaining reader.new) r
         × Account (rules_of_ask ask.now) r (IsAtEnd (R.remaining reader.new)) n features peaks e
-        × Answers ask.now r e result (W.contents out.old) (W.contents out.new) }
+        × Answers ask.now r (IsAtEnd (R.remaining reader.new)) peaks e result (channel W.contents out.old) (channel W.contents out.new)
+        × (result ≡ End.WriteFault → HasRisen (output_failures out.old) (output_failures out.new)) }
 {
     match ask {
         Ask::Check(limits) => check(alloc, *limits, reader, out),
@@ -83,16 +100,16 @@ fn answer<R: Read, W: Write>(alloc: Global, ask: &Ask, reader: &mut R, out: &mut
 
 /// Does what is asked with what the reader gives, flushes `out`, says on `err` how it ended, and answers
 /// the status. A failure to write to `err` is ignored.
-pub fn perform<R: Read, W: Write + Drop, E: Write>(
+pub fn perform<R: Read, W: Write + Drop, E: Write + Drop>(
     alloc: Global,
     ask: &Ask,
     reader: &mut R,
     out: &mut Output<W>,
-    err: &mut E,
+    err: &mut Output<E>,
 ) -> u8
     ensures { (r : List ℕ) × Consumes (R.remaining reader.old) (R.remaining reader.new) r
-        × Performs ask.now r (IsAtEnd (R.remaining reader.new)) result (W.contents (output_writer out.old)) (W.contents (output_writer out.new))
-        (flush_answer out.new) (E.contents err.old) (E.contents err.new) }
+        × Performs ask.now r (IsAtEnd (R.remaining reader.new)) result (channel W.contents out.old) (channel W.contents out.new)
+        (channel E.contents err.old) (channel E.contents err.new) }
 {
     let told = answer(alloc, ask, reader, out);
     status(show(out.flush(), told, err).end)

@@ -3,7 +3,7 @@ ghost use Rattle.std.specs.Prelude.{◌≡◌, ◌⊎◌, ℕ, List, IfOk, IsErr
 ghost use Rattle.std.specs.Io.KnownBytes.{Consumes, IsAtEnd};
 ghost use Rattle.clap.specs.Words.{kind_of};
 ghost use Rattle.clap.specs.declared.parser.matches.ArgMatches.{ArgMatches};
-ghost use Rattle.cityseq.specs.Output.{output_writer, flush_answer};
+ghost use Rattle.cj_stream.specs.Output.{channel};
 ghost use Rattle.cityseq.specs.Performed.{Performs, Declines, TellsError, TellsFault, TellsHelp, TellsMemory, TellsWrongWords};
 ghost use Rattle.cityseq.specs.Report.{query_line, status_of_query};
 ghost use Rattle.cityseq.specs.Words.{AsksBy, CannotAsk};
@@ -12,11 +12,10 @@ ghost use Rattle.cj_stream.specs.declared.query.fault.QueryFault.{QueryFault};
 
 use crate::ask::{Ask, end_of_text, perform};
 use crate::asking::query_of;
-use crate::output::Output;
 use crate::report::{WRONG_WORDS, query_status, show, status, write_fault_line, write_query_fault};
 use crate::words::{limits_of, read_words, texts_of};
 use cj_budget::LimitFault;
-use cj_stream::{End, QueryFault, write_whole};
+use cj_stream::{End, Output, QueryFault};
 use clap::error::ErrorKind;
 use clap::{ArgMatches, Error};
 use std::alloc::Global;
@@ -71,32 +70,32 @@ fn read_ask(alloc: Global, words: &[String]) -> Result<Ask, NoAsk>
 }
 
 // Says that memory was refused, and answers the status of that.
-fn out_of_memory<E: Write>(err: &mut E) -> u8
-    ensures { TellsMemory result (E.contents err.old) (E.contents err.new) }
+fn out_of_memory<E: Write + Drop>(err: &mut Output<E>) -> u8
+    ensures { TellsMemory result (channel E.contents err.old) (channel E.contents err.new) }
 {
     let _ = write_fault_line(err, End::Memory);
     status(End::Memory)
 }
 
 // Says what is wrong with the words, and answers the status of that.
-fn wrong_words<E: Write>(text: &str, err: &mut E) -> u8
-    ensures { TellsFault text.now 2 result (E.contents err.old) (E.contents err.new) }
+fn wrong_words<E: Write + Drop>(text: &str, err: &mut Output<E>) -> u8
+    ensures { TellsFault text.now 2 result (channel E.contents err.old) (channel E.contents err.new) }
 {
-    let _ = write_whole(err, text.as_bytes());
+    let _ = err.write_whole(text.as_bytes());
     WRONG_WORDS
 }
 
 // Says that a query cannot be asked, and answers the status of that.
-fn refused_query<E: Write>(fault: QueryFault, err: &mut E) -> u8
-    ensures { TellsFault (query_line fault) (status_of_query fault) result (E.contents err.old) (E.contents err.new) }
+fn refused_query<E: Write + Drop>(fault: QueryFault, err: &mut Output<E>) -> u8
+    ensures { TellsFault (query_line fault) (status_of_query fault) result (channel E.contents err.old) (channel E.contents err.new) }
 {
     let _ = write_query_fault(err, fault);
     query_status(fault)
 }
 
 // Says that a limit is out of its range.
-fn refused_limit<E: Write>(alloc: Global, fault: LimitFault, err: &mut E) -> u8
-    ensures { TellsMemory result (E.contents err.old) (E.contents err.new) ⊎ TellsWrongWords result (E.contents err.old) (E.contents err.new) }
+fn refused_limit<E: Write + Drop>(alloc: Global, fault: LimitFault, err: &mut Output<E>) -> u8
+    ensures { TellsMemory result (channel E.contents err.old) (channel E.contents err.new) ⊎ TellsWrongWords result (channel E.contents err.old) (channel E.contents err.new) }
 {
     match format!(in alloc; "{fault}\n") {
         Ok(text) => wrong_words(&text, err),
@@ -105,23 +104,27 @@ fn refused_limit<E: Write>(alloc: Global, fault: LimitFault, err: &mut E) -> u8
 }
 
 // Writes the help that was asked for to `out`, flushes it, and says on `err` how that ended.
-fn help<W: Write + Drop, E: Write>(text: &str, out: &mut Output<W>, err: &mut E) -> u8
-    ensures { TellsHelp result (W.contents (output_writer out.old)) (W.contents (output_writer out.new)) (flush_answer out.new)
-        (E.contents err.old) (E.contents err.new) }
+fn help<W: Write + Drop, E: Write + Drop>(
+    text: &str,
+    out: &mut Output<W>,
+    err: &mut Output<E>,
+) -> u8
+    ensures { TellsHelp result (channel W.contents out.old) (channel W.contents out.new)
+        (channel E.contents err.old) (channel E.contents err.new) }
 {
-    let told = end_of_text(write_whole(out, text.as_bytes()));
+    let told = end_of_text(out.write_whole(text.as_bytes()));
     status(show(out.flush(), told, err).end)
 }
 
 // Writes the help that was asked for to `out`, or what is wrong with the words to `err`.
-fn tell<W: Write + Drop, E: Write>(
+fn tell<W: Write + Drop, E: Write + Drop>(
     alloc: Global,
     error: &Error,
     out: &mut Output<W>,
-    err: &mut E,
+    err: &mut Output<E>,
 ) -> u8
-    ensures { TellsError (kind_of error.now) result (W.contents (output_writer out.old)) (W.contents (output_writer out.new))
-        (flush_answer out.old) (flush_answer out.new) (E.contents err.old) (E.contents err.new) }
+    ensures { TellsError (kind_of error.now) result (channel W.contents out.old) (channel W.contents out.new)
+        (channel E.contents err.old) (channel E.contents err.new) }
 {
     if error.kind() == ErrorKind::OutOfMemory {
         return out_of_memory(err);
@@ -138,18 +141,18 @@ fn tell<W: Write + Drop, E: Write>(
 
 /// Does what the words ask for, and answers the status; the first word is the program's name. Where they
 /// are wrong or ask for help, nothing is read. A failure to write to `err` is ignored.
-pub fn command<R: Read, W: Write + Drop, E: Write>(
+pub fn command<R: Read, W: Write + Drop, E: Write + Drop>(
     alloc: Global,
     words: &[String],
     reader: &mut R,
     out: &mut Output<W>,
-    err: &mut E,
+    err: &mut Output<E>,
 ) -> u8
     ensures { ((name : List ℕ) × (options : ArgMatches) × (ask : Ask) × AsksBy name options ask × (r : List ℕ) × Consumes (R.remaining reader.old) (R.remaining reader.new) r
-        × Performs ask r (IsAtEnd (R.remaining reader.new)) result (W.contents (output_writer out.old)) (W.contents (output_writer out.new))
-        (flush_answer out.new) (E.contents err.old) (E.contents err.new))
-        ⊎ ((reader.new ≡ reader.old) × Declines result (W.contents (output_writer out.old)) (W.contents (output_writer out.new))
-        (flush_answer out.old) (flush_answer out.new) (E.contents err.old) (E.contents err.new)) }
+        × Performs ask r (IsAtEnd (R.remaining reader.new)) result (channel W.contents out.old) (channel W.contents out.new)
+        (channel E.contents err.old) (channel E.contents err.new))
+        ⊎ ((reader.new ≡ reader.old) × Declines result (channel W.contents out.old) (channel W.contents out.new)
+        (channel E.contents err.old) (channel E.contents err.new)) }
 {
     match read_ask(alloc, words) {
         Ok(ask) => perform(alloc, &ask, reader, out, err),

@@ -4,7 +4,7 @@
 //!
 //! `words` reads the command line by `clap`, `asking` makes a query of its options, and `command` tells what
 //! is asked for; `ask` does it by the engine of `cj_stream`, over standard input and output. `summary` writes
-//! what `check` and `info` say, `report` how a run ended, and `output` notes what a flush answers.
+//! what `check` and `info` say, and `report` how a run ended.
 //! `option_laws`, `end_laws` and `text_laws` are worked rows of their definitions, as theorems.
 #![tactic(auto)]
 
@@ -13,7 +13,6 @@ mod asking;
 mod command;
 mod end_laws;
 mod option_laws;
-mod output;
 mod report;
 mod summary;
 #[cfg(test)]
@@ -22,9 +21,8 @@ mod text_laws;
 mod words;
 
 use crate::command::command;
-use crate::output::Output;
 use crate::report::{WRONG_WORDS, status, write_fault_line};
-use cj_stream::End;
+use cj_stream::{End, Output};
 use std::alloc::{AllocError, Global};
 use std::env;
 use std::io::{BufWriter, ErrorKind};
@@ -55,7 +53,7 @@ fn read_words(rt: &HostRuntime) -> Result<Vec<String>, WordsFault> {
 
 // Says that memory was refused.
 fn out_of_memory(rt: &HostRuntime) -> u8 {
-    let _ = write_fault_line(&mut rt.stderr(), End::Memory);
+    let _ = write_fault_line(&mut Output::new(rt.stderr()), End::Memory);
     status(End::Memory)
 }
 
@@ -69,7 +67,8 @@ fn perform(rt: &HostRuntime, alloc: Global) -> u8 {
         return out_of_memory(rt);
     };
     let mut out = Output::new(buffer);
-    command(alloc, &words, &mut rt.stdin(), &mut out, &mut rt.stderr())
+    let mut err = Output::new(rt.stderr());
+    command(alloc, &words, &mut rt.stdin(), &mut out, &mut err)
 }
 
 fn main(rt: HostRuntime) -> ExitCode {

@@ -2,15 +2,13 @@
 ghost use Rattle.std.specs.Prelude.{◌≡◌, OnOk, OnErr, map, ◌∷◌, [], codes, decimal};
 ghost use Rattle.std.specs.Io.KnownBytes.{Appends};
 ghost use Rattle.cj_stream.specs.Cut.{joined};
-ghost use Rattle.cj_stream.specs.Sink.{AppendsPart};
-ghost use Rattle.cityseq.specs.Output.{flushed_by};
+ghost use Rattle.cj_stream.specs.Sink.{AppendsPart, RisesOnErr};
+ghost use Rattle.cj_stream.specs.Output.{output_writer, output_failures};
 ghost use Rattle.cityseq.specs.Report.{fault_line, query_line, shown_end, status_of, status_of_query};
 
-use crate::output::flushed;
 use cj_spans::Reason;
-use cj_stream::{End, QueryFault, WriteFault, write_whole};
+use cj_stream::{End, Output, QueryFault, WriteFault};
 use itoa::Buffer;
-use std::io;
 use std::io::Write;
 
 /// The status of a command line that is not understood. All others are those of an end: [`status`].
@@ -62,24 +60,26 @@ fn end_after(flushed: Result<(), WriteFault>, ended: End) -> End
 }
 
 /// Writes these parts, one after another.
-pub fn write_parts<W: Write>(writer: &mut W, parts: &[&[u8]]) -> Result<(), WriteFault>
-    ensures ok { OnOk result (Appends (W.contents writer.old) (W.contents writer.new) (joined (map (λ part. part.now) parts.now))) }
-    ensures fault { OnErr result (AppendsPart (W.contents writer.old) (W.contents writer.new) (joined (map (λ part. part.now) parts.now))) }
+pub fn write_parts<W: Write + Drop>(out: &mut Output<W>, parts: &[&[u8]]) -> Result<(), WriteFault>
+    ensures ok { OnOk result (Appends (W.contents (output_writer out.old)) (W.contents (output_writer out.new)) (joined (map (λ part. part.now) parts.now))) }
+    ensures fault { OnErr result (AppendsPart (W.contents (output_writer out.old)) (W.contents (output_writer out.new)) (joined (map (λ part. part.now) parts.now))) }
+    ensures failures { RisesOnErr result (output_failures out.old) (output_failures out.new) }
 {
     for part in parts {
-        write_whole(writer, part)?;
+        out.write_whole(part)?;
     }
     Ok(())
 }
 
-fn write_refusal<W: Write>(
-    err: &mut W,
+fn write_refusal<E: Write + Drop>(
+    err: &mut Output<E>,
     line: u64,
     place: u64,
     reason: Reason,
 ) -> Result<(), WriteFault>
-    ensures ok { OnOk result (Appends (W.contents err.old) (W.contents err.new) (fault_line (End.Refused line place reason))) }
-    ensures fault { OnErr result (AppendsPart (W.contents err.old) (W.contents err.new) (fault_line (End.Refused line place reason))) }
+    ensures ok { OnOk result (Appends (E.contents (output_writer err.old)) (E.contents (output_writer err.new)) (fault_line (End.Refused line place reason))) }
+    ensures fault { OnErr result (AppendsPart (E.contents (output_writer err.old)) (E.contents (output_writer err.new)) (fault_line (End.Refused line place reason))) }
+    ensures failures { RisesOnErr result (output_failures err.old) (output_failures err.new) }
 {
     let mut line_digits = Buffer::new();
     let mut place_digits = Buffer::new();
@@ -99,9 +99,10 @@ fn write_refusal<W: Write>(
 }
 
 /// Writes the line that an end has on standard error; a complete run has none.
-pub fn write_fault_line<W: Write>(err: &mut W, end: End) -> Result<(), WriteFault>
-    ensures ok { OnOk result (Appends (W.contents err.old) (W.contents err.new) (fault_line end)) }
-    ensures fault { OnErr result (AppendsPart (W.contents err.old) (W.contents err.new) (fault_line end)) }
+pub fn write_fault_line<E: Write + Drop>(err: &mut Output<E>, end: End) -> Result<(), WriteFault>
+    ensures ok { OnOk result (Appends (E.contents (output_writer err.old)) (E.contents (output_writer err.new)) (fault_line end)) }
+    ensures fault { OnErr result (AppendsPart (E.contents (output_writer err.old)) (E.contents (output_writer err.new)) (fault_line end)) }
+    ensures failures { RisesOnErr result (output_failures err.old) (output_failures err.new) }
 {
     match end {
         End::Complete => Ok(()),
@@ -110,35 +111,44 @@ pub fn write_fault_line<W: Write>(err: &mut W, end: End) -> Result<(), WriteFaul
             place,
             reason,
         } => write_refusal(err, line, place, reason),
-        End::ReadFault => write_whole(err, b"read fault\n"),
-        End::ReadLimit => write_whole(err, b"read limit\n"),
-        End::WriteFault => write_whole(err, b"write fault\n"),
-        End::Memory => write_whole(err, b"out of memory\n"),
+        End::ReadFault => err.write_whole(b"read fault\n"),
+        End::ReadLimit => err.write_whole(b"read limit\n"),
+        End::WriteFault => err.write_whole(b"write fault\n"),
+        End::Memory => err.write_whole(b"out of memory\n"),
     }
 }
 
 /// Writes the line that a query has on standard error that cannot be asked.
-pub fn write_query_fault<W: Write>(err: &mut W, fault: QueryFault) -> Result<(), WriteFault>
-    ensures ok { OnOk result (Appends (W.contents err.old) (W.contents err.new) (query_line fault)) }
-    ensures fault { OnErr result (AppendsPart (W.contents err.old) (W.contents err.new) (query_line fault)) }
+pub fn write_query_fault<E: Write + Drop>(
+    err: &mut Output<E>,
+    fault: QueryFault,
+) -> Result<(), WriteFault>
+    ensures ok { OnOk result (Appends (E.contents (output_writer err.old)) (E.contents (output_writer err.new)) (query_line fault)) }
+    ensures fault { OnErr result (AppendsPart (E.contents (output_writer err.old)) (E.contents (output_writer err.new)) (query_line fault)) }
+    ensures failures { RisesOnErr result (output_failures err.old) (output_failures err.new) }
 {
     match fault {
         QueryFault::Memory => write_fault_line(err, End::Memory),
-        QueryFault::UnknownTypeName => write_whole(err, b"unknown object type\n"),
-        QueryFault::BadBox => write_whole(err, b"bad box\n"),
-        QueryFault::BoxRange => write_whole(err, b"box number out of range\n"),
-        QueryFault::EmptyBox => write_whole(err, b"empty box\n"),
+        QueryFault::UnknownTypeName => err.write_whole(b"unknown object type\n"),
+        QueryFault::BadBox => err.write_whole(b"bad box\n"),
+        QueryFault::BoxRange => err.write_whole(b"box number out of range\n"),
+        QueryFault::EmptyBox => err.write_whole(b"empty box\n"),
     }
 }
 
 /// Says on standard error how a run ended, whose output was then flushed with this answer. A failure
 /// to write there is told by the result alone.
-pub fn show<E: Write>(answer: io::Result<()>, ended: End, err: &mut E) -> Shown
-    ensures end { result.end ≡ shown_end (flushed_by answer) ended }
-    ensures whole { OnOk result.line (Appends (E.contents err.old) (E.contents err.new) (fault_line result.end)) }
-    ensures front { OnErr result.line (AppendsPart (E.contents err.old) (E.contents err.new) (fault_line result.end)) }
+pub fn show<E: Write + Drop>(
+    flushed: Result<(), WriteFault>,
+    ended: End,
+    err: &mut Output<E>,
+) -> Shown
+    ensures end { result.end ≡ shown_end flushed ended }
+    ensures whole { OnOk result.line (Appends (E.contents (output_writer err.old)) (E.contents (output_writer err.new)) (fault_line result.end)) }
+    ensures front { OnErr result.line (AppendsPart (E.contents (output_writer err.old)) (E.contents (output_writer err.new)) (fault_line result.end)) }
+    ensures failures { RisesOnErr result.line (output_failures err.old) (output_failures err.new) }
 {
-    let end = end_after(flushed(&answer), ended);
+    let end = end_after(flushed, ended);
     Shown {
         end,
         line: write_fault_line(err, end),

@@ -1,7 +1,8 @@
 //! What `check` and `info` write of a valid stream.
 ghost use Rattle.std.specs.Prelude.{◌≡◌, ◌≤◌, OnOk, OnErr, get_or, map, ◌∷◌, []};
 ghost use Rattle.std.specs.Io.KnownBytes.{Appends};
-ghost use Rattle.cj_stream.specs.Sink.{AppendsPart};
+ghost use Rattle.cj_stream.specs.Sink.{AppendsPart, RisesOnErr};
+ghost use Rattle.cj_stream.specs.Output.{output_writer, output_failures};
 ghost use Rattle.cityseq.specs.Summary.{check_text, numbers_line, power_text, types_text, class_names, lods_text, range_line, ranges_text, tally_text, peaks_text, report};
 ghost use Rattle.cityseq.specs.Text.{text_line, count_line, counted};
 
@@ -9,7 +10,7 @@ use crate::report::write_parts;
 use cj_budget::Peaks;
 use cj_decimal::Decimal;
 use cj_geometry::ObjectType;
-use cj_stream::{TallySink, WriteFault, write_whole};
+use cj_stream::{Output, TallySink, WriteFault};
 use itoa::Buffer;
 use std::io::Write;
 
@@ -21,9 +22,14 @@ const CLASSES: u8 = 6;
 /// # Errors
 ///
 /// A write fault, after a front of the text.
-pub fn write_check<W: Write>(out: &mut W, lines: u64, features: u64) -> Result<(), WriteFault>
-    ensures ok { OnOk result (Appends (W.contents out.old) (W.contents out.new) (check_text lines features)) }
-    ensures fault { OnErr result (AppendsPart (W.contents out.old) (W.contents out.new) (check_text lines features)) }
+pub fn write_check<W: Write + Drop>(
+    out: &mut Output<W>,
+    lines: u64,
+    features: u64,
+) -> Result<(), WriteFault>
+    ensures ok { OnOk result (Appends (W.contents (output_writer out.old)) (W.contents (output_writer out.new)) (check_text lines features)) }
+    ensures fault { OnErr result (AppendsPart (W.contents (output_writer out.old)) (W.contents (output_writer out.new)) (check_text lines features)) }
+    ensures failures { RisesOnErr result (output_failures out.old) (output_failures out.new) }
 {
     let mut line_digits = Buffer::new();
     let mut feature_digits = Buffer::new();
@@ -38,35 +44,46 @@ pub fn write_check<W: Write>(out: &mut W, lines: u64, features: u64) -> Result<(
 }
 
 // Writes a line: a name, and words after it, each behind a space.
-fn write_line<W: Write>(out: &mut W, name: &str, words: &[&str]) -> Result<(), WriteFault>
-    ensures ok { OnOk result (Appends (W.contents out.old) (W.contents out.new) (text_line name.now (map (λ word. word.now) words.now))) }
-    ensures fault { OnErr result (AppendsPart (W.contents out.old) (W.contents out.new) (text_line name.now (map (λ word. word.now) words.now))) }
+fn write_line<W: Write + Drop>(
+    out: &mut Output<W>,
+    name: &str,
+    words: &[&str],
+) -> Result<(), WriteFault>
+    ensures ok { OnOk result (Appends (W.contents (output_writer out.old)) (W.contents (output_writer out.new)) (text_line name.now (map (λ word. word.now) words.now))) }
+    ensures fault { OnErr result (AppendsPart (W.contents (output_writer out.old)) (W.contents (output_writer out.new)) (text_line name.now (map (λ word. word.now) words.now))) }
+    ensures failures { RisesOnErr result (output_failures out.old) (output_failures out.new) }
 {
-    write_whole(out, name.as_bytes())?;
+    out.write_whole(name.as_bytes())?;
     for word in words {
         write_parts(out, &[b" ", word.as_bytes()])?;
     }
-    write_whole(out, b"\n")
+    out.write_whole(b"\n")
 }
 
 // Writes a line with a count.
-fn write_count<W: Write>(out: &mut W, name: &str, count: u64) -> Result<(), WriteFault>
-    ensures ok { OnOk result (Appends (W.contents out.old) (W.contents out.new) (count_line name.now count)) }
-    ensures fault { OnErr result (AppendsPart (W.contents out.old) (W.contents out.new) (count_line name.now count)) }
+fn write_count<W: Write + Drop>(
+    out: &mut Output<W>,
+    name: &str,
+    count: u64,
+) -> Result<(), WriteFault>
+    ensures ok { OnOk result (Appends (W.contents (output_writer out.old)) (W.contents (output_writer out.new)) (count_line name.now count)) }
+    ensures fault { OnErr result (AppendsPart (W.contents (output_writer out.old)) (W.contents (output_writer out.new)) (count_line name.now count)) }
+    ensures failures { RisesOnErr result (output_failures out.old) (output_failures out.new) }
 {
     let mut digits = Buffer::new();
     write_line(out, name, &[digits.format(count)])
 }
 
 // Writes a line with the count of something among others of its kind, unless it is 0.
-fn write_counted<W: Write>(
-    out: &mut W,
+fn write_counted<W: Write + Drop>(
+    out: &mut Output<W>,
     kind: &str,
     name: &str,
     count: u64,
 ) -> Result<(), WriteFault>
-    ensures ok { OnOk result (Appends (W.contents out.old) (W.contents out.new) (counted kind.now name.now count)) }
-    ensures fault { OnErr result (AppendsPart (W.contents out.old) (W.contents out.new) (counted kind.now name.now count)) }
+    ensures ok { OnOk result (Appends (W.contents (output_writer out.old)) (W.contents (output_writer out.new)) (counted kind.now name.now count)) }
+    ensures fault { OnErr result (AppendsPart (W.contents (output_writer out.old)) (W.contents (output_writer out.new)) (counted kind.now name.now count)) }
+    ensures failures { RisesOnErr result (output_failures out.old) (output_failures out.new) }
 {
     if count == 0 {
         return Ok(());
@@ -76,9 +93,10 @@ fn write_counted<W: Write>(
 }
 
 // Writes a number, behind a space, as its coefficient, `e`, and its power of ten.
-fn write_power<W: Write>(out: &mut W, number: Decimal) -> Result<(), WriteFault>
-    ensures ok { OnOk result (Appends (W.contents out.old) (W.contents out.new) (32 ∷ power_text number)) }
-    ensures fault { OnErr result (AppendsPart (W.contents out.old) (W.contents out.new) (32 ∷ power_text number)) }
+fn write_power<W: Write + Drop>(out: &mut Output<W>, number: Decimal) -> Result<(), WriteFault>
+    ensures ok { OnOk result (Appends (W.contents (output_writer out.old)) (W.contents (output_writer out.new)) (32 ∷ power_text number)) }
+    ensures fault { OnErr result (AppendsPart (W.contents (output_writer out.old)) (W.contents (output_writer out.new)) (32 ∷ power_text number)) }
+    ensures failures { RisesOnErr result (output_failures out.old) (output_failures out.new) }
 {
     let mut coefficient = Buffer::new();
     let mut power = Buffer::new();
@@ -92,28 +110,30 @@ fn write_power<W: Write>(out: &mut W, number: Decimal) -> Result<(), WriteFault>
 }
 
 // Writes a line with the numbers of a transform, if there is one.
-fn write_numbers<W: Write>(
-    out: &mut W,
+fn write_numbers<W: Write + Drop>(
+    out: &mut Output<W>,
     name: &str,
     numbers: Option<[Decimal; 3]>,
 ) -> Result<(), WriteFault>
-    ensures ok { OnOk result (Appends (W.contents out.old) (W.contents out.new) (numbers_line name.now numbers)) }
-    ensures fault { OnErr result (AppendsPart (W.contents out.old) (W.contents out.new) (numbers_line name.now numbers)) }
+    ensures ok { OnOk result (Appends (W.contents (output_writer out.old)) (W.contents (output_writer out.new)) (numbers_line name.now numbers)) }
+    ensures fault { OnErr result (AppendsPart (W.contents (output_writer out.old)) (W.contents (output_writer out.new)) (numbers_line name.now numbers)) }
+    ensures failures { RisesOnErr result (output_failures out.old) (output_failures out.new) }
 {
     let Some(numbers) = numbers else {
         return Ok(());
     };
-    write_whole(out, name.as_bytes())?;
+    out.write_whole(name.as_bytes())?;
     for number in numbers {
         write_power(out, number)?;
     }
-    write_whole(out, b"\n")
+    out.write_whole(b"\n")
 }
 
 // Writes how many city objects there are of each type of which there are some.
-fn write_types<W: Write>(out: &mut W, tally: &TallySink) -> Result<(), WriteFault>
-    ensures ok { OnOk result (Appends (W.contents out.old) (W.contents out.new) (types_text tally.now)) }
-    ensures fault { OnErr result (AppendsPart (W.contents out.old) (W.contents out.new) (types_text tally.now)) }
+fn write_types<W: Write + Drop>(out: &mut Output<W>, tally: &TallySink) -> Result<(), WriteFault>
+    ensures ok { OnOk result (Appends (W.contents (output_writer out.old)) (W.contents (output_writer out.new)) (types_text tally.now)) }
+    ensures fault { OnErr result (AppendsPart (W.contents (output_writer out.old)) (W.contents (output_writer out.new)) (types_text tally.now)) }
+    ensures failures { RisesOnErr result (output_failures out.old) (output_failures out.new) }
 {
     for object_type in ObjectType::all() {
         write_counted(out, "type", object_type.name(), tally.by_type(object_type))?;
@@ -137,9 +157,10 @@ fn class_name(class: u8) -> &'static str
 }
 
 // Writes how many geometries there are of each class of LoDs of which there are some.
-fn write_lods<W: Write>(out: &mut W, tally: &TallySink) -> Result<(), WriteFault>
-    ensures ok { OnOk result (Appends (W.contents out.old) (W.contents out.new) (lods_text tally.now)) }
-    ensures fault { OnErr result (AppendsPart (W.contents out.old) (W.contents out.new) (lods_text tally.now)) }
+fn write_lods<W: Write + Drop>(out: &mut Output<W>, tally: &TallySink) -> Result<(), WriteFault>
+    ensures ok { OnOk result (Appends (W.contents (output_writer out.old)) (W.contents (output_writer out.new)) (lods_text tally.now)) }
+    ensures fault { OnErr result (AppendsPart (W.contents (output_writer out.old)) (W.contents (output_writer out.new)) (lods_text tally.now)) }
+    ensures failures { RisesOnErr result (output_failures out.old) (output_failures out.new) }
 {
     for class in 0..CLASSES {
         write_counted(out, "lod", class_name(class), tally.by_lod(class))?;
@@ -148,13 +169,14 @@ fn write_lods<W: Write>(out: &mut W, tally: &TallySink) -> Result<(), WriteFault
 }
 
 // Writes the least and the greatest number of the vertices on an axis, if there are some.
-fn write_range<W: Write>(
-    out: &mut W,
+fn write_range<W: Write + Drop>(
+    out: &mut Output<W>,
     axis: &str,
     range: Option<(i64, i64)>,
 ) -> Result<(), WriteFault>
-    ensures ok { OnOk result (Appends (W.contents out.old) (W.contents out.new) (range_line axis.now range)) }
-    ensures fault { OnErr result (AppendsPart (W.contents out.old) (W.contents out.new) (range_line axis.now range)) }
+    ensures ok { OnOk result (Appends (W.contents (output_writer out.old)) (W.contents (output_writer out.new)) (range_line axis.now range)) }
+    ensures fault { OnErr result (AppendsPart (W.contents (output_writer out.old)) (W.contents (output_writer out.new)) (range_line axis.now range)) }
+    ensures failures { RisesOnErr result (output_failures out.old) (output_failures out.new) }
 {
     let Some((least, greatest)) = range else {
         return Ok(());
@@ -169,9 +191,10 @@ fn write_range<W: Write>(
 }
 
 // Writes the range of each axis.
-fn write_ranges<W: Write>(out: &mut W, tally: &TallySink) -> Result<(), WriteFault>
-    ensures ok { OnOk result (Appends (W.contents out.old) (W.contents out.new) (ranges_text tally.now)) }
-    ensures fault { OnErr result (AppendsPart (W.contents out.old) (W.contents out.new) (ranges_text tally.now)) }
+fn write_ranges<W: Write + Drop>(out: &mut Output<W>, tally: &TallySink) -> Result<(), WriteFault>
+    ensures ok { OnOk result (Appends (W.contents (output_writer out.old)) (W.contents (output_writer out.new)) (ranges_text tally.now)) }
+    ensures fault { OnErr result (AppendsPart (W.contents (output_writer out.old)) (W.contents (output_writer out.new)) (ranges_text tally.now)) }
+    ensures failures { RisesOnErr result (output_failures out.old) (output_failures out.new) }
 {
     write_range(out, "x", tally.range(0))?;
     write_range(out, "y", tally.range(1))?;
@@ -179,9 +202,10 @@ fn write_ranges<W: Write>(out: &mut W, tally: &TallySink) -> Result<(), WriteFau
 }
 
 // Writes a tally.
-fn write_tally<W: Write>(out: &mut W, tally: &TallySink) -> Result<(), WriteFault>
-    ensures ok { OnOk result (Appends (W.contents out.old) (W.contents out.new) (tally_text tally.now)) }
-    ensures fault { OnErr result (AppendsPart (W.contents out.old) (W.contents out.new) (tally_text tally.now)) }
+fn write_tally<W: Write + Drop>(out: &mut Output<W>, tally: &TallySink) -> Result<(), WriteFault>
+    ensures ok { OnOk result (Appends (W.contents (output_writer out.old)) (W.contents (output_writer out.new)) (tally_text tally.now)) }
+    ensures fault { OnErr result (AppendsPart (W.contents (output_writer out.old)) (W.contents (output_writer out.new)) (tally_text tally.now)) }
+    ensures failures { RisesOnErr result (output_failures out.old) (output_failures out.new) }
 {
     write_count(out, "features", tally.features())?;
     write_numbers(out, "scale", tally.scale())?;
@@ -192,9 +216,10 @@ fn write_tally<W: Write>(out: &mut W, tally: &TallySink) -> Result<(), WriteFaul
 }
 
 // Writes how much was held at most.
-fn write_peaks<W: Write>(out: &mut W, peaks: Peaks) -> Result<(), WriteFault>
-    ensures ok { OnOk result (Appends (W.contents out.old) (W.contents out.new) (peaks_text peaks)) }
-    ensures fault { OnErr result (AppendsPart (W.contents out.old) (W.contents out.new) (peaks_text peaks)) }
+fn write_peaks<W: Write + Drop>(out: &mut Output<W>, peaks: Peaks) -> Result<(), WriteFault>
+    ensures ok { OnOk result (Appends (W.contents (output_writer out.old)) (W.contents (output_writer out.new)) (peaks_text peaks)) }
+    ensures fault { OnErr result (AppendsPart (W.contents (output_writer out.old)) (W.contents (output_writer out.new)) (peaks_text peaks)) }
+    ensures failures { RisesOnErr result (output_failures out.old) (output_failures out.new) }
 {
     write_count(out, "peak bytes", peaks.bytes)?;
     write_count(out, "peak tokens", peaks.tokens)?;
@@ -207,14 +232,15 @@ fn write_peaks<W: Write>(out: &mut W, peaks: Peaks) -> Result<(), WriteFault>
 /// # Errors
 ///
 /// A write fault, after a front of the report.
-pub fn write_report<W: Write>(
-    out: &mut W,
+pub fn write_report<W: Write + Drop>(
+    out: &mut Output<W>,
     lines: u64,
     tally: &TallySink,
     peaks: Peaks,
 ) -> Result<(), WriteFault>
-    ensures ok { OnOk result (Appends (W.contents out.old) (W.contents out.new) (report lines tally.now peaks)) }
-    ensures fault { OnErr result (AppendsPart (W.contents out.old) (W.contents out.new) (report lines tally.now peaks)) }
+    ensures ok { OnOk result (Appends (W.contents (output_writer out.old)) (W.contents (output_writer out.new)) (report lines tally.now peaks)) }
+    ensures fault { OnErr result (AppendsPart (W.contents (output_writer out.old)) (W.contents (output_writer out.new)) (report lines tally.now peaks)) }
+    ensures failures { RisesOnErr result (output_failures out.old) (output_failures out.new) }
 {
     write_count(out, "lines", lines)?;
     write_tally(out, tally)?;

@@ -12,11 +12,11 @@ use Rattle.cj_stream.specs.declared.ending.End.TheVariants.{Complete, Refused, R
 use Rattle.cj_stream.specs.Item.{Item, raw_item}
 use Rattle.cj_stream.specs.Lines.{Line, NoLf, closed, begun, first_of, ended_line, last_line, lines, whole}
 use Rattle.cj_stream.specs.Verdict.{Rules, verdict, header_of, item_after, refusal_of, refusal_in, refusal_from, good_from, kept_from, kept_first, kept, ending, judged, long_line}
-use Rattle.cj_stream.specs.Cut.{joined, LeavesNext, PutsFront, PutsPieces, AppendsFront, Copies, TookWhole, IsUnread}
+use Rattle.cj_stream.specs.Cut.{joined, PutsPieces, EndsAt, Copies, TookWhole, IsUnread}
 use Rattle.cj_stream.specs.Engine.{State, rules_of, lines_of, Delivers, Faults, Tells, Concludes}
 use Rattle.cj_stream.specs.Reading.{Reads}
 use Rattle.cj_stream.specs.Run.{Runs}
-use Rattle.cj_stream.specs.Sink.{Took, AppendsPart}
+use Rattle.cj_stream.specs.Sink.{Took, LeavesNext}
 use Rattle.cj_stream.proofs.JoinedLemmas.{joined-cut, joined-next}
 use Rattle.cj_stream.proofs.LineLemmas.{closed-then, begun-then, NoLf-begun, first_content-long}
 use Rattle.cj_stream.proofs.VerdictLemmas.{refusal-append, verdict-long}
@@ -26,7 +26,7 @@ use Rattle.cj_stream.proofs.ReadingLemmas.{map_lines-append, length-map_lines}
 use Rattle.cj_stream.proofs.GoodLemmas.{good-append, good-all, kept-next_line, kept-split}
 use Rattle.cj_stream.proofs.PieceLemmas.{Took-append}
 use Rattle.cj_stream.proofs.RunLemmas.{refusal-stays, ending-refused, kept_first-same, whole-good}
-use Rattle.cj_stream.proofs.OutputLemmas.{Took-appends, Took-split, Took-all, kept-whole}
+use Rattle.cj_stream.proofs.OutputLemmas.{Took-appends, Took-all, kept-whole, writes, writes_part, front-bytes, next-bytes, no-bytes}
 use Rattle.cj_stream.proofs.Apart.{none-some}
 
 -- a text that goes on: the lines that LF ended, and those of what had begun
@@ -185,44 +185,51 @@ module _ {S : Type 0} (takes leaves : S → Item → S → Type 0) (rules : Rule
         left = took.4;
       }
 
-module _ {S : Type 0} (contents : S → Option (List ℕ)) (rules : Rules) (pieces : List (List ℕ)) (n : ℕ) (s t : S) where
-  abbrev writes : S → Item → S → Type 0
-  writes a l b = Appends (contents a) (contents b) (raw_item l)
+-- a writer that was put the items of pieces
+pub Copies-puts : {S : Type 0} (contents : S → Option (List ℕ)) (rules : Rules) (pieces : List (List ℕ)) (n : ℕ) (s t : S) (e : End)
+    → PutsPieces (writes contents) (writes_part contents) rules pieces n e s t → Copies rules pieces n e (contents s) (contents t)
+Copies-puts contents rules pieces n s t Complete h = (h.0, Took-appends contents s t (kept rules (joined pieces)) h.1)
+Copies-puts contents rules pieces n s t (Refused number place reason) h = (h.0, Took-appends contents s t (kept rules (joined pieces)) h.1)
+Copies-puts contents rules pieces n s t ReadFault h = h
+Copies-puts contents rules pieces n s t ReadLimit h = h
+Copies-puts contents rules pieces n s t WriteFault h =
+    front-bytes contents (LeavesNext (writes_part contents)) (next-bytes contents) (kept rules (joined (take (n + 1) pieces))) (kept rules (whole (joined (take n pieces)))) s t h
+Copies-puts contents rules pieces n s t Memory h =
+    front-bytes contents (λ others a b. b ≡ a) (no-bytes contents) (kept rules (joined (take (n + 1) pieces))) (kept rules (whole (joined (take n pieces)))) s t h
 
-  abbrev writes_part : S → Item → S → Type 0
-  writes_part a l b = AppendsPart (contents a) (contents b) (raw_item l)
+-- where a piece, or the end, ended it
+pub EndsAt-told : (rules : Rules) (pieces : List (List ℕ)) (k n : ℕ) (e : End) → Tells rules (joined (take (k + 1) pieces)) n e → EndsAt rules pieces k e
+EndsAt-told rules pieces k n Complete c = absurd c
+EndsAt-told rules pieces k n (Refused number place reason) c = inr c.0
+EndsAt-told rules pieces k n ReadFault c = c
+EndsAt-told rules pieces k n ReadLimit c = c
+EndsAt-told rules pieces k n WriteFault c = tt
+EndsAt-told rules pieces k n Memory c = tt
 
-  -- the bytes of what came after a front of what is kept
-  front-bytes : (then : List Item → S → S → Type 0) → ((others : List Item) (a b : S) → then others a b → AppendsPart (contents a) (contents b) (flat_map raw_item others))
-      → PutsFront writes then rules pieces n s t → AppendsFront rules pieces n (contents s) (contents t)
-  front-bytes then bytes h =
-      let first = kept rules (whole (joined (take n pieces))) in
-      let cut = Took-split writes s h.middle first h.more h.took in
-      let left = bytes h.others h.middle t h.left in (
-        rw (h.front, joined-append raw_item (first ++ h.more) h.others) (AppendsPart-after (contents s) (contents h.middle) (contents t) (flat_map raw_item (first ++ h.more)) (flat_map raw_item h.others) (Took-appends contents s h.middle (first ++ h.more) h.took) left),
-        record {
-          middle = contents cut.0;
-          more = flat_map raw_item h.more ++ left.front;
-          first = Took-appends contents s cut.0 first cut.1;
-          grows = Appends-then (contents cut.0) (contents h.middle) (contents t) (flat_map raw_item h.more) left.front (Took-appends contents cut.0 h.middle h.more cut.2) left.grows;
-        },
-      )
+pub EndsAt-concludes : (rules : Rules) (pieces : List (List ℕ)) (k : ℕ) (p : List ℕ) (n : ℕ) (e : End) → k ≡ length pieces → Concludes rules p n e → EndsAt rules pieces k e
+EndsAt-concludes rules pieces k p n Complete all c = all
+EndsAt-concludes rules pieces k p n (Refused number place reason) all c = inl all
+EndsAt-concludes rules pieces k p n ReadFault all c = c
+EndsAt-concludes rules pieces k p n ReadLimit all c = c
+EndsAt-concludes rules pieces k p n WriteFault all c = tt
+EndsAt-concludes rules pieces k p n Memory all c = tt
 
-  next-bytes : (others : List Item) (a b : S) → LeavesNext writes_part others a b → AppendsPart (contents a) (contents b) (flat_map raw_item others)
-  next-bytes [] a b h = absurd h
-  next-bytes (i ∷ is) a b h = AppendsPart-front (contents a) (contents b) (raw_item i) (flat_map raw_item is) h
+-- such an end is none that a reader makes
+pub unread-at : (rules : Rules) (pieces : List (List ℕ)) (k : ℕ) (e : End) → EndsAt rules pieces k e → IsUnread e
+unread-at rules pieces k Complete c = tt
+unread-at rules pieces k (Refused number place reason) c = tt
+unread-at rules pieces k ReadFault c = c
+unread-at rules pieces k ReadLimit c = c
+unread-at rules pieces k WriteFault c = tt
+unread-at rules pieces k Memory c = tt
 
-  no-bytes : (others : List Item) (a b : S) → b ≡ a → AppendsPart (contents a) (contents b) (flat_map raw_item others)
-  no-bytes others a b h = rw h (record { front = []; rest = flat_map raw_item others; whole = refl; grows = Appends-nothing (contents a) })
-
-  -- a writer that was put the items of pieces
-  pub Copies-puts : (e : End) → PutsPieces writes writes_part rules pieces n e s t → Copies rules pieces n e (contents s) (contents t)
-  Copies-puts Complete h = (h.0, Took-appends contents s t (kept rules (joined pieces)) h.1)
-  Copies-puts (Refused number place reason) h = (h.0, Took-appends contents s t (kept rules (joined pieces)) h.1)
-  Copies-puts ReadFault h = h
-  Copies-puts ReadLimit h = h
-  Copies-puts WriteFault h = front-bytes (LeavesNext writes_part) next-bytes h
-  Copies-puts Memory h = front-bytes (λ others a b. b ≡ a) no-bytes h
+-- of nothing at all nothing is refused before its end
+pub judged-nothing : (rules : Rules) → refusal_in rules (judged rules.limits []) ≡ None
+judged-nothing rules = go (ltb rules.limits.line 0)
+  where
+    go : (b : Bool) → refusal_in rules (cond b [] []) ≡ None
+    go true = refl
+    go false = refl
 
 pub unread-told : (rules : Rules) (q : List ℕ) (n : ℕ) (e : End) → Tells rules q n e → IsUnread e
 unread-told rules q n Complete h = tt

@@ -14,3 +14,7 @@ unfailed-end false e f u = (λ t. cc, λ is. absurd (subst IsUnread is u))
 pub unfailed-limit : (failed : Bool) → failed ≡ false → IsTrue failed ↔ (ReadLimit ≡ ReadFault)
 unfailed-limit true f = cc
 unfailed-limit false f = (λ t. cc, λ is. cc)
+
+-- such an end is none by the number of reads
+pub unread-limit : {P : Type 0} (e : End) → IsUnread e → e ≡ ReadLimit → P
+unread-limit e u is = absurd (subst IsUnread is u)

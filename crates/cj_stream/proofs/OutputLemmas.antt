@@ -10,8 +10,9 @@ use Rattle.cj_stream.specs.Lines.{lines, whole, closed}
 use Rattle.cj_stream.specs.Item.{Item, raw_item}
 use Rattle.cj_stream.specs.Verdict.{Rules, refusal_in, good, good_from, kept_from, kept, kept_first, item_after}
 use Rattle.cj_stream.specs.Engine.{Delivers, Faults}
-use Rattle.cj_stream.specs.Run.{Runs, Writes}
-use Rattle.cj_stream.specs.Sink.{Took, AppendsPart}
+use Rattle.cj_stream.specs.Cut.{AppendsMore}
+use Rattle.cj_stream.specs.Run.{Account, Puts, Runs, Writes}
+use Rattle.cj_stream.specs.Sink.{Took, TookFront, LeavesNext, AppendsPart}
 use Rattle.cj_stream.proofs.IsLinesLemmas.{joined-append, lines-whole}
 use Rattle.cj_stream.proofs.ReadingLemmas.{length-map_lines}
 use Rattle.cj_stream.proofs.EngineLemmas.{kept_first-front}
@@ -24,10 +25,6 @@ pub Took-appends : {S : Type 0} (contents : S → Option (List ℕ)) (s t : S) (
 Took-appends contents s t [] h = rw h (Appends-nothing (contents s))
 Took-appends contents s t (l ∷ ls) h =
     Appends-then (contents s) (contents h.0) (contents t) (raw_item l) (flat_map raw_item ls) h.1 (Took-appends contents h.0 t ls h.2)
-
--- some bytes are a front of these and others
-AppendsPart-whole : (a b : Option (List ℕ)) (x y : List ℕ) → Appends a b x → AppendsPart a b (x ++ y)
-AppendsPart-whole a b x y h = record { front = x; rest = y; whole = refl; grows = h }
 
 -- what is kept of the whole lines of a text, of which none is refused
 pub kept-whole : (rules : Rules) (n : ℕ) (r : List ℕ) → refusal_in rules (lines (whole r)) ≡ None → n ≡ length (lines (whole r)) → kept_first rules n r ≡ kept rules (whole r)
@@ -58,81 +55,119 @@ Took-keeps : {S N : Type 0} (step : S → Item → S → Type 0) (name : S → N
 Took-keeps step name keeps s t [] h = ap name h
 Took-keeps step name keeps s t (l ∷ ls) h = Took-keeps step name keeps h.0 t ls h.2 ∙ keeps s l h.0 h.1
 
-module _ {S N : Type 0} (name : S → N) (takes leaves : S → Item → S → Type 0) (rules : Rules) (r : List ℕ) where
+module _ {S : Type 0} (takes leaves : S → Item → S → Type 0) (rules : Rules) (r : List ℕ) (at_end : Type 0) (s t : S) (n features : ℕ) (peaks : Peaks) where
+  -- what a sink took, by the end of the run
+  puts-told : (e : End) → Account rules r at_end n features peaks e → Delivers takes leaves rules r 0 n s t (Some e) → Puts takes leaves rules r e s t
+  puts-told Complete a d = Took-all takes leaves rules r n s t Complete d d.fault a.ends.1
+  puts-told (Refused number place reason) a d = Took-all takes leaves rules r n s t (Refused number place reason) d d.fault a.ends.1
+  puts-told ReadFault a d =
+      let k : d.added ≡ kept rules (whole r) = sym d.kept ∙ kept-whole rules n r a.ends.0 a.ends.1 in
+      rw (← k, d.fault) d.took
+  puts-told ReadLimit a d =
+      let k : d.added ≡ kept rules (whole r) = sym d.kept ∙ kept-whole rules n r a.ends.0 a.ends.1 in
+      rw (← k, d.fault) d.took
+  puts-told WriteFault a d =
+      let fault = d.fault in
+      let next = kept-next_line rules n r fault.0 a.counts.good fault.1 fault.2 in
+      record {
+        more = d.added;
+        others = item_after rules (take n (lines r)) fault.0 ∷ next.0;
+        middle = d.middle;
+        front = next.1 ∙ ap (λ z. z ++ item_after rules (take n (lines r)) fault.0 ∷ next.0) d.kept;
+        took = d.took;
+        left = fault.3;
+      }
+  puts-told Memory a d =
+      let others : List Item = kept_from rules (take n (lines r)) (good_from rules (take n (lines r)) (drop n (lines r))) in
+      record {
+        more = d.added;
+        others = others;
+        middle = d.middle;
+        front = kept-split rules n r a.counts.good ∙ ap (λ z. z ++ others) d.kept;
+        took = d.took;
+        left = d.fault;
+      }
+
+  pub Runs-told : (e : End) → Account rules r at_end n features peaks e → Delivers takes leaves rules r 0 n s t (Some e) → Runs takes leaves rules r at_end s t n features peaks e
+  Runs-told e a d = record { account = a; sink = d; puts = puts-told e a d }
+
+module _ {S N : Type 0} (name : S → N) (takes leaves : S → Item → S → Type 0) where
   abbrev pub named_takes : S → Item → S → Type 0
   named_takes a l b = (name b ≡ name a) × takes a l b
 
   abbrev pub named_leaves : S → Item → S → Type 0
   named_leaves a l b = (name b ≡ name a) × leaves a l b
 
-  Faults-less : (n : ℕ) (s t : S) (e : End) → Faults named_leaves rules r n s t (Some e) → Faults leaves rules r n s t (Some e)
-  Faults-less n s t Complete h = h
-  Faults-less n s t (Refused number place reason) h = h
-  Faults-less n s t ReadFault h = h
-  Faults-less n s t ReadLimit h = h
-  Faults-less n s t WriteFault h = (h.0, h.1, h.2, h.3.1)
-  Faults-less n s t Memory h = h
+  less : (s t : S) (ls : List Item) → Took named_takes s ls t → Took takes s ls t
+  less s t ls h = Took-less named_takes takes (λ a l b x. x.1) s t ls h
 
-  Faults-keeps : (n : ℕ) (s t : S) (e : End) → Faults named_leaves rules r n s t (Some e) → name t ≡ name s
-  Faults-keeps n s t Complete h = ap name h
-  Faults-keeps n s t (Refused number place reason) h = ap name h
-  Faults-keeps n s t ReadFault h = ap name h
-  Faults-keeps n s t ReadLimit h = ap name h
-  Faults-keeps n s t WriteFault h = h.3.0
-  Faults-keeps n s t Memory h = ap name h
+  keeps : (s t : S) (ls : List Item) → Took named_takes s ls t → name t ≡ name s
+  keeps s t ls h = Took-keeps named_takes name (λ a l b x. x.0) s t ls h
 
-  -- a run whose steps keep a name, without it, and that the whole run keeps it
-  pub Runs-less : (at_end : Type 0) (s t : S) (n features : ℕ) (peaks : Peaks) (e : End) → Runs named_takes named_leaves rules r at_end s t n features peaks e → Runs takes leaves rules r at_end s t n features peaks e
-  Runs-less at_end s t n features peaks e h = record {
-    account = h.account;
-    sink = record {
-      added = h.sink.added;
-      middle = h.sink.middle;
-      kept = h.sink.kept;
-      took = Took-less named_takes takes (λ a l b x. x.1) s h.sink.middle h.sink.added h.sink.took;
-      fault = Faults-less n h.sink.middle t e h.sink.fault;
-    };
-  }
+  next-less : (others : List Item) (s t : S) → LeavesNext named_leaves others s t → LeavesNext leaves others s t
+  next-less [] s t h = h
+  next-less (i ∷ is) s t h = h.1
 
-  pub Runs-keeps : (at_end : Type 0) (s t : S) (n features : ℕ) (peaks : Peaks) (e : End) → Runs named_takes named_leaves rules r at_end s t n features peaks e → name t ≡ name s
-  Runs-keeps at_end s t n features peaks e h =
-      Faults-keeps n h.sink.middle t e h.sink.fault ∙ Took-keeps named_takes name (λ a l b x. x.0) s h.sink.middle h.sink.added h.sink.took
+  next-keeps : (others : List Item) (s t : S) → LeavesNext named_leaves others s t → name t ≡ name s
+  next-keeps [] s t h = absurd h
+  next-keeps (i ∷ is) s t h = h.0
 
-module _ {S : Type 0} (contents : S → Option (List ℕ)) (rules : Rules) (r : List ℕ) (at_end : Type 0) (s t : S) (n features : ℕ) (peaks : Peaks) where
-  abbrev takes : S → Item → S → Type 0
-  takes a l b = Appends (contents a) (contents b) (raw_item l)
+  module _ (rules : Rules) (r : List ℕ) (s t : S) where
+    -- what a sink took whose steps keep a name, without it, and that all of them keep it
+    pub Puts-less : (e : End) → Puts named_takes named_leaves rules r e s t → Puts takes leaves rules r e s t
+    Puts-less Complete h = less s t (kept rules r) h
+    Puts-less (Refused number place reason) h = less s t (kept rules r) h
+    Puts-less ReadFault h = less s t (kept rules (whole r)) h
+    Puts-less ReadLimit h = less s t (kept rules (whole r)) h
+    Puts-less WriteFault h = record { more = h.more; others = h.others; middle = h.middle; front = h.front; took = less s h.middle h.more h.took; left = next-less h.others h.middle t h.left }
+    Puts-less Memory h = record { more = h.more; others = h.others; middle = h.middle; front = h.front; took = less s h.middle h.more h.took; left = h.left }
 
-  abbrev leaves : S → Item → S → Type 0
-  leaves a l b = AppendsPart (contents a) (contents b) (raw_item l)
+    pub Puts-keeps : (e : End) → Puts named_takes named_leaves rules r e s t → name t ≡ name s
+    Puts-keeps Complete h = keeps s t (kept rules r) h
+    Puts-keeps (Refused number place reason) h = keeps s t (kept rules r) h
+    Puts-keeps ReadFault h = keeps s t (kept rules (whole r)) h
+    Puts-keeps ReadLimit h = keeps s t (kept rules (whole r)) h
+    Puts-keeps WriteFault h = next-keeps h.others h.middle t h.left ∙ keeps s h.middle h.more h.took
+    Puts-keeps Memory h = ap name h.left ∙ keeps s h.middle h.more h.took
+
+module _ {S : Type 0} (contents : S → Option (List ℕ)) where
+  abbrev pub writes : S → Item → S → Type 0
+  writes a l b = Appends (contents a) (contents b) (raw_item l)
+
+  abbrev pub writes_part : S → Item → S → Type 0
+  writes_part a l b = AppendsPart (contents a) (contents b) (raw_item l)
+
+  -- the bytes of a front of some items
+  pub front-bytes : (then : List Item → S → S → Type 0) → ((others : List Item) (a b : S) → then others a b → AppendsPart (contents a) (contents b) (flat_map raw_item others))
+      → (all first : List Item) (s t : S) → TookFront writes then all first s t
+      → AppendsPart (contents s) (contents t) (flat_map raw_item all) × AppendsMore (contents s) (contents t) (flat_map raw_item first)
+  front-bytes then bytes all first s t h =
+      let cut = Took-split writes s h.middle first h.more h.took in
+      let left = bytes h.others h.middle t h.left in (
+        rw (h.front, joined-append raw_item (first ++ h.more) h.others) (AppendsPart-after (contents s) (contents h.middle) (contents t) (flat_map raw_item (first ++ h.more)) (flat_map raw_item h.others) (Took-appends contents s h.middle (first ++ h.more) h.took) left),
+        record {
+          middle = contents cut.0;
+          more = flat_map raw_item h.more ++ left.front;
+          first = Took-appends contents s cut.0 first cut.1;
+          grows = Appends-then (contents cut.0) (contents h.middle) (contents t) (flat_map raw_item h.more) left.front (Took-appends contents cut.0 h.middle h.more cut.2) left.grows;
+        },
+      )
+
+  pub next-bytes : (others : List Item) (a b : S) → LeavesNext writes_part others a b → AppendsPart (contents a) (contents b) (flat_map raw_item others)
+  next-bytes [] a b h = absurd h
+  next-bytes (i ∷ is) a b h = AppendsPart-front (contents a) (contents b) (raw_item i) (flat_map raw_item is) h
+
+  pub no-bytes : (others : List Item) (a b : S) → b ≡ a → AppendsPart (contents a) (contents b) (flat_map raw_item others)
+  no-bytes others a b h = rw h (record { front = []; rest = flat_map raw_item others; whole = refl; grows = Appends-nothing (contents a) })
 
   -- the bytes that a writer got, by the end of the run
-  pub Writes-runs : (e : End) → Runs takes leaves rules r at_end s t n features peaks e → Writes rules r e (contents s) (contents t)
-  Writes-runs Complete h =
-      let k : h.sink.added ≡ kept rules r = sym h.sink.kept ∙ kept_first-good rules n r h.account.ends.1 in
-      rw (← k, h.sink.fault) (Took-appends contents s h.sink.middle h.sink.added h.sink.took)
-  Writes-runs (Refused number place reason) h =
-      let k : h.sink.added ≡ kept rules r = sym h.sink.kept ∙ kept_first-good rules n r h.account.ends.1 in
-      rw (← k, h.sink.fault) (Took-appends contents s h.sink.middle h.sink.added h.sink.took)
-  Writes-runs ReadFault h =
-      let k : h.sink.added ≡ kept rules (whole r) = sym h.sink.kept ∙ kept-whole rules n r h.account.ends.0 h.account.ends.1 in
-      rw (← k, h.sink.fault) (Took-appends contents s h.sink.middle h.sink.added h.sink.took)
-  Writes-runs ReadLimit h =
-      let k : h.sink.added ≡ kept rules (whole r) = sym h.sink.kept ∙ kept-whole rules n r h.account.ends.0 h.account.ends.1 in
-      rw (← k, h.sink.fault) (Took-appends contents s h.sink.middle h.sink.added h.sink.took)
-  Writes-runs WriteFault h =
-      let fault = h.sink.fault in
-      let l = item_after rules (take n (lines r)) fault.0 in
-      let next = kept-next_line rules n r fault.0 h.account.counts.good fault.1 fault.2 in
-      let k : kept rules r ≡ h.sink.added ++ item_after rules (take n (lines r)) fault.0 ∷ next.0 = next.1 ∙ ap (λ z. z ++ item_after rules (take n (lines r)) fault.0 ∷ next.0) h.sink.kept in
-      let front = AppendsPart-after (contents s) (contents h.sink.middle) (contents t) (flat_map raw_item h.sink.added) (raw_item l) (Took-appends contents s h.sink.middle h.sink.added h.sink.took) fault.3 in
-      let all = AppendsPart-front (contents s) (contents t) (flat_map raw_item h.sink.added ++ raw_item l) (flat_map raw_item next.0) front in
-      rw (k, joined-append raw_item h.sink.added (l ∷ next.0)) (rw (append_assoc (flat_map raw_item h.sink.added) (raw_item l) (flat_map raw_item next.0)) at all)
-  Writes-runs Memory h =
-      let others : List Item = kept_from rules (take n (lines r)) (good_from rules (take n (lines r)) (drop n (lines r))) in
-      let k : kept rules r ≡ h.sink.added ++ kept_from rules (take n (lines r)) (good_from rules (take n (lines r)) (drop n (lines r))) =
-      kept-split rules n r h.account.counts.good ∙ ap (λ z. z ++ kept_from rules (take n (lines r)) (good_from rules (take n (lines r)) (drop n (lines r)))) h.sink.kept in
-      rw (k, joined-append raw_item h.sink.added others, h.sink.fault)
-      (AppendsPart-whole (contents s) (contents h.sink.middle) (flat_map raw_item h.sink.added) (flat_map raw_item others) (Took-appends contents s h.sink.middle h.sink.added h.sink.took))
+  pub Writes-puts : (rules : Rules) (r : List ℕ) (s t : S) (e : End) → Puts writes writes_part rules r e s t → Writes rules r e (contents s) (contents t)
+  Writes-puts rules r s t Complete h = Took-appends contents s t (kept rules r) h
+  Writes-puts rules r s t (Refused number place reason) h = Took-appends contents s t (kept rules r) h
+  Writes-puts rules r s t ReadFault h = Took-appends contents s t (kept rules (whole r)) h
+  Writes-puts rules r s t ReadLimit h = Took-appends contents s t (kept rules (whole r)) h
+  Writes-puts rules r s t WriteFault h = (front-bytes (LeavesNext writes_part) next-bytes (kept rules r) [] s t h).0
+  Writes-puts rules r s t Memory h = (front-bytes (λ others a b. b ≡ a) no-bytes (kept rules r) [] s t h).0
 
 -- a writer that was flushed afterwards
 pub Writes-kept : (rules : Rules) (r : List ℕ) (e : End) (a b c : Option (List ℕ)) → Writes rules r e a b → Keeps b c → Writes rules r e a c

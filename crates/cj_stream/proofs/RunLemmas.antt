@@ -17,6 +17,7 @@ use Rattle.cj_stream.proofs.EngineLemmas.{judged-front, kept_first-front}
 use Rattle.cj_stream.proofs.ReadingLemmas.{length-map_lines, zero_or}
 use Rattle.cj_stream.proofs.IsLinesLemmas.{lines-whole}
 use Rattle.cj_stream.proofs.GoodLemmas.{good-refused}
+use Rattle.cj_stream.proofs.OutputLemmas.{Runs-told}
 use Rattle.cj_stream.proofs.Apart.{none-some}
 
 pub Consumes-then : (a b c : Option (List ℕ)) (x y : List ℕ) → Consumes a b x → Consumes b c y → Consumes a c (x ++ y)
@@ -101,15 +102,9 @@ Delivers-ended takes leaves rules r n s t e still h = record {
 pub Runs-left : {S : Type 0} (takes leaves : S → Item → S → Type 0) (e : State) (r : List ℕ) (at_end : Type 0) (s t : S) (end : End)
     → (end ≡ Complete → ⊥) → Ends (rules_of e) r (lines_of e) at_end end → ((m u : S) → u ≡ m → Faults leaves (rules_of e) r (lines_of e) m u (Some end))
     → StandsFor e r → Delivers takes leaves (rules_of e) r 0 (lines_of e) s t None → Runs takes leaves (rules_of e) r at_end s t (lines_of e) e.reading.kept (peaks_of e) end
-Runs-left takes leaves e r at_end s t end other ends still stands h = record {
-  account = record {
-    bounded = stands.bounded;
-    exact = λ x. absurd (other x);
-    counts = stands.counts;
-    ends = ends;
-  };
-  sink = Delivers-ended takes leaves (rules_of e) r (lines_of e) s t end still h;
-}
+Runs-left takes leaves e r at_end s t end other ends still stands h = Runs-told takes leaves (rules_of e) r at_end s t (lines_of e) e.reading.kept (peaks_of e) end
+    (record { bounded = stands.bounded; exact = λ x. absurd (other x); counts = stands.counts; ends = ends })
+    (Delivers-ended takes leaves (rules_of e) r (lines_of e) s t end still h)
 
 -- a count that rose in the last of some calls rose in all of them
 pub HasRisen-after : (a b c : ℕ) → a ≤ b → HasRisen b c → HasRisen a c

@@ -2,21 +2,18 @@
 use Rattle.std.proofs.Common.{◌≡◌, ℕ, ◌+◌, ◌-◌, ◌^◌, ◌≤◌, List, [], ◌∷◌, ◌++◌, length, min, take, drop, Option, Some, None, sym, ap, ◌∙◌, cond, arith}
 use Rattle.std.specs.Prelude.{is_some, not}
 use Rattle.std.specs.List.{filter}
-use Rattle.cj_budget.specs.declared.limits.Peaks.{Peaks}
 use Rattle.cj_spans.specs.Tree.{Tree}
 use Rattle.cj_stream.specs.declared.count.CountSink.{CountSink}
 use Rattle.cj_stream.specs.declared.ending.End.{End}
 use Rattle.cj_stream.specs.declared.ending.End.TheVariants.{Complete, Refused, ReadFault, ReadLimit, WriteFault, Memory}
 use Rattle.cj_stream.specs.CountSink.{Counts, CountsBy}
-use Rattle.cj_stream.specs.Cut.{joined, LeavesNext, PutsPieces}
+use Rattle.cj_stream.specs.Cut.{joined, PutsPieces}
 use Rattle.cj_stream.specs.Item.{Item, is_feature}
-use Rattle.cj_stream.specs.Lines.{lines, whole}
-use Rattle.cj_stream.specs.Run.{Runs}
-use Rattle.cj_stream.specs.Sink.{Took}
+use Rattle.cj_stream.specs.Lines.{whole}
+use Rattle.cj_stream.specs.Run.{Puts}
+use Rattle.cj_stream.specs.Sink.{Took, LeavesNext}
 use Rattle.cj_stream.specs.Tally.{is_header, counts_of, CountsRun, CountsPieces}
-use Rattle.cj_stream.specs.Verdict.{Rules, good_from, kept_from, kept}
-use Rattle.cj_stream.proofs.GoodLemmas.{kept-split}
-use Rattle.cj_stream.proofs.OutputLemmas.{Took-all, kept-whole}
+use Rattle.cj_stream.specs.Verdict.{Rules, kept}
 
 -- both counts are those of another sink
 both : (a b : CountSink) → a.headers ≡ b.headers → a.features ≡ b.features → a ≡ b
@@ -49,27 +46,18 @@ counts-all b is took =
     let all = counts-more (record { headers = 0; features = 0 }) b is (omega arith) (omega arith) took in
     both b (counts_of is) (omega (arith, all.0)) (omega (arith, all.1))
 
-module _ (rules : Rules) (r : List ℕ) (at_end : Type 0) (c : CountSink) (n features : ℕ) (peaks : Peaks) where
-  -- what a run has counted, by its end
-  pub CountsRun-runs : (e : End) → Runs Counts (λ a i b. ⊥) rules r at_end (record { headers = 0; features = 0 }) c n features peaks e → CountsRun rules r e c
-  CountsRun-runs Complete h = counts-all c (kept rules r) (Took-all Counts (λ a i b. ⊥) rules r n _ c Complete h.sink h.sink.fault h.account.ends.1)
-  CountsRun-runs (Refused number place reason) h =
-      counts-all c (kept rules r) (Took-all Counts (λ a i b. ⊥) rules r n _ c (Refused number place reason) h.sink h.sink.fault h.account.ends.1)
-  CountsRun-runs ReadFault h =
-      let k : h.sink.added ≡ kept rules (whole r) = sym h.sink.kept ∙ kept-whole rules n r h.account.ends.0 h.account.ends.1 in
-      counts-all c (kept rules (whole r)) (rw (← k, h.sink.fault) h.sink.took)
-  CountsRun-runs ReadLimit h =
-      let k : h.sink.added ≡ kept rules (whole r) = sym h.sink.kept ∙ kept-whole rules n r h.account.ends.0 h.account.ends.1 in
-      counts-all c (kept rules (whole r)) (rw (← k, h.sink.fault) h.sink.took)
-  CountsRun-runs WriteFault h = h.sink.fault.3
-  CountsRun-runs Memory h =
-      let others : List Item = kept_from rules (take n (lines r)) (good_from rules (take n (lines r)) (drop n (lines r))) in
-      record {
-        more = h.sink.added;
-        others = others;
-        front = kept-split rules n r h.account.counts.good ∙ ap (λ z. z ++ others) h.sink.kept;
-        counts = counts-all c h.sink.added (rw h.sink.fault h.sink.took);
-      }
+never : (others : List Item) (m c : CountSink) → LeavesNext (λ a i b. ⊥) others m c → ⊥
+never [] m c k = k
+never (i ∷ is) m c k = k
+
+-- what a run has counted, by its end
+pub CountsRun-puts : (rules : Rules) (r : List ℕ) (c : CountSink) (e : End) → Puts Counts (λ a i b. ⊥) rules r e (record { headers = 0; features = 0 }) c → CountsRun rules r e c
+CountsRun-puts rules r c Complete h = counts-all c (kept rules r) h
+CountsRun-puts rules r c (Refused number place reason) h = counts-all c (kept rules r) h
+CountsRun-puts rules r c ReadFault h = counts-all c (kept rules (whole r)) h
+CountsRun-puts rules r c ReadLimit h = counts-all c (kept rules (whole r)) h
+CountsRun-puts rules r c WriteFault h = never h.others h.middle c h.left
+CountsRun-puts rules r c Memory h = record { more = h.more; others = h.others; front = h.front; counts = counts-all c h.more (rw h.left h.took) }
 
 -- what was counted of pieces
 pub CountsPieces-puts : (rules : Rules) (pieces : List (List ℕ)) (n : ℕ) (c : CountSink) (e : End)
@@ -78,11 +66,7 @@ CountsPieces-puts rules pieces n c Complete h = (h.0, counts-all c (kept rules (
 CountsPieces-puts rules pieces n c (Refused number place reason) h = (h.0, counts-all c (kept rules (joined pieces)) h.1)
 CountsPieces-puts rules pieces n c ReadFault h = h
 CountsPieces-puts rules pieces n c ReadLimit h = h
-CountsPieces-puts rules pieces n c WriteFault h = never h.others h.middle h.left
-  where
-    never : (others : List Item) (m : CountSink) → LeavesNext (λ a i b. ⊥) others m c → ⊥
-    never [] m k = k
-    never (i ∷ is) m k = k
+CountsPieces-puts rules pieces n c WriteFault h = never h.others h.middle c h.left
 CountsPieces-puts rules pieces n c Memory h = record {
   more = h.more;
   others = h.others;

@@ -10,11 +10,11 @@ use Rattle.cj_decimal.specs.Number.{Number}
 use Rattle.cj_feature.specs.Shown.{transform_values}
 use Rattle.cj_stream.specs.declared.ending.End.{End}
 use Rattle.cj_stream.specs.declared.ending.End.TheVariants.{Complete, Refused, ReadFault, ReadLimit, WriteFault, Memory}
-use Rattle.cj_stream.specs.Cut.{joined, LeavesNext, PutsPieces}
+use Rattle.cj_stream.specs.Cut.{joined, PutsPieces}
 use Rattle.cj_stream.specs.Item.{Item, is_feature}
 use Rattle.cj_stream.specs.Lines.{lines, whole}
-use Rattle.cj_stream.specs.Run.{Runs}
-use Rattle.cj_stream.specs.Sink.{Took}
+use Rattle.cj_stream.specs.Run.{Puts}
+use Rattle.cj_stream.specs.Sink.{Took, LeavesNext}
 use Rattle.cj_stream.specs.Tally.{is_header}
 use Rattle.cj_stream.specs.Tallied.{capped, how_often, type_numbers, lod_classes, numbers_on, beside, over_features}
 use Rattle.cj_stream.specs.TallySink.{Tally, no_tally, Widens, Shows, TalliesBy, Tallies, IsTallyOf, TalliesRun, TalliesPieces}
@@ -154,27 +154,18 @@ tally-new t is took = record {
 tally-all : (start t : Tally) (is : List Item) → start ≡ no_tally → Took Tallies start is t → IsTallyOf is t
 tally-all start t is new took = tally-new t is (subst (λ (s : Tally). Took Tallies s is t) new took)
 
-module _ (rules : Rules) (r : List ℕ) (at_end : Type 0) (start t : Tally) (new : start ≡ no_tally) (n features : ℕ) (peaks : Peaks) where
-  -- what a run has tallied, by its end
-  pub TalliesRun-runs : (e : End) → Runs Tallies (λ a i b. ⊥) rules r at_end start t n features peaks e → TalliesRun rules r e t
-  TalliesRun-runs Complete h = tally-all start t (kept rules r) new (Took-all Tallies (λ a i b. ⊥) rules r n _ t Complete h.sink h.sink.fault h.account.ends.1)
-  TalliesRun-runs (Refused number place reason) h =
-      tally-all start t (kept rules r) new (Took-all Tallies (λ a i b. ⊥) rules r n _ t (Refused number place reason) h.sink h.sink.fault h.account.ends.1)
-  TalliesRun-runs ReadFault h =
-      let k : h.sink.added ≡ kept rules (whole r) = sym h.sink.kept ∙ kept-whole rules n r h.account.ends.0 h.account.ends.1 in
-      tally-all start t (kept rules (whole r)) new (rw (← k, h.sink.fault) h.sink.took)
-  TalliesRun-runs ReadLimit h =
-      let k : h.sink.added ≡ kept rules (whole r) = sym h.sink.kept ∙ kept-whole rules n r h.account.ends.0 h.account.ends.1 in
-      tally-all start t (kept rules (whole r)) new (rw (← k, h.sink.fault) h.sink.took)
-  TalliesRun-runs WriteFault h = h.sink.fault.3
-  TalliesRun-runs Memory h =
-      let others : List Item = kept_from rules (take n (lines r)) (good_from rules (take n (lines r)) (drop n (lines r))) in
-      record {
-        more = h.sink.added;
-        others = others;
-        front = kept-split rules n r h.account.counts.good ∙ ap (λ z. z ++ others) h.sink.kept;
-        tally = tally-all start t h.sink.added new (rw h.sink.fault h.sink.took);
-      }
+never : (others : List Item) (m t : Tally) → LeavesNext (λ a i b. ⊥) others m t → ⊥
+never [] m t k = k
+never (i ∷ is) m t k = k
+
+-- what a run has tallied, by its end
+pub TalliesRun-puts : (rules : Rules) (r : List ℕ) (start t : Tally) (e : End) → start ≡ no_tally → Puts Tallies (λ a i b. ⊥) rules r e start t → TalliesRun rules r e t
+TalliesRun-puts rules r start t Complete new h = tally-all start t (kept rules r) new h
+TalliesRun-puts rules r start t (Refused number place reason) new h = tally-all start t (kept rules r) new h
+TalliesRun-puts rules r start t ReadFault new h = tally-all start t (kept rules (whole r)) new h
+TalliesRun-puts rules r start t ReadLimit new h = tally-all start t (kept rules (whole r)) new h
+TalliesRun-puts rules r start t WriteFault new h = never h.others h.middle t h.left
+TalliesRun-puts rules r start t Memory new h = record { more = h.more; others = h.others; front = h.front; tally = tally-all start t h.more new (rw h.left h.took) }
 
 -- what was tallied of pieces
 pub TalliesPieces-puts : (rules : Rules) (pieces : List (List ℕ)) (n : ℕ) (start t : Tally) (e : End) → start ≡ no_tally
@@ -183,11 +174,7 @@ TalliesPieces-puts rules pieces n start t Complete new h = (h.0, tally-all start
 TalliesPieces-puts rules pieces n start t (Refused number place reason) new h = (h.0, tally-all start t (kept rules (joined pieces)) new h.1)
 TalliesPieces-puts rules pieces n start t ReadFault new h = h
 TalliesPieces-puts rules pieces n start t ReadLimit new h = h
-TalliesPieces-puts rules pieces n start t WriteFault new h = never h.others h.middle h.left
-  where
-    never : (others : List Item) (m : Tally) → LeavesNext (λ a i b. ⊥) others m t → ⊥
-    never [] m k = k
-    never (i ∷ is) m k = k
+TalliesPieces-puts rules pieces n start t WriteFault new h = never h.others h.middle t h.left
 TalliesPieces-puts rules pieces n start t Memory new h = record {
   more = h.more;
   others = h.others;

@@ -1,33 +1,25 @@
 -- Streams that come in pieces.
-use Rattle.std.specs.Prelude.{◌≡◌, ℕ, ◌+◌, List, [], ◌∷◌, ◌++◌, Option, Some, None, length, take}
+use Rattle.std.specs.Prelude.{◌≡◌, ◌⊎◌, ℕ, ◌+◌, ◌≤◌, List, [], ◌∷◌, ◌++◌, Option, Some, None, length, take}
 use Rattle.std.specs.Io.KnownBytes.{Appends}
+use Rattle.cj_stream.specs.declared.copying.Copied.{Copied}
 use Rattle.cj_stream.specs.declared.ending.End.{End}
 use Rattle.cj_stream.specs.declared.ending.End.TheVariants.{Complete, Refused, ReadFault, ReadLimit, WriteFault, Memory}
 use Rattle.cj_stream.specs.Lines.{closed, lines, whole}
 use Rattle.cj_stream.specs.Item.{Item}
-use Rattle.cj_stream.specs.Verdict.{Rules, refusal_in, kept, ending, output}
-use Rattle.cj_stream.specs.Engine.{Delivers}
-use Rattle.cj_stream.specs.Sink.{Took, AppendsPart}
+use Rattle.cj_stream.specs.Verdict.{Rules, refusal_in, judged, kept, ending, output}
+use Rattle.cj_stream.specs.Bound.{IsBounded, IsBelow, exact_peaks}
+use Rattle.cj_stream.specs.Engine.{State, Delivers, rules_of, held_by, peaks_of}
+use Rattle.cj_stream.specs.Sink.{Took, TookFront, LeavesNext, AppendsPart}
 
 -- the text that pieces are a cut of; pieces may be empty
 abbrev pub joined : List (List ℕ) → List ℕ
 joined [] = []
 joined (piece ∷ pieces) = piece ++ joined pieces
 
--- what a failed step may leave of a sink, by the first of the items that were to come
-abbrev pub LeavesNext : {S : Type 0} → (S → Item → S → Type 0) → List Item → S → S → Type 0
-LeavesNext leaves [] s t = ⊥
-LeavesNext leaves (i ∷ is) s t = leaves s i t
-
 -- a sink took a front of what is kept of the first n pieces and the next, with all that is kept of the whole lines of
 -- the first n, and then this happened to it, by the items that were to come
-pub record PutsFront {S : Type 0} (takes : S → Item → S → Type 0) (then : List Item → S → S → Type 0) (rules : Rules) (pieces : List (List ℕ)) (n : ℕ) (s t : S) : Type 0 where
-  pub more : List Item
-  pub others : List Item
-  pub middle : S
-  pub front : kept rules (joined (take (n + 1) pieces)) ≡ (kept rules (whole (joined (take n pieces))) ++ more) ++ others
-  pub took : Took takes s (kept rules (whole (joined (take n pieces))) ++ more) middle
-  pub left : then others middle t
+abbrev pub PutsFront : {S : Type 0} → (S → Item → S → Type 0) → (List Item → S → S → Type 0) → Rules → List (List ℕ) → ℕ → S → S → Type 0
+PutsFront takes then rules pieces n s t = TookFront takes then (kept rules (joined (take (n + 1) pieces))) (kept rules (whole (joined (take n pieces)))) s t
 
 -- a sink that was given a cut text: it took what is kept of the whole text, whose ending is the answer; or, after a
 -- fault, a front of it, by the pieces that were given, of which n were wholly taken: a write fault leaves of the sink
@@ -72,6 +64,31 @@ IsUnread ReadFault = ⊥
 IsUnread ReadLimit = ⊥
 IsUnread WriteFault = Unit {0}
 IsUnread Memory = Unit {0}
+
+-- the piece at which it ended, after n: none after a complete end; after a refusal the next one, if there is one, ended
+-- the refused line or made it too long
+abbrev pub EndsAt : Rules → List (List ℕ) → ℕ → End → Type 0
+EndsAt rules pieces n Complete = n ≡ length pieces
+EndsAt rules pieces n (Refused number place reason) =
+    (n ≡ length pieces) ⊎ (refusal_in rules (judged rules.limits (joined (take (n + 1) pieces))) ≡ Some (Refused number place reason))
+EndsAt rules pieces n ReadFault = ⊥
+EndsAt rules pieces n ReadLimit = ⊥
+EndsAt rules pieces n WriteFault = Unit {0}
+EndsAt rules pieces n Memory = Unit {0}
+
+-- An engine that had been given nothing was given these pieces and then the end, until it ended. So many of them were
+-- wholly taken, of which nothing that could be judged was refused. What it is said to have held at most is what its lists
+-- have held at most, within the bound for the pieces that were given, and exact where the end is complete.
+pub record Fed (rules : Rules) (pieces : List (List ℕ)) (copied : Copied) (engine : State) : Type 0 where
+  pub under : rules_of engine ≡ rules
+  pub ended : engine.ended ≡ Some copied.ended
+  pub few : copied.taken ≤ length pieces
+  pub good : refusal_in rules (judged rules.limits (joined (take copied.taken pieces))) ≡ None
+  pub at : EndsAt rules pieces copied.taken copied.ended
+  pub peaks : copied.peaks ≡ peaks_of engine
+  pub held : IsBelow (held_by engine) copied.peaks
+  pub bounded : IsBounded rules.limits (joined (take (copied.taken + 1) pieces)) copied.peaks
+  pub exact : copied.ended ≡ Complete → copied.peaks ≡ exact_peaks rules.limits (joined pieces)
 
 -- a sink took what is kept of the first n pieces, of whose whole lines none was refused, and then came to an end by the
 -- next piece, or after the last

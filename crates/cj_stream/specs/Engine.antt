@@ -1,5 +1,5 @@
 -- Which bytes an engine stands for, and what it answers.
-use Rattle.std.specs.Prelude.{◌≡◌, ℕ, ◌+◌, ◌≤◌, List, ◌++◌, true, Option, Some, None, is_none, Result, Ok, Err, if◌then◌else◌, length, take, slice_get}
+use Rattle.std.specs.Prelude.{◌≡◌, ℕ, ◌+◌, ◌≤◌, List, [], ◌++◌, true, Option, Some, None, is_none, Result, Ok, Err, if◌then◌else◌, length, take, slice_get}
 use Rattle.cj_budget.specs.Limits.{LimitPair}
 use Rattle.cj_budget.specs.declared.limits.Peaks.{Peaks}
 use Rattle.cj_stream.specs.declared.ending.End.{End}
@@ -60,6 +60,10 @@ pub record StandsFor (e : State) (p : List ℕ) : Type 0 where
   pub bounded : IsBounded (limits_of e) p (peaks_of e)
   pub counts : Counts (rules_of e) p (lines_of e) e.reading.kept
   pub going : e.ended ≡ None → Reads e.reading p × Scanned (limits_of e) (closed p) e.scanning × (e.taken ≡ length p)
+
+-- it has been given nothing
+abbrev pub IsFresh : State → Type 0
+IsFresh e = StandsFor e [] × (e.ended ≡ None)
 
 -- the bytes given so far, after a piece: those after an end do not count
 abbrev pub given : State → List ℕ → List ℕ → List ℕ

@@ -1,28 +1,39 @@
 -- The headline.
-use Rattle.std.specs.Prelude.{◌≡◌, ℕ, ◌+◌, List, Option, take}
+use Rattle.std.specs.Prelude.{◌≡◌, ℕ, List, [], ◌++◌}
 use Rattle.std.specs.Io.KnownBytes.{Appends}
-use Rattle.cj_stream.specs.declared.copying.Copied.{Copied}
+use Rattle.cj_budget.specs.declared.limits.Peaks.{Peaks}
 use Rattle.cj_stream.specs.declared.ending.End.{End}
 use Rattle.cj_stream.specs.declared.ending.End.TheVariants.{Complete, Refused, ReadFault, ReadLimit, WriteFault, Memory}
+use Rattle.cj_stream.specs.Bound.{IsBounded, exact_peaks}
+use Rattle.cj_stream.specs.Cut.{IsUnread}
+use Rattle.cj_stream.specs.Output.{Channel}
+use Rattle.cj_stream.specs.Sink.{HasRisen}
 use Rattle.cj_stream.specs.Verdict.{Rules, output, ending}
-use Rattle.cj_stream.specs.Bound.{IsBounded}
-use Rattle.cj_stream.specs.Cut.{joined}
 
 -- no growth was refused, and no write failed
 abbrev pub IsUnhindered : End → Type 0
 IsUnhindered Complete = Unit {0}
 IsUnhindered (Refused number place reason) = Unit {0}
-IsUnhindered ReadFault = ⊥
-IsUnhindered ReadLimit = ⊥
+IsUnhindered ReadFault = Unit {0}
+IsUnhindered ReadLimit = Unit {0}
 IsUnhindered WriteFault = ⊥
 IsUnhindered Memory = ⊥
 
--- A stream came in these pieces, under rules of two limits and of what is asked, and was copied so, to a writer that had
--- some bytes and has others now. Where no growth was refused and no write failed, it has got exactly the header and the
--- valid features that satisfy what is asked, byte for byte, in order, up to the first invalid line; and that line is
--- refused with its number, place and reason, or the copy is complete. Whatever came, no more was held than h + L bytes,
--- (h + L + D) / 2 + 1 tokens and D open containers, where h is the length of the first line, cut at L.
-pub record Headline (rules : Rules) (pieces : List (List ℕ)) (copied : Copied) (old new : Option (List ℕ)) : Type 0 where
-  pub writes : IsUnhindered copied.ended → Appends old new (output rules (joined pieces))
-  pub ends : IsUnhindered copied.ended → copied.ended ≡ ending rules (joined pieces)
-  pub held : IsBounded rules.limits (joined (take (copied.taken + 1) pieces)) copied.peaks
+-- A text, under rules of two limits and of what is asked, was given to an engine as far as a front of it, until this end.
+-- Where no growth was refused and no write failed, the writer has got exactly the header and the valid features that
+-- satisfy what is asked, byte for byte, in order, up to the first invalid line; and that line is refused with its number,
+-- place and reason, or the end is complete. A write fault is told only where a write to it has failed. Whatever came, no
+-- more was held than h + L bytes, (h + L + D) / 2 + 1 tokens and D open containers, where h is the length of the first
+-- line, cut at L; and at a complete end it is told exactly how much.
+pub record Headline (rules : Rules) (text given : List ℕ) (end : End) (peaks : Peaks) (old new : Channel) : Type 0 where
+  pub writes : IsUnhindered end → Appends old.bytes new.bytes (output rules text)
+  pub ends : IsUnhindered end → end ≡ ending rules text
+  pub cause : end ≡ WriteFault → HasRisen old.failures new.failures
+  pub held : IsBounded rules.limits given peaks
+  pub exact : end ≡ Complete → peaks ≡ exact_peaks rules.limits text
+
+-- the same of a run over the bytes r that a reader gave: unless a read failed or the reads ran out, of each text that
+-- begins with them, and of which they are all where the reader was at its end
+abbrev pub HeadlineOfRun : Rules → List ℕ → Type 0 → End → Peaks → Channel → Channel → Type 0
+HeadlineOfRun rules r at_end end peaks old new =
+    (rest : List ℕ) → (at_end → rest ≡ []) → IsUnread end → Headline rules (r ++ rest) r end peaks old new

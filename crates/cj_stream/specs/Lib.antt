@@ -11,12 +11,14 @@ pub mod Device
 pub mod Engine
 pub mod Extent
 pub mod Headline
+pub mod IsGood
 pub mod IsLines
 pub mod Item
 pub mod Judging
 pub mod LentSink
 pub mod LineRows
 pub mod Lines
+pub mod Output
 pub mod Query
 pub mod QueryRows
 pub mod Reading

@@ -1,15 +1,15 @@
 -- What a whole run makes of the bytes that it reads.
-use Rattle.std.specs.Prelude.{◌≡◌, ◌⊎◌, ℕ, List, Option, Some, None, length}
+use Rattle.std.specs.Prelude.{◌≡◌, ◌⊎◌, ℕ, List, [], Option, Some, None, length}
 use Rattle.std.specs.Io.KnownBytes.{Appends}
 use Rattle.cj_budget.specs.declared.limits.Peaks.{Peaks}
 use Rattle.cj_stream.specs.declared.ending.End.{End}
 use Rattle.cj_stream.specs.declared.ending.End.TheVariants.{Complete, Refused, ReadFault, ReadLimit, WriteFault, Memory}
 use Rattle.cj_stream.specs.Lines.{lines, whole}
 use Rattle.cj_stream.specs.Item.{Item}
-use Rattle.cj_stream.specs.Verdict.{Rules, refusal_in, judged, good, ending, output}
+use Rattle.cj_stream.specs.Verdict.{Rules, refusal_in, judged, good, kept, ending, output}
 use Rattle.cj_stream.specs.Bound.{IsBounded, exact_peaks}
 use Rattle.cj_stream.specs.Engine.{Counts, Delivers}
-use Rattle.cj_stream.specs.Sink.{AppendsPart}
+use Rattle.cj_stream.specs.Sink.{Took, TookFront, LeavesNext, AppendsPart}
 
 -- what the end of a run tells of the bytes r that it read, after n of their lines; `at_end` says that r is all there
 -- was. A line is refused before that only if LF ended it or it is too long.
@@ -30,10 +30,22 @@ pub record Account (rules : Rules) (r : List ℕ) (at_end : Type 0) (n features 
   pub counts : Counts rules r n features
   pub ends : Ends rules r n at_end e
 
--- a run over these bytes: its account, and what the sink took
+-- what a sink took of the bytes r, by the end of the run: what is kept of them, or of their whole lines where a read
+-- failed or the reads ran out; or a front of that, and then what a failed step of the next one may leave, or nothing
+-- more where memory was refused
+abbrev pub Puts : {S : Type 0} → (S → Item → S → Type 0) → (S → Item → S → Type 0) → Rules → List ℕ → End → S → S → Type 0
+Puts takes leaves rules r Complete s t = Took takes s (kept rules r) t
+Puts takes leaves rules r (Refused number place reason) s t = Took takes s (kept rules r) t
+Puts takes leaves rules r ReadFault s t = Took takes s (kept rules (whole r)) t
+Puts takes leaves rules r ReadLimit s t = Took takes s (kept rules (whole r)) t
+Puts takes leaves rules r WriteFault s t = TookFront takes (LeavesNext leaves) (kept rules r) [] s t
+Puts takes leaves rules r Memory s t = TookFront takes (λ others a b. b ≡ a) (kept rules r) [] s t
+
+-- a run over these bytes: its account, and what the sink took, by the lines that were dealt with and by the end
 pub record Runs {S : Type 0} (takes leaves : S → Item → S → Type 0) (rules : Rules) (r : List ℕ) (at_end : Type 0) (s t : S) (n features : ℕ) (peaks : Peaks) (e : End) : Type 0 where
   pub account : Account rules r at_end n features peaks e
   pub sink : Delivers takes leaves rules r 0 n s t (Some e)
+  pub puts : Puts takes leaves rules r e s t
 
 -- the bytes that a writer got of r, by the end of the run: the output of r, or of its whole lines where a read
 -- failed, or a front of the output where a write failed or memory was refused

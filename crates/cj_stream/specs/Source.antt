@@ -10,6 +10,10 @@ source_reader s = s.reader.now
 abbrev pub source_name : {R : Type 0} → Source R → ℕ
 source_name s = s.reader.ghost_name
 
+-- how often it was read
+abbrev pub reads_of : {R : Type 0} → Source R → ℕ
+reads_of s = s.reads
+
 -- whether a read has failed
 abbrev pub has_failed : {R : Type 0} → Source R → Bool
 has_failed s = s.failed

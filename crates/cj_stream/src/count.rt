@@ -3,7 +3,8 @@ ghost use Rattle.std.specs.Prelude.{◌≡◌, ◌≤◌, ℕ, OnOk, OnErr};
 ghost use Rattle.cj_stream.specs.Item.{header_item, feature_item};
 ghost use Rattle.cj_stream.specs.Sink.{HasRisen};
 
-use crate::sink::{LineSink, WriteFault};
+use crate::output::WriteFault;
+use crate::sink::LineSink;
 use cj_feature::{Feature, Header};
 
 /// Counts headers and features. At 2^64 - 1 a count stays.

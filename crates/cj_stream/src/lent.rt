@@ -1,53 +1,33 @@
-//! A sink over a writer that is lent.
+//! A sink over an output that is lent.
 ghost use Rattle.std.specs.Prelude.{◌≡◌, ◌≤◌, OnOk, OnErr};
 ghost use Rattle.std.specs.Io.KnownBytes.{Appends};
 ghost use Rattle.cj_stream.specs.Item.{raw_item, header_item, feature_item};
-ghost use Rattle.cj_stream.specs.Lines.{raw};
 ghost use Rattle.cj_stream.specs.Sink.{HasRisen, AppendsPart, counted};
 
-use crate::sink::{LineSink, WriteFault, count_failure, write_line};
+use crate::output::{Output, WriteFault};
+use crate::sink::LineSink;
 use cj_feature::{Feature, Header};
 use std::io::Write;
 
-/// Writes lines to a writer that is lent, as `WriteSink` does to one of its own.
+/// Writes lines to an output that is lent, as `WriteSink` does to a writer of its own.
 #[derive(Drop)]
-pub struct LentSink<'w, W: Write> {
-    writer: &'w mut W,
-    failures: u64,
+pub struct LentSink<'w, W: Write + Drop> {
+    output: &'w mut Output<W>,
 }
 
-impl<'w, W: Write> LentSink<'w, W> {
-    ghost use Rattle.cj_stream.specs.LentSink.{lent_writer, lent_name, lent_failures};
+impl<'w, W: Write + Drop> LentSink<'w, W> {
+    ghost use Rattle.cj_stream.specs.LentSink.{lent_output, lent_name};
 
-    /// A sink over a lent writer that has not failed.
-    pub fn new(writer: &'w mut W) -> Self
-        ensures same_reference { lent_name result ≡ writer.entry.ghost_name }
-        ensures writer { lent_writer result ≡ writer.old }
-        ensures failures { lent_failures result ≡ 0 }
+    /// A sink over a lent output.
+    pub fn new(output: &'w mut Output<W>) -> Self
+        ensures same_reference { lent_name result ≡ output.entry.ghost_name }
+        ensures output { lent_output result ≡ output.old }
     {
-        LentSink {
-            writer,
-            failures: 0,
-        }
-    }
-
-    // Writes a line as it came, and counts a failure.
-    fn write(&mut self, content: &[u8], lf: bool) -> Result<(), WriteFault>
-        ensures ok { OnOk result ((lent_name self.new ≡ lent_name self.old)
-            × Appends (W.contents (lent_writer self.old)) (W.contents (lent_writer self.new)) (raw (record { content = content.now; lf = lf }))) }
-        ensures fault { OnErr result ((lent_name self.new ≡ lent_name self.old)
-            × AppendsPart (W.contents (lent_writer self.old)) (W.contents (lent_writer self.new)) (raw (record { content = content.now; lf = lf }))) }
-        ensures cause { OnErr result (HasRisen (lent_failures self.old) (lent_failures self.new)) }
-        ensures counts { lent_failures self.old ≤ lent_failures self.new }
-        ensures counted { lent_failures self.new ≡ counted (lent_failures self.old) result }
-    {
-        let answer = write_line(self.writer, content, lf);
-        self.failures = count_failure(self.failures, answer);
-        answer
+        LentSink { output }
     }
 }
 
-impl<W: Write> LineSink for LentSink<'_, W> {
+impl<W: Write + Drop> LineSink for LentSink<'_, W> {
     ghost use Rattle.cj_stream.specs.LentSink.{lent_writer, lent_name, lent_failures};
 
     ghost takes = { λ a i b. (lent_name b ≡ lent_name a) × Appends (W.contents (lent_writer a)) (W.contents (lent_writer b)) (raw_item i) };
@@ -65,7 +45,7 @@ impl<W: Write> LineSink for LentSink<'_, W> {
         ensures counts { lent_failures self.old ≤ lent_failures self.new }
         ensures counted { lent_failures self.new ≡ counted (lent_failures self.old) result }
     {
-        self.write(header.bytes(), lf)
+        self.output.write_line(header.bytes(), lf)
     }
 
     fn put(&mut self, feature: &Feature<'_>, lf: bool) -> Result<(), WriteFault>
@@ -77,6 +57,6 @@ impl<W: Write> LineSink for LentSink<'_, W> {
         ensures counts { lent_failures self.old ≤ lent_failures self.new }
         ensures counted { lent_failures self.new ≡ counted (lent_failures self.old) result }
     {
-        self.write(feature.bytes(), lf)
+        self.output.write_line(feature.bytes(), lf)
     }
 }

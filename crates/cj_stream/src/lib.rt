@@ -30,6 +30,7 @@ mod framer;
 mod judge;
 pub mod laws;
 mod lent;
+mod output;
 mod promise;
 mod query;
 pub mod row_laws;
@@ -41,15 +42,16 @@ mod tallying;
 #[cfg(test)]
 mod tests;
 
-pub use copying::{Copied, copy, copy_out, copy_pieces, put_pieces};
+pub use copying::{Copied, copy, copy_out, put_pieces};
 pub use count::CountSink;
 pub use counting::{count_pieces, count_stream};
 pub use ending::End;
 pub use engine::Engine;
 pub use lent::LentSink;
+pub use output::{Output, WriteFault};
 pub use promise::headline;
 pub use query::{Query, QueryFault};
 pub use running::{Outcome, run};
-pub use sink::{LineSink, WriteFault, WriteSink, write_whole};
+pub use sink::{LineSink, WriteSink};
 pub use tally::TallySink;
 pub use tallying::{tally_pieces, tally_stream};

@@ -1,11 +1,11 @@
 //! A whole run, from a reader to a sink.
-ghost use Rattle.std.specs.Prelude.{◌≡◌, ◌↔◌, ℕ, List, [], None, length, false, IsTrue};
+ghost use Rattle.std.specs.Prelude.{◌≡◌, ◌↔◌, ◌≤◌, ℕ, List, length, false, IsTrue};
 ghost use Rattle.std.specs.Io.KnownBytes.{Consumes, IsAtEnd};
 ghost use Rattle.cj_stream.specs.Sink.{HasRisen};
-ghost use Rattle.cj_stream.specs.Engine.{StandsFor, rules_of, lines_of, peaks_of};
+ghost use Rattle.cj_stream.specs.Engine.{IsFresh, rules_of, lines_of, peaks_of};
 ghost use Rattle.cj_stream.specs.Query.{rules_for};
 ghost use Rattle.cj_stream.specs.Run.{Runs};
-ghost use Rattle.cj_stream.specs.Source.{source_reader, source_name, has_failed};
+ghost use Rattle.cj_stream.specs.Source.{source_reader, source_name, reads_of, has_failed};
 
 use crate::ending::End;
 use crate::engine::Engine;
@@ -64,16 +64,17 @@ fn drive<R: Read, S: LineSink>(
     sink: &mut S,
 ) -> End
     requires piece { length buffer.old ≡ PIECE_LENGTH }
+    requires unread { reads_of source.old ≡ 0 }
     requires unfailed { has_failed source.old ≡ false }
-    requires start { engine.old.taken ≡ 0 }
-    requires open { engine.old.ended ≡ None }
-    requires stands { StandsFor engine.old [] }
+    requires fresh { IsFresh engine.old }
     ensures rules { rules_of engine.new ≡ rules_of engine.old }
     ensures same_reference { source_name source.new ≡ source_name source.old }
     ensures runs { (r : List ℕ) × Consumes (R.remaining (source_reader source.old)) (R.remaining (source_reader source.new)) r
         × Runs S.takes S.leaves (rules_of engine.old) r (IsAtEnd (R.remaining (source_reader source.new))) sink.old sink.new
         (lines_of engine.new) engine.new.reading.kept (peaks_of engine.new) result }
     ensures cause { result ≡ End.WriteFault → HasRisen (S.failures sink.old) (S.failures sink.new) }
+    ensures reads { reads_of source.new ≤ MOST_READS }
+    ensures limit { result ≡ End.ReadLimit → reads_of source.new ≡ MOST_READS }
     ensures failed { IsTrue (has_failed source.new) ↔ (result ≡ End.ReadFault) }
 {
     for _i in 0..MOST_READS {

@@ -1,19 +1,12 @@
 //! Where the kept lines go.
 ghost use Rattle.std.specs.Prelude.{◌≡◌, ◌≤◌, ℕ, OnOk, OnErr};
-ghost use Rattle.std.specs.List.{flat_map};
 ghost use Rattle.std.specs.Io.KnownBytes.{Appends};
 ghost use Rattle.cj_stream.specs.Item.{Item, raw_item, header_item, feature_item};
-ghost use Rattle.cj_stream.specs.Lines.{raw};
 ghost use Rattle.cj_stream.specs.Sink.{HasRisen, AppendsPart, counted};
 
+use crate::output::{Output, WriteFault};
 use cj_feature::{Feature, Header};
 use std::io::Write;
-use thiserror::Error;
-
-/// A line was not taken.
-#[derive(Clone, Copy, Debug, PartialEq, Eq, Error)]
-#[error("a line could not be written")]
-pub struct WriteFault;
 
 /// What takes a header and then features, one after another.
 ///
@@ -46,8 +39,7 @@ pub trait LineSink {
 /// Writes each line to a writer as it came, with LF exactly if it came with one.
 #[derive(Drop)]
 pub struct WriteSink<W: Write + Drop> {
-    writer: W,
-    failures: u64,
+    output: Output<W>,
 }
 
 impl<W: Write + Drop> WriteSink<W> {
@@ -59,77 +51,17 @@ impl<W: Write + Drop> WriteSink<W> {
         ensures failures { failures_of result ≡ 0 }
     {
         WriteSink {
-            writer,
-            failures: 0,
+            output: Output::new(writer),
         }
-    }
-
-    // Writes a line as it came, and counts a failure.
-    fn write(&mut self, content: &[u8], lf: bool) -> Result<(), WriteFault>
-        ensures ok { OnOk result (Appends (W.contents (writer_of self.old)) (W.contents (writer_of self.new))
-            (raw (record { content = content.now; lf = lf }))) }
-        ensures fault { OnErr result (AppendsPart (W.contents (writer_of self.old)) (W.contents (writer_of self.new))
-            (raw (record { content = content.now; lf = lf }))) }
-        ensures cause { OnErr result (HasRisen (failures_of self.old) (failures_of self.new)) }
-        ensures counts { failures_of self.old ≤ failures_of self.new }
-        ensures counted { failures_of self.new ≡ counted (failures_of self.old) result }
-    {
-        let answer = write_line(&mut self.writer, content, lf);
-        self.failures = count_failure(self.failures, answer);
-        answer
     }
 
     /// The writer, as it is now.
     pub fn into_inner(self) -> W
         ensures { result ≡ writer_of self }
     {
-        let WriteSink {
-            writer,
-            failures: _,
-        } = self;
-        writer
+        let WriteSink { output } = self;
+        output.into_inner()
     }
-}
-
-/// The count of failures after a call that answered so: one more where it failed. At 2^64 - 1 it
-/// stays.
-pub fn count_failure(failures: u64, answer: Result<(), WriteFault>) -> u64
-    ensures { result ≡ counted failures answer }
-{
-    match answer {
-        Ok(()) => failures,
-        Err(WriteFault) => failures.saturating_add(1),
-    }
-}
-
-/// Writes all of the bytes, by one write after another, or as many as the writer takes before it
-/// fails. An error of a write, also `Interrupted`, and a write that takes none are failures.
-pub fn write_whole<W: Write>(writer: &mut W, bytes: &[u8]) -> Result<(), WriteFault>
-    ensures ok { OnOk result (Appends (W.contents writer.old) (W.contents writer.new) bytes.now) }
-    ensures fault { OnErr result (AppendsPart (W.contents writer.old) (W.contents writer.new) bytes.now) }
-{
-    let mut rest = bytes;
-    while !rest.is_empty() {
-        match writer.write(rest) {
-            Ok(n) if n > 0 => rest = &rest[n..],
-            _ => return Err(WriteFault),
-        }
-    }
-    Ok(())
-}
-
-/// Writes a line as it came.
-pub fn write_line<W: Write>(writer: &mut W, content: &[u8], lf: bool) -> Result<(), WriteFault>
-    ensures ok { OnOk result (Appends (W.contents writer.old) (W.contents writer.new)
-        (raw (record { content = content.now; lf = lf }))) }
-    ensures fault { OnErr result (AppendsPart (W.contents writer.old) (W.contents writer.new)
-        (raw (record { content = content.now; lf = lf }))) }
-{
-    write_whole(writer, content)?;
-    if lf {
-        write_whole(writer, b"\n")?;
-    }
-    Ok(())
 }
 
 impl<W: Write + Drop> LineSink for WriteSink<W> {
@@ -148,7 +80,7 @@ impl<W: Write + Drop> LineSink for WriteSink<W> {
         ensures counts { failures_of self.old ≤ failures_of self.new }
         ensures counted { failures_of self.new ≡ counted (failures_of self.old) result }
     {
-        self.write(header.bytes(), lf)
+        self.output.write_line(header.bytes(), lf)
     }
 
     fn put(&mut self, feature: &Feature<'_>, lf: bool) -> Result<(), WriteFault>
@@ -158,6 +90,6 @@ impl<W: Write + Drop> LineSink for WriteSink<W> {
         ensures counts { failures_of self.old ≤ failures_of self.new }
         ensures counted { failures_of self.new ≡ counted (failures_of self.old) result }
     {
-        self.write(feature.bytes(), lf)
+        self.output.write_line(feature.bytes(), lf)
     }
 }

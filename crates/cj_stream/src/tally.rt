@@ -7,7 +7,8 @@ ghost use Rattle.cj_stream.specs.TallySink.{no_tally};
 
 mod adding;
 
-use crate::sink::{LineSink, WriteFault};
+use crate::output::WriteFault;
+use crate::sink::LineSink;
 use adding::{count_lods, count_types, widen_all};
 use cj_decimal::Decimal;
 use cj_feature::{Feature, Header};

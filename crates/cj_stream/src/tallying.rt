@@ -1,12 +1,14 @@
 //! Tallies of a stream.
 ghost use Rattle.std.specs.Prelude.{◌≤◌, ◌^◌, ℕ, List, length, map};
 ghost use Rattle.std.specs.Io.KnownBytes.{Consumes, IsAtEnd};
-ghost use Rattle.cj_stream.specs.Cut.{joined};
+ghost use Rattle.cj_stream.specs.Cut.{joined, Fed};
+ghost use Rattle.cj_stream.specs.Engine.{IsFresh, rules_of};
 ghost use Rattle.cj_stream.specs.Query.{rules_for};
 ghost use Rattle.cj_stream.specs.Run.{Account};
 ghost use Rattle.cj_stream.specs.TallySink.{TalliesRun, TalliesPieces};
 
 use crate::copying::{Copied, put_pieces};
+use crate::engine::Engine;
 use crate::query::Query;
 use crate::running::{Outcome, run};
 use crate::tally::TallySink;
@@ -33,16 +35,13 @@ pub fn tally_stream<R: Read>(
 
 /// Tallies what is kept of a stream that comes in pieces, up to its end or to the first line that is
 /// refused. However the stream is cut, the tally is the same.
-pub fn tally_pieces(
-    alloc: Global,
-    pieces: &[&[u8]],
-    limits: Limits,
-    query: &Query,
-) -> (TallySink, Copied)
-    requires { length (joined (map (λ piece. piece.now) pieces.now)) ≤ 2 ^ 60 }
-    ensures { TalliesPieces (rules_for limits query.now) (map (λ piece. piece.now) pieces.now) result.1.taken result.1.ended result.0 }
+pub fn tally_pieces(engine: &mut Engine, pieces: &[&[u8]]) -> (TallySink, Copied)
+    requires fresh { IsFresh engine.old }
+    requires short { length (joined (map (λ piece. piece.now) pieces.now)) ≤ 2 ^ 60 }
+    ensures fed { Fed (rules_of engine.old) (map (λ piece. piece.now) pieces.now) result.1 engine.new }
+    ensures tallies { TalliesPieces (rules_of engine.old) (map (λ piece. piece.now) pieces.now) result.1.taken result.1.ended result.0 }
 {
     let mut sink = TallySink::new();
-    let copied = put_pieces(alloc, pieces, &mut sink, limits, query);
+    let copied = put_pieces(engine, pieces, &mut sink);
     (sink, copied)
 }

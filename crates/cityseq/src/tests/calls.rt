@@ -1,9 +1,8 @@
 //! What the tests share: comparisons, and the calls that are tested without what their contracts
 //! say. A test compares values when it runs, and its proof grows with each fact that a call leaves.
 use crate::command::command;
-use crate::output::Output;
 use cj_spans::Reason;
-use cj_stream::End;
+use cj_stream::{End, Output};
 use std::alloc::Global;
 use std::io::Read;
 use std::process::Abort;
@@ -64,6 +63,12 @@ pub fn commanded<R: Read>(alloc: Global, asked: &[&str], reader: &mut R) -> Resu
     let asked = words(alloc, asked)?;
     let mut out = Vec::new(alloc);
     let mut err = Vec::new(alloc);
-    let status = command(alloc, &asked, reader, &mut Output::new(&mut out), &mut err);
+    let status = command(
+        alloc,
+        &asked,
+        reader,
+        &mut Output::new(&mut out),
+        &mut Output::new(&mut err),
+    );
     Ok(Written { status, out, err })
 }

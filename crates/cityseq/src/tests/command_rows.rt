@@ -3,11 +3,10 @@ use super::calls::{Written, check_bytes, check_number, check_written, commanded,
 use super::devices::{SlowReader, SlowWriter};
 use super::texts::{FEATURE, HEADER};
 use crate::ask::{Ask, perform};
-use crate::output::Output;
 use crate::report::{status, write_fault_line};
 use cj_budget::Limits;
 use cj_spans::Reason;
-use cj_stream::{End, Query};
+use cj_stream::{End, Output, Query};
 use std::alloc::Global;
 use std::io::Write;
 use std::process::Abort;
@@ -38,7 +37,13 @@ fn filter_to<W: Write, E: Write>(
     err: &mut E,
 ) -> u8 {
     let ask = Ask::Filter(limits, Query::all(alloc));
-    perform(alloc, &ask, reader, &mut Output::new(out), err)
+    perform(
+        alloc,
+        &ask,
+        reader,
+        &mut Output::new(out),
+        &mut Output::new(err),
+    )
 }
 
 // Filters what a reader gives.
@@ -162,7 +167,7 @@ fn a_standard_error_that_fails_is_ignored(rt: HostRuntime) -> Result<(), Fail> {
 
 fn check_end(rt: &impl Abort, alloc: Global, end: End, code: u8, line: &[u8]) {
     let mut err = Vec::new(alloc);
-    assert_eq!(rt; write_fault_line(&mut err, end), Ok(()));
+    assert_eq!(rt; write_fault_line(&mut Output::new(&mut err), end), Ok(()));
     check_number(rt, status(end).into(), code.into(), "status", 0);
     check_bytes(rt, &err, line, "line", code.into());
 }

@@ -3,8 +3,8 @@ use super::calls::{check_bytes, check_number, check_written, commanded, joined};
 use super::devices::{SlowReader, SlowWriter};
 use super::texts::{FEATURE, HEADER};
 use crate::ask::{Ask, perform};
-use crate::output::Output;
 use cj_budget::Limits;
+use cj_stream::Output;
 use std::alloc::Global;
 use std::process::Abort;
 use std::test::Fail;
@@ -311,7 +311,7 @@ fn check_failing_text(
         ask,
         &mut reader,
         &mut Output::new(&mut out),
-        &mut err,
+        &mut Output::new(&mut err),
     );
     check_number(rt, status.into(), 4, "status", fails_at);
     check_bytes(rt, &out.bytes, wanted, "standard output", fails_at);

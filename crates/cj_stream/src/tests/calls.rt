@@ -1,7 +1,7 @@
 //! What the tests share: comparisons, and the calls that are tested without what their contracts
 //! say. A test compares values when it runs, and its proof grows with each fact that a call leaves.
 use super::devices::{SlowReader, SlowWriter};
-use crate::{End, Engine, LineSink, Outcome, Query, WriteSink, copy, copy_out};
+use crate::{End, Engine, LineSink, Outcome, Output, Query, WriteSink, copy, copy_out};
 use cj_budget::{Limits, Peaks};
 use cj_spans::Reason;
 use std::alloc::Global;
@@ -76,7 +76,8 @@ pub fn copied_to(
     writer: &mut SlowWriter,
     limits: Limits,
 ) -> Outcome {
-    copy_out(alloc, reader, writer, limits, &Query::all(alloc))
+    let mut out = Output::new(writer);
+    copy_out(alloc, reader, &mut out, limits, &Query::all(alloc))
 }
 
 /// Gives a piece to an engine, which has to answer so.

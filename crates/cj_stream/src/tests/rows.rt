@@ -3,7 +3,7 @@ use super::calls::{
     check_bytes, check_ended, check_outcome, copied, held, joined, outcome, refused,
 };
 use super::devices::SlowReader;
-use crate::{End, Outcome, Query, WriteSink, box_laws, copy_pieces, laws};
+use crate::{End, Engine, Outcome, Query, WriteSink, box_laws, headline, laws};
 use cj_budget::{Limits, Peaks};
 use cj_spans::Reason;
 use std::alloc::Global;
@@ -63,7 +63,10 @@ fn check_cut(
     let query = Query::all(alloc);
     let mut sink = WriteSink::new(Vec::new(alloc));
     let pieces = [&text[..at], &text[at..]];
-    let copied = copy_pieces(alloc, &pieces, &mut sink, limits, &query);
+    let Ok(mut engine) = Engine::open(alloc, limits, &query) else {
+        unreachable!();
+    };
+    let copied = headline(&mut engine, &pieces, &mut sink);
     check_ended(
         rt,
         copied.ended,

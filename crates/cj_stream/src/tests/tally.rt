@@ -2,7 +2,7 @@
 use super::calls::{check_bytes, joined};
 use super::devices::SlowReader;
 use super::rows::FEATURE;
-use crate::{LineSink, Query, TallySink, WriteFault, run, tally_pieces, tally_stream};
+use crate::{Engine, LineSink, Query, TallySink, WriteFault, run, tally_pieces, tally_stream};
 use cj_budget::Limits;
 use cj_feature::{Feature, Header};
 use std::alloc::{AllocError, Global};
@@ -149,7 +149,8 @@ fn check_cut(rt: &impl Abort, alloc: Global, text: &[u8], at: usize) -> Result<(
     let limits = Limits::new(8_388_608, 64)?;
     let query = Query::all(alloc);
     let pieces = [&text[..at], &text[at..]];
-    let (tally, _) = tally_pieces(alloc, &pieces, limits, &query);
+    let mut engine = Engine::open(alloc, limits, &query)?;
+    let (tally, _) = tally_pieces(&mut engine, &pieces);
     let told = report(alloc, &tally)?;
     check_bytes(rt, told.as_bytes(), TALLY.as_bytes(), "pieces", at as u64);
     Ok(())

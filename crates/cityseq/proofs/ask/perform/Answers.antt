@@ -1,4 +1,6 @@
-use Rattle.cityseq.specs.Output.{flushed_by}
+use Rattle.std.proofs.Common.{sym, subst}
+use Rattle.cj_stream.specs.Output.{channel, output_failures}
+use Rattle.cj_stream.specs.Sink.{HasRisen}
 use Rattle.cityseq.proofs.PerformLemmas.{Answers-kept}
 use Rattle.cityseq.proofs.ask.perform.Goals as goal
 
@@ -15,13 +17,13 @@ returns g c =
         told = c.answer-told.result;
         shown = c.show.result;
         account = e.6;
-        answers = Answers-kept _ e.0 e.4 _ _ _ _ e.7 c.flush.ensures.bytes;
+        answers = Answers-kept _ e.0 _ e.3 e.4 c.answer-told.result (channel g.W.Write.contents c.args.out.now) (channel g.W.Write.contents c.answer-told.new.out) (channel g.W.Write.contents c.flush.new.self) e.7 c.flush.ensures.bytes c.flush.ensures.failures;
+        cause = λ is. subst (λ n. HasRisen (output_failures c.args.out.now) n) (sym c.flush.ensures.failures) (e.8 is);
         reports = record {
-          flushed = flushed_by c.flush.result;
+          flushed = c.flush.result;
           told = c.flush.ensures.noted;
           end = c.show.ensures.end;
-          whole = c.show.ensures.whole;
-          front = c.show.ensures.front;
+          line = record { whole = c.show.ensures.whole; front = c.show.ensures.front; failures = c.show.ensures.failures };
         };
         status = c.status.ensures;
       },

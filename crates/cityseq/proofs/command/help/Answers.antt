@@ -1,24 +1,25 @@
 use Rattle.cj_stream.specs.declared.ending.End.{End}
 use Rattle.cj_stream.specs.declared.ending.End.TheVariants.{Complete}
-use Rattle.cityseq.specs.Output.{flushed_by}
-use Rattle.cityseq.proofs.PerformLemmas.{Says-kept, Says-told}
+use Rattle.cj_stream.specs.Output.{channel}
+use Rattle.cityseq.proofs.PerformLemmas.{Says-kept}
 use Rattle.cityseq.proofs.command.help.Goals as goal
 
 pub returns : goal.returns
 returns g c =
     let text = c.as_bytes.result.now in
     let told : End = c.end_of_text-told.result in
+    let w = c.write_whole.ensures in
     record {
       text = text;
       told = told;
       shown = c.show.result;
-      says = Says-kept text Complete told _ _ _ (Says-told text c.write_whole.result told _ _ c.end_of_text-told.ensures c.write_whole.ensures.ok c.write_whole.ensures.fault) c.flush.ensures.bytes;
+      says = Says-kept text Complete told (channel g.W.Write.contents c.args.out.now) (channel g.W.Write.contents c.write_whole.new.self) (channel g.W.Write.contents c.flush.new.self)
+          (c.write_whole.result, c.end_of_text-told.ensures, record { whole = w.ok; front = w.fault; failures = w.failures }) c.flush.ensures.bytes c.flush.ensures.failures;
       reports = record {
-        flushed = flushed_by c.flush.result;
+        flushed = c.flush.result;
         told = c.flush.ensures.noted;
         end = c.show.ensures.end;
-        whole = c.show.ensures.whole;
-        front = c.show.ensures.front;
+        line = record { whole = c.show.ensures.whole; front = c.show.ensures.front; failures = c.show.ensures.failures };
       };
       status = c.status.ensures;
     }

@@ -17,7 +17,7 @@ returns-in_err-write_power-clause-fault g c =
     let words = flat_map (λ word. 32 ∷ word) (map power_text c.in-Some.numbers) in
     let each = flat_map-map (λ word. 32 ∷ word) power_text c.in-Some.numbers in
     let name = rw c.as_bytes.ensures.value at c.in_ok-write_whole.ensures.ok in
-    let fault = part-fault (λ number. 32 ∷ power_text number) c.in-Some.numbers c.loop-number.number-index _ _ c.loop-number.invariant _ c.number-item.result
+    let fault = part-fault (λ number. 32 ∷ power_text number) c.in-Some.numbers c.loop-number.number-index _ _ c.loop-number.invariant.0 _ c.number-item.result
     (omega arith) c.in_err-write_power.ensures.fault in
     rw c.in-Some.is (on_err_any _ (AppendsPart-front _ _ (c.args.name.now ++ words) (10 ∷ []) (AppendsPart-after _ _ _ c.args.name.now words name (rw (sym each) at fault))))
 
@@ -26,6 +26,6 @@ returns-clause-fault g c =
     let words = flat_map (λ word. 32 ∷ word) (map power_text c.in-Some.numbers) in
     let each = flat_map-map (λ word. 32 ∷ word) power_text c.in-Some.numbers in
     let name = rw c.as_bytes.ensures.value at c.in_ok-write_whole.ensures.ok in
-    let all = parts-written (λ number. 32 ∷ power_text number) c.in-Some.numbers c.loop-number.number-index _ _ c.loop-number.invariant (omega arith) in
+    let all = parts-written (λ number. 32 ∷ power_text number) c.in-Some.numbers c.loop-number.number-index _ _ c.loop-number.invariant.0 (omega arith) in
     let before = Appends-then _ _ _ c.args.name.now words name (rw (sym each) at all) in
     rw c.in-Some.is (fault-after _ _ _ (c.args.name.now ++ words) _ (10 ∷ []) before c.write_whole-2.ensures.fault)

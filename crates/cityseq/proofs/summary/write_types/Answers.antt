@@ -13,7 +13,7 @@ returns-in_err-write_counted-clause-fault g c =
     let types = c.all-object_type-items.result in
     let each = sym (flat_map-map (type_text t) row_at types) ∙ ap (flat_map (type_text t)) c.all-object_type-items.ensures in
     let one = rw (c.name.ensures.name, c.by_type.ensures) at c.in_err-write_counted.ensures.fault in
-    let fault = part-fault (λ number. type_text t (row_at number)) types c.loop-object_type.object_type-index _ _ c.loop-object_type.invariant _ c.object_type-item.result
+    let fault = part-fault (λ number. type_text t (row_at number)) types c.loop-object_type.object_type-index _ _ c.loop-object_type.invariant.0 _ c.object_type-item.result
     (omega arith) one in
     on_err_any _ (rw each at fault)
 
@@ -22,5 +22,5 @@ returns-clause-ok g c =
     let t = c.args.tally.now in
     let types = c.all-object_type-items.result in
     let each = sym (flat_map-map (type_text t) row_at types) ∙ ap (flat_map (type_text t)) c.all-object_type-items.ensures in
-    let all = parts-written (λ number. type_text t (row_at number)) types c.loop-object_type.object_type-index _ _ c.loop-object_type.invariant (omega arith) in
+    let all = parts-written (λ number. type_text t (row_at number)) types c.loop-object_type.object_type-index _ _ c.loop-object_type.invariant.0 (omega arith) in
     rw each at all

@@ -5,7 +5,8 @@ use Rattle.cj_stream.specs.Engine.{rules_of, lines_of}
 use Rattle.cj_stream.proofs.RunLemmas.{Consumes-then, Consumes-kept, Delivers-then, Runs-left, kept_first-same, Ends-finished, Ends-fed, whole-good, HasRisen-after, told-not_complete, fault-not_complete, limit-not_complete}
 use Rattle.std.specs.Prelude.{is_err}
 use Rattle.cj_stream.proofs.CutLemmas.{unread-told, unread-concludes}
-use Rattle.cj_stream.proofs.DeviceLemmas.{unfailed-end, unfailed-limit}
+use Rattle.cj_stream.proofs.OutputLemmas.{Runs-told}
+use Rattle.cj_stream.proofs.DeviceLemmas.{unfailed-end, unfailed-limit, unread-limit}
 use Rattle.cj_stream.proofs.running.drive.Goals as goal
 
 pub returns-in-Err-clause-runs : goal.returns-in-Err-clause-runs
@@ -25,18 +26,16 @@ returns-in-Ok-eq0-clause-runs g c =
     let stands = c.finish.ensures.stands r i.5.2 in (
       r,
       let k = Consumes-then _ _ _ r (take c.in-Ok-eq0.field-0 c.read.new.buffer) i.5.1 c.in-Ok-eq0.ensures.bytes.0 in rw (c.in-Ok-eq0.field-0-test, append-nil r) at k,
-      record {
-        account = record {
-          bounded = let k = stands.bounded in rw (c.finish.ensures.rules, i.3) at k;
-          exact = λ h. let k = c.finish.ensures.exact r i.5.2 i.2 h in rw i.3 at k;
-          counts = let k = stands.counts in rw (c.finish.ensures.rules, i.3) at k;
-          ends = Ends-finished _ r _ _ c.finish.result (c.in-Ok-eq0.ensures.bytes.1 c.in-Ok-eq0.field-0-test (omega (arith, c.read.auto.buffer, i.0))) (let k = c.finish.ensures.answer r i.5.2 i.2 in rw i.3 at k);
-        };
-        sink =
-            let k = c.finish.ensures.sink r i.5.2 i.2 in
-            let j = rw (i.3, c.finish.ensures.ended) at k in
-            Delivers-then g.S.LineSink.takes g.S.LineSink.leaves _ r r _ _ _ _ _ _ refl i.5.3 j;
-      },
+      Runs-told g.S.LineSink.takes g.S.LineSink.leaves (rules_of c.args.engine.now) r _ c.args.sink.now c.finish.new.sink _ _ _ c.finish.result
+          (record {
+            bounded = let k = stands.bounded in rw (c.finish.ensures.rules, i.3) at k;
+            exact = λ h. let k = c.finish.ensures.exact r i.5.2 i.2 h in rw i.3 at k;
+            counts = let k = stands.counts in rw (c.finish.ensures.rules, i.3) at k;
+            ends = Ends-finished _ r _ _ c.finish.result (c.in-Ok-eq0.ensures.bytes.1 c.in-Ok-eq0.field-0-test (omega (arith, c.read.auto.buffer, i.0))) (let k = c.finish.ensures.answer r i.5.2 i.2 in rw i.3 at k);
+          })
+          (let k = c.finish.ensures.sink r i.5.2 i.2 in
+          let j = rw (i.3, c.finish.ensures.ended) at k in
+          Delivers-then g.S.LineSink.takes g.S.LineSink.leaves _ r r _ _ _ _ _ _ refl i.5.3 j),
     )
 
 pub returns-in-Ok-eq0-clause-cause : goal.returns-in-Ok-eq0-clause-cause
@@ -51,18 +50,16 @@ returns-in-Err-feed-clause-runs g c =
     let stands = c.feed.ensures.stands r i.5.2 in (
       r ++ piece,
       Consumes-then _ _ _ r piece i.5.1 c.in-Ok.ensures.bytes.0,
-      record {
-        account = record {
-          bounded = let k = stands.bounded in rw (i.2, c.feed.ensures.rules, i.3) at k;
-          exact = λ h. absurd (told-not_complete (rules_of e) (r ++ piece) (lines_of c.feed.new.self) c.in-Err-feed.end (c.in-Err-feed.ensures.told r i.5.2 i.2) h);
-          counts = let k = stands.counts in rw (i.2, c.feed.ensures.rules, i.3) at k;
-          ends = Ends-fed _ (r ++ piece) _ _ c.in-Err-feed.end (let k = c.in-Err-feed.ensures.told r i.5.2 i.2 in rw i.3 at k);
-        };
-        sink =
-            let k = c.feed.ensures.sink r i.5.2 i.2 in
-            let j = rw (i.3, c.in-Err-feed.ensures.ended) at k in
-            Delivers-then g.S.LineSink.takes g.S.LineSink.leaves _ r (r ++ piece) _ _ _ _ _ _ (kept_first-same _ (lines_of e) r piece (i.5.2.going i.2).0.lines) i.5.3 j;
-      },
+      Runs-told g.S.LineSink.takes g.S.LineSink.leaves (rules_of c.args.engine.now) (r ++ piece) _ c.args.sink.now c.feed.new.sink _ _ _ c.in-Err-feed.end
+          (record {
+            bounded = let k = stands.bounded in rw (i.2, c.feed.ensures.rules, i.3) at k;
+            exact = λ h. absurd (told-not_complete (rules_of e) (r ++ piece) (lines_of c.feed.new.self) c.in-Err-feed.end (c.in-Err-feed.ensures.told r i.5.2 i.2) h);
+            counts = let k = stands.counts in rw (i.2, c.feed.ensures.rules, i.3) at k;
+            ends = Ends-fed _ (r ++ piece) _ _ c.in-Err-feed.end (let k = c.in-Err-feed.ensures.told r i.5.2 i.2 in rw i.3 at k);
+          })
+          (let k = c.feed.ensures.sink r i.5.2 i.2 in
+          let j = rw (i.3, c.in-Err-feed.ensures.ended) at k in
+          Delivers-then g.S.LineSink.takes g.S.LineSink.leaves _ r (r ++ piece) _ _ _ _ _ _ (kept_first-same _ (lines_of e) r piece (i.5.2.going i.2).0.lines) i.5.3 j),
     )
 
 pub returns-in-Err-feed-clause-cause : goal.returns-in-Err-feed-clause-cause
@@ -89,6 +86,7 @@ loop-i-preserved g c =
       ),
       c.read.ensures.failed ∙ ap is_err c.in-Ok.is,
       c.read.ensures.same_reference ∙ i.7,
+      omega (arith, c.read.ensures.counted, i.8),
     )
 
 -- neither the engine's end nor the end of a piece is a read fault
@@ -114,3 +112,13 @@ returns-clause-runs g c =
       i.5.1,
       rw (← i.3) (let k = rw (← i.3) at i.5.3 in Runs-left _ _ c.loop-i.engine r _ _ _ ReadLimit limit-not_complete (whole-good c.loop-i.engine r (stands.going i.2).0) (λ m u e. e) stands k),
     )
+
+pub returns-in-Ok-eq0-clause-limit : goal.returns-in-Ok-eq0-clause-limit
+returns-in-Ok-eq0-clause-limit g c =
+    let i = c.loop-i.invariant in
+    unread-limit c.finish.result (unread-concludes _ i.5.0 _ c.finish.result (c.finish.ensures.answer i.5.0 i.5.2 i.2))
+
+pub returns-in-Err-feed-clause-limit : goal.returns-in-Err-feed-clause-limit
+returns-in-Err-feed-clause-limit g c =
+    let i = c.loop-i.invariant in
+    unread-limit c.in-Err-feed.end (unread-told _ (i.5.0 ++ take c.in-Ok.n c.read.new.buffer) _ c.in-Err-feed.end (c.in-Err-feed.ensures.told i.5.0 i.5.2 i.2))

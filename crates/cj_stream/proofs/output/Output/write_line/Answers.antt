@@ -1,6 +1,6 @@
 use Rattle.std.proofs.Common.{◌∷◌, []}
 use Rattle.cj_stream.proofs.KnownLemmas.{AppendsPart-after, on_err_any}
-use Rattle.cj_stream.proofs.sink.write_line.Goals as goal
+use Rattle.cj_stream.proofs.output.Output.write_line.Goals as goal
 
 pub returns-in_err-write_whole-2-clause-fault : goal.returns-in_err-write_whole-2-clause-fault
 returns-in_err-write_whole-2-clause-fault g c =

@@ -1,0 +1,145 @@
+//! A writer, and what its calls have answered.
+ghost use Rattle.std.specs.Prelude.{◌≡◌, ◌<◌, ◌≤◌, None, Some, OnOk, OnErr, IfOk, length, take};
+ghost use Rattle.std.specs.Io.KnownBytes.{Appends, Keeps};
+ghost use Rattle.cj_stream.specs.Device.{taken_by, flushed_by};
+ghost use Rattle.cj_stream.specs.Lines.{raw};
+ghost use Rattle.cj_stream.specs.Sink.{HasRisen, RisesOnErr, AppendsPart, counted};
+
+use std::io;
+use std::io::Write;
+use thiserror::Error;
+
+/// Bytes were not taken.
+#[derive(Clone, Copy, Debug, PartialEq, Eq, Error)]
+#[error("a line could not be written")]
+pub struct WriteFault;
+
+// What a write of some bytes says by its answer: how many it took, or that it failed. Each error is a
+// failure, also `Interrupted`, and so is a write that took none.
+fn bytes_taken(answer: io::Result<usize>) -> Result<usize, WriteFault>
+    ensures { result ≡ taken_by answer }
+{
+    match answer {
+        Ok(n) if n > 0 => Ok(n),
+        _ => Err(WriteFault),
+    }
+}
+
+// What a flush says by its answer. Each error is a failure.
+fn flushed(answer: io::Result<()>) -> Result<(), WriteFault>
+    ensures { result ≡ flushed_by answer }
+{
+    match answer {
+        Ok(()) => Ok(()),
+        Err(_) => Err(WriteFault),
+    }
+}
+
+/// A writer that counts how often a write to it has failed, and notes what its last flush answered,
+/// until more is written. Clauses cannot see a call of the system: they see the count and the note,
+/// which nobody else can make. At 2^64 - 1 the count stays.
+#[derive(Drop)]
+pub struct Output<W: Write + Drop> {
+    writer: W,
+    failures: u64,
+    noted: Option<Result<(), WriteFault>>,
+}
+
+impl<W: Write + Drop> Output<W> {
+    ghost use Rattle.cj_stream.specs.Output.{output_writer, output_failures, flush_answer};
+
+    /// An output to a writer that has not failed, and of which no flush is known.
+    pub fn new(writer: W) -> Self
+        ensures writer { output_writer result ≡ writer }
+        ensures failures { output_failures result ≡ 0 }
+        ensures unflushed { flush_answer result ≡ None }
+    {
+        Output {
+            writer,
+            failures: 0,
+            noted: None,
+        }
+    }
+
+    /// The writer, as it is now.
+    pub fn into_inner(self) -> W
+        ensures { result ≡ output_writer self }
+    {
+        let Output {
+            writer,
+            failures: _,
+            noted: _,
+        } = self;
+        writer
+    }
+
+    // Writes once, and counts a failure.
+    fn write(&mut self, bytes: &[u8]) -> Result<usize, WriteFault>
+        requires { 0 < length bytes.now }
+        ensures some { IfOk result (λ n. 0 < n) }
+        ensures bound { IfOk result (λ n. n ≤ length bytes.now) }
+        ensures ok { IfOk result (λ n. Appends (W.contents (output_writer self.old)) (W.contents (output_writer self.new)) (take n bytes.now)) }
+        ensures fault { OnErr result (Keeps (W.contents (output_writer self.old)) (W.contents (output_writer self.new))) }
+        ensures cause { OnErr result (HasRisen (output_failures self.old) (output_failures self.new)) }
+        ensures counts { output_failures self.old ≤ output_failures self.new }
+        ensures noted { flush_answer self.new ≡ flush_answer self.old }
+        ensures counted { output_failures self.new ≡ counted (output_failures self.old) result }
+    {
+        let taken = bytes_taken(self.writer.write(bytes));
+        if taken.is_err() {
+            self.failures = self.failures.saturating_add(1);
+        }
+        taken
+    }
+
+    /// Writes all of the bytes, by one write after another, or as many as the writer takes before it
+    /// fails. An error of a write, also `Interrupted`, and a write that takes none are failures.
+    pub fn write_whole(&mut self, bytes: &[u8]) -> Result<(), WriteFault>
+        ensures ok { OnOk result (Appends (W.contents (output_writer self.old)) (W.contents (output_writer self.new)) bytes.now) }
+        ensures fault { OnErr result (AppendsPart (W.contents (output_writer self.old)) (W.contents (output_writer self.new)) bytes.now) }
+        ensures cause { OnErr result (HasRisen (output_failures self.old) (output_failures self.new)) }
+        ensures failures { RisesOnErr result (output_failures self.old) (output_failures self.new) }
+        ensures counts { output_failures self.old ≤ output_failures self.new }
+        ensures unflushed { flush_answer self.new ≡ None }
+        ensures counted { output_failures self.new ≡ counted (output_failures self.old) result }
+    {
+        self.noted = None;
+        let mut rest = bytes;
+        while !rest.is_empty() {
+            match self.write(rest) {
+                Ok(n) => rest = &rest[n..],
+                Err(WriteFault) => return Err(WriteFault),
+            }
+        }
+        Ok(())
+    }
+
+    /// Writes a line as it came.
+    pub fn write_line(&mut self, content: &[u8], lf: bool) -> Result<(), WriteFault>
+        ensures ok { OnOk result (Appends (W.contents (output_writer self.old)) (W.contents (output_writer self.new))
+            (raw (record { content = content.now; lf = lf }))) }
+        ensures fault { OnErr result (AppendsPart (W.contents (output_writer self.old)) (W.contents (output_writer self.new))
+            (raw (record { content = content.now; lf = lf }))) }
+        ensures cause { OnErr result (HasRisen (output_failures self.old) (output_failures self.new)) }
+        ensures counts { output_failures self.old ≤ output_failures self.new }
+        ensures unflushed { flush_answer self.new ≡ None }
+        ensures counted { output_failures self.new ≡ counted (output_failures self.old) result }
+    {
+        self.write_whole(content)?;
+        if lf {
+            self.write_whole(b"\n")?;
+        }
+        Ok(())
+    }
+
+    /// Flushes the writer, and notes the answer.
+    pub fn flush(&mut self) -> Result<(), WriteFault>
+        ensures bytes { Keeps (W.contents (output_writer self.old)) (W.contents (output_writer self.new)) }
+        ensures failures { output_failures self.new ≡ output_failures self.old }
+        ensures noted { flush_answer self.new ≡ Some result }
+    {
+        let answer = flushed(self.writer.flush());
+        self.noted = Some(answer);
+        answer
+    }
+}
