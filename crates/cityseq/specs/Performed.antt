@@ -1,7 +1,8 @@
 -- What the program does of what it is asked.
-use Rattle.std.specs.Prelude.{◌≡◌, ◌≢◌, ◌⊎◌, ℕ, List, Option, Result, Ok, Err, OnOk, OnErr, length}
+use Rattle.std.specs.Prelude.{◌≡◌, ◌≢◌, ◌⊎◌, ℕ, List, [], Option, Result, Ok, Err, OnOk, OnErr, length}
 use Rattle.std.specs.List.{filter}
 use Rattle.std.specs.Io.KnownBytes.{Appends, Keeps}
+use Rattle.clap.specs.Words.{kind_of}
 use Rattle.clap.specs.declared.error.kind.ErrorKind.{ErrorKind}
 use Rattle.clap.specs.declared.error.kind.ErrorKind.TheVariants.{OutOfMemory, DisplayHelp, DisplayVersion}
 use Rattle.clap.specs.declared.parser.matches.ArgMatches.{ArgMatches}
@@ -17,13 +18,14 @@ use Rattle.cj_stream.specs.TallySink.{Tally, IsTallyOf}
 use Rattle.cj_stream.specs.Verdict.{Rules, good, kept}
 use Rattle.cj_stream.specs.declared.ending.End.{End}
 use Rattle.cj_stream.specs.declared.ending.End.TheVariants.{Complete, Refused, ReadFault, ReadLimit, WriteFault, Memory}
-use Rattle.cj_stream.specs.declared.query.fault.QueryFault.{QueryFault}
 use Rattle.cj_stream.specs.declared.sink.WriteFault.{WriteFault as Unwritten}
 use Rattle.cityseq.specs.Report.{Reports, fault_line, query_line, status_of, status_of_query}
 use Rattle.cityseq.specs.Summary.{check_text, report}
 use Rattle.cityseq.specs.Words.{CannotAsk}
 use Rattle.cityseq.specs.declared.ask.Ask.{Ask}
 use Rattle.cityseq.specs.declared.ask.Ask.TheVariants.{Check, Filter, Info}
+use Rattle.cityseq.specs.declared.command.NoAsk.{NoAsk}
+use Rattle.cityseq.specs.declared.command.NoAsk.TheVariants.{Words, NoCommand, Limits, Query}
 use Rattle.cityseq.specs.declared.report.Shown.{Shown}
 
 -- ---- texts of our own
@@ -112,14 +114,6 @@ TellsMemory answer old_err new_err = TellsFault (fault_line Memory) (status_of M
 abbrev pub TellsWrongWords : ℕ → Option (List ℕ) → Option (List ℕ) → Type 0
 TellsWrongWords answer old_err new_err = (text : List ℕ) × TellsFault text 2 answer old_err new_err
 
--- a command of some name and options is one whose query cannot be asked, and its fault is told
-pub record TellsQuery (answer : ℕ) (old_err new_err : Option (List ℕ)) : Type 0 where
-  pub name : List ℕ
-  pub options : ArgMatches
-  pub fault : QueryFault
-  pub refused : CannotAsk name options fault
-  pub told : TellsFault (query_line fault) (status_of_query fault) answer old_err new_err
-
 -- nothing was written to standard output, and it was not flushed
 abbrev pub StaysSilent : Option (List ℕ) → Option (List ℕ) → Option (Result (Unit {0}) Unwritten) → Option (Result (Unit {0}) Unwritten) → Type 0
 StaysSilent old_out new_out noted flushed = (new_out ≡ old_out) × (flushed ≡ noted)
@@ -135,10 +129,19 @@ TellsError kind answer old_out new_out noted flushed old_err new_err =
     ⊎ ((kind ≢ OutOfMemory) × IsNoHelp kind × StaysSilent old_out new_out noted flushed × TellsWrongWords answer old_err new_err)
     ⊎ (¬ IsNoHelp kind × TellsHelp answer old_out new_out flushed old_err new_err)
 
--- Nothing is done with the stream: memory was refused, the words are wrong or their query cannot be asked, and standard
--- output got nothing; or they ask for help.
-abbrev pub Declines : ℕ → Option (List ℕ) → Option (List ℕ) → Option (Result (Unit {0}) Unwritten) → Option (Result (Unit {0}) Unwritten) → Option (List ℕ) → Option (List ℕ) → Type 0
-Declines answer old_out new_out noted flushed old_err new_err =
-    (StaysSilent old_out new_out noted flushed
-    × (TellsMemory answer old_err new_err ⊎ TellsWrongWords answer old_err new_err ⊎ TellsQuery answer old_err new_err))
-    ⊎ TellsHelp answer old_out new_out flushed old_err new_err
+-- what the words ask for cannot be done: of a query, since a command of some name and options refuses it so
+abbrev pub MayDecline : NoAsk → Type 0
+MayDecline (Words error) = Unit {0}
+MayDecline NoCommand = Unit {0}
+MayDecline (Limits fault) = Unit {0}
+MayDecline (Query fault) = (name : List ℕ) × (options : ArgMatches) × CannotAsk name options fault
+
+-- Nothing is done with the stream, for this reason: an error of the words is told by its kind; a command that is not
+-- named has no text of its own; of a limit some text is told, unless memory was refused to it; and of a query its fault.
+abbrev pub Declines : NoAsk → ℕ → Option (List ℕ) → Option (List ℕ) → Option (Result (Unit {0}) Unwritten) → Option (Result (Unit {0}) Unwritten) → Option (List ℕ) → Option (List ℕ) → Type 0
+Declines (Words error) answer old_out new_out noted flushed old_err new_err = TellsError (kind_of error) answer old_out new_out noted flushed old_err new_err
+Declines NoCommand answer old_out new_out noted flushed old_err new_err = StaysSilent old_out new_out noted flushed × TellsFault [] 2 answer old_err new_err
+Declines (Limits fault) answer old_out new_out noted flushed old_err new_err =
+    StaysSilent old_out new_out noted flushed × (TellsMemory answer old_err new_err ⊎ TellsWrongWords answer old_err new_err)
+Declines (Query fault) answer old_out new_out noted flushed old_err new_err =
+    StaysSilent old_out new_out noted flushed × TellsFault (query_line fault) (status_of_query fault) answer old_err new_err
