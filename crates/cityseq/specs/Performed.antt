@@ -1,7 +1,8 @@
 -- What the program does of what it is asked.
-use Rattle.std.specs.Prelude.{◌≡◌, ◌≢◌, ◌⊎◌, ℕ, List, Result, Ok, Err, length}
+use Rattle.std.specs.Prelude.{◌≡◌, ◌≢◌, ◌⊎◌, ℕ, List, [], Result, Ok, Err, length}
 use Rattle.std.specs.List.{filter}
 use Rattle.std.specs.Io.KnownBytes.{Keeps}
+use Rattle.clap.specs.Words.{kind_of}
 use Rattle.clap.specs.declared.error.kind.ErrorKind.{ErrorKind}
 use Rattle.clap.specs.declared.error.kind.ErrorKind.TheVariants.{OutOfMemory, DisplayHelp, DisplayVersion}
 use Rattle.clap.specs.declared.parser.matches.ArgMatches.{ArgMatches}
@@ -19,13 +20,14 @@ use Rattle.cj_stream.specs.TallySink.{Tally, IsTallyOf}
 use Rattle.cj_stream.specs.Verdict.{Rules, good, kept}
 use Rattle.cj_stream.specs.declared.ending.End.{End}
 use Rattle.cj_stream.specs.declared.ending.End.TheVariants.{Complete, Refused, ReadFault, ReadLimit, WriteFault, Memory}
-use Rattle.cj_stream.specs.declared.query.fault.QueryFault.{QueryFault}
 use Rattle.cj_stream.specs.declared.output.WriteFault.{WriteFault as Unwritten}
 use Rattle.cityseq.specs.Report.{Reports, Wrote, fault_line, query_line, status_of, status_of_query}
 use Rattle.cityseq.specs.Summary.{check_text, report}
 use Rattle.cityseq.specs.Words.{CannotAsk}
 use Rattle.cityseq.specs.declared.ask.Ask.{Ask}
 use Rattle.cityseq.specs.declared.ask.Ask.TheVariants.{Check, Filter, Info}
+use Rattle.cityseq.specs.declared.command.NoAsk.{NoAsk}
+use Rattle.cityseq.specs.declared.command.NoAsk.TheVariants.{Words, NoCommand, Limits, Query}
 use Rattle.cityseq.specs.declared.report.Shown.{Shown}
 
 -- ---- texts of our own
@@ -116,13 +118,6 @@ TellsMemory answer old_err new_err = TellsFault (fault_line Memory) (status_of M
 abbrev pub TellsWrongWords : ℕ → Channel → Channel → Type 0
 TellsWrongWords answer old_err new_err = (text : List ℕ) × TellsFault text 2 answer old_err new_err
 
--- a command of some name and options is one whose query cannot be asked, and its fault is told
-pub record TellsQuery (answer : ℕ) (old_err new_err : Channel) : Type 0 where
-  pub name : List ℕ
-  pub options : ArgMatches
-  pub fault : QueryFault
-  pub refused : CannotAsk name options fault
-  pub told : TellsFault (query_line fault) (status_of_query fault) answer old_err new_err
 
 -- an error of the words asks for no help
 abbrev pub IsNoHelp : ErrorKind → Type 0
@@ -136,9 +131,18 @@ TellsError kind answer old_out new_out old_err new_err =
     ⊎ ((kind ≢ OutOfMemory) × IsNoHelp kind × (new_out ≡ old_out) × TellsWrongWords answer old_err new_err)
     ⊎ (¬ IsNoHelp kind × TellsHelp answer old_out new_out old_err new_err)
 
--- Nothing is done with the stream: memory was refused, the words are wrong or their query cannot be asked, and standard
--- output got nothing; or they ask for help.
-abbrev pub Declines : ℕ → Channel → Channel → Channel → Channel → Type 0
-Declines answer old_out new_out old_err new_err =
-    ((new_out ≡ old_out) × (TellsMemory answer old_err new_err ⊎ TellsWrongWords answer old_err new_err ⊎ TellsQuery answer old_err new_err))
-    ⊎ TellsHelp answer old_out new_out old_err new_err
+-- what the words ask for cannot be done: of a query, since a command of some name and options refuses it so
+abbrev pub MayDecline : NoAsk → Type 0
+MayDecline (Words error) = Unit {0}
+MayDecline NoCommand = Unit {0}
+MayDecline (Limits fault) = Unit {0}
+MayDecline (Query fault) = (name : List ℕ) × (options : ArgMatches) × CannotAsk name options fault
+
+-- Nothing is done with the stream, for this reason: an error of the words is told by its kind; a command that is not
+-- named has no text of its own; of a limit some text is told, unless memory was refused to it; and of a query its fault.
+-- But for help nothing is written to standard output, and it is not flushed.
+abbrev pub Declines : NoAsk → ℕ → Channel → Channel → Channel → Channel → Type 0
+Declines (Words error) answer old_out new_out old_err new_err = TellsError (kind_of error) answer old_out new_out old_err new_err
+Declines NoCommand answer old_out new_out old_err new_err = (new_out ≡ old_out) × TellsFault [] 2 answer old_err new_err
+Declines (Limits fault) answer old_out new_out old_err new_err = (new_out ≡ old_out) × (TellsMemory answer old_err new_err ⊎ TellsWrongWords answer old_err new_err)
+Declines (Query fault) answer old_out new_out old_err new_err = (new_out ≡ old_out) × TellsFault (query_line fault) (status_of_query fault) answer old_err new_err

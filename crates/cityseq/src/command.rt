@@ -1,10 +1,10 @@
 //! The command line.
-ghost use Rattle.std.specs.Prelude.{◌≡◌, ◌⊎◌, ℕ, List, IfOk, IsErrOf};
+ghost use Rattle.std.specs.Prelude.{◌≡◌, ◌⊎◌, ℕ, List, IfOk, IfErr, IsErrOf};
 ghost use Rattle.std.specs.Io.KnownBytes.{Consumes, IsAtEnd};
 ghost use Rattle.clap.specs.Words.{kind_of};
 ghost use Rattle.clap.specs.declared.parser.matches.ArgMatches.{ArgMatches};
 ghost use Rattle.cj_stream.specs.Output.{channel};
-ghost use Rattle.cityseq.specs.Performed.{Performs, Declines, TellsError, TellsFault, TellsHelp, TellsMemory, TellsWrongWords};
+ghost use Rattle.cityseq.specs.Performed.{Performs, Declines, MayDecline, TellsError, TellsFault, TellsHelp, TellsMemory, TellsWrongWords};
 ghost use Rattle.cityseq.specs.Report.{query_line, status_of_query};
 ghost use Rattle.cityseq.specs.Words.{AsksBy, CannotAsk};
 ghost use Rattle.cityseq.specs.declared.ask.Ask.{Ask};
@@ -57,7 +57,7 @@ fn ask_of(alloc: Global, name: &str, options: &ArgMatches) -> Result<Ask, NoAsk>
 // What the words ask for.
 fn read_ask(alloc: Global, words: &[String]) -> Result<Ask, NoAsk>
     ensures ok { IfOk result (λ ask. (name : List ℕ) × (options : ArgMatches) × AsksBy name options ask) }
-    ensures err { (fault : QueryFault) → IsErrOf result (NoAsk.Query fault) → (name : List ℕ) × (options : ArgMatches) × CannotAsk name options fault }
+    ensures err { IfErr result MayDecline }
 {
     let matches = match read_words(alloc, words) {
         Ok(matches) => matches,
@@ -139,6 +139,24 @@ fn tell<W: Write + Drop, E: Write + Drop>(
     }
 }
 
+// Says why nothing is done with the stream, and answers the status of that.
+fn decline<W: Write + Drop, E: Write + Drop>(
+    alloc: Global,
+    why: &NoAsk,
+    out: &mut Output<W>,
+    err: &mut Output<E>,
+) -> u8
+    ensures { Declines why.now result (channel W.contents out.old) (channel W.contents out.new)
+        (channel E.contents err.old) (channel E.contents err.new) }
+{
+    match why {
+        NoAsk::Words(error) => tell(alloc, error, out, err),
+        NoAsk::NoCommand => wrong_words("", err),
+        NoAsk::Limits(fault) => refused_limit(alloc, *fault, err),
+        NoAsk::Query(fault) => refused_query(*fault, err),
+    }
+}
+
 /// Does what the words ask for, and answers the status; the first word is the program's name. Where they
 /// are wrong or ask for help, nothing is read. A failure to write to `err` is ignored.
 pub fn command<R: Read, W: Write + Drop, E: Write + Drop>(
@@ -151,14 +169,11 @@ pub fn command<R: Read, W: Write + Drop, E: Write + Drop>(
     ensures { ((name : List ℕ) × (options : ArgMatches) × (ask : Ask) × AsksBy name options ask × (r : List ℕ) × Consumes (R.remaining reader.old) (R.remaining reader.new) r
         × Performs ask r (IsAtEnd (R.remaining reader.new)) result (channel W.contents out.old) (channel W.contents out.new)
         (channel E.contents err.old) (channel E.contents err.new))
-        ⊎ ((reader.new ≡ reader.old) × Declines result (channel W.contents out.old) (channel W.contents out.new)
+        ⊎ ((reader.new ≡ reader.old) × (why : NoAsk) × MayDecline why × Declines why result (channel W.contents out.old) (channel W.contents out.new)
         (channel E.contents err.old) (channel E.contents err.new)) }
 {
     match read_ask(alloc, words) {
         Ok(ask) => perform(alloc, &ask, reader, out, err),
-        Err(NoAsk::Words(error)) => tell(alloc, &error, out, err),
-        Err(NoAsk::Query(fault)) => refused_query(fault, err),
-        Err(NoAsk::Limits(fault)) => refused_limit(alloc, fault, err),
-        Err(NoAsk::NoCommand) => wrong_words("", err),
+        Err(why) => decline(alloc, &why, out, err),
     }
 }
