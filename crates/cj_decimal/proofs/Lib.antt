@@ -8,6 +8,7 @@ pub mod Trims
 pub mod Normal
 pub mod Law
 pub mod Classes
+pub mod OneClass
 pub mod Wholes
 pub mod Scales
 pub mod Splits

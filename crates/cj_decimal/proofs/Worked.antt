@@ -45,6 +45,22 @@ power_past_it_in_normal_form : IsValue (codes "10e1000000") (number (pos 1) (pos
 unfolding digits_front digits_rest begins is_empty begins_digit body is_int is_frac frac_digits after_frac exp_digits is_whole_digits is_exp exp_value
 power_past_it_in_normal_form = value_from_test (codes "10e1000000") (number (pos 1) (pos 1000001)) refl (record { coefficients = refl }) (record { normal = λ e. cc e })
 
+least_power : IsValue (codes "1e-1000000") (number (pos 1) (neg_ℤ (pos 1000000)))
+unfolding digits_front digits_rest begins is_empty begins_digit body is_int is_frac frac_digits after_frac exp_digits is_whole_digits is_exp exp_value
+least_power = value_from_test (codes "1e-1000000") (number (pos 1) (neg_ℤ (pos 1000000))) refl (record { coefficients = refl }) (record { normal = λ e. cc e })
+
+power_below_the_least : IsValue (codes "1e-1000001") (number (pos 1) (neg_ℤ (pos 1000001)))
+unfolding digits_front digits_rest begins is_empty begins_digit body is_int is_frac frac_digits after_frac exp_digits is_whole_digits is_exp exp_value
+power_below_the_least = value_from_test (codes "1e-1000001") (number (pos 1) (neg_ℤ (pos 1000001))) refl (record { coefficients = refl }) (record { normal = λ e. cc e })
+
+least_power_in_normal_form : IsValue (codes "10e-1000001") (number (pos 1) (neg_ℤ (pos 1000000)))
+unfolding digits_front digits_rest begins is_empty begins_digit body is_int is_frac frac_digits after_frac exp_digits is_whole_digits is_exp exp_value
+least_power_in_normal_form = value_from_test (codes "10e-1000001") (number (pos 1) (neg_ℤ (pos 1000000))) refl (record { coefficients = refl }) (record { normal = λ e. cc e })
+
+greatest_power_in_normal_form : IsValue (codes "0.1e1000001") (number (pos 1) (pos 1000000))
+unfolding digits_front digits_rest begins is_empty begins_digit body is_int is_frac frac_digits after_frac exp_digits is_whole_digits is_exp exp_value
+greatest_power_in_normal_form = value_from_test (codes "0.1e1000001") (number (pos 1) (pos 1000000)) refl (record { coefficients = refl }) (record { normal = λ e. cc e })
+
 digits_36 : IsValue (codes "999999999999999999999999999999999999") (number (pos 999999999999999999999999999999999999) (pos 0))
 unfolding digits_front digits_rest begins is_empty begins_digit body is_int is_frac frac_digits after_frac exp_digits is_whole_digits is_exp exp_value
 digits_36 = value_from_test (codes "999999999999999999999999999999999999") (number (pos 999999999999999999999999999999999999) (pos 0)) refl (record { coefficients = refl }) (record { normal = λ e. cc e })
@@ -85,6 +101,10 @@ read_rows = record {
   greatest_power = in_range (codes "1e1000000") (number (pos 1) (pos 1000000)) greatest_power (record { digits = omega arith; power_low = omega (arith, ints); power_high = omega (arith, ints) });
   power_past_the_greatest = out_of_range (codes "1e1000001") (number (pos 1) (pos 1000001)) power_past_the_greatest (λ r. omega (arith, ints, r.power_high));
   power_past_it_in_normal_form = out_of_range (codes "10e1000000") (number (pos 1) (pos 1000001)) power_past_it_in_normal_form (λ r. omega (arith, ints, r.power_high));
+  least_power = in_range (codes "1e-1000000") (number (pos 1) (neg_ℤ (pos 1000000))) least_power (record { digits = omega arith; power_low = omega (arith, ints); power_high = omega (arith, ints) });
+  power_below_the_least = out_of_range (codes "1e-1000001") (number (pos 1) (neg_ℤ (pos 1000001))) power_below_the_least (λ r. omega (arith, ints, r.power_low));
+  least_power_in_normal_form = least_power_in_normal_form;
+  greatest_power_in_normal_form = greatest_power_in_normal_form;
   digits_36 = in_range (codes "999999999999999999999999999999999999") (number (pos 999999999999999999999999999999999999) (pos 0)) digits_36 (record { digits = omega arith; power_low = omega (arith, ints); power_high = omega (arith, ints) });
   digits_37 = out_of_range (codes "9999999999999999999999999999999999999") (number (pos 9999999999999999999999999999999999999) (pos 0)) digits_37 (λ r. omega (arith, r.digits));
   zeros_at_the_end = zeros_at_the_end;

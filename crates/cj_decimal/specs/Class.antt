@@ -1,5 +1,5 @@
--- What a spelling is as a number: exactly one of four.
-use Rattle.std.specs.Prelude.{ℕ, List, ℤ, Option, Some, None, Result, Ok, Err}
+-- What a spelling is as a number: exactly one of four, as the law `one_class` says.
+use Rattle.std.specs.Prelude.{◌≡◌, ℕ, List, ℤ, Option, Some, None, Result, Ok, Err}
 use Rattle.cj_decimal.specs.Number.{Number, IsInRange, IsWhole}
 use Rattle.cj_decimal.specs.Spelling.{IsNumber, IsValue, IsNumberOutOfRange}
 use Rattle.cj_decimal.specs.declared.decimal.DecimalFault.{DecimalFault}
@@ -18,3 +18,22 @@ whole_answer (no_number n) = Err NotANumber
 whole_answer (out_of_range n) = Err NumberRange
 whole_answer (not_whole v value range n) = Ok None
 whole_answer (whole v w value range is) = Ok (Some w)
+
+-- both say the same: the same class, and of a number in range the same value
+abbrev pub SaySame : {s : List ℕ} → Class s → Class s → Type 0
+SaySame (no_number n) (no_number m) = Unit {0}
+SaySame (no_number n) (out_of_range m) = ⊥
+SaySame (no_number n) (not_whole u also near m) = ⊥
+SaySame (no_number n) (whole u x also near was) = ⊥
+SaySame (out_of_range n) (no_number m) = ⊥
+SaySame (out_of_range n) (out_of_range m) = Unit {0}
+SaySame (out_of_range n) (not_whole u also near m) = ⊥
+SaySame (out_of_range n) (whole u x also near was) = ⊥
+SaySame (not_whole v value range n) (no_number m) = ⊥
+SaySame (not_whole v value range n) (out_of_range m) = ⊥
+SaySame (not_whole v value range n) (not_whole u also near m) = v ≡ u
+SaySame (not_whole v value range n) (whole u x also near was) = ⊥
+SaySame (whole v w value range is) (no_number m) = ⊥
+SaySame (whole v w value range is) (out_of_range m) = ⊥
+SaySame (whole v w value range is) (not_whole u also near m) = ⊥
+SaySame (whole v w value range is) (whole u x also near was) = (v ≡ u) × (w ≡ x)

@@ -15,13 +15,14 @@
 //!
 //! A line's number goes `spelling` (its parts, by `digits`) → `trimming` (no zeros at its end) → `decimal` → `fixed` and
 //! `affine`; one of few digits and nothing else, where a whole number is wanted, `digits` → `whole`. What a spelling is and
-//! what it stands for is in specs/Spelling and specs/Number.
+//! what it stands for is in specs/Spelling and specs/Number; [`laws`] holds what is proved of the definitions alone.
 #![tactic(auto)]
 
 mod affine;
 mod decimal;
 mod digits;
 mod fixed;
+pub mod laws;
 mod powers;
 mod spelling;
 #[cfg(test)]

@@ -1,6 +1,7 @@
 pub mod Absent
 pub mod Fixed
 pub mod FixedRule
+pub mod Ids
 pub mod Lengths
 pub mod LinkFaults
 pub mod Listed

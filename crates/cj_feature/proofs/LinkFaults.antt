@@ -148,7 +148,7 @@ names-text (object i j ms) m h = member-text ms m h
 -- ---- what the tests say
 
 module _ (objects : List (Tree × Tree)) where
-  from-known : (id : Tree) (b : List ℕ) → text_of id ≡ Some b → is_known objects id ≡ true → IsIn objects b
+  pub from-known : (id : Tree) (b : List ℕ) → text_of id ≡ Some b → is_known objects id ≡ true → IsIn objects b
   from-known id b t h =
       let r = from-any (λ m. same_text m.0 id) objects h in
       record { object = r.0; held = r.1; named = carried r.0.0 id b r.2 t }
@@ -157,7 +157,7 @@ module _ (objects : List (Tree × Tree)) where
   to-known id b t h = to-any (λ m. same_text m.0 id) objects h.object h.held (to-texts (text_of h.object.0) (text_of id) b h.named t)
 
   -- what is no text is no id
-  known-text : (id : Tree) → is_known objects id ≡ true → (b : List ℕ) × (text_of id ≡ Some b)
+  pub known-text : (id : Tree) → is_known objects id ≡ true → (b : List ℕ) × (text_of id ≡ Some b)
   known-text id h =
       let r = from-any (λ m. same_text m.0 id) objects h in
       let t = from-texts (text_of r.0.0) (text_of id) r.2 in (t.0, t.2)

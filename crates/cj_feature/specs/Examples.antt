@@ -105,6 +105,21 @@ group =
     (λ line. member (atom_at line 50 53) (object 54 97 (member (atom_at line 55 61) (text line 62 79)
     (member (atom_at line 80 90) (array 91 96 (item (text line 92 95) no_items)) no_members))) no_members)
 
+-- a group whose parent does not list it, and one whose parent is not in the feature
+abbrev pub unlisted_group : Row
+unlisted_group =
+    row (codes "\"b\":{\"type\":\"CityObjectGroup\",\"parents\":[\"c\"]},\"c\":{\"type\":\"Building\"}")
+    (λ line. member (atom_at line 50 53) (object 54 96 (member (atom_at line 55 61) (text line 62 79)
+    (member (atom_at line 80 89) (array 90 95 (item (text line 91 94) no_items)) no_members)))
+    (member (atom_at line 97 100) (object 101 120
+    (member (atom_at line 102 108) (text line 109 119) no_members)) no_members))
+
+abbrev pub group_of_other : Row
+group_of_other =
+    row (codes "\"b\":{\"type\":\"CityObjectGroup\",\"parents\":[\"g\"]}")
+    (λ line. member (atom_at line 50 53) (object 54 96 (member (atom_at line 55 61) (text line 62 79)
+    (member (atom_at line 80 89) (array 90 95 (item (text line 91 94) no_items)) no_members))) no_members)
+
 -- a member of a group that does not list it
 abbrev pub unlisted_member : Row
 unlisted_member =
@@ -154,7 +169,19 @@ child_no_object =
     (member (atom_at line 73 83) (array 84 89 (item (text line 85 88) no_items)) no_members)))
     (member (atom_at line 91 94) (number line 95 96) no_members))
 
--- no city object with the feature's id
+-- a part whose parent is a name that stands before a number
+abbrev pub part_of_no_object : Row
+part_of_no_object =
+    row (codes "\"b\":{\"type\":\"BuildingPart\",\"parents\":[\"c\"]},\"c\":3")
+    (λ line. member (atom_at line 50 53) (object 54 93 (member (atom_at line 55 61) (text line 62 76)
+    (member (atom_at line 77 86) (array 87 92 (item (text line 88 91) no_items)) no_members)))
+    (member (atom_at line 94 97) (number line 98 99) no_members))
+
+-- no city object at all, and none with the feature's id
+abbrev pub no_objects : Row
+no_objects =
+    row (codes "") (λ line. no_members)
+
 abbrev pub other_id : Row
 other_id =
     row (codes "\"c\":{\"type\":\"Building\"}")

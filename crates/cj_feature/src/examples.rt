@@ -6,7 +6,7 @@ ghost use Rattle.cj_spans.specs.Forest.{forest};
 ghost use Rattle.cj_spans.specs.Preorder.{preorder};
 ghost use Rattle.cj_feature.specs.Header.{header};
 ghost use Rattle.cj_feature.specs.Feature.{feature};
-ghost use Rattle.cj_feature.specs.Examples.{bare, itself, lost_child, unlisted_part, unlisted_parent, lost_parent, part_alone, part_of_other, part_of_none, part_of_number, group, unlisted_member, doubled, escaped, same_by_escape, no_object, child_no_object, other_id, unread_names, null_children, plain_header, plain_header_line, other_type, other_type_line, other_version, other_version_line, more_digits, more_digits_line, no_scale, no_scale_line, two_scales, two_scales_line, with_objects, with_objects_line, with_vertices, with_vertices_line};
+ghost use Rattle.cj_feature.specs.Examples.{bare, itself, lost_child, unlisted_part, unlisted_parent, lost_parent, part_alone, part_of_other, part_of_none, part_of_number, group, unlisted_member, unlisted_group, group_of_other, part_of_no_object, no_objects, doubled, escaped, same_by_escape, no_object, child_no_object, other_id, unread_names, null_children, plain_header, plain_header_line, other_type, other_type_line, other_version, other_version_line, more_digits, more_digits_line, no_scale, no_scale_line, two_scales, two_scales_line, with_objects, with_objects_line, with_vertices, with_vertices_line};
 
 /// A city object may list itself, as a child and as a parent.
 pub fn children_and_parents_of_itself()
@@ -34,10 +34,13 @@ pub fn parts()
     ensures number { least None (feature bare part_of_number.tree) ≡ Some (found_at 54 NoParent) }
 {}
 
-/// The children of a group may be anywhere; its members list it as any other parent.
+/// The children of a group may be anywhere; its members list it as any other parent, and its own
+/// parents list it as any other child.
 pub fn groups()
     ensures group { feature bare group.tree ≡ [] }
     ensures unlisted { feature bare unlisted_member.tree ≡ found_at 115 LinkNotMutual ∷ [] }
+    ensures parent { feature bare unlisted_group.tree ≡ found_at 91 LinkNotMutual ∷ [] }
+    ensures lost_parent { feature bare group_of_other.tree ≡ [] }
 {}
 
 /// Links are between names, whichever city object of a name has them, and however it is spelled.
@@ -53,11 +56,13 @@ pub fn values_that_are_no_city_objects()
     ensures alone { feature bare no_object.tree ≡ found_at 54 WrongKind ∷ [] }
     ensures child { feature bare child_no_object.tree ≡ found_at 95 WrongKind ∷ found_at 85 LinkNotMutual ∷ [] }
     ensures least { least None (feature bare child_no_object.tree) ≡ Some (found_at 85 LinkNotMutual) }
+    ensures parent { feature bare part_of_no_object.tree ≡ found_at 98 WrongKind ∷ found_at 88 LinkNotMutual ∷ [] }
 {}
 
 /// The id of the feature is the name of a city object.
 pub fn an_id_of_no_city_object()
-    ensures { feature bare other_id.tree ≡ found_at 31 IdNotFound ∷ [] }
+    ensures other { feature bare other_id.tree ≡ found_at 31 IdNotFound ∷ [] }
+    ensures none { feature bare no_objects.tree ≡ found_at 31 IdNotFound ∷ [] }
 {}
 
 /// A header has its type and its version, whose digits are those of the version.
@@ -103,6 +108,10 @@ pub fn trees_of_features()
     ensures no_object { forest no_object.line (preorder no_object.tree) ≡ no_object.tree ∷ [] }
     ensures child_no_object { forest child_no_object.line (preorder child_no_object.tree) ≡ child_no_object.tree ∷ [] }
     ensures other_id { forest other_id.line (preorder other_id.tree) ≡ other_id.tree ∷ [] }
+    ensures unlisted_group { forest unlisted_group.line (preorder unlisted_group.tree) ≡ unlisted_group.tree ∷ [] }
+    ensures group_of_other { forest group_of_other.line (preorder group_of_other.tree) ≡ group_of_other.tree ∷ [] }
+    ensures part_of_no_object { forest part_of_no_object.line (preorder part_of_no_object.tree) ≡ part_of_no_object.tree ∷ [] }
+    ensures no_objects { forest no_objects.line (preorder no_objects.tree) ≡ no_objects.tree ∷ [] }
 {}
 
 /// And so those of headers.

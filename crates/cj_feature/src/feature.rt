@@ -1,7 +1,7 @@
 //! Features: the later lines of a text.
-ghost use Rattle.std.specs.Prelude.{◌≡◌, ◌<◌, [], Some, IfSome, codes, map, option_map};
+ghost use Rattle.std.specs.Prelude.{◌≡◌, ◌<◌, ℕ, List, [], Some, IfSome, codes, map, option_map};
 ghost use Rattle.std.specs.Str.{chars};
-ghost use Rattle.cj_spans.specs.Parts.{member_of};
+ghost use Rattle.cj_spans.specs.Parts.{member_of, text_of};
 ghost use Rattle.cj_spans.specs.View.{document, document_line, tree, line_of};
 ghost use Rattle.cj_geometry.specs.Given.{given};
 ghost use Rattle.cj_feature.specs.Feature.{feature, templates_of};
@@ -46,6 +46,7 @@ pub struct Feature<'a> {
 impl<'a> Feature<'a> {
     ghost use Rattle.std.specs.List.{flat_map};
     ghost use Rattle.cj_feature.specs.Members.{items_if};
+    ghost use Rattle.cj_feature.specs.Relations.{IsIn};
     ghost use Rattle.cj_feature.specs.Typed.{members_if, vertex_of, number_on};
     ghost use Rattle.cj_feature.specs.View.{feature_tree, feature_line, feature_header};
     ghost use Rattle.cj_feature.specs.Walks.{objects_left, objects_line, geometries_left, geometries_line, object_geometries, vertices_left, coordinates_left};
@@ -88,6 +89,8 @@ impl<'a> Feature<'a> {
     #[tactic(auto, unfolding(crate::specs::View::feature_tree, crate::specs::View::feature_line))]
     pub fn id(&self) -> Node<'a>
         ensures tree { member_of (chars (codes "id")) (feature_tree self.now) ≡ Some (tree result) }
+        ensures named { (x : List ℕ) × (text_of (tree result) ≡ Some x)
+            × IsIn (members_if (member_of (chars (codes "CityObjects")) (feature_tree self.now))) x }
         ensures line { line_of result ≡ feature_line self.now }
     {
         match self.doc.root().get("id") {

@@ -1,7 +1,9 @@
 //! Laws of the definitions that contracts cite, proved once and for all.
-ghost use Rattle.std.specs.Prelude.{◌≡◌, List, ℕ};
+ghost use Rattle.std.specs.Prelude.{◌≡◌, ◌≢◌, ◌≤◌, ◌↔◌, List, ℕ, IsTrue, nat_eq, nat_lt, codes};
+ghost use Rattle.std.specs.Char.{digit_value};
+ghost use Rattle.std.specs.List.{list_any};
 ghost use Rattle.std.specs.Str.{chars, IsUtf8};
-ghost use Rattle.cj_spans.specs.Spelling.{IsString};
+ghost use Rattle.cj_spans.specs.Spelling.{IsString, is_hex, is_plain, is_escape};
 ghost use Rattle.cj_spans.specs.Text.{text, body_of, StandFor};
 ghost use Rattle.cj_spans.specs.Judgement.{Judgement, SaySame};
 
@@ -19,4 +21,13 @@ pub fn one_text()
 pub fn one_judgement()
     ensures told { (b : List ℕ) (d : ℕ) → Judgement b d }
     ensures only { (b : List ℕ) (d : ℕ) (j k : Judgement b d) → SaySame j k }
+{}
+
+/// The bytes that the grammar of strings tells apart (RFC 8259, section 7), in other words: a
+/// hexadecimal digit is a byte whose value as a digit is below 16, a byte stands for itself from 32 on
+/// unless it is the quote or the backslash, and eight bytes beside `u` may follow a backslash.
+pub fn bytes_of_strings()
+    ensures hex { (b : ℕ) → is_hex b ≡ nat_lt (digit_value b) 16 }
+    ensures plain { (b : ℕ) → IsTrue (is_plain b) ↔ ((32 ≤ b) × (b ≢ 34) × (b ≢ 92)) }
+    ensures escape { (b : ℕ) → is_escape b ≡ list_any (nat_eq b) (codes "\"\\/bfnrt") }
 {}

@@ -2,6 +2,8 @@
 ghost use Rattle.std.specs.Prelude.{◌≤◌, length};
 ghost use Rattle.cj_spans.specs.Sound.{AreOf};
 
+mod strings;
+
 use crate::{Reason, ScanFault, Token, scan, slow_next};
 use cj_budget::{Bounded, Stack};
 use std::alloc::Global;
@@ -107,6 +109,10 @@ fn numbers_that_are_none(rt: HostRuntime) -> Result<(), Fail> {
 fn texts_and_words_that_are_none(rt: HostRuntime) -> Result<(), Fail> {
     let rows = [
         at_64(b"\"\\q\"", Err(ScanFault::Syntax(2))),
+        at_64(b"\"\\v\"", Err(ScanFault::Syntax(2))),
+        at_64(b"\"\\0\"", Err(ScanFault::Syntax(2))),
+        at_64(b"\"\\x41\"", Err(ScanFault::Syntax(2))),
+        at_64(b"\"\\'\"", Err(ScanFault::Syntax(2))),
         at_64(b"tru}", Err(ScanFault::Syntax(3))),
         at_64(b"nulL", Err(ScanFault::Syntax(3))),
         at_64(b"\"a", Err(ScanFault::Syntax(2))),

@@ -26,3 +26,5 @@ pub struct Token {
     pub(crate) stop: u32,
     pub(crate) link: u32,
 }
+
+const _: () = prove!(size_of::<Token>() == 12);

@@ -63,6 +63,8 @@ fn city_objects_of_the_second_level(rt: HostRuntime) -> Result<(), Fail> {
         one that is no text | "b":^{"type":"BuildingPart","parents":[3]} | 23 no parent in the feature
         one of two that is there | "b":{"type":"BuildingPart","parents":["g","b"],"children":["b"]} | none
         one that is there and does not list it | "b":{"type":"BuildingPart","parents":[^"c"]},"c":{"type":"Building"} | 22 link not mutual
+        one that is no city object | "b":{"type":"BuildingPart","parents":[^"c"]},"c":3 | 22 link not mutual
+        one that is no city object, before it | "c":^3,"b":{"type":"BuildingPart","parents":["c"]} | 12 wrong kind
         a type by an escape | "b":^{"type":"\u0042uildingPart","parents":[]} | 23 no parent in the feature
         the first type of two | "b":{"type":"Building",^"type":"BuildingPart"} | 11 duplicate name
         a type of the first level | "b":{"type":"TunnelPart","parents":["c"]},"c":{"type":"Tunnel","children":["b"]} | none
@@ -86,6 +88,9 @@ fn groups(rt: HostRuntime) -> Result<(), Fail> {
         a member that it does not list | "b":{"type":"CityObjectGroup"},"m":{"type":"Building","parents":[^"b"]} | 22 link not mutual
         a member that it lists | "b":{"type":"CityObjectGroup","children":["m"]},"m":{"type":"Building","parents":["b"]} | none
         children that are numbers | "b":{"type":"CityObjectGroup","children":[^3]} | 12 wrong kind
+        a parent that does not list it | "b":{"type":"CityObjectGroup","parents":[^"c"]},"c":{"type":"Building"} | 22 link not mutual
+        a parent that lists it | "b":{"type":"CityObjectGroup","parents":["c"]},"c":{"type":"Building","children":["b"]} | none
+        a parent that is not there | "b":{"type":"CityObjectGroup","parents":["g"]} | none
         a type by an escape | "b":{"type":"CityObject\u0047roup","children":["q"]} | none
         a group in a building | "b":{"type":"Building","children":[^"g"]},"g":{"type":"CityObjectGroup"} | 22 link not mutual
         "#,

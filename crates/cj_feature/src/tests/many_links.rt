@@ -126,6 +126,38 @@ fn a_part_whose_parent_is_not_there(rt: HostRuntime) -> Result<(), Fail> {
     Ok(())
 }
 
+/// These city objects before many buildings without links, and behind them.
+fn meet_among_many(
+    rt: &impl Abort,
+    alloc: Global,
+    objects: &str,
+    want: &str,
+) -> Result<(), AllocError> {
+    let others = buildings(alloc)?;
+    let before = format!(in alloc; "{objects},{others}")?;
+    objects_meet(rt, alloc, &before, want)?;
+    let behind = format!(in alloc; "{others},{objects}")?;
+    objects_meet(rt, alloc, &behind, want)
+}
+
+#[test]
+fn parents_of_a_group(rt: HostRuntime) -> Result<(), Fail> {
+    let unlisted = r#""b":{"type":"CityObjectGroup","parents":[^"c"]},"c":{"type":"Building"}"#;
+    meet_among_many(&rt, rt.alloc(), unlisted, "22 link not mutual")?;
+    let not_there = r#""b":{"type":"CityObjectGroup","parents":["g"]}"#;
+    meet_among_many(&rt, rt.alloc(), not_there, "none")?;
+    Ok(())
+}
+
+#[test]
+fn a_part_of_what_is_no_city_object(rt: HostRuntime) -> Result<(), Fail> {
+    let before = r#""b":{"type":"BuildingPart","parents":[^"c"]},"c":3"#;
+    meet_among_many(&rt, rt.alloc(), before, "22 link not mutual")?;
+    let behind = r#""c":^3,"b":{"type":"BuildingPart","parents":["c"]}"#;
+    meet_among_many(&rt, rt.alloc(), behind, "12 wrong kind")?;
+    Ok(())
+}
+
 /// A text listed again and again.
 fn again(alloc: Global, text: &str) -> Result<String, AllocError> {
     let mut texts = String::new(alloc);

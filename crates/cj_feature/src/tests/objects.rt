@@ -12,6 +12,7 @@ fn roots(rt: HostRuntime) -> Result<(), Fail> {
         r#"
         an object of all members | {"type":"CityJSONFeature","id":"b","CityObjects":{"b":{"type":"Building"}},"vertices":[]} | none
         a number | ^3 | 12 wrong kind
+        no city object at all | {"type":"CityJSONFeature","id":^"b","CityObjects":{},"vertices":[]} | 20 id not among the city objects
         an array of a feature | ^[{"type":"CityJSONFeature","id":"b","CityObjects":{"b":{"type":"Building"}},"vertices":[]}] | 12 wrong kind
         no members | ^{} | 10 member missing
         a header | ^{"type":"CityJSON","version":"2.0","transform":{"scale":[1,1,1],"translate":[0,0,0]},"CityObjects":{},"vertices":[]} | 10 member missing

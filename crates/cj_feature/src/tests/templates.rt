@@ -16,6 +16,8 @@ fn objects_of_templates(rt: HostRuntime) -> Result<(), Fail> {
         no templates | {"templates":[],"vertices-templates":[]} | none
         a template | {"templates":[{"type":"MultiPoint","lod":"1","boundaries":[0]}],"vertices-templates":[[0,0.5,-1e3]]} | none
         members in the other order | {"vertices-templates":[[0,0,0]],"templates":[{"type":"MultiPoint","lod":"1","boundaries":[0]}]} | none
+        an index beside no vertices | {"templates":[{"type":"MultiPoint","lod":"1","boundaries":[^0]}],"vertices-templates":[]} | 25 vertex index out of range
+        no index beside no vertices | {"templates":[{"type":"MultiPoint","lod":"1","boundaries":[]}],"vertices-templates":[]} | none
         null | ^null | 12 wrong kind
         an array | ^[] | 12 wrong kind
         no members | ^{} | 10 member missing

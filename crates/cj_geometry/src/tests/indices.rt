@@ -25,6 +25,26 @@ fn indices_name_a_vertex(rt: HostRuntime) -> Result<(), Fail> {
 }
 
 #[test]
+fn indices_of_no_vertices(rt: HostRuntime) -> Result<(), Fail> {
+    let template = Around {
+        vertices: Some(0),
+        templates: Given::Itself,
+    };
+    meets(
+        &rt,
+        rt.alloc(),
+        template,
+        r#"{"type":"MultiPoint","lod":"1","boundaries":_}"#,
+        r#"
+        no index | [] | none
+        the first | [^0] | 25 vertex index out of range
+        minus 0 | [^-0] | 25 vertex index out of range
+        "#,
+    )?;
+    Ok(())
+}
+
+#[test]
 fn indices_are_numbers(rt: HostRuntime) -> Result<(), Fail> {
     meets(
         &rt,

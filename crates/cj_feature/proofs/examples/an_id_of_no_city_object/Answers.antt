@@ -6,4 +6,7 @@ use Rattle.cj_feature.proofs.examples.an_id_of_no_city_object.Goals as goal
 
 pub returns : goal.returns
 unfolding text points_after first_point first_width chars object_types
-returns c = refl
+returns c = record {
+  other = refl;
+  none = refl;
+}

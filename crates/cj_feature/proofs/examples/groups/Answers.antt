@@ -9,4 +9,6 @@ unfolding text points_after first_point first_width chars object_types
 returns c = record {
   group = refl;
   unlisted = refl;
+  parent = refl;
+  lost_parent = refl;
 }

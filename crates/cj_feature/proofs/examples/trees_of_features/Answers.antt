@@ -24,4 +24,8 @@ returns c = record {
   no_object = refl;
   child_no_object = refl;
   other_id = refl;
+  unlisted_group = refl;
+  group_of_other = refl;
+  part_of_no_object = refl;
+  no_objects = refl;
 }

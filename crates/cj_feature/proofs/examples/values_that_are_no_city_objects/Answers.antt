@@ -10,4 +10,5 @@ returns c = record {
   alone = refl;
   child = refl;
   least = refl;
+  parent = refl;
 }

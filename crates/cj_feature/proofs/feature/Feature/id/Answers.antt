@@ -1,11 +1,12 @@
-use Rattle.std.proofs.Common.{codes, None, refl}
+use Rattle.std.proofs.Common.{codes, None, refl, sym}
 use Rattle.std.specs.Str.{chars}
 use Rattle.cj_spans.specs.Kinds.{is_text}
 use Rattle.cj_spans.specs.Parts.{member_of}
-use Rattle.cj_spans.specs.View.{document}
-use Rattle.cj_feature.specs.Feature.{templates_of}
+use Rattle.cj_spans.specs.View.{document, tree}
 use Rattle.cj_geometry.specs.Rule.{of_kind}
-use Rattle.cj_feature.specs.Feature.{id_in}
+use Rattle.cj_feature.specs.Feature.{id_in, templates_of}
+use Rattle.cj_feature.specs.View.{feature_tree}
+use Rattle.cj_feature.proofs.Ids.{has-name}
 use Rattle.cj_feature.proofs.None.{is-there}
 use Rattle.cj_feature.proofs.Valid.{has-id}
 use Rattle.cj_feature.proofs.feature.Feature.id.Goals as goal
@@ -15,3 +16,9 @@ unreachable-requires c =
     let f = c.args.self.now in
     let t = document f.doc in
     is-there (of_kind is_text (id_in (member_of (chars (codes "CityObjects")) t))) t (chars (codes "id")) (has-id (templates_of (document f.header)) t f.valid) None (rw c.root.ensures.tree at c.in-None.ensures.value) refl
+
+pub returns-clause-named : goal.returns-clause-named
+unfolding feature_tree
+returns-clause-named c =
+    let f = c.args.self.now in
+    has-name (templates_of (document f.header)) (document f.doc) f.valid (tree c.in-Some.id) (sym (rw c.root.ensures.tree at c.in-Some.ensures.value))
