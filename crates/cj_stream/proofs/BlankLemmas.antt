@@ -1,5 +1,5 @@
 -- A blank content is no JSON text.
-use Rattle.std.proofs.Common.{◌≡◌, ℕ, zero, suc, ◌-◌, ◌≤◌, inl, inr, List, [], ◌∷◌, ◌++◌, Bool, true, false, take, drop, eqb, refl, sym, ap, arith, ◌∙◌}
+use Rattle.std.proofs.Common.{◌≡◌, ℕ, zero, suc, ◌-◌, ◌≤◌, inl, inr, List, [], ◌∷◌, ◌++◌, Bool, true, false, cond, take, drop, eqb, refl, sym, ap, arith, ◌∙◌}
 use Rattle.std.specs.Prelude.{◌||◌, slice_range}
 use Rattle.std.proofs.lemmas.Bool.Decides.{nat_tests}
 use Rattle.std.specs.List.{list_all}
@@ -11,7 +11,7 @@ use Rattle.cj_spans.specs.Tree.{Tree}
 use Rattle.cj_spans.specs.Json.{byte, Value, atom, empty_array, full_array, empty_object, full_object, padded, Json}
 use Rattle.cj_spans.specs.Judgement.{Judgement, spelled, broken, sunk, judged_size, judged_nest}
 use Rattle.cj_spans.proofs.Judgements.{judgement}
-use Rattle.cj_stream.specs.Bound.{tree_size, tree_nest}
+use Rattle.cj_stream.specs.Bound.{is_text, tree_size, tree_nest}
 use Rattle.cj_stream.specs.Verdict.{is_blank_byte}
 use Rattle.cj_stream.proofs.VerdictLemmas.{and-both}
 
@@ -93,4 +93,11 @@ blank-judged (sunk i s) h = (refl, refl)
 
 -- a blank content has no tree
 pub blank-tree : (limits : LimitPair) (c : List ℕ) → list_all is_blank_byte c ≡ true → (tree_size limits c ≡ 0) × (tree_nest limits c ≡ 0)
-blank-tree limits c h = blank-judged (judgement c limits.depth) h
+blank-tree limits c h = go (is_text limits c)
+  where
+    none : (judged_size (judgement c limits.depth) ≡ 0) × (judged_nest (judgement c limits.depth) ≡ 0)
+    none = blank-judged (judgement c limits.depth) h
+
+    go : (x : Bool) → (cond x (judged_size (judgement c limits.depth)) 0 ≡ 0) × (cond x (judged_nest (judgement c limits.depth)) 0 ≡ 0)
+    go true = none
+    go false = (refl, refl)

@@ -1,5 +1,7 @@
 -- What is held of the trees of lines, from line to line.
-use Rattle.std.proofs.Common.{◌≡◌, ℕ, ◌+◌, ◌*◌, ◌<◌, ◌≤◌, ◌⊎◌, inl, inr, max, List, [], ◌∷◌, ◌++◌, length, Result, Ok, Err, arith, refl, sym, ap, ◌∙◌, append_assoc}
+use Rattle.std.proofs.Common.{◌≡◌, ℕ, ◌+◌, ◌*◌, ◌<◌, ◌≤◌, ◌⊎◌, inl, inr, max, List, [], ◌∷◌, ◌++◌, true, false, ltb, length, Result, Ok, Err, arith, refl, sym, ap, ◌∙◌, append_assoc}
+use Rattle.std.specs.Str.{is_utf8}
+use Rattle.std.proofs.lemmas.Bool.{ltb-true}
 use Rattle.cj_budget.specs.Bounded.{BoundedList, IsWithin}
 use Rattle.cj_budget.specs.Limits.{LimitPair}
 use Rattle.cj_budget.specs.declared.bounded.NoMemory.{NoMemory}
@@ -10,10 +12,10 @@ use Rattle.cj_spans.proofs.Judgements.{judgement}
 use Rattle.cj_stream.specs.declared.judge.Content.{Content}
 use Rattle.cj_stream.specs.declared.judge.Content.TheVariants.{Faulty, White, Sound}
 use Rattle.cj_stream.specs.Lines.{closed, begun, first_of, first_content, NoLf}
-use Rattle.cj_stream.specs.Bound.{tree_size, tree_nest}
+use Rattle.cj_stream.specs.Bound.{is_text, tree_size, tree_nest}
 use Rattle.cj_stream.specs.Scanning.{Scanning, HasRoom, Scanned, HoldsFew, Rises, Judges, JudgesLine, Forgets}
 use Rattle.cj_stream.specs.Reading.{Reading, begun_of, Stores, Reads}
-use Rattle.cj_stream.proofs.LineLemmas.{closed-more, begun-more, closed-lf, first_content-grows}
+use Rattle.cj_stream.proofs.LineLemmas.{not_true, closed-more, begun-more, closed-lf, first_content-grows}
 use Rattle.cj_stream.proofs.ReadingLemmas.{zero_or, greatest-append, begun_of-stored}
 
 pub Rises-same : (f g : Scanning) → g ≡ f → Rises f g
@@ -153,18 +155,23 @@ few-forgets limits h f g k s = let header : g.header.peak ≡ f.header.peak = ap
 -- ---- a line that was dealt with
 
 module _ (limits : LimitPair) (c : List ℕ) (f g h : Scanning) (room : HasRoom limits f) (short : length c ≤ limits.line) (k : Forgets g h) where
-  size-is : (x : ℕ) → x ≡ judged_size (judgement c f.opened.limit) → x ≡ tree_size limits c
-  size-is x e = let z = rw room.opened at e in z
+  text-is : is_utf8 c ≡ true → is_text limits c ≡ true
+  text-is u =
+      let fits : ltb limits.line (length c) ≡ false = not_true (ltb limits.line (length c)) (λ y. let long = ltb-true limits.line (length c) y in absurd (omega arith)) in
+      rw (fits, u) refl
 
-  nest-is : judged_nest (judgement c f.opened.limit) ≡ tree_nest limits c
-  nest-is = rw room.opened refl
+  size-is : is_utf8 c ≡ true → judged_size (judgement c f.opened.limit) ≡ tree_size limits c
+  size-is u = rw (text-is u, room.opened) refl
+
+  nest-is : is_utf8 c ≡ true → judged_nest (judgement c f.opened.limit) ≡ tree_nest limits c
+  nest-is u = rw (text-is u, room.opened) refl
 
   pub scanned-valid : (cs : List (List ℕ)) → Scanned limits cs f → JudgesLine (length cs) c f g (Ok Sound) → Scanned limits (cs ++ c ∷ []) h
   scanned-valid [] s j =
       let t = (j.first refl).0.0 in
       let law = (j.first refl).0.1 in
       let line : g.line.peak ≡ f.line.peak = ap (λ z. z.peak) (j.first refl).1 in
-      let size : judged_size (judgement c f.opened.limit) ≡ tree_size limits c = size-is _ refl in
+      let size : judged_size (judgement c f.opened.limit) ≡ tree_size limits c = size-is t.text in
       let header : h.header.peak ≡ g.header.peak = ap (λ z. z.peak) k.header in
       let none : length g.opened.elements ≡ 0 = ap length t.closed in
       record {
@@ -173,7 +180,7 @@ module _ (limits : LimitPair) (c : List ℕ) (f g h : Scanning) (room : HasRoom 
         line = k.line.elements;
         line_peak = omega (arith, k.line.peak, line, s.line_peak);
         opened = k.opened.elements;
-        opened_peak = omega (arith, k.opened.peak, t.opened_peak, nest-is, s.opened_peak);
+        opened_peak = omega (arith, k.opened.peak, t.opened_peak, nest-is t.text, s.opened_peak);
         header_law = omega (arith, header, t.peak, t.count, s.header_peak, law.law, none, short);
         line_law = omega (arith, k.line.peak, line, s.line_peak);
       }
@@ -181,7 +188,7 @@ module _ (limits : LimitPair) (c : List ℕ) (f g h : Scanning) (room : HasRoom 
       let t = (j.later (omega arith)).0.0 in
       let law = (j.later (omega arith)).0.1 in
       let same = (j.later (omega arith)).1 in
-      let size : judged_size (judgement c f.opened.limit) ≡ tree_size limits c = size-is _ refl in
+      let size : judged_size (judgement c f.opened.limit) ≡ tree_size limits c = size-is t.text in
       let none : length g.opened.elements ≡ 0 = ap length t.closed in
       record {
         header = ap (λ z. length z.elements) (k.header ∙ same) ∙ s.header;
@@ -189,7 +196,7 @@ module _ (limits : LimitPair) (c : List ℕ) (f g h : Scanning) (room : HasRoom 
         line = k.line.elements;
         line_peak = omega (arith, k.line.peak, t.peak, size, s.line_peak, greatest-append (tree_size limits) ds c);
         opened = k.opened.elements;
-        opened_peak = omega (arith, k.opened.peak, t.opened_peak, nest-is, s.opened_peak, greatest-append (tree_nest limits) (d ∷ ds) c);
+        opened_peak = omega (arith, k.opened.peak, t.opened_peak, nest-is t.text, s.opened_peak, greatest-append (tree_nest limits) (d ∷ ds) c);
         header_law = rw (k.header, same) s.header_law;
         line_law = omega (arith, k.line.peak, t.peak, t.count, law.law, none, s.line_law, short);
       }

@@ -1,5 +1,6 @@
 -- The most that may be held, and how much was held at most.
-use Rattle.std.specs.Prelude.{ℕ, ◌+◌, ◌/◌, ◌≤◌, List, [], ◌∷◌, length, map, max, min}
+use Rattle.std.specs.Prelude.{ℕ, ◌+◌, ◌/◌, ◌≤◌, List, [], ◌∷◌, Bool, not, nat_lt, ◌&&◌, if◌then◌else◌, length, map, max, min}
+use Rattle.std.specs.Str.{is_utf8}
 use Rattle.cj_budget.specs.Limits.{LimitPair}
 use Rattle.cj_budget.specs.declared.limits.Peaks.{Peaks}
 use Rattle.cj_spans.specs.Judgement.{judged_size, judged_nest}
@@ -30,13 +31,17 @@ pub record IsBelow (a b : Peaks) : Type 0 where
   pub tokens : a.tokens ≤ b.tokens
   pub depth : a.depth ≤ b.depth
 
--- the values and names of the tree that a content spells, or 0 where it spells none
+-- a content is looked at as a JSON text that is within the line limit and UTF-8
+abbrev pub is_text : LimitPair → List ℕ → Bool
+is_text limits c = not (nat_lt limits.line (length c)) && is_utf8 c
+
+-- the values and names of the tree that such a content spells, or 0 where it spells none
 abbrev pub tree_size : LimitPair → List ℕ → ℕ
-tree_size limits c = judged_size (judgement c limits.depth)
+tree_size limits c = if is_text limits c then judged_size (judgement c limits.depth) else 0
 
 -- the most containers that are open in it, or 0
 abbrev pub tree_nest : LimitPair → List ℕ → ℕ
-tree_nest limits c = judged_nest (judgement c limits.depth)
+tree_nest limits c = if is_text limits c then judged_nest (judgement c limits.depth) else 0
 
 -- a measure of the first of some contents, or 0
 abbrev pub of_first : (List ℕ → ℕ) → List (List ℕ) → ℕ

@@ -1,5 +1,6 @@
 -- What is held of the trees of a stream's lines.
-use Rattle.std.specs.Prelude.{◌≡◌, ℕ, ◌+◌, ◌*◌, ◌/◌, ◌<◌, ◌≤◌, List, [], length, max, min, Result, Ok, Err}
+use Rattle.std.specs.Prelude.{◌≡◌, ℕ, ◌+◌, ◌*◌, ◌/◌, ◌<◌, ◌≤◌, List, [], true, length, max, min, Result, Ok, Err}
+use Rattle.std.specs.Str.{is_utf8}
 use Rattle.cj_budget.specs.Bounded.{BoundedList, IsWithin, Becomes}
 use Rattle.cj_budget.specs.Limits.{LimitPair, InDepth}
 use Rattle.cj_budget.specs.declared.bounded.NoMemory.{NoMemory}
@@ -58,6 +59,7 @@ pub record Rises (old new : Scanning) : Type 0 where
 
 -- the lists have taken the tree that a content spells
 pub record HoldsTree (c : List ℕ) (old new : BoundedList Token) (old_open new_open : BoundedList ℕ) : Type 0 where
+  pub text : is_utf8 c ≡ true
   pub count : length new.elements ≡ judged_size (judgement c old_open.limit)
   pub peak : new.peak ≡ max old.peak (judged_size (judgement c old_open.limit))
   pub closed : new_open.elements ≡ []

@@ -1,10 +1,10 @@
-use Rattle.std.proofs.Common.{◌≡◌, false, sym, subst, ◌∙◌, ap, Err}
+use Rattle.std.proofs.Common.{rules, ◌≡◌, false, sym, subst, ◌∙◌, ap, Err}
 use Rattle.std.specs.Prelude.{◌&&◌, nat_lt, IsUtf8}
 use Rattle.std.specs.List.{list_all}
 use Rattle.cj_spans.specs.Json.{Json}
 use Rattle.cj_spans.proofs.Judgements.{judgement}
 use Rattle.std.specs.Str.{IsValidUpTo}
-use Rattle.std.proofs.lemmas.Str.{utf8_valid_len-IsValidUpTo}
+use Rattle.std.proofs.lemmas.Str.{utf8_valid_len-IsValidUpTo, is_utf8-from_IsUtf8}
 use Rattle.cj_spans.specs.declared.fault.ScanFault.TheVariants.{Syntax, TooDeep}
 use Rattle.cj_spans.specs.declared.reason.Reason.TheVariants.{NotUtf8}
 use Rattle.cj_stream.specs.Verdict.{Refuse, is_blank_byte}
@@ -22,6 +22,13 @@ returns-in-Ok-clause-says c = λ rules header le same.
     let text : IsUtf8 c.args.content.now = c.scan.ensures.utf8 (λ i e. cc) in
     let answer = rw c.in-Ok.is at (c.scan.ensures.judged (judgement c.args.content.now c.args.opened.now.limit) text) in
     rw (verdict-json rules c.args.number header c.args.content.now le text not_blank, same) (ok-verdict rules c.args.number header (judgement c.args.content.now c.args.opened.now.limit) c.in-Ok.field-0 answer)
+
+pub returns-in-Ok-clause-lists : goal.returns-in-Ok-clause-lists
+returns-in-Ok-clause-lists c =
+    let text : IsUtf8 c.args.content.now = c.scan.ensures.utf8 (λ i e. cc) in (
+      record { text = is_utf8-from_IsUtf8 c.args.content.now text; count = search rules; peak = search rules; closed = search rules; opened_peak = search rules },
+      search rules,
+    )
 
 pub returns-in-Ok-clause-tree : goal.returns-in-Ok-clause-tree
 returns-in-Ok-clause-tree c = λ sound.
