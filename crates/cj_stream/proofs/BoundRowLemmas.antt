@@ -1,5 +1,7 @@
 -- What small texts may hold at most, and what they hold, computed.
-use Rattle.std.proofs.Common.{◌≡◌, ℕ, ◌+◌, ◌≤◌, List, [], ◌∷◌, ◌++◌, length, max, refl, ap, arith, lit≤}
+use Rattle.std.proofs.Common.{◌≡◌, ℕ, ◌+◌, ◌≤◌, List, [], ◌∷◌, ◌++◌, true, length, max, refl, ap, arith, lit≤}
+use Rattle.std.specs.Str.{is_utf8}
+use Rattle.std.proofs.lemmas.Str.{is_utf8-from_IsUtf8}
 use Rattle.cj_budget.specs.Limits.{LimitPair}
 use Rattle.cj_spans.specs.Json.{Json}
 use Rattle.cj_spans.specs.Judgement.{Judgement, spelled, broken, sunk, judged_size, judged_nest}
@@ -11,7 +13,7 @@ use Rattle.cj_stream.specs.Lines.{first_content}
 use Rattle.cj_stream.specs.Rows.{small_header, small_feature}
 use Rattle.cj_feature.specs.Examples.{plain_header}
 use Rattle.cj_feature.proofs.Worked.{plain_feature}
-use Rattle.cj_stream.proofs.RowLemmas.{header_json, feature_json}
+use Rattle.cj_stream.proofs.RowLemmas.{header_json, feature_json, header_text, feature_text}
 
 pub nothing : EmptyRow
 nothing = (refl, refl)
@@ -52,17 +54,23 @@ module _ (limits : LimitPair) (s a : List ℕ) (n d : ℕ) (first : first_conten
   two-lines : (b : List ℕ) (m e : ℕ) → contents s ≡ a ∷ b ∷ [] → tree_size limits b ≡ m → tree_nest limits b ≡ e → exact_peaks limits s ≡ held (length a + max (length b) 0) (n + max m 0) (max d (max e 0))
   two-lines b m e all more deep = rw (all, first, size, nest, more, deep) refl
 
+is_header : is_utf8 small_header ≡ true
+is_header = is_utf8-from_IsUtf8 small_header header_text
+
+is_feature : is_utf8 small_feature ≡ true
+is_feature = is_utf8-from_IsUtf8 small_feature feature_text
+
 header-size : tree_size usual small_header ≡ 21
-header-size = sized plain_header header_json (lit≤ tt) (judgement small_header 64)
+header-size = rw is_header (sized plain_header header_json (lit≤ tt) (judgement small_header 64))
 
 header-nest : tree_nest usual small_header ≡ 3
-header-nest = nested plain_header header_json (lit≤ tt) (judgement small_header 64)
+header-nest = rw is_header (nested plain_header header_json (lit≤ tt) (judgement small_header 64))
 
 feature-size : tree_size usual small_feature ≡ 13
-feature-size = sized plain_feature.tree feature_json (lit≤ tt) (judgement small_feature 64)
+feature-size = rw is_feature (sized plain_feature.tree feature_json (lit≤ tt) (judgement small_feature 64))
 
 feature-nest : tree_nest usual small_feature ≡ 3
-feature-nest = nested plain_feature.tree feature_json (lit≤ tt) (judgement small_feature 64)
+feature-nest = rw is_feature (nested plain_feature.tree feature_json (lit≤ tt) (judgement small_feature 64))
 
 pub exact : ExactRow
 exact = (

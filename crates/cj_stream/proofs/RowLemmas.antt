@@ -85,11 +85,11 @@ module _ (n : ℕ) (header : Tree) (c : List ℕ) (t : Tree) (json : Json c t) (
   sound : (line : ℕ) → length c ≤ line → IsUtf8 c → nat_lt 1 n && list_all is_blank_byte c ≡ false → verdict_at (under line) n header c ≡ tree_verdict (under line) n header t
   sound line short is_text full = verdict-json (under line) n header c short is_text full ∙ by-tree t json shallow (under line) n header (judgement c 64)
 
-header_text : IsUtf8 small_header
+pub header_text : IsUtf8 small_header
 unfolding is_utf8 chars encode
 header_text = IsUtf8-from_is_utf8 small_header refl
 
-feature_text : IsUtf8 small_feature
+pub feature_text : IsUtf8 small_feature
 unfolding is_utf8 chars encode
 feature_text = IsUtf8-from_is_utf8 small_feature refl
 

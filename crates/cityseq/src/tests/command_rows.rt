@@ -132,16 +132,57 @@ fn a_write_fault(rt: HostRuntime) -> Result<(), Fail> {
     check_write_fault(&rt, rt.alloc(), HEADER, out, b"")
 }
 
-fn check_failed_flush(rt: &impl Abort, alloc: Global, text: &[u8]) -> Result<(), Fail> {
+// Filters a text to a writer whose flush fails, of which so much is written.
+fn check_failed_flush_of(
+    rt: &impl Abort,
+    alloc: Global,
+    text: &[u8],
+    wanted: &[u8],
+) -> Result<(), Fail> {
     let mut out = SlowWriter::new(Vec::new(alloc), 1_000);
     out.flush_fails = true;
-    check_write_fault(rt, alloc, text, out, text)
+    check_write_fault(rt, alloc, text, out, wanted)
+}
+
+fn check_failed_flush(rt: &impl Abort, alloc: Global, text: &[u8]) -> Result<(), Fail> {
+    check_failed_flush_of(rt, alloc, text, text)
 }
 
 #[test]
 fn a_failed_flush_is_a_write_fault(rt: HostRuntime) -> Result<(), Fail> {
     check_failed_flush(&rt, rt.alloc(), HEADER)?;
     check_failed_flush(&rt, rt.alloc(), b"")
+}
+
+// A read fails after the header, and then the flush: the flush is told.
+#[test]
+fn a_failed_read_before_a_failed_flush(rt: HostRuntime) -> Result<(), Fail> {
+    let text = joined(rt.alloc(), &[HEADER, b"\n", FEATURE, b"\n"])?;
+    let header = joined(rt.alloc(), &[HEADER, b"\n"])?;
+    let mut reader = SlowReader::new(&text, 200);
+    reader.fails_at = 2;
+    let mut out = SlowWriter::new(Vec::new(rt.alloc()), 1_000);
+    out.flush_fails = true;
+    let mut err = Vec::new(rt.alloc());
+    let limits = Limits::new(8_388_608, 64)?;
+    let status = filter_to(rt.alloc(), limits, &mut reader, &mut out, &mut err);
+    let out = out.bytes;
+    check_written(
+        &rt,
+        &Written { status, out, err },
+        4,
+        &header,
+        b"write fault\n",
+    );
+    Ok(())
+}
+
+// A line is refused, and then the flush fails: the flush is told.
+#[test]
+fn a_refused_line_before_a_failed_flush(rt: HostRuntime) -> Result<(), Fail> {
+    let text = joined(rt.alloc(), &[HEADER, b"\n[]\n"])?;
+    let header = joined(rt.alloc(), &[HEADER, b"\n"])?;
+    check_failed_flush_of(&rt, rt.alloc(), &text, &header)
 }
 
 // Filters nothing, with a standard error that fails at this write.

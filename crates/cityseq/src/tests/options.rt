@@ -161,6 +161,40 @@ fn a_box_is_asked_for(rt: HostRuntime) -> Result<(), Fail> {
     )
 }
 
+/// A building with geometries of two LoDs, and a road with one of a third.
+const SEVERAL: &[u8] =
+    b"{\"type\":\"CityJSONFeature\",\"id\":\"b1\",\"CityObjects\":{\"b1\":{\"type\":\"Building\",\"geometry\":[{\"type\":\"MultiPoint\",\"lod\":\"1\",\"boundaries\":[0]},{\"type\":\"MultiPoint\",\"lod\":\"1.2\",\"boundaries\":[1]}]},\"r1\":{\"type\":\"Road\",\"geometry\":[{\"type\":\"MultiPoint\",\"lod\":\"2.2\",\"boundaries\":[0]}]}},\"vertices\":[[0,0,0],[1000,1000,0]]}";
+
+// The same as for the usual feature.
+fn check_several(
+    rt: &impl Abort,
+    alloc: Global,
+    asked: &[&str],
+    is_kept: bool,
+) -> Result<(), Fail> {
+    let header = joined(alloc, &[HEADER, b"\n"])?;
+    let input = joined(alloc, &[HEADER, b"\n", SEVERAL, b"\n"])?;
+    let out = if is_kept { &input } else { &header };
+    check_command(rt, alloc, asked, &input, 0, out, b"")
+}
+
+#[test]
+fn one_among_several_is_asked_for(rt: HostRuntime) -> Result<(), Fail> {
+    check_several(&rt, rt.alloc(), &["filter", "--type", "Road"], true)?;
+    check_several(&rt, rt.alloc(), &["filter", "--type", "Tunnel,Road"], true)?;
+    check_several(&rt, rt.alloc(), &["filter", "--type", "Tunnel"], false)?;
+    check_several(&rt, rt.alloc(), &["filter", "--lod", "1.2"], true)?;
+    check_several(&rt, rt.alloc(), &["filter", "--lod", "3,2.2"], true)?;
+    check_several(&rt, rt.alloc(), &["filter", "--lod", "2,3"], false)?;
+    check_several(&rt, rt.alloc(), &["filter", "--id", "r1"], false)?;
+    check_several(
+        &rt,
+        rt.alloc(),
+        &["filter", "--id", "r1,b1", "--lod=1"],
+        true,
+    )
+}
+
 #[test]
 fn a_query_that_cannot_be_asked(rt: HostRuntime) -> Result<(), Fail> {
     let unknown = b"unknown object type\n";

@@ -16,8 +16,8 @@ fn digits(alloc: Global, count: usize) -> Result<Vec<u8>, Fail> {
     Ok(digits)
 }
 
-// A header, and a feature of this many bytes, of which 232 are no digits of its attribute.
-fn long_text(alloc: Global, length: usize) -> Result<Vec<u8>, Fail> {
+/// A header, and a feature of this many bytes, of which 232 are no digits of its attribute.
+pub fn long_text(alloc: Global, length: usize) -> Result<Vec<u8>, Fail> {
     let line = attributed(alloc, &digits(alloc, length.saturating_sub(232))?)?;
     joined(alloc, &[HEADER, b"\n", &line, b"\n"])
 }
@@ -95,8 +95,8 @@ fn a_line_of_a_million_bytes(rt: HostRuntime) -> Result<(), Fail> {
     check_long_line(&rt, rt.alloc(), 1_000_000)
 }
 
-// A header, and this many features.
-fn many_features(alloc: Global, features: usize) -> Result<Vec<u8>, Fail> {
+/// A header, and this many features.
+pub fn many_features(alloc: Global, features: usize) -> Result<Vec<u8>, Fail> {
     let mut text = joined(alloc, &[HEADER, b"\n"])?;
     for _i in 0..features {
         text.extend_from_slice(FEATURE)?;

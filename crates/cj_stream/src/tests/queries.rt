@@ -117,6 +117,13 @@ const USUAL: Pair = Pair {
     feature: FEATURE,
 };
 
+/// A feature of a building with geometries of two LoDs, a road with one of a third, and a lake with none. Its
+/// vertices reach as far as those of the usual feature.
+const MIXED: Pair = Pair {
+    header: HEADER,
+    feature: b"{\"type\":\"CityJSONFeature\",\"id\":\"b1\",\"CityObjects\":{\"b1\":{\"type\":\"Building\",\"geometry\":[{\"type\":\"MultiPoint\",\"lod\":\"1\",\"boundaries\":[0]},{\"type\":\"MultiPoint\",\"lod\":\"1.2\",\"boundaries\":[1]}]},\"r1\":{\"type\":\"Road\",\"geometry\":[{\"type\":\"MultiPoint\",\"lod\":\"2.2\",\"boundaries\":[2]}]},\"w1\":{\"type\":\"WaterBody\"}},\"vertices\":[[0,0,0],[1000,500,0],[500,1000,0]]}",
+};
+
 // Runs over a header and a feature, of which the feature has to be kept or not.
 fn check_keeps(
     rt: &impl Abort,
@@ -172,6 +179,47 @@ fn by_id_type_and_lod(rt: HostRuntime) -> Result<(), Fail> {
         (by_types(&[]), false, "no type"),
     ] {
         check_keeps(&rt, rt.alloc(), USUAL, &parts, keeps, row)?;
+    }
+    Ok(())
+}
+
+#[test]
+fn by_id_type_and_lod_of_one_among_several(rt: HostRuntime) -> Result<(), Fail> {
+    for (parts, keeps, row) in [
+        (by_ids(&["b1"]), true, "its id"),
+        (by_ids(&["r1"]), false, "the name of another city object"),
+        (by_ids(&["r1", "w1", "b1"]), true, "one of three ids"),
+        (by_types(&["Building"]), true, "the first type"),
+        (by_types(&["Road"]), true, "the second type"),
+        (by_types(&["WaterBody"]), true, "the last type"),
+        (by_types(&["Tunnel", "WaterBody"]), true, "one of two types"),
+        (by_types(&["Tunnel", "Bridge"]), false, "two other types"),
+        (by_lods(&["1"]), true, "the first LoD"),
+        (by_lods(&["1.2"]), true, "the LoD between"),
+        (by_lods(&["2.2"]), true, "the last LoD"),
+        (by_lods(&["3", "2.2"]), true, "one of two LoDs"),
+        (by_lods(&["2"]), false, "a front of the last LoD"),
+        (by_lods(&["1.1", "3"]), false, "two other LoDs"),
+    ] {
+        check_keeps(&rt, rt.alloc(), MIXED, &parts, keeps, row)?;
+    }
+    Ok(())
+}
+
+#[test]
+fn by_box_of_one_among_several(rt: HostRuntime) -> Result<(), Fail> {
+    for (bounds, keeps) in [
+        ("1001,2000,1005,2005", true),
+        ("1000,2001,1005,2005", true),
+        ("1001,2001,1005,2005", true),
+        ("1001.000000000000000001,2000,1005,2005", false),
+        ("1000,2001.000000000000000001,1005,2005", false),
+        ("0,0,1000,2000", true),
+        ("0,0,999.999999999999999999,2000", false),
+        ("0,0,1000,1999.999999999999999999", false),
+        ("1000.25,2000.25,1000.25,2000.25", true),
+    ] {
+        check_keeps(&rt, rt.alloc(), MIXED, &by_box(bounds), keeps, bounds)?;
     }
     Ok(())
 }
@@ -315,6 +363,31 @@ fn by_the_lod_of_a_template(rt: HostRuntime) -> Result<(), Fail> {
     check_refused(&rt, rt.alloc(), lost, &by_lods(&["1"]), end)
 }
 
+/// A building with a geometry of LoD 3, and a tree that is an instance of the first template.
+const SECOND_OBJECT: &[u8] =
+    b"{\"type\":\"CityJSONFeature\",\"id\":\"b\",\"CityObjects\":{\"b\":{\"type\":\"Building\",\"geometry\":[{\"type\":\"MultiPoint\",\"lod\":\"3\",\"boundaries\":[0]}]},\"t\":{\"type\":\"SolitaryVegetationObject\",\"geometry\":[{\"type\":\"GeometryInstance\",\"template\":0,\"boundaries\":[0],\"transformationMatrix\":[1,0,0,0,0,1,0,0,0,0,1,0,0,0,0,1]}]}},\"vertices\":[[0,0,0]]}";
+
+#[test]
+fn by_the_lod_of_a_template_among_several(rt: HostRuntime) -> Result<(), Fail> {
+    let both = Pair {
+        header: TEMPLATES,
+        feature: SECOND_OBJECT,
+    };
+    for (parts, keeps, row) in [
+        (by_lods(&["1"]), true, "the template's LoD"),
+        (by_lods(&["3"]), true, "the LoD before it"),
+        (by_lods(&["2"]), false, "another"),
+        (
+            by_types(&["SolitaryVegetationObject"]),
+            true,
+            "the second type",
+        ),
+    ] {
+        check_keeps(&rt, rt.alloc(), both, &parts, keeps, row)?;
+    }
+    Ok(())
+}
+
 // What a part may be: not set, empty, one that the usual feature has, or one that it has not.
 fn texts<'a>(state: u32, has: &'a [&'a str], lacks: &'a [&'a str]) -> Option<&'a [&'a str]> {
     match state {
@@ -340,20 +413,31 @@ fn is_kept(state: u32) -> bool {
 }
 
 // Each part in each state, beside each state of each other part.
-#[test]
-fn each_part_has_to_hold(rt: HostRuntime) -> Result<(), Fail> {
+fn check_each_part<'a>(
+    rt: &impl Abort,
+    alloc: Global,
+    pair: Pair<'a>,
+    types: &'a [&'a str],
+) -> Result<(), Fail> {
     for states in 0..256_u32 {
         let (id, kind, lod, place) = (states % 4, states / 4 % 4, states / 16 % 4, states / 64 % 4);
         let parts = Parts {
             ids: texts(id, &["b1"], &["b2"]),
-            types: texts(kind, &["Building"], &["Road"]),
+            types: texts(kind, types, &["Tunnel"]),
             lods: texts(lod, &["2.2"], &["2"]),
             bounds: bounds(place),
         };
         let keeps = is_kept(id) && is_kept(kind) && is_kept(lod) && is_kept(place);
-        check_keeps(&rt, rt.alloc(), USUAL, &parts, keeps, "parts")?;
+        check_keeps(rt, alloc, pair, &parts, keeps, "parts")?;
     }
     Ok(())
+}
+
+#[test]
+fn each_part_has_to_hold(rt: HostRuntime) -> Result<(), Fail> {
+    check_each_part(&rt, rt.alloc(), USUAL, &["Building"])?;
+    check_each_part(&rt, rt.alloc(), MIXED, &["Road"])?;
+    check_each_part(&rt, rt.alloc(), MIXED, &["Bridge", "WaterBody"])
 }
 
 // Compares what a setter answered.

@@ -3,7 +3,7 @@ use super::calls::{
     check_bytes, check_ended, check_outcome, copied, held, joined, outcome, refused,
 };
 use super::devices::SlowReader;
-use crate::{End, Engine, Outcome, Query, WriteSink, box_laws, headline, laws};
+use crate::{End, Engine, Outcome, Query, WriteSink, box_laws, headline, laws, row_laws};
 use cj_budget::{Limits, Peaks};
 use cj_spans::Reason;
 use std::alloc::Global;
@@ -103,6 +103,10 @@ fn no_line_at_all(rt: HostRuntime) -> Result<(), Fail> {
     laws::lines_are_the_lines(b"");
     laws::rows_compute();
     box_laws::boxes_compute();
+    row_laws::bounds_compute();
+    row_laws::counts_compute();
+    row_laws::lines_compute();
+    row_laws::queries_compute();
     Ok(())
 }
 
