@@ -118,7 +118,6 @@ TellsMemory answer old_err new_err = TellsFault (fault_line Memory) (status_of M
 abbrev pub TellsWrongWords : ℕ → Channel → Channel → Type 0
 TellsWrongWords answer old_err new_err = (text : List ℕ) × TellsFault text 2 answer old_err new_err
 
-
 -- an error of the words asks for no help
 abbrev pub IsNoHelp : ErrorKind → Type 0
 IsNoHelp kind = (kind ≢ DisplayHelp) × (kind ≢ DisplayVersion)

@@ -8,6 +8,7 @@ pub mod CountRows
 pub mod CountSink
 pub mod Cut
 pub mod Device
+pub mod EndRows
 pub mod Engine
 pub mod Extent
 pub mod Headline

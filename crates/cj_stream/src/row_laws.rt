@@ -2,6 +2,7 @@
 //! those that are refuted beside them.
 ghost use Rattle.cj_stream.specs.BoundRows.{EmptyRow as BoundOfNothing, HeaderRow as BoundOfHeader, CutRow as BoundOfLongLine, EdgeRow, ExactRow};
 ghost use Rattle.cj_stream.specs.CountRows.{RiseRows, ClassRows, LodRows as LodCounts};
+ghost use Rattle.cj_stream.specs.EndRows.{UnhinderedRow, UnreadRow};
 ghost use Rattle.cj_stream.specs.LineRows.{TabRow, HeaderRow};
 ghost use Rattle.cj_stream.specs.QueryRows.{IdRows, TypeRows, LodRows, InstanceRows, InBoxRows, OutOfBoxRows, EachPartRows};
 
@@ -19,6 +20,12 @@ pub fn counts_compute()
     ensures rise { RiseRows }
     ensures classes { ClassRows }
     ensures lods { LodCounts }
+{}
+
+/// Which ends nothing hindered, and which no reader makes.
+pub fn ends_compute()
+    ensures unhindered { UnhinderedRow }
+    ensures unread { UnreadRow }
 {}
 
 /// A blank line with a byte in it, and a header alone.

@@ -30,7 +30,13 @@ fn filter_through(
     let ask = Ask::Filter(Limits::new(8_388_608, 64)?, Query::all(alloc));
     let mut reader = SlowReader::new(text, 10_000);
     let buffer = BufWriter::with_capacity(alloc, 65_536, writer)?;
-    Ok(perform(alloc, &ask, &mut reader, &mut Output::new(buffer), &mut Output::new(err)))
+    Ok(perform(
+        alloc,
+        &ask,
+        &mut reader,
+        &mut Output::new(buffer),
+        &mut Output::new(err),
+    ))
 }
 
 // Filters a text to a writer that takes `step` bytes a write, and fails at this write, or, at 0, at the flush.

@@ -101,10 +101,12 @@ fn no_line_at_all(rt: HostRuntime) -> Result<(), Fail> {
     };
     check_every_cut(&rt, rt.alloc(), b"", limits, &wanted);
     laws::lines_are_the_lines(b"");
+    laws::good_lines_are_the_longest(b"");
     laws::rows_compute();
     box_laws::boxes_compute();
     row_laws::bounds_compute();
     row_laws::counts_compute();
+    row_laws::ends_compute();
     row_laws::lines_compute();
     row_laws::queries_compute();
     Ok(())
