@@ -316,7 +316,7 @@ row_the_version() {
   lines 'cityseq 0.1.0' | answered 0 ''
 }
 
-# The help itself is shown in README.
+# The help itself is shown in the guide.
 row_help_is_asked_for() {
   run help < /dev/null
   mv "$scratch/written" "$scratch/help"
