@@ -12,7 +12,7 @@ cd "$(dirname "$0")/.." || exit
 
 limit=8388608 # the usual line limit, in bytes
 skipped=77    # what a row answers that this system cannot show
-documents='README.md docs/GUIDE.md docs/RULES.md' # whose commands are run
+documents='README.md docs/GUIDE.md docs/REASONS.md' # whose commands are run
 
 # A header, a feature, and a feature of four vertices whose last index is the one given.
 header='{"type":"CityJSON","version":"2.0","transform":{"scale":[1,1,1],"translate":[0,0,0]},"CityObjects":{},"vertices":[]}'
