@@ -1,6 +1,6 @@
 #!/usr/bin/env bash
-# Rows over the built program: what it writes, what it says on standard error, and its status; and the commands that the
-# documents show.
+# Rows over the built program: what it writes, what it says on standard error, and its status; the commands that the
+# documents show; and the names that they take from the code.
 #
 #     tests/program.sh [PROGRAM]
 #
@@ -12,7 +12,7 @@ cd "$(dirname "$0")/.." || exit
 
 limit=8388608 # the usual line limit, in bytes
 skipped=77    # what a row answers that this system cannot show
-documents='README.md docs/GUIDE.md docs/RULES.md' # whose commands are run
+documents='README.md docs/GUIDE.md docs/REASONS.md' # whose commands are run
 
 # A header, a feature, and a feature of four vertices whose last index is the one given.
 header='{"type":"CityJSON","version":"2.0","transform":{"scale":[1,1,1],"translate":[0,0,0]},"CityObjects":{},"vertices":[]}'
@@ -528,6 +528,13 @@ row_the_example_counts() {
   examples/embed/run.sh --try "$scratch/stream" > "$scratch/written" 2> "$scratch/noise"
   echo $? > "$scratch/status"
   lines 'buildings 2, geometries 17' | answered 0 '' || { cat "$scratch/noise"; false; }
+}
+
+# ---- what the documents name
+
+row_the_documents_name_what_is_there() {
+  command -v python3 > "$scratch/noise" || return $skipped
+  tests/promises.py > "$scratch/noise" || { cat "$scratch/noise"; false; }
 }
 
 # ---- what the documents show

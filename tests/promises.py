@@ -1,0 +1,229 @@
+#!/usr/bin/env python3
+"""Looks whether the code has what two documents say that it has.
+
+    tests/promises.py
+
+Of docs/PROMISES.md: each function that the second column of a table names; each clause that it names of a function, as
+`function`/clause or `function`: clause; each definition, part of a definition and file. Prose is passed over, but each
+name between backticks has to be the name of something. Of docs/REASONS.md: each code with its name and its text, and
+each function of the last table. A name that is not there is printed. The last line is 'N passed, M failed', over the
+names, and the status is 0 where none failed.
+"""
+
+import re
+import sys
+from collections import defaultdict
+from pathlib import Path
+
+ROOT = Path(__file__).resolve().parent.parent
+NAME = r'`([A-Za-z_][\w:]*)`'
+TICKED = re.compile(r'`([^`]*)`')
+PARENTHESIS = re.compile(r'\(([^()]*)\)')
+
+
+class Code:
+    """The names that the sources and the definitions have."""
+
+    def __init__(self):
+        self.functions = defaultdict(list)  # by name and by Type::name, the clauses of each
+        self.placed = defaultdict(set)  # by crate, as module::function and module::Type::function
+        self.types = defaultdict(list)  # by type or trait, the clauses of each function
+        self.fields = defaultdict(set)  # by definition, its parts
+        self.names = set()  # everything else that has a name
+        for path in sorted(ROOT.glob('crates/*/src/**/*.rt')):
+            self.read_source(path)
+        for folder in 'specs', 'proofs':
+            for path in sorted(ROOT.glob(f'crates/*/{folder}/**/*.antt')):
+                self.read_definitions(path)
+        for lists in self.functions, self.types:
+            self.names.update(lists, *(clauses for each in lists.values() for clauses in each))
+        self.names.update(*self.fields.values())
+
+    def read_source(self, path):
+        crate = path.relative_to(ROOT / 'crates').parts[0]
+        modules = list(path.relative_to(ROOT / 'crates' / crate / 'src').with_suffix('').parts)
+        self.names.update([crate, *modules])
+        owners, clauses = [], None
+        for line in path.read_text().splitlines():
+            head = re.sub(r'<[^<>]*>', '', re.sub(r'<[^<>]*>', '', line.replace('->', '')))
+            if found := re.match(r'(?:pub )?(impl|trait)\b(?: (\w+) for)? (\w+)', head):
+                owners = [name for name in found.group(2, 3) if name]
+            elif line == '}':
+                owners = []
+            if found := re.match(r'\s*(?:pub(?:\(\w+\))? )?(?:const )?fn (\w+)', line):
+                clauses = set()
+                for name in [found[1], *(f'{owner}::{found[1]}' for owner in owners)]:
+                    self.functions[name].append(clauses)
+                    self.placed[crate].add('::'.join([*modules, name]))
+                for owner in owners:
+                    self.types[owner].append(clauses)
+            elif (found := re.match(r'\s*(?:ensures|requires) (\w+) \{', line)) and clauses is not None:
+                clauses.add(found[1])
+            if found := re.match(r'\s*ghost use [\w.]+\.\{(.*)\};', line):
+                self.names.update(re.findall(r'\w+', found[1]))
+            for found in re.finditer(r'\b(?:struct|enum|trait|mod|const|type|ghost) (\w+)', line):
+                self.names.add(found[1])
+            self.names.update(owners)
+            self.names.update(re.findall(r'"([\w-]+)"', line))
+
+    def read_definitions(self, path):
+        self.names.add(path.stem)
+        record = None
+        for line in path.read_text().splitlines():
+            words = re.sub(r'^\s*(?:(?:abbrev|pub|unfoldable) )*', '', line)
+            if found := re.match(r'(?:record|data) (\w+)', words):
+                record = found[1]
+                self.names.add(record)
+                self.fields[record] |= set()
+            elif found := re.match(r'(\w+) (?:\([^)]*\) |\{[^}]*\} )*:', words):
+                self.names.add(found[1])
+                if line.startswith(' ') and record:
+                    self.fields[record].add(found[1])
+
+    def clauses_of(self, function):
+        """The clauses of each function of this name; of a type those of its functions together."""
+        if function in self.functions:
+            return self.functions[function]
+        return [set().union(*self.types[function])] if function in self.types else []
+
+    def has(self, name):
+        """Whether something has this name, or there is a file of it, at the top or in a crate."""
+        if '/' not in name:
+            return name in self.names
+        folders = [ROOT, *ROOT.glob('crates/*')]
+        return any((folder / f'{name}{end}').exists() for folder in folders for end in ('', '.antt'))
+
+
+class Report:
+    """What was looked at, and what of it is not there."""
+
+    def __init__(self):
+        self.passed = self.failed = 0
+        self.place = ''
+
+    def count(self, is_there, text):
+        if is_there:
+            self.passed += 1
+        else:
+            self.failed += 1
+            print(f'{self.place}: {text}')
+
+
+def words_in(text):
+    """The single words, bare or between backticks, that a list begins with: a, b and c."""
+    words = []
+    for item in re.split(r', (?:and )?| and ', text.strip()):
+        if not (found := re.fullmatch(r'`?(\w+)`?', item.strip())):
+            break
+        words.append(found[1])
+    return words
+
+
+def check_clauses(code, report, functions, clauses):
+    """Each of these functions has these clauses; of functions of one name one has."""
+    for function in functions:
+        for clause in clauses:
+            report.count(any(clause in each for each in code.clauses_of(function)), f'no clause {clause} of {function}')
+
+
+def check_slashes(code, report, text, types):
+    """Each `function`/clause, of these types if there are any."""
+    for name, first, others in re.findall(rf'{NAME}/(\w+)((?:, \w+\b)*(?=[,.:]|$))?', text):
+        for function in [f'{each}::{name}' for each in types] or [name]:
+            check_clauses(code, report, [function], words_in(first + others))
+
+
+def check_parenthesis(code, report, text):
+    """Definitions, after a colon the parts of the one before it, and clauses."""
+    check_slashes(code, report, text, [])
+    for name, parts in re.findall(NAME + r': ([\w, ]+)', text):
+        for part in words_in(parts):
+            report.count(name in code.fields and part in code.fields[name], f'no part {part} of {name}')
+
+
+def check_parts(code, report, cell, bare):
+    """After a definition and 'its part' a part of it; after a function a part of a definition that the cell names."""
+    named = [name for name in TICKED.findall(cell) if name in code.fields]
+    for text in bare, *PARENTHESIS.findall(cell):
+        for name, parts in re.findall(rf'{NAME}[,:] its parts? ([\w, ]+)', text):
+            for part in words_in(parts):
+                there = any(part in code.fields[each] for each in ([name] if name in code.fields else named))
+                report.count(there, f'no part {part} of {name}')
+
+
+def check_cell(code, report, cell, owner):
+    """A cell that names functions and clauses; owner is the one function of the table, if it has one."""
+    for name in TICKED.findall(cell):
+        if re.fullmatch(r'[A-Za-z_][\w:./-]*', name):
+            report.count(code.has(name), f'nothing has the name {name}')
+    for inside in PARENTHESIS.findall(cell):
+        check_parenthesis(code, report, inside)
+    bare = re.sub(r' +([,;:])', r'\1', ' '.join(PARENTHESIS.sub('', cell).split()))
+    check_parts(code, report, cell, bare)
+    for part in bare.split(';'):
+        check_part(code, report, part.strip(), owner)
+
+
+def check_part(code, report, part, owner):
+    """What stands between two semicolons of a cell, without its parentheses."""
+    subjects = re.match(rf'((?:(?:, | and )?{NAME})+)(?P<end>: |$|, )', part)
+    listed = TICKED.findall(subjects[1]) if subjects else []
+    types = [name for name in listed if name in code.types]
+    check_slashes(code, report, part, types)
+    for words, names in re.findall(r'(?:^/|: |clauses )(\w+(?: and \w+)*) of ((?:`\w+`(?:, | and (?:of )?)?)+)', part):
+        for name in TICKED.findall(names):
+            for function in [f'{each}::{name}' for each in types] or [name]:
+                check_clauses(code, report, [function], words_in(words))
+    clauses = words_in(part[subjects.end():]) if subjects and subjects['end'] == ': ' else []
+    if owner and not any('::' in name for name in listed):
+        check_clauses(code, report, [owner], listed)
+        for clause in clauses:
+            report.count(any(clause in fields for fields in code.fields.values()), f'no definition has a part {clause}')
+    else:
+        check_clauses(code, report, listed, clauses)
+
+
+def check_promises(code, report):
+    owner = None
+    for number, line in enumerate((ROOT / 'docs/PROMISES.md').read_text().splitlines(), 1):
+        if not line.startswith('|'):
+            owner = None
+            continue
+        cell = line.strip('|').split('|')[-1].strip()
+        if found := re.fullmatch(rf'Clause of {NAME}', cell):
+            owner = found[1]
+        elif cell not in ('---', 'Carried by'):
+            report.place = f'docs/PROMISES.md:{number}'
+            check_cell(code, report, cell, owner)
+
+
+def check_reasons(code, report):
+    source = (ROOT / 'crates/cj_spans/src/reason.rt').read_text()
+    table = re.findall(r'Reason::(\w+) => make_entry\((\d+), "([^"]*)"\)', source)
+    document = (ROOT / 'docs/REASONS.md').read_text()
+    report.place = 'docs/REASONS.md'
+    for name, number, text in table:
+        report.count(f']({anchor(number, text)}) | {text} |' in document, f'no row of code {number}, {text}')
+        report.count(f'\n### {number} {text}\n' in document, f'no heading of code {number}, {text}')
+        report.count(f'\n| {number} | `{name}` | ' in document, f'no function of code {number}, {name}')
+    rows = re.findall(r'^\| (\d+) \| `(\w+)` \| `(\w+)` \| (.*) \|$', document, re.M)
+    for number, name, crate, functions in rows:
+        report.count((name, number) in [row[:2] for row in table], f'the reason {name} has not the code {number}')
+        for function in TICKED.findall(functions):
+            report.count(function in code.placed[crate], f'{crate} has no {function}')
+
+
+def anchor(number, text):
+    return '#' + re.sub(r'[^a-z0-9-]', '', f'{number}-{text}'.lower().replace(' ', '-'))
+
+
+def main():
+    code, report = Code(), Report()
+    check_promises(code, report)
+    check_reasons(code, report)
+    print(f'{report.passed} passed, {report.failed} failed')
+    return report.failed > 0
+
+
+if __name__ == '__main__':
+    sys.exit(main())
