@@ -16,11 +16,11 @@ use Rattle.cj_stream.proofs.GoodLemmas.{kept_first-good}
 use Rattle.cj_stream.proofs.KnownLemmas.{Appends-kept, AppendsPart-kept}
 use Rattle.cj_stream.specs.Bound.{exact_peaks}
 use Rattle.cj_stream.specs.TallySink.{Tally, IsTallyOf, TalliesRun, no_tally}
-use Rattle.cj_stream.specs.Tally.{CountsRun}
+use Rattle.cj_stream.specs.CountSink.{CountsRun}
 use Rattle.cj_stream.specs.declared.count.CountSink.{CountSink}
 use Rattle.cj_stream.specs.Query.{rules_for}
 use Rattle.cj_stream.proofs.OutputLemmas.{Writes-kept}
-use Rattle.cityseq.specs.Performed.{end_of_text, Says, SaysCheck, SaysReport, Answers}
+use Rattle.cityseq.specs.Performed.{end_of_writing, Says, SaysCheck, SaysReport, Answers}
 use Rattle.cityseq.specs.Report.{Wrote}
 use Rattle.cityseq.specs.declared.ask.Ask.{Ask}
 use Rattle.cityseq.specs.declared.ask.Ask.TheVariants.{Check, Filter, Info}
@@ -46,7 +46,7 @@ Wrote-kept text (Err e) a b c w k f = record {
 }
 
 -- a write fault that is told of a text has its cause
-pub cause-text : (written : Result (Unit {0}) Unwritten) (told : End) (a b : ℕ) → told ≡ end_of_text written → RisesOnErr written a b → told ≡ WriteFault → HasRisen a b
+pub cause-text : (written : Result (Unit {0}) Unwritten) (told : End) (a b : ℕ) → told ≡ end_of_writing written → RisesOnErr written a b → told ≡ WriteFault → HasRisen a b
 cause-text (Ok x) told a b tells rises is = let other : Complete ≡ WriteFault = sym tells ∙ is in cc
 cause-text (Err e) told a b tells rises is = rises
 
@@ -83,14 +83,14 @@ features-kept rules r at_end n features peaks account =
 
 -- a check or a report after a complete run, of what that counted
 pub Says-check : (rules : Rules) (r : List ℕ) (n m : ℕ) (written : Result (Unit {0}) Unwritten) (told : End) (old new : Channel)
-    → n ≡ length (good rules r) → m ≡ length (filter is_feature (kept rules r)) → told ≡ end_of_text written
+    → n ≡ length (good rules r) → m ≡ length (filter is_feature (kept rules r)) → told ≡ end_of_writing written
     → Wrote (check_text n m) written old new → SaysCheck rules r Complete told old new
 Says-check rules r n m written told old new lines features tells wrote =
     subst (λ y. Says (check_text (length (good rules r)) y) Complete told old new) features
     (subst (λ x. Says (check_text x m) Complete told old new) lines (written, tells, wrote))
 
 pub Says-report : (rules : Rules) (r : List ℕ) (n : ℕ) (t : Tally) (peaks : Peaks) (written : Result (Unit {0}) Unwritten) (told : End) (old new : Channel)
-    → n ≡ length (good rules r) → IsTallyOf (kept rules r) t → peaks ≡ exact_peaks rules.limits r → told ≡ end_of_text written
+    → n ≡ length (good rules r) → IsTallyOf (kept rules r) t → peaks ≡ exact_peaks rules.limits r → told ≡ end_of_writing written
     → Wrote (report n t peaks) written old new → SaysReport rules r Complete told old new
 Says-report rules r n t peaks written told old new lines tally held tells wrote = record {
   tally = t;

@@ -1,4 +1,3 @@
-pub mod Asking
 pub mod EndRows
 pub mod OptionRows
 pub mod Options

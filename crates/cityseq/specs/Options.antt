@@ -1,11 +1,12 @@
 -- What the options of `filter` ask for.
-use Rattle.std.specs.Prelude.{◌≡◌, ◌⊎◌, ℕ, List, [], ◌∷◌, Bool, true, Option, Some, None, Result, Ok, Err, IsSome, IsOk, slice_set, option_map, option_and_then}
+use Rattle.std.specs.Prelude.{◌≡◌, ◌⊎◌, ℕ, List, [], ◌∷◌, Bool, true, Option, Some, None, Result, Ok, Err, IsSome, IsOk, slice_set, option_copied, option_map, option_and_then}
 use Rattle.cj_geometry.specs.ObjectTypes.{ObjectRow, row_named}
-use Rattle.cj_stream.specs.Asked.{Asked, Box}
-use Rattle.cj_stream.specs.Asking.{no_types}
+use Rattle.cj_stream.specs.Criteria.{Criteria, Box}
+use Rattle.cj_stream.specs.Adding.{no_types}
 use Rattle.cj_stream.specs.BoxText.{fields, box_text}
 use Rattle.cj_stream.specs.declared.query.fault.QueryFault.{QueryFault}
 use Rattle.cj_stream.specs.declared.query.fault.QueryFault.TheVariants.{Memory, UnknownTypeName, BadBox, BoxRange, EmptyBox}
+use Rattle.cityseq.specs.declared.query_texts.QueryTexts.{QueryTexts}
 
 -- the texts of the options that were given
 pub record Texts : Type 0 where
@@ -13,6 +14,15 @@ pub record Texts : Type 0 where
   pub types : Option (List ℕ)
   pub lods : Option (List ℕ)
   pub box : Option (List ℕ)
+
+-- the texts of the options that were given
+abbrev pub texts_of : QueryTexts → Texts
+texts_of t = record {
+  ids = option_copied t.ids;
+  types = option_copied t.types;
+  lods = option_copied t.lods;
+  box = option_copied t.bbox;
+}
 
 -- these flags, and those of the types of these names; none where a name is no type's
 abbrev pub flags_with : List (List ℕ) → List Bool → Option (List Bool)
@@ -24,38 +34,38 @@ abbrev pub types_or_fault : Option (List Bool) → Result (Option (List Bool)) Q
 types_or_fault None = Err UnknownTypeName
 types_or_fault (Some flags) = Ok (Some flags)
 
-abbrev pub types_asked : Option (List ℕ) → Result (Option (List Bool)) QueryFault
-types_asked None = Ok None
-types_asked (Some text) = types_or_fault (flags_with (fields text) no_types)
+abbrev pub types_wanted : Option (List ℕ) → Result (Option (List Bool)) QueryFault
+types_wanted None = Ok None
+types_wanted (Some text) = types_or_fault (flags_with (fields text) no_types)
 
 -- the box that an option asks for
 abbrev pub box_or_fault : Result Box QueryFault → Result (Option Box) QueryFault
 box_or_fault (Ok box) = Ok (Some box)
 box_or_fault (Err fault) = Err fault
 
-abbrev pub box_asked : Option (List ℕ) → Result (Option Box) QueryFault
-box_asked None = Ok None
-box_asked (Some text) = box_or_fault (box_text text)
+abbrev pub box_wanted : Option (List ℕ) → Result (Option Box) QueryFault
+box_wanted None = Ok None
+box_wanted (Some text) = box_or_fault (box_text text)
 
 -- what is asked with these ids and LoDs, types and a box; the first refusal of the last two, if there is one
-abbrev pub asked_with : Option (List (List ℕ)) → Option (List (List ℕ)) → Result (Option (List Bool)) QueryFault → Result (Option Box) QueryFault → Result Asked QueryFault
-asked_with ids lods (Err fault) box = Err fault
-asked_with ids lods (Ok types) (Err fault) = Err fault
-asked_with ids lods (Ok types) (Ok box) = Ok (record { ids = ids; types = types; lods = lods; box = box })
+abbrev pub criteria_with : Option (List (List ℕ)) → Option (List (List ℕ)) → Result (Option (List Bool)) QueryFault → Result (Option Box) QueryFault → Result Criteria QueryFault
+criteria_with ids lods (Err fault) box = Err fault
+criteria_with ids lods (Ok types) (Err fault) = Err fault
+criteria_with ids lods (Ok types) (Ok box) = Ok (record { ids = ids; types = types; lods = lods; box = box })
 
 -- what the texts ask for: ids, types and LoDs are what stands between the commas, be it nothing
-abbrev pub asked_by : Texts → Result Asked QueryFault
-asked_by t = asked_with (option_map fields t.ids) (option_map fields t.lods) (types_asked t.types) (box_asked t.box)
+abbrev pub criteria_by : Texts → Result Criteria QueryFault
+criteria_by t = criteria_with (option_map fields t.ids) (option_map fields t.lods) (types_wanted t.types) (box_wanted t.box)
 
 -- memory is wanted for ids, or for LoDs, which come after types that are not refused
 abbrev pub WantsMemory : Texts → Type 0
-WantsMemory t = IsSome t.ids ⊎ (IsSome t.lods × IsOk (types_asked t.types))
+WantsMemory t = IsSome t.ids ⊎ (IsSome t.lods × IsOk (types_wanted t.types))
 
 -- A fault is the first refusal of the texts, set in the order ids, types, LoDs and box: where memory was refused they
 -- want some, and else it is what is wrong with the types or the box.
 abbrev pub RefusesBy : Texts → QueryFault → Type 0
 RefusesBy t Memory = WantsMemory t
-RefusesBy t UnknownTypeName = asked_by t ≡ Err UnknownTypeName
-RefusesBy t BadBox = asked_by t ≡ Err BadBox
-RefusesBy t BoxRange = asked_by t ≡ Err BoxRange
-RefusesBy t EmptyBox = asked_by t ≡ Err EmptyBox
+RefusesBy t UnknownTypeName = criteria_by t ≡ Err UnknownTypeName
+RefusesBy t BadBox = criteria_by t ≡ Err BadBox
+RefusesBy t BoxRange = criteria_by t ≡ Err BoxRange
+RefusesBy t EmptyBox = criteria_by t ≡ Err EmptyBox

@@ -8,7 +8,7 @@ use Rattle.clap.specs.declared.error.kind.ErrorKind.TheVariants.{OutOfMemory, Di
 use Rattle.clap.specs.declared.parser.matches.ArgMatches.{ArgMatches}
 use Rattle.cj_budget.specs.Limits.{LimitPair}
 use Rattle.cj_budget.specs.declared.limits.Peaks.{Peaks}
-use Rattle.cj_stream.specs.Asked.{everything}
+use Rattle.cj_stream.specs.Criteria.{everything}
 use Rattle.cj_stream.specs.Bound.{exact_peaks}
 use Rattle.cj_stream.specs.Headline.{HeadlineOfRun}
 use Rattle.cj_stream.specs.Item.{is_feature}
@@ -33,14 +33,14 @@ use Rattle.cityseq.specs.declared.report.Shown.{Shown}
 -- ---- texts of our own
 
 -- the end that is told after a complete run, by what came of writing a text
-abbrev pub end_of_text : Result (Unit {0}) Unwritten → End
-end_of_text (Ok x) = Complete
-end_of_text (Err fault) = WriteFault
+abbrev pub end_of_writing : Result (Unit {0}) Unwritten → End
+end_of_writing (Ok x) = Complete
+end_of_writing (Err fault) = WriteFault
 
 -- After a run that wrote nothing and ended so a text is written where the run is complete, and nothing otherwise. What is
 -- told is the run's end; or a write fault where a write of the text failed, and then a front of it was written.
 abbrev pub Says : List ℕ → End → End → Channel → Channel → Type 0
-Says text Complete told old new = (written : Result (Unit {0}) Unwritten) × (told ≡ end_of_text written) × Wrote text written old new
+Says text Complete told old new = (written : Result (Unit {0}) Unwritten) × (told ≡ end_of_writing written) × Wrote text written old new
 Says text (Refused line place reason) told old new = (told ≡ Refused line place reason) × Keeps old.bytes new.bytes
 Says text ReadFault told old new = (told ≡ ReadFault) × Keeps old.bytes new.bytes
 Says text ReadLimit told old new = (told ≡ ReadLimit) × Keeps old.bytes new.bytes
@@ -62,7 +62,7 @@ pub record SaysReport (rules : Rules) (r : List ℕ) (e told : End) (old new : C
 
 -- the rules that lines are judged by
 abbrev pub all_under : LimitPair → Rules
-all_under limits = record { limits = limits; asked = everything }
+all_under limits = record { limits = limits; criteria = everything }
 
 abbrev pub rules_of_ask : Ask → Rules
 rules_of_ask (Check limits) = all_under limits

@@ -3,9 +3,9 @@ use Rattle.std.specs.Prelude.{◌≡◌, ℕ, ◌<◌, ◌^◌, List, Some, None
 use Rattle.clap.specs.Words.{found_of, first_value, one_text}
 use Rattle.clap.specs.declared.parser.matches.ArgMatches.{ArgMatches}
 use Rattle.cj_budget.specs.Limits.{LimitPair}
-use Rattle.cj_stream.specs.Query.{asked}
+use Rattle.cj_stream.specs.Query.{criteria}
 use Rattle.cj_stream.specs.declared.query.fault.QueryFault.{QueryFault}
-use Rattle.cityseq.specs.Options.{Texts, asked_by, RefusesBy}
+use Rattle.cityseq.specs.Options.{Texts, criteria_by, RefusesBy}
 use Rattle.cityseq.specs.declared.ask.Ask.{Ask}
 use Rattle.cityseq.specs.declared.ask.Ask.TheVariants.{Check, Filter, Info}
 
@@ -31,7 +31,7 @@ pub record HasLimits (m : ArgMatches) (limits : LimitPair) : Type 0 where
 -- a command of this name with these options asks for this
 abbrev pub AsksBy : List ℕ → ArgMatches → Ask → Type 0
 AsksBy name m (Check limits) = (name ≡ codes "check") × HasLimits m limits
-AsksBy name m (Filter limits query) = (name ≡ codes "filter") × HasLimits m limits × (asked_by (texts_in m) ≡ Ok (asked query))
+AsksBy name m (Filter limits query) = (name ≡ codes "filter") × HasLimits m limits × (criteria_by (texts_in m) ≡ Ok (criteria query))
 AsksBy name m (Info limits) = (name ≡ codes "info") × HasLimits m limits
 
 -- it cannot be asked: it is `filter`, and this is the first refusal of its options

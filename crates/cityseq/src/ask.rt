@@ -2,13 +2,13 @@
 ghost use Rattle.std.specs.Prelude.{◌≡◌, ℕ, List};
 ghost use Rattle.std.specs.Io.KnownBytes.{Consumes, IsAtEnd};
 ghost use Rattle.cj_budget.specs.declared.limits.Peaks.{Peaks};
-ghost use Rattle.cj_stream.specs.Asked.{everything};
+ghost use Rattle.cj_stream.specs.Criteria.{everything};
 ghost use Rattle.cj_stream.specs.Run.{Account};
 ghost use Rattle.cj_stream.specs.Verdict.{Rules};
 ghost use Rattle.cj_stream.specs.declared.ending.End.{End};
 ghost use Rattle.cj_stream.specs.Output.{output_failures, channel};
 ghost use Rattle.cj_stream.specs.Sink.{HasRisen};
-ghost use Rattle.cityseq.specs.Performed.{all_under, end_of_text as told_after, rules_of_ask, Answers, Performs, SaysCheck, SaysReport};
+ghost use Rattle.cityseq.specs.Performed.{all_under, end_of_writing as told_after, rules_of_ask, Answers, Performs, SaysCheck, SaysReport};
 ghost use Rattle.cityseq.specs.Report.{Reports, status_of};
 
 use crate::report::{Shown, show, status};
@@ -30,7 +30,7 @@ pub enum Ask {
 }
 
 // The end that is told where a text of our own followed a complete run, by what came of writing it.
-pub fn end_of_text(written: Result<(), WriteFault>) -> End
+pub fn end_of_writing(written: Result<(), WriteFault>) -> End
     ensures { result ≡ told_after written }
 {
     match written {
@@ -54,7 +54,7 @@ fn check<R: Read, W: Write + Drop>(
     let query = Query::all(alloc);
     let (_, outcome) = count_stream(alloc, reader, limits, &query);
     match outcome.ended {
-        End::Complete => end_of_text(write_check(out, outcome.lines, outcome.kept)),
+        End::Complete => end_of_writing(write_check(out, outcome.lines, outcome.kept)),
         ended => ended,
     }
 }
@@ -74,7 +74,7 @@ fn info<R: Read, W: Write + Drop>(
     let query = Query::all(alloc);
     let (tally, outcome) = tally_stream(alloc, reader, limits, &query);
     match outcome.ended {
-        End::Complete => end_of_text(write_report(out, outcome.lines, &tally, outcome.peaks)),
+        End::Complete => end_of_writing(write_report(out, outcome.lines, &tally, outcome.peaks)),
         ended => ended,
     }
 }

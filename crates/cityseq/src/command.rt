@@ -10,8 +10,8 @@ ghost use Rattle.cityseq.specs.Words.{AsksBy, CannotAsk};
 ghost use Rattle.cityseq.specs.declared.ask.Ask.{Ask};
 ghost use Rattle.cj_stream.specs.declared.query.fault.QueryFault.{QueryFault};
 
-use crate::ask::{Ask, end_of_text, perform};
-use crate::asking::query_of;
+use crate::ask::{Ask, end_of_writing, perform};
+use crate::query_texts::query_of;
 use crate::report::{WRONG_WORDS, query_status, show, status, write_fault_line, write_query_fault};
 use crate::words::{limits_of, read_words, texts_of};
 use cj_budget::LimitFault;
@@ -112,7 +112,7 @@ fn help<W: Write + Drop, E: Write + Drop>(
     ensures { TellsHelp result (channel W.contents out.old) (channel W.contents out.new)
         (channel E.contents err.old) (channel E.contents err.new) }
 {
-    let told = end_of_text(out.write_whole(text.as_bytes()));
+    let told = end_of_writing(out.write_whole(text.as_bytes()));
     status(show(out.flush(), told, err).end)
 }
 

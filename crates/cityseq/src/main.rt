@@ -9,7 +9,7 @@
 #![tactic(auto)]
 
 mod ask;
-mod asking;
+mod query_texts;
 mod command;
 mod end_laws;
 mod option_laws;
@@ -52,19 +52,19 @@ fn read_words(rt: &HostRuntime) -> Result<Vec<String>, WordsFault> {
 }
 
 // Says that memory was refused.
-fn out_of_memory(rt: &HostRuntime) -> u8 {
+fn tell_no_memory(rt: &HostRuntime) -> u8 {
     let _ = write_fault_line(&mut Output::new(rt.stderr()), End::Memory);
     status(End::Memory)
 }
 
-fn perform(rt: &HostRuntime, alloc: Global) -> u8 {
+fn run_program(rt: &HostRuntime, alloc: Global) -> u8 {
     let words = match read_words(rt) {
         Ok(words) => words,
         Err(WordsFault::NoWords) => return WRONG_WORDS,
-        Err(WordsFault::Memory) => return out_of_memory(rt),
+        Err(WordsFault::Memory) => return tell_no_memory(rt),
     };
     let Ok(buffer) = BufWriter::with_capacity(alloc, OUTPUT_BUFFER, rt.stdout()) else {
-        return out_of_memory(rt);
+        return tell_no_memory(rt);
     };
     let mut out = Output::new(buffer);
     let mut err = Output::new(rt.stderr());
@@ -72,5 +72,5 @@ fn perform(rt: &HostRuntime, alloc: Global) -> u8 {
 }
 
 fn main(rt: HostRuntime) -> ExitCode {
-    ExitCode::from(perform(&rt, rt.alloc()))
+    ExitCode::from(run_program(&rt, rt.alloc()))
 }

@@ -1,9 +1,9 @@
 //! The words of the command line, read by `clap`.
 ghost use Rattle.std.specs.Prelude.{◌≡◌, IfOk, decimal};
-ghost use Rattle.cityseq.specs.Asking.{texts_of as texts_given};
+ghost use Rattle.cityseq.specs.Options.{texts_of as texts_given};
 ghost use Rattle.cityseq.specs.Words.{texts_in, HasNumber, HasLimits};
 
-use crate::asking::QueryTexts;
+use crate::query_texts::QueryTexts;
 use cj_budget::{LimitFault, Limits};
 use clap::{Arg, ArgMatches, Command, Error, value_parser};
 use std::alloc::{AllocError, Global};

@@ -5,7 +5,7 @@ use Rattle.std.specs.Str.{chars}
 use Rattle.cj_spans.specs.declared.reason.Reason.TheVariants.{MissingMember, IdNotFound}
 use Rattle.cj_spans.specs.Finding.{least, found_at}
 use Rattle.cj_spans.specs.Json.{atom_at}
-use Rattle.cj_spans.specs.Text.{text, points_after, first_point, first_width}
+use Rattle.cj_spans.specs.Text.{text, code_points_after, first_code_point, first_width}
 use Rattle.cj_spans.specs.Tree.{Tree, array, object, no_items, member, no_members}
 use Rattle.cj_geometry.specs.ObjectTypes.{object_types}
 use Rattle.cj_geometry.proofs.Digits.{number-zero, number-one}
@@ -33,26 +33,26 @@ euro_feature =
     (member (atom_at euro_line 79 89) (array 90 92 no_items) no_members))))
 
 pub plain_header-valid : header false plain_header ≡ []
-unfolding text points_after first_point first_width chars
+unfolding text code_points_after first_code_point first_width chars
 plain_header-valid = simp (number-zero, number-one) refl
 
 pub plain_feature-valid : feature plain_header plain_feature.tree ≡ []
-unfolding text points_after first_point first_width chars object_types
+unfolding text code_points_after first_code_point first_width chars object_types
 plain_feature-valid = refl
 
 pub euro_feature-valid : feature plain_header euro_feature ≡ []
-unfolding text points_after first_point first_width chars object_types
+unfolding text code_points_after first_code_point first_width chars object_types
 euro_feature-valid = refl
 
 pub other_id-refused : least None (feature plain_header other_id.tree) ≡ Some (found_at 31 IdNotFound)
-unfolding text points_after first_point first_width chars object_types
+unfolding text code_points_after first_code_point first_width chars object_types
 other_id-refused = refl
 
 -- neither a header nor a feature is the other
 pub feature-no_header : least None (header false plain_feature.tree) ≡ Some (found_at 0 MissingMember)
-unfolding text points_after first_point first_width chars object_types
+unfolding text code_points_after first_code_point first_width chars object_types
 feature-no_header = refl
 
 pub header-no_feature : least None (feature plain_header plain_header) ≡ Some (found_at 0 MissingMember)
-unfolding text points_after first_point first_width chars object_types
+unfolding text code_points_after first_code_point first_width chars object_types
 header-no_feature = refl

@@ -4,5 +4,5 @@ use Rattle.cj_geometry.specs.Geometry.{Given}
 use Rattle.cj_geometry.specs.Given.{given}
 
 -- the templates that are asked
-abbrev pub asked_of : Lods → Given
-asked_of l = given l.templates
+abbrev pub given_to : Lods → Given
+given_to l = given l.templates

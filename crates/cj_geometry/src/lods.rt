@@ -119,11 +119,11 @@ pub struct Lods<'a> {
 
 impl<'a> Lods<'a> {
     ghost use Rattle.cj_geometry.specs.Lod.{chosen, template_lod, lod};
-    ghost use Rattle.cj_geometry.specs.Lods.{asked_of};
+    ghost use Rattle.cj_geometry.specs.Lods.{given_to};
 
     /// Those of geometries beside these templates.
     pub fn beside(templates: Templates<'a>) -> Lods<'a>
-        ensures { asked_of result ≡ given templates.entry }
+        ensures { given_to result ≡ given templates.entry }
     {
         Lods {
             templates,
@@ -136,8 +136,8 @@ impl<'a> Lods<'a> {
     /// The level of detail of a geometry, as [`crate::lod_of`] answers it. Of many instances each is
     /// found quickly, however long the list of templates is.
     pub fn lod_of(&mut self, node: Node<'a>) -> Option<Node<'a>>
-        ensures lod { option_map tree result ≡ lod (asked_of self.old) (tree node.entry) }
-        ensures same { asked_of self.new ≡ asked_of self.old }
+        ensures lod { option_map tree result ≡ lod (given_to self.old) (tree node.entry) }
+        ensures same { given_to self.new ≡ given_to self.old }
     {
         if is_an_instance(node) {
             self.lod_of_template(node)
@@ -149,8 +149,8 @@ impl<'a> Lods<'a> {
     // The level of detail of an instance's template.
     #[inline(never)]
     fn lod_of_template(&mut self, node: Node<'a>) -> Option<Node<'a>>
-        ensures lod { option_map tree result ≡ template_lod (asked_of self.old) (tree node.entry) }
-        ensures same { asked_of self.new ≡ asked_of self.old }
+        ensures lod { option_map tree result ≡ template_lod (given_to self.old) (tree node.entry) }
+        ensures same { given_to self.new ≡ given_to self.old }
     {
         match node.get("template") {
             Some(index) => self.lod_chosen(index),
@@ -160,8 +160,8 @@ impl<'a> Lods<'a> {
 
     // The level of detail of the template that this index chooses, if there is one.
     fn lod_chosen(&mut self, index: Node) -> Option<Node<'a>>
-        ensures lod { option_map tree result ≡ option_and_then (member_of (chars (codes "lod"))) (chosen (asked_of self.old) (tree index.entry)) }
-        ensures same { asked_of self.new ≡ asked_of self.old }
+        ensures lod { option_map tree result ≡ option_and_then (member_of (chars (codes "lod"))) (chosen (given_to self.old) (tree index.entry)) }
+        ensures same { given_to self.new ≡ given_to self.old }
     {
         match self.templates.nodes() {
             Some(list) => match read_whole(index) {
@@ -174,9 +174,9 @@ impl<'a> Lods<'a> {
 
     // The level of detail of the template of this number in the list, from 0.
     fn lod_at(&mut self, list: Node<'a>, number: u64) -> Option<Node<'a>>
-        requires { Some (tree list) ≡ list_of (asked_of self.old) }
+        requires { Some (tree list) ≡ list_of (given_to self.old) }
         ensures lod { option_map tree result ≡ option_and_then (member_of (chars (codes "lod"))) (slice_get (items_of (tree list.entry)) number) }
-        ensures same { asked_of self.new ≡ asked_of self.old }
+        ensures same { given_to self.new ≡ given_to self.old }
     {
         if let Some(answer) = answer_for(&self.answers, number) {
             return answer.lod;
@@ -189,9 +189,9 @@ impl<'a> Lods<'a> {
     // The same, looked for in the list.
     #[inline(never)]
     fn lod_found(&mut self, list: Node<'a>, number: u64) -> Option<Node<'a>>
-        requires { Some (tree list) ≡ list_of (asked_of self.old) }
+        requires { Some (tree list) ≡ list_of (given_to self.old) }
         ensures lod { option_map tree result ≡ option_and_then (member_of (chars (codes "lod"))) (slice_get (items_of (tree list.entry)) number) }
-        ensures same { asked_of self.new ≡ asked_of self.old }
+        ensures same { given_to self.new ≡ given_to self.old }
     {
         match self.template_at(list, number) {
             Some(template) => template.get("lod"),
@@ -202,9 +202,9 @@ impl<'a> Lods<'a> {
     // Keeps an answer, in place of the oldest.
     #[inline(never)]
     fn note(&mut self, list: Node<'a>, answer: Answer<'a>)
-        requires list { Some (tree list) ≡ list_of (asked_of self.old) }
+        requires list { Some (tree list) ≡ list_of (given_to self.old) }
         requires right { option_map tree answer.lod ≡ option_and_then (member_of (chars (codes "lod"))) (slice_get (items_of (tree list)) answer.number) }
-        ensures same { asked_of self.new ≡ asked_of self.old }
+        ensures same { given_to self.new ≡ given_to self.old }
     {
         let slot = self.oldest % PLACES;
         self.answers = with_answer(self.answers, slot, answer);
@@ -213,9 +213,9 @@ impl<'a> Lods<'a> {
 
     // The template of this number in the list, from 0.
     fn template_at(&mut self, list: Node<'a>, number: u64) -> Option<Node<'a>>
-        requires { Some (tree list) ≡ list_of (asked_of self.old) }
+        requires { Some (tree list) ≡ list_of (given_to self.old) }
         ensures template { option_map tree result ≡ slice_get (items_of (tree list.entry)) number }
-        ensures same { asked_of self.new ≡ asked_of self.old }
+        ensures same { given_to self.new ≡ given_to self.old }
     {
         let step = self.templates.count() / SLOTS + 1;
         let slot = number / step % SLOTS;
@@ -226,11 +226,11 @@ impl<'a> Lods<'a> {
     // The place that is kept here, or else that of this number, which is then kept.
     #[inline(never)]
     fn place_at(&mut self, list: Node<'a>, slot: usize, number: u64) -> Place<'a>
-        requires list { Some (tree list) ≡ list_of (asked_of self.old) }
+        requires list { Some (tree list) ≡ list_of (given_to self.old) }
         requires slot { slot < PLACES }
         ensures left { items_left result.left ≡ drop result.number (items_of (tree list.entry)) }
         ensures before { result.number ≤ number }
-        ensures same { asked_of self.new ≡ asked_of self.old }
+        ensures same { given_to self.new ≡ given_to self.old }
     {
         if let Some(place) = kept(&self.places, slot) {
             if place.number <= number {

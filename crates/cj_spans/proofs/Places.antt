@@ -240,11 +240,11 @@ run_begun_name {b} {i} {k} {y} r q s m ks ts p g h =
 -- ---- scalars of the grammar
 
 -- the reading of a prefix of a scalar
-pub record Reading (b : List ℕ) (i k : ℕ) : Type 0 where
+pub record AtomReading (b : List ℕ) (i k : ℕ) : Type 0 where
   pub last : Lex
   pub inside : InAtom b i k last
 
-pub begun_reading : {b : List ℕ} {kd : Kind} {i j : ℕ} → Begun b kd i j → Reading b i j
+pub begun_reading : {b : List ℕ} {kd : Kind} {i j : ℕ} → Begun b kd i j → AtomReading b i j
 begun_reading {b} {kd} {i} {j} w =
     let a = reading_whole kd (slice_range b i j ++ w.rest) w.spelled in
     let o = w.order in let l = w.within in

@@ -5,10 +5,10 @@ use Rattle.std.proofs.lemmas.Bool.{cases_lt}
 use Rattle.std.proofs.lemmas.List.{drop-drop, drop-take, length-take}
 use Rattle.std.proofs.lemmas.Bool.Decides.{nat_tests}
 use Rattle.std.proofs.lemmas.Grind.{common_steps}
-use Rattle.cj_spans.specs.declared.text.Point.{Point}
-use Rattle.cj_spans.specs.Decoding.{left, after_read, ReadsPoint, plain_front, points_from}
+use Rattle.cj_spans.specs.declared.text.CodePoint.{CodePoint}
+use Rattle.cj_spans.specs.Decoding.{left, after_read, ReadsCodePoint, plain_front, code_points_from}
 use Rattle.cj_spans.specs.Hash.{hash_on}
-use Rattle.cj_spans.specs.Text.{char_of, four_digits, unit, is_unicode, is_escaped, is_pair, escaped, first_point, first_width, points_after, text, are_same, StandFor, done, plain, letter, single, pair}
+use Rattle.cj_spans.specs.Text.{char_of, four_digits, unit, is_unicode, is_escaped, is_pair, escaped, first_code_point, first_width, code_points_after, text, are_same, StandFor, done, plain, letter, single, pair}
 use Rattle.std.specs.Char.{digit_value}
 use Rattle.std.specs.Char.Utf16.{is_high_surrogate, is_low_surrogate, surrogate_pair_char}
 use Rattle.std.specs.Str.{chars, chars_after, continuation_len, lead_bits}
@@ -37,29 +37,29 @@ lead_after b n c bs e f = first_of b bs ∙ ap (λ m. chars_after m (lead_bits b
 pub lead_one : (bs : List ℕ) (i : ℕ) → i < length bs → get_or bs i 0 < 128 → chars (drop i bs) ≡ chars_after 0 (get_or bs i 0) (drop (i + 1) bs)
 lead_one bs i h l = ap chars (at_drop bs i h) ∙ lead_after (get_or bs i 0) 0 (get_or bs i 0) (drop (i + 1) bs) (grind (arith, nat_tests)) (grind (arith, nat_tests))
 
-pub lead_two : (bs : List ℕ) (i c : ℕ) (o : Option Point) → i < length bs → 128 ≤ get_or bs i 0 → get_or bs i 0 < 224 → c ≡ get_or bs i 0 - 192 → chars_after 1 c (drop (i + 1) bs) ≡ after_read bs 0 o → chars (drop i bs) ≡ after_read bs 0 o
+pub lead_two : (bs : List ℕ) (i c : ℕ) (o : Option CodePoint) → i < length bs → 128 ≤ get_or bs i 0 → get_or bs i 0 < 224 → c ≡ get_or bs i 0 - 192 → chars_after 1 c (drop (i + 1) bs) ≡ after_read bs 0 o → chars (drop i bs) ≡ after_read bs 0 o
 lead_two bs i c o h l g e f = ap chars (at_drop bs i h) ∙ lead_after (get_or bs i 0) 1 c (drop (i + 1) bs) (grind (arith, nat_tests)) (grind (arith, nat_tests)) ∙ f
 
-pub lead_three : (bs : List ℕ) (i c : ℕ) (o : Option Point) → i < length bs → 224 ≤ get_or bs i 0 → get_or bs i 0 < 240 → c ≡ get_or bs i 0 - 224 → chars_after 2 c (drop (i + 1) bs) ≡ after_read bs 0 o → chars (drop i bs) ≡ after_read bs 0 o
+pub lead_three : (bs : List ℕ) (i c : ℕ) (o : Option CodePoint) → i < length bs → 224 ≤ get_or bs i 0 → get_or bs i 0 < 240 → c ≡ get_or bs i 0 - 224 → chars_after 2 c (drop (i + 1) bs) ≡ after_read bs 0 o → chars (drop i bs) ≡ after_read bs 0 o
 lead_three bs i c o h l g e f = ap chars (at_drop bs i h) ∙ lead_after (get_or bs i 0) 2 c (drop (i + 1) bs) (grind (arith, nat_tests)) (grind (arith, nat_tests)) ∙ f
 
-pub lead_four : (bs : List ℕ) (i c : ℕ) (o : Option Point) → i < length bs → 240 ≤ get_or bs i 0 → c ≡ get_or bs i 0 - 240 → chars_after 3 c (drop (i + 1) bs) ≡ after_read bs 0 o → chars (drop i bs) ≡ after_read bs 0 o
+pub lead_four : (bs : List ℕ) (i c : ℕ) (o : Option CodePoint) → i < length bs → 240 ≤ get_or bs i 0 → c ≡ get_or bs i 0 - 240 → chars_after 3 c (drop (i + 1) bs) ≡ after_read bs 0 o → chars (drop i bs) ≡ after_read bs 0 o
 lead_four bs i c o h l e f = ap chars (at_drop bs i h) ∙ lead_after (get_or bs i 0) 3 c (drop (i + 1) bs) (grind (arith, nat_tests)) (grind (arith, nat_tests)) ∙ f
 
 -- ---- steps over characters
 
-char_cons : (bs cs : List ℕ) (p : Point) → p.code ∷ left bs p.stop ≡ cs → ReadsPoint bs cs (char_of cs 0) 1 p
+char_cons : (bs cs : List ℕ) (p : CodePoint) → p.code ∷ left bs p.stop ≡ cs → ReadsCodePoint bs cs (char_of cs 0) 1 p
 char_cons bs [] p h = cc
 char_cons bs (c ∷ cs) p h = let x : p.code ≡ c = cc in let y : left bs p.stop ≡ cs = cc in record { code = x; rest = y }
 
-pub char_some : (bs cs : List ℕ) (i : ℕ) (p : Point) → left bs i ≡ after_read bs 0 (Some p) → left bs i ≡ cs → ReadsPoint bs cs (char_of cs 0) 1 p
+pub char_some : (bs cs : List ℕ) (i : ℕ) (p : CodePoint) → left bs i ≡ after_read bs 0 (Some p) → left bs i ≡ cs → ReadsCodePoint bs cs (char_of cs 0) 1 p
 char_some bs cs i p h e = char_cons bs cs p (sym (chars_end p.code (drop p.stop bs)) ∙ sym h ∙ e)
 
-char_nil : (bs cs : List ℕ) (p : Point) → [] ≡ cs → p.code ≡ 0 → left bs p.stop ≡ [] → ReadsPoint bs cs (char_of cs 0) 1 p
+char_nil : (bs cs : List ℕ) (p : CodePoint) → [] ≡ cs → p.code ≡ 0 → left bs p.stop ≡ [] → ReadsCodePoint bs cs (char_of cs 0) 1 p
 char_nil bs [] p h z e = record { code = z; rest = e }
 char_nil bs (c ∷ cs) p h z e = cc
 
-pub char_none : (bs cs : List ℕ) (i : ℕ) (p : Point) → left bs i ≡ [] → left bs i ≡ cs → p.code ≡ 0 → p.stop ≡ length bs → ReadsPoint bs cs (char_of cs 0) 1 p
+pub char_none : (bs cs : List ℕ) (i : ℕ) (p : CodePoint) → left bs i ≡ [] → left bs i ≡ cs → p.code ≡ 0 → p.stop ≡ length bs → ReadsCodePoint bs cs (char_of cs 0) 1 p
 char_none bs cs i p h e z s = char_nil bs cs p (sym h ∙ e) z (ap (left bs) s ∙ chars_past bs (length bs) (omega arith))
 
 at_next : (cs : List ℕ) (k : ℕ) → char_of (drop 1 cs) k ≡ char_of cs (suc k)
@@ -76,10 +76,10 @@ at_fourth : (cs : List ℕ) → char_of (drop 3 cs) 0 ≡ char_of cs 3
 at_fourth cs = ap (λ xs. char_of xs 0) (sym (drop-drop 1 2 cs)) ∙ at_next (drop 2 cs) 0 ∙ ap (λ xs. char_of xs 1) (sym (drop-drop 1 1 cs)) ∙ at_next (drop 1 cs) 1 ∙ at_next cs 2
 
 -- what comes after two steps
-pub takes_on : (bs cs : List ℕ) (x n m : ℕ) (p : Point) → ReadsPoint bs cs x n p → (y : ℕ) (q : Point) → ReadsPoint bs (drop n cs) y m q → ReadsPoint bs cs y (n + m) q
+pub takes_on : (bs cs : List ℕ) (x n m : ℕ) (p : CodePoint) → ReadsCodePoint bs cs x n p → (y : ℕ) (q : CodePoint) → ReadsCodePoint bs (drop n cs) y m q → ReadsCodePoint bs cs y (n + m) q
 takes_on bs cs x n m p t y q u = record { code = u.code; rest = u.rest ∙ drop-drop m n cs }
 
-pub takes_as : (bs cs : List ℕ) (x y n : ℕ) (p : Point) → ReadsPoint bs cs x n p → x ≡ y → ReadsPoint bs cs y n p
+pub takes_as : (bs cs : List ℕ) (x y n : ℕ) (p : CodePoint) → ReadsCodePoint bs cs x n p → x ≡ y → ReadsCodePoint bs cs y n p
 takes_as bs cs x y n p t e = record { code = t.code ∙ e; rest = t.rest }
 
 digits_same : (a b c d : ℕ) → (a * 16 + b) * 256 + (c * 16 + d) ≡ ((a * 16 + b) * 16 + c) * 16 + d
@@ -89,18 +89,18 @@ digits_by : (a b c d e f g h : ℕ) → a ≡ e → b ≡ f → c ≡ g → d �
 digits_by a b c d e f g h i j k l = digits_same a b c d ∙ (λ n. ((i n * 16 + j n) * 16 + k n) * 16 + l n)
 
 -- four digits after one another
-pub digits_read : (bs cs : List ℕ) (p q r s : Point) (a b c d : ℕ) → ReadsPoint bs cs (char_of cs 0) 1 p → ReadsPoint bs (drop 1 cs) (char_of (drop 1 cs) 0) 1 q → ReadsPoint bs (drop 2 cs) (char_of (drop 2 cs) 0) 1 r → ReadsPoint bs (drop 3 cs) (char_of (drop 3 cs) 0) 1 s
+pub digits_read : (bs cs : List ℕ) (p q r s : CodePoint) (a b c d : ℕ) → ReadsCodePoint bs cs (char_of cs 0) 1 p → ReadsCodePoint bs (drop 1 cs) (char_of (drop 1 cs) 0) 1 q → ReadsCodePoint bs (drop 2 cs) (char_of (drop 2 cs) 0) 1 r → ReadsCodePoint bs (drop 3 cs) (char_of (drop 3 cs) 0) 1 s
     → a ≡ digit_value p.code → b ≡ digit_value q.code → c ≡ digit_value r.code → d ≡ digit_value s.code
-    → ReadsPoint bs cs (four_digits cs) 4 (record { code = (a * 16 + b) * 256 + (c * 16 + d); stop = s.stop })
+    → ReadsCodePoint bs cs (four_digits cs) 4 (record { code = (a * 16 + b) * 256 + (c * 16 + d); stop = s.stop })
 digits_read bs cs p q r s a b c d t u v w i j k l = record {
   code = digits_by a b c d _ _ _ _ (i ∙ ap digit_value t.code) (j ∙ ap digit_value (u.code ∙ at_second cs)) (k ∙ ap digit_value (v.code ∙ at_third cs)) (l ∙ ap digit_value (w.code ∙ at_fourth cs));
   rest = w.rest ∙ drop-drop 1 3 cs;
 }
 
-pub rest_two : (bs cs : List ℕ) (x y : ℕ) (p q : Point) → ReadsPoint bs cs x 1 p → ReadsPoint bs (drop 1 cs) y 1 q → left bs q.stop ≡ drop 2 cs
+pub rest_two : (bs cs : List ℕ) (x y : ℕ) (p q : CodePoint) → ReadsCodePoint bs cs x 1 p → ReadsCodePoint bs (drop 1 cs) y 1 q → left bs q.stop ≡ drop 2 cs
 rest_two bs cs x y p q t u = u.rest ∙ drop-drop 1 1 cs
 
-pub rest_three : (bs cs : List ℕ) (y : ℕ) (r : Point) → ReadsPoint bs (drop 2 cs) y 1 r → left bs r.stop ≡ drop 3 cs
+pub rest_three : (bs cs : List ℕ) (y : ℕ) (r : CodePoint) → ReadsCodePoint bs (drop 2 cs) y 1 r → left bs r.stop ≡ drop 3 cs
 rest_three bs cs y r u = u.rest ∙ drop-drop 1 2 cs
 
 -- ---- code points
@@ -136,51 +136,51 @@ not_escaped : (cs : List ℕ) → is_escaped cs ≡ false → is_unicode cs ≡ 
 not_escaped cs h = ap (λ v. v && nat_eq (char_of cs 1) 117) h
 
 -- the point and the width, by cases
-first_pair : (cs : List ℕ) → is_pair cs ≡ true → (first_point cs ≡ surrogate_pair_char (unit cs) (unit (drop 6 cs))) × (first_width cs ≡ 12)
-unfolding first_point first_width
+first_pair : (cs : List ℕ) → is_pair cs ≡ true → (first_code_point cs ≡ surrogate_pair_char (unit cs) (unit (drop 6 cs))) × (first_width cs ≡ 12)
+unfolding first_code_point first_width
 first_pair cs h =
     (ap (λ v. cond v (surrogate_pair_char (unit cs) (unit (drop 6 cs))) (cond (is_unicode cs) (unit cs) (cond (is_escaped cs) (escaped (char_of cs 1)) (char_of cs 0)))) h, ap (λ v. cond v 12 (cond (is_unicode cs) 6 (cond (is_escaped cs) 2 1))) h)
 
-first_unit : (cs : List ℕ) → is_pair cs ≡ false → is_unicode cs ≡ true → (first_point cs ≡ unit cs) × (first_width cs ≡ 6)
-unfolding first_point first_width
+first_unit : (cs : List ℕ) → is_pair cs ≡ false → is_unicode cs ≡ true → (first_code_point cs ≡ unit cs) × (first_width cs ≡ 6)
+unfolding first_code_point first_width
 first_unit cs h g = (
   ap (λ v. cond v (surrogate_pair_char (unit cs) (unit (drop 6 cs))) (cond (is_unicode cs) (unit cs) (cond (is_escaped cs) (escaped (char_of cs 1)) (char_of cs 0)))) h ∙ ap (λ v. cond v (unit cs) (cond (is_escaped cs) (escaped (char_of cs 1)) (char_of cs 0))) g,
   ap (λ v. cond v 12 (cond (is_unicode cs) 6 (cond (is_escaped cs) 2 1))) h ∙ ap (λ v. cond v 6 (cond (is_escaped cs) 2 1)) g,
 )
 
 -- where no unit is at the front
-no_unit : (cs : List ℕ) → is_unicode cs ≡ false → (first_point cs ≡ cond (is_escaped cs) (escaped (char_of cs 1)) (char_of cs 0)) × (first_width cs ≡ cond (is_escaped cs) 2 1)
-unfolding first_point first_width
+no_unit : (cs : List ℕ) → is_unicode cs ≡ false → (first_code_point cs ≡ cond (is_escaped cs) (escaped (char_of cs 1)) (char_of cs 0)) × (first_width cs ≡ cond (is_escaped cs) 2 1)
+unfolding first_code_point first_width
 no_unit cs g =
     let h = not_unicode cs g in (
       ap (λ v. cond v (surrogate_pair_char (unit cs) (unit (drop 6 cs))) (cond (is_unicode cs) (unit cs) (cond (is_escaped cs) (escaped (char_of cs 1)) (char_of cs 0)))) h ∙ ap (λ v. cond v (unit cs) (cond (is_escaped cs) (escaped (char_of cs 1)) (char_of cs 0))) g,
       ap (λ v. cond v 12 (cond (is_unicode cs) 6 (cond (is_escaped cs) 2 1))) h ∙ ap (λ v. cond v 6 (cond (is_escaped cs) 2 1)) g,
     )
 
-first_letter : (cs : List ℕ) → is_unicode cs ≡ false → is_escaped cs ≡ true → (first_point cs ≡ escaped (char_of cs 1)) × (first_width cs ≡ 2)
+first_letter : (cs : List ℕ) → is_unicode cs ≡ false → is_escaped cs ≡ true → (first_code_point cs ≡ escaped (char_of cs 1)) × (first_width cs ≡ 2)
 first_letter cs g a = let e = no_unit cs g in (e.0 ∙ ap (λ v. cond v (escaped (char_of cs 1)) (char_of cs 0)) a, e.1 ∙ ap (λ v. cond v 2 1) a)
 
-first_plain : (cs : List ℕ) → is_escaped cs ≡ false → (first_point cs ≡ char_of cs 0) × (first_width cs ≡ 1)
+first_plain : (cs : List ℕ) → is_escaped cs ≡ false → (first_code_point cs ≡ char_of cs 0) × (first_width cs ≡ 1)
 first_plain cs a = let e = no_unit cs (not_escaped cs a) in (e.0 ∙ ap (λ v. cond v (escaped (char_of cs 1)) (char_of cs 0)) a, e.1 ∙ ap (λ v. cond v 2 1) a)
 
-taken : (bs cs : List ℕ) (p : Point) (x n : ℕ) → (first_point cs ≡ x) × (first_width cs ≡ n) → ReadsPoint bs cs x n p → ReadsPoint bs cs (first_point cs) (first_width cs) p
+taken : (bs cs : List ℕ) (p : CodePoint) (x n : ℕ) → (first_code_point cs ≡ x) × (first_width cs ≡ n) → ReadsCodePoint bs cs x n p → ReadsCodePoint bs cs (first_code_point cs) (first_width cs) p
 taken bs cs p x n e t = record { code = t.code ∙ sym e.0; rest = t.rest ∙ ap (λ m. drop m cs) (sym e.1) }
 
-pub pair_taken : (bs cs : List ℕ) (p : Point) → is_pair cs ≡ true → ReadsPoint bs cs (surrogate_pair_char (unit cs) (unit (drop 6 cs))) 12 p → ReadsPoint bs cs (first_point cs) (first_width cs) p
+pub pair_taken : (bs cs : List ℕ) (p : CodePoint) → is_pair cs ≡ true → ReadsCodePoint bs cs (surrogate_pair_char (unit cs) (unit (drop 6 cs))) 12 p → ReadsCodePoint bs cs (first_code_point cs) (first_width cs) p
 pair_taken bs cs p h t = taken bs cs p _ _ (first_pair cs h) t
 
-pub unit_taken : (bs cs : List ℕ) (p : Point) → is_pair cs ≡ false → is_unicode cs ≡ true → ReadsPoint bs cs (unit cs) 6 p → ReadsPoint bs cs (first_point cs) (first_width cs) p
+pub unit_taken : (bs cs : List ℕ) (p : CodePoint) → is_pair cs ≡ false → is_unicode cs ≡ true → ReadsCodePoint bs cs (unit cs) 6 p → ReadsCodePoint bs cs (first_code_point cs) (first_width cs) p
 unit_taken bs cs p h g t = taken bs cs p _ _ (first_unit cs h g) t
 
-pub letter_taken : (bs cs : List ℕ) (p : Point) → is_unicode cs ≡ false → is_escaped cs ≡ true → ReadsPoint bs cs (escaped (char_of cs 1)) 2 p → ReadsPoint bs cs (first_point cs) (first_width cs) p
+pub letter_taken : (bs cs : List ℕ) (p : CodePoint) → is_unicode cs ≡ false → is_escaped cs ≡ true → ReadsCodePoint bs cs (escaped (char_of cs 1)) 2 p → ReadsCodePoint bs cs (first_code_point cs) (first_width cs) p
 letter_taken bs cs p g a t = taken bs cs p _ _ (first_letter cs g a) t
 
-pub plain_taken : (bs cs : List ℕ) (p : Point) → is_escaped cs ≡ false → ReadsPoint bs cs (char_of cs 0) 1 p → ReadsPoint bs cs (first_point cs) (first_width cs) p
+pub plain_taken : (bs cs : List ℕ) (p : CodePoint) → is_escaped cs ≡ false → ReadsCodePoint bs cs (char_of cs 0) 1 p → ReadsCodePoint bs cs (first_code_point cs) (first_width cs) p
 plain_taken bs cs p a t = taken bs cs p _ _ (first_plain cs a) t
 
 -- the text goes on after its first point
-points_drop : (n : ℕ) (cs : List ℕ) → points_after n cs ≡ points_after 0 (drop n cs)
-unfolding points_after
+points_drop : (n : ℕ) (cs : List ℕ) → code_points_after n cs ≡ code_points_after 0 (drop n cs)
+unfolding code_points_after
 points_drop zero [] = refl
 points_drop zero (c ∷ cs) = refl
 points_drop (suc n) [] = refl
@@ -197,62 +197,62 @@ width_some cs =
       ]
     ]
 
-drop_width : (c : ℕ) (cs : List ℕ) (w n : ℕ) → w ≡ suc n → points_after (w - 1) cs ≡ points_after 0 (drop w (c ∷ cs))
+drop_width : (c : ℕ) (cs : List ℕ) (w n : ℕ) → w ≡ suc n → code_points_after (w - 1) cs ≡ code_points_after 0 (drop w (c ∷ cs))
 drop_width c cs w n h =
     let k : w - 1 ≡ n = omega arith in
-    ap (λ m. points_after m cs) k ∙ points_drop n cs ∙ ap (λ m. points_after 0 (drop m (c ∷ cs))) (sym h)
+    ap (λ m. code_points_after m cs) k ∙ points_drop n cs ∙ ap (λ m. code_points_after 0 (drop m (c ∷ cs))) (sym h)
 
-pub points_cons : (c : ℕ) (cs : List ℕ) → points_after 0 (c ∷ cs) ≡ first_point (c ∷ cs) ∷ points_after 0 (drop (first_width (c ∷ cs)) (c ∷ cs))
-unfolding points_after
-points_cons c cs = let w = width_some (c ∷ cs) in ap (λ ps. first_point (c ∷ cs) ∷ ps) (drop_width c cs (first_width (c ∷ cs)) w.0 w.1)
+pub points_cons : (c : ℕ) (cs : List ℕ) → code_points_after 0 (c ∷ cs) ≡ first_code_point (c ∷ cs) ∷ code_points_after 0 (drop (first_width (c ∷ cs)) (c ∷ cs))
+unfolding code_points_after
+points_cons c cs = let w = width_some (c ∷ cs) in ap (λ ps. first_code_point (c ∷ cs) ∷ ps) (drop_width c cs (first_width (c ∷ cs)) w.0 w.1)
 
-pub points_nil : points_after 0 [] ≡ []
-unfolding points_after
+pub points_nil : code_points_after 0 [] ≡ []
+unfolding code_points_after
 points_nil = refl
 
 -- ---- a unit and what follows it
 
-pub join_lone : (bs cs : List ℕ) (h : Point) → is_high_surrogate h.code ≡ false → is_unicode cs ≡ true → ReadsPoint bs cs (unit cs) 6 h → ReadsPoint bs cs (first_point cs) (first_width cs) h
+pub join_lone : (bs cs : List ℕ) (h : CodePoint) → is_high_surrogate h.code ≡ false → is_unicode cs ≡ true → ReadsCodePoint bs cs (unit cs) 6 h → ReadsCodePoint bs cs (first_code_point cs) (first_width cs) h
 join_lone bs cs h n u t = unit_taken bs cs h (not_high cs (ap is_high_surrogate (sym t.code) ∙ n)) u t
 
-pub join_other : (bs cs : List ℕ) (h : Point) → is_unicode (drop 6 cs) ≡ false → is_unicode cs ≡ true → ReadsPoint bs cs (unit cs) 6 h → ReadsPoint bs cs (first_point cs) (first_width cs) h
+pub join_other : (bs cs : List ℕ) (h : CodePoint) → is_unicode (drop 6 cs) ≡ false → is_unicode cs ≡ true → ReadsCodePoint bs cs (unit cs) 6 h → ReadsCodePoint bs cs (first_code_point cs) (first_width cs) h
 join_other bs cs h n u t = unit_taken bs cs h (not_followed cs n) u t
 
-pub join_not_low : (bs cs : List ℕ) (h l : Point) → ReadsPoint bs (drop 6 cs) (unit (drop 6 cs)) 6 l → is_low_surrogate l.code ≡ false → is_unicode cs ≡ true → ReadsPoint bs cs (unit cs) 6 h → ReadsPoint bs cs (first_point cs) (first_width cs) h
+pub join_not_low : (bs cs : List ℕ) (h l : CodePoint) → ReadsCodePoint bs (drop 6 cs) (unit (drop 6 cs)) 6 l → is_low_surrogate l.code ≡ false → is_unicode cs ≡ true → ReadsCodePoint bs cs (unit cs) 6 h → ReadsCodePoint bs cs (first_code_point cs) (first_width cs) h
 join_not_low bs cs h l s n u t = unit_taken bs cs h (not_low cs (ap is_low_surrogate (sym s.code) ∙ n)) u t
 
-pub join_pair : (bs cs : List ℕ) (h l : Point) → is_high_surrogate h.code ≡ true → is_unicode (drop 6 cs) ≡ true → ReadsPoint bs (drop 6 cs) (unit (drop 6 cs)) 6 l → is_low_surrogate l.code ≡ true → is_unicode cs ≡ true → ReadsPoint bs cs (unit cs) 6 h
-    → ReadsPoint bs cs (first_point cs) (first_width cs) (record { code = surrogate_pair_char h.code l.code; stop = l.stop })
+pub join_pair : (bs cs : List ℕ) (h l : CodePoint) → is_high_surrogate h.code ≡ true → is_unicode (drop 6 cs) ≡ true → ReadsCodePoint bs (drop 6 cs) (unit (drop 6 cs)) 6 l → is_low_surrogate l.code ≡ true → is_unicode cs ≡ true → ReadsCodePoint bs cs (unit cs) 6 h
+    → ReadsCodePoint bs cs (first_code_point cs) (first_width cs) (record { code = surrogate_pair_char h.code l.code; stop = l.stop })
 join_pair bs cs h l m f s n u t =
     pair_taken bs cs _ (pair_shown cs u (ap is_high_surrogate (sym t.code) ∙ m) f (ap is_low_surrogate (sym s.code) ∙ n))
     (record { code = ap (λ x. surrogate_pair_char x l.code) t.code ∙ ap (surrogate_pair_char (unit cs)) s.code; rest = s.rest ∙ drop-drop 6 6 cs })
 
-pub letter_read : (bs cs : List ℕ) (p q : Point) (x : ℕ) → is_unicode cs ≡ false → is_escaped cs ≡ true → ReadsPoint bs cs (char_of cs 0) 1 p → ReadsPoint bs (drop 1 cs) (char_of (drop 1 cs) 0) 1 q → x ≡ escaped q.code → ReadsPoint bs cs (first_point cs) (first_width cs) (record { code = x; stop = q.stop })
+pub letter_read : (bs cs : List ℕ) (p q : CodePoint) (x : ℕ) → is_unicode cs ≡ false → is_escaped cs ≡ true → ReadsCodePoint bs cs (char_of cs 0) 1 p → ReadsCodePoint bs (drop 1 cs) (char_of (drop 1 cs) 0) 1 q → x ≡ escaped q.code → ReadsCodePoint bs cs (first_code_point cs) (first_width cs) (record { code = x; stop = q.stop })
 letter_read bs cs p q x n a t u e =
     letter_taken bs cs _ n a (record { code = e ∙ ap escaped (u.code ∙ at_second cs); rest = rest_two bs cs _ _ p q t u })
 
 -- ---- walks over characters and code points
 
-char_first : (bs : List ℕ) (i : ℕ) (f : Point) → left bs i ≡ after_read bs 0 (Some f) → ReadsPoint bs (left bs i) (char_of (left bs i) 0) 1 f
+char_first : (bs : List ℕ) (i : ℕ) (f : CodePoint) → left bs i ≡ after_read bs 0 (Some f) → ReadsCodePoint bs (left bs i) (char_of (left bs i) 0) 1 f
 char_first bs i f h = char_some bs (left bs i) i f h refl
 
-pub plain_point : (bs : List ℕ) (i : ℕ) (f : Point) → left bs i ≡ after_read bs 0 (Some f) → nat_eq f.code 92 ≡ false → ReadsPoint bs (left bs i) (first_point (left bs i)) (first_width (left bs i)) f
+pub plain_point : (bs : List ℕ) (i : ℕ) (f : CodePoint) → left bs i ≡ after_read bs 0 (Some f) → nat_eq f.code 92 ≡ false → ReadsCodePoint bs (left bs i) (first_code_point (left bs i)) (first_width (left bs i)) f
 plain_point bs i f h n = let t = char_first bs i f h in plain_taken bs (left bs i) f (ap (λ x. nat_eq x 92) (sym t.code) ∙ n) t
 
-pub escaped_point : (bs : List ℕ) (i : ℕ) (f : Point) → left bs i ≡ after_read bs 0 (Some f) → nat_eq f.code 92 ≡ true → is_escaped (left bs i) ≡ true
+pub escaped_point : (bs : List ℕ) (i : ℕ) (f : CodePoint) → left bs i ≡ after_read bs 0 (Some f) → nat_eq f.code 92 ≡ true → is_escaped (left bs i) ≡ true
 escaped_point bs i f h n = let t = char_first bs i f h in ap (λ x. nat_eq x 92) (sym t.code) ∙ n
 
-points_at : (bs cs ds : List ℕ) (f p : Point) → cs ≡ f.code ∷ ds → ReadsPoint bs cs (first_point cs) (first_width cs) p → points_after 0 cs ≡ p.code ∷ points_after 0 (left bs p.stop)
+points_at : (bs cs ds : List ℕ) (f p : CodePoint) → cs ≡ f.code ∷ ds → ReadsCodePoint bs cs (first_code_point cs) (first_width cs) p → code_points_after 0 cs ≡ p.code ∷ code_points_after 0 (left bs p.stop)
 points_at bs [] ds f p h t = cc
-points_at bs (c ∷ cs) ds f p h t = points_cons c cs ∙ ap (λ x. x ∷ points_after 0 (drop (first_width (c ∷ cs)) (c ∷ cs))) (sym t.code) ∙ ap (λ xs. p.code ∷ points_after 0 xs) (sym t.rest)
+points_at bs (c ∷ cs) ds f p h t = points_cons c cs ∙ ap (λ x. x ∷ code_points_after 0 (drop (first_width (c ∷ cs)) (c ∷ cs))) (sym t.code) ∙ ap (λ xs. p.code ∷ code_points_after 0 xs) (sym t.rest)
 
-pub points_step : (bs : List ℕ) (i : ℕ) (f p : Point) → left bs i ≡ after_read bs 0 (Some f) → ReadsPoint bs (left bs i) (first_point (left bs i)) (first_width (left bs i)) p → points_after 0 (left bs i) ≡ p.code ∷ points_after 0 (left bs p.stop)
+pub points_step : (bs : List ℕ) (i : ℕ) (f p : CodePoint) → left bs i ≡ after_read bs 0 (Some f) → ReadsCodePoint bs (left bs i) (first_code_point (left bs i)) (first_width (left bs i)) p → code_points_after 0 (left bs i) ≡ p.code ∷ code_points_after 0 (left bs p.stop)
 points_step bs i f p h t = points_at bs (left bs i) (left bs f.stop) f p (h ∙ chars_end f.code (drop f.stop bs)) t
 
-pub points_done : (bs : List ℕ) (i : ℕ) → left bs i ≡ [] → points_after 0 (left bs i) ≡ []
-points_done bs i h = ap (points_after 0) h ∙ points_nil
+pub points_done : (bs : List ℕ) (i : ℕ) → left bs i ≡ [] → code_points_after 0 (left bs i) ≡ []
+points_done bs i h = ap (code_points_after 0) h ∙ points_nil
 
-pub characters_step : (bs : List ℕ) (i : ℕ) (f : Point) → left bs i ≡ after_read bs 0 (Some f) → left bs i ≡ f.code ∷ left bs f.stop
+pub characters_step : (bs : List ℕ) (i : ℕ) (f : CodePoint) → left bs i ≡ after_read bs 0 (Some f) → left bs i ≡ f.code ∷ left bs f.stop
 characters_step bs i f h = h ∙ chars_end f.code (drop f.stop bs)
 
 -- ---- a byte that stands for itself
@@ -260,15 +260,15 @@ characters_step bs i f h = h ∙ chars_end f.code (drop f.stop bs)
 pub plain_character : (bs : List ℕ) (i : ℕ) → i < length bs → get_or bs i 0 < 128 → left bs i ≡ get_or bs i 0 ∷ left bs (i + 1)
 plain_character bs i h l = lead_one bs i h l ∙ chars_end (get_or bs i 0) (drop (i + 1) bs)
 
-points_go_on : (c : ℕ) (cs ds ps : List ℕ) (x n : ℕ) → (first_point (c ∷ cs) ≡ x) × (first_width (c ∷ cs) ≡ n) → drop n (c ∷ cs) ≡ ds → points_after 0 ds ≡ ps → points_after 0 (c ∷ cs) ≡ x ∷ ps
+points_go_on : (c : ℕ) (cs ds ps : List ℕ) (x n : ℕ) → (first_code_point (c ∷ cs) ≡ x) × (first_width (c ∷ cs) ≡ n) → drop n (c ∷ cs) ≡ ds → code_points_after 0 ds ≡ ps → code_points_after 0 (c ∷ cs) ≡ x ∷ ps
 points_go_on c cs ds ps x n e d h =
-    points_cons c cs ∙ ap (λ y. y ∷ points_after 0 (drop (first_width (c ∷ cs)) (c ∷ cs))) e.0 ∙ ap (λ m. x ∷ points_after 0 (drop m (c ∷ cs))) e.1 ∙ ap (λ us. x ∷ points_after 0 us) d ∙ ap (λ us. x ∷ us) h
+    points_cons c cs ∙ ap (λ y. y ∷ code_points_after 0 (drop (first_width (c ∷ cs)) (c ∷ cs))) e.0 ∙ ap (λ m. x ∷ code_points_after 0 (drop m (c ∷ cs))) e.1 ∙ ap (λ us. x ∷ code_points_after 0 us) d ∙ ap (λ us. x ∷ us) h
 
-plain_cons : (c : ℕ) (cs : List ℕ) → nat_eq c 92 ≡ false → points_after 0 (c ∷ cs) ≡ c ∷ points_after 0 cs
-plain_cons c cs n = points_go_on c cs cs (points_after 0 cs) c 1 (first_plain (c ∷ cs) n) refl refl
+plain_cons : (c : ℕ) (cs : List ℕ) → nat_eq c 92 ≡ false → code_points_after 0 (c ∷ cs) ≡ c ∷ code_points_after 0 cs
+plain_cons c cs n = points_go_on c cs cs (code_points_after 0 cs) c 1 (first_plain (c ∷ cs) n) refl refl
 
-pub plain_code : (bs : List ℕ) (i : ℕ) → i < length bs → get_or bs i 0 < 128 → nat_eq (get_or bs i 0) 92 ≡ false → points_from bs i ≡ get_or bs i 0 ∷ points_from bs (i + 1)
-plain_code bs i h l n = ap (points_after 0) (plain_character bs i h l) ∙ plain_cons (get_or bs i 0) (left bs (i + 1)) n
+pub plain_code : (bs : List ℕ) (i : ℕ) → i < length bs → get_or bs i 0 < 128 → nat_eq (get_or bs i 0) 92 ≡ false → code_points_from bs i ≡ get_or bs i 0 ∷ code_points_from bs (i + 1)
+plain_code bs i h l n = ap (code_points_after 0) (plain_character bs i h l) ∙ plain_cons (get_or bs i 0) (left bs (i + 1)) n
 
 pub front_end : (bs : List ℕ) (i : ℕ) → length bs ≤ i → plain_front (drop i bs) ≡ None
 front_end bs i h = let e : drop i bs ≡ [] = grind (arith, common_steps) in ap plain_front e
@@ -276,13 +276,13 @@ front_end bs i h = let e : drop i bs ≡ [] = grind (arith, common_steps) in ap 
 pub front_cons : (bs : List ℕ) (i : ℕ) → i < length bs → plain_front (drop i bs) ≡ cond (nat_lt (get_or bs i 0) 128 && not (nat_eq (get_or bs i 0) 92)) (Some (get_or bs i 0)) None
 front_cons bs i h = ap plain_front (at_drop bs i h)
 
-pub text_ends : (bs ws : List ℕ) (i j : ℕ) → length bs ≤ i → length ws ≤ j → are_same (points_from bs i) (left ws j) ≡ true
-text_ends bs ws i j h k = ap (λ cs. are_same (points_after 0 cs) (left ws j)) (chars_past bs i h) ∙ ap (λ ps. are_same ps (left ws j)) points_nil ∙ ap (are_same []) (chars_past ws j k)
+pub text_ends : (bs ws : List ℕ) (i j : ℕ) → length bs ≤ i → length ws ≤ j → are_same (code_points_from bs i) (left ws j) ≡ true
+text_ends bs ws i j h k = ap (λ cs. are_same (code_points_after 0 cs) (left ws j)) (chars_past bs i h) ∙ ap (λ ps. are_same ps (left ws j)) points_nil ∙ ap (are_same []) (chars_past ws j k)
 
-pub texts_end : (bs ds : List ℕ) (i j : ℕ) → length bs ≤ i → length ds ≤ j → are_same (points_from bs i) (points_from ds j) ≡ true
-texts_end bs ds i j h k = ap (λ cs. are_same (points_after 0 cs) (points_from ds j)) (chars_past bs i h) ∙ ap (λ ps. are_same ps (points_from ds j)) points_nil ∙ ap (are_same []) (points_done ds j (chars_past ds j k))
+pub texts_end : (bs ds : List ℕ) (i j : ℕ) → length bs ≤ i → length ds ≤ j → are_same (code_points_from bs i) (code_points_from ds j) ≡ true
+texts_end bs ds i j h k = ap (λ cs. are_same (code_points_after 0 cs) (code_points_from ds j)) (chars_past bs i h) ∙ ap (λ ps. are_same ps (code_points_from ds j)) points_nil ∙ ap (are_same []) (points_done ds j (chars_past ds j k))
 
-pub hash_ends : (bs : List ℕ) (i h : ℕ) → length bs ≤ i → hash_on h (points_from bs i) ≡ h
+pub hash_ends : (bs : List ℕ) (i h : ℕ) → length bs ≤ i → hash_on h (code_points_from bs i) ≡ h
 hash_ends bs i h e = ap (hash_on h) (points_done bs i (chars_past bs i e))
 
 -- ---- between the quotes
@@ -294,9 +294,9 @@ body_place s (suc n) =
     let f : suc n - 1 ≡ n = omega arith in
     ap (λ k. drop 1 (take k s)) (sym e) ∙ drop-take 1 n s ∙ ap (λ k. take k (drop 1 s)) (sym f)
 
-pub points_between : (s : List ℕ) → points_after 0 (left (take (length s - 1) s) 1) ≡ text s
+pub code_points_between : (s : List ℕ) → code_points_after 0 (left (take (length s - 1) s) 1) ≡ text s
 unfolding text
-points_between s = ap (λ bs. points_after 0 (chars bs)) (body_place s (length s - 1))
+code_points_between s = ap (λ bs. code_points_after 0 (chars bs)) (body_place s (length s - 1))
 
 -- ---- the first byte between the quotes
 
@@ -315,10 +315,10 @@ text_front s h l n =
     let e : get_or bs 1 0 ≡ get_or s 1 0 = second_taken s m (omega arith) in
     let k = length-take m s in
     let p = plain_code bs 1 (omega arith) (omega arith) (ap (λ c. nat_eq c 92) e ∙ n) in
-    (points_from bs 2, sym (points_between s) ∙ p ∙ ap (λ c. c ∷ points_from bs 2) e)
+    (code_points_from bs 2, sym (code_points_between s) ∙ p ∙ ap (λ c. c ∷ code_points_from bs 2) e)
 
 text_empty : (s : List ℕ) → length s ≤ 2 → text s ≡ []
-text_empty s h = let k = length-take (length s - 1) s in sym (points_between s) ∙ points_done (take (length s - 1) s) 1 (chars_past (take (length s - 1) s) 1 (omega arith))
+text_empty s h = let k = length-take (length s - 1) s in sym (code_points_between s) ∙ points_done (take (length s - 1) s) 1 (chars_past (take (length s - 1) s) 1 (omega arith))
 
 others_differ : (x y : ℕ) (xs ys : List ℕ) → nat_eq x y ≡ false → are_same (x ∷ xs) (y ∷ ys) ≡ false
 others_differ x y xs ys h = ap (λ v. v && are_same xs ys) h
@@ -339,7 +339,7 @@ other_texts s o h k a n d = let p = text_front o k a.1 n.1 in ap (are_same (text
 
 -- ---- the relation has one answer, the function's
 
-pub stands_once : {cs ps : List ℕ} → StandFor cs ps → points_after 0 cs ≡ ps
+pub stands_once : {cs ps : List ℕ} → StandFor cs ps → code_points_after 0 cs ≡ ps
 stands_once done = points_nil
 stands_once (plain c cs ps e s) = points_go_on c cs cs ps c 1 (first_plain (c ∷ cs) e) refl (stands_once s)
 stands_once (letter c cs ps e s) = points_go_on 92 (c ∷ cs) cs ps (escaped c) 2 (first_letter (92 ∷ c ∷ cs) e refl) refl (stands_once s)

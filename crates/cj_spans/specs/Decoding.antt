@@ -1,22 +1,22 @@
 -- What is read of a text, and what is left. Only private clauses cite it.
 use Rattle.std.specs.Prelude.{◌≡◌, ℕ, List, [], ◌∷◌, drop, cond, not, ◌&&◌, nat_eq, nat_lt, Option, Some, None}
 use Rattle.std.specs.Str.{chars, chars_after}
-use Rattle.cj_spans.specs.declared.text.Point.{Point}
-use Rattle.cj_spans.specs.declared.text.Points.{Points}
+use Rattle.cj_spans.specs.declared.text.CodePoint.{CodePoint}
+use Rattle.cj_spans.specs.declared.text.CodePoints.{CodePoints}
 use Rattle.cj_spans.specs.declared.text.Characters.{Characters}
-use Rattle.cj_spans.specs.Text.{points_after}
+use Rattle.cj_spans.specs.Text.{code_points_after}
 
 -- the characters that are left from a place on
 abbrev pub left : List ℕ → ℕ → List ℕ
 left bytes place = chars (drop place bytes)
 
 -- the characters that come where n bytes of the first are still to be read, or none
-abbrev pub after_read : List ℕ → ℕ → Option Point → List ℕ
+abbrev pub after_read : List ℕ → ℕ → Option CodePoint → List ℕ
 after_read bytes n None = []
 after_read bytes n (Some p) = chars_after n p.code (drop p.stop bytes)
 
 -- the number x stands for the front of the characters cs, of which it takes n
-pub record ReadsPoint (bytes cs : List ℕ) (x n : ℕ) (p : Point) : Type 0 where
+pub record ReadsCodePoint (bytes cs : List ℕ) (x n : ℕ) (p : CodePoint) : Type 0 where
   pub code : p.code ≡ x
   pub rest : left bytes p.stop ≡ drop n cs
 
@@ -26,12 +26,12 @@ plain_front [] = None
 plain_front (b ∷ bs) = cond (nat_lt b 128 && not (nat_eq b 92)) (Some b) None
 
 -- the code points from a place on
-abbrev pub points_from : List ℕ → ℕ → List ℕ
-points_from bytes place = points_after 0 (left bytes place)
+abbrev pub code_points_from : List ℕ → ℕ → List ℕ
+code_points_from bytes place = code_points_after 0 (left bytes place)
 
 -- the code points that are left
-abbrev pub points_left : Points → List ℕ
-points_left p = points_from p.bytes.now p.place
+abbrev pub code_points_left : CodePoints → List ℕ
+code_points_left p = code_points_from p.bytes.now p.place
 
 -- the characters that are left
 abbrev pub characters_left : Characters → List ℕ

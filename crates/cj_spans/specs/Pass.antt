@@ -21,7 +21,7 @@ pub record Standing (b : List ℕ) (tokens0 : BoundedList Token) (stack0 : Bound
   pub stack_within : IsWithin stack
 
 -- the room for the tokens of a line, under a limit of open containers
-pub record HasRoom (b : List ℕ) (tokens0 : BoundedList Token) (stack0 : BoundedList ℕ) : Type 0 where
+pub record HasLineRoom (b : List ℕ) (tokens0 : BoundedList Token) (stack0 : BoundedList ℕ) : Type 0 where
   pub short : length b ≤ 1073741824
   pub room : (length b + stack0.limit + 1) / 2 ≤ tokens0.limit
 
@@ -30,7 +30,7 @@ pub record Stands (b : List ℕ) (tokens : BoundedList Token) (stack : BoundedLi
   pub tokens0 : BoundedList Token
   pub stack0 : BoundedList ℕ
   pub standing : Standing b tokens0 stack0 tokens stack m i
-  pub room : HasRoom b tokens0 stack0
+  pub room : HasLineRoom b tokens0 stack0
 
 -- what a call answers that goes on with the pass: where it stands, or what the pass answers
 abbrev pub GoesOn : List ℕ → BoundedList Token → BoundedList ℕ → Result Next ScanFault → BoundedList Token → BoundedList ℕ → Type 0

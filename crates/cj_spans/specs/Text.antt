@@ -35,18 +35,18 @@ abbrev pub is_pair : List ℕ → Bool
 is_pair cs = is_unicode cs && is_high_surrogate (unit cs) && is_unicode (drop 6 cs) && is_low_surrogate (unit (drop 6 cs))
 
 -- the code point that the front stands for
-unfoldable pub first_point : List ℕ → ℕ
-first_point cs = cond (is_pair cs) (surrogate_pair_char (unit cs) (unit (drop 6 cs))) (cond (is_unicode cs) (unit cs) (cond (is_escaped cs) (escaped (char_of cs 1)) (char_of cs 0)))
+unfoldable pub first_code_point : List ℕ → ℕ
+first_code_point cs = cond (is_pair cs) (surrogate_pair_char (unit cs) (unit (drop 6 cs))) (cond (is_unicode cs) (unit cs) (cond (is_escaped cs) (escaped (char_of cs 1)) (char_of cs 0)))
 
 -- the number of characters that it takes
 unfoldable pub first_width : List ℕ → ℕ
 first_width cs = cond (is_pair cs) 12 (cond (is_unicode cs) 6 (cond (is_escaped cs) 2 1))
 
 -- the code points that the characters stand for, one after another, from the n-th character on
-unfoldable pub points_after : ℕ → List ℕ → List ℕ
-points_after n [] = []
-points_after zero (c ∷ cs) = first_point (c ∷ cs) ∷ points_after (first_width (c ∷ cs) - 1) cs
-points_after (suc n) (c ∷ cs) = points_after n cs
+unfoldable pub code_points_after : ℕ → List ℕ → List ℕ
+code_points_after n [] = []
+code_points_after zero (c ∷ cs) = first_code_point (c ∷ cs) ∷ code_points_after (first_width (c ∷ cs) - 1) cs
+code_points_after (suc n) (c ∷ cs) = code_points_after n cs
 
 -- the same as a relation, by the cases of a string's grammar: a character that stands for itself, a backslash and a
 -- letter, an escaped surrogate pair, and any other backslash and `u` with four digits
@@ -64,7 +64,7 @@ body_of s = slice_range s 1 (length s - 1)
 
 -- the text of the spelling of a string: of a string of UTF-8 what its characters stand for, by the law `one_text`
 unfoldable pub text : List ℕ → List ℕ
-text s = points_after 0 (chars (body_of s))
+text s = code_points_after 0 (chars (body_of s))
 
 -- whether two texts are the same
 abbrev pub are_same : List ℕ → List ℕ → Bool

@@ -26,7 +26,7 @@ mod examples;
 #[cfg(test)]
 mod tests;
 
-use crate::text::{Points, hash, spell_one_text, spells};
+use crate::text::{CodePoints, hash, spell_one_text, spells};
 use crate::token::{Kind, Token};
 
 /// A line with the tokens that show its tree.
@@ -234,7 +234,7 @@ impl<'a> Node<'a> {
     ghost use Rattle.std.specs.Prelude.{option_map, IfSome, IsTrue, ◌↔◌};
     ghost use Rattle.std.specs.Str.{chars};
     ghost use Rattle.cj_spans.specs.Parts.{text_of, are_same_texts, has_text, first_code_of, member_of};
-    ghost use Rattle.cj_spans.specs.Decoding.{points_left};
+    ghost use Rattle.cj_spans.specs.Decoding.{code_points_left};
     ghost use Rattle.cj_spans.specs.Text.{text};
     ghost use Rattle.cj_spans.specs.Hash.{hash_of};
     ghost use Rattle.cj_spans.specs.View.{tree, line_of};
@@ -251,11 +251,11 @@ impl<'a> Node<'a> {
     }
 
     /// The code points of a string or a name, one at a time; None for any other value.
-    fn points(self) -> Option<Points<'a>>
-        ensures { option_map points_left result ≡ text_of (tree self.entry) }
+    fn points(self) -> Option<CodePoints<'a>>
+        ensures { option_map code_points_left result ≡ text_of (tree self.entry) }
     {
         match self.spelling() {
-            Some(spelling) => Some(Points::of(spelling)),
+            Some(spelling) => Some(CodePoints::of(spelling)),
             None => None,
         }
     }

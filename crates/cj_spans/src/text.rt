@@ -3,23 +3,23 @@ ghost use Rattle.std.specs.Prelude.{◌≡◌, ◌+◌, ◌-◌, ◌*◌, ◌<�
 ghost use Rattle.std.specs.Str.{chars, chars_after};
 ghost use Rattle.std.specs.Char.{digit_value as digit_value_of};
 ghost use Rattle.std.specs.Char.Utf16.{is_high_surrogate as is_high_of, is_low_surrogate as is_low_of};
-ghost use Rattle.cj_spans.specs.Decoding.{left, after_read, ReadsPoint, plain_front, points_from, points_left, characters_left};
+ghost use Rattle.cj_spans.specs.Decoding.{left, after_read, ReadsCodePoint, plain_front, code_points_from, code_points_left, characters_left};
 ghost use Rattle.cj_spans.specs.Hash.{hash_step, hash_on};
-ghost use Rattle.cj_spans.specs.Text.{char_of, four_digits, escaped as escaped_of, is_escaped, is_unicode, unit, first_point, first_width, text, are_same};
+ghost use Rattle.cj_spans.specs.Text.{char_of, four_digits, escaped as escaped_of, is_escaped, is_unicode, unit, first_code_point, first_width, text, are_same};
 
 #[cfg(test)]
 mod examples;
 
 /// A code point, and the place after it.
 #[derive(Clone, Copy)]
-pub(crate) struct Point {
+pub(crate) struct CodePoint {
     pub(crate) code: u32,
     pub(crate) stop: usize,
 }
 
 /// Takes one byte more of a character; None where there is none.
 #[inline(always)]
-fn add_byte(bytes: &[u8], read: Point) -> Option<Point>
+fn add_byte(bytes: &[u8], read: CodePoint) -> Option<CodePoint>
     requires { read.code < 2 ^ 25 }
     ensures more { (n : ℕ) → chars_after (suc n) read.code (drop read.stop bytes.now)
         ≡ after_read bytes.now n result }
@@ -29,14 +29,14 @@ fn add_byte(bytes: &[u8], read: Point) -> Option<Point>
     if read.stop >= bytes.len() {
         return None;
     }
-    Some(Point {
+    Some(CodePoint {
         code: read.code * 64 + bytes[read.stop].saturating_sub(128) as u32,
         stop: read.stop + 1,
     })
 }
 
 /// Takes two bytes more of a character.
-fn add_two(bytes: &[u8], read: Point) -> Option<Point>
+fn add_two(bytes: &[u8], read: CodePoint) -> Option<CodePoint>
     requires { read.code < 2 ^ 18 }
     ensures more { (n : ℕ) → chars_after (suc (suc n)) read.code (drop read.stop bytes.now)
         ≡ after_read bytes.now n result }
@@ -50,7 +50,7 @@ fn add_two(bytes: &[u8], read: Point) -> Option<Point>
 }
 
 /// Takes three bytes more of a character.
-fn add_three(bytes: &[u8], read: Point) -> Option<Point>
+fn add_three(bytes: &[u8], read: CodePoint) -> Option<CodePoint>
     requires { read.code < 256 }
     ensures more { (n : ℕ) → chars_after (suc (suc (suc n))) read.code (drop read.stop bytes.now)
         ≡ after_read bytes.now n result }
@@ -64,7 +64,7 @@ fn add_three(bytes: &[u8], read: Point) -> Option<Point>
 
 /// The character of UTF-8 at a place (RFC 3629, section 3); None where there is none.
 #[inline(always)]
-fn first_char(bytes: &[u8], place: usize) -> Option<Point>
+fn first_char(bytes: &[u8], place: usize) -> Option<CodePoint>
     ensures char { left bytes.now place ≡ after_read bytes.now 0 result }
     ensures place { IfSome result (λ p. (place < p.stop) × (p.stop ≤ length bytes.now)) }
 {
@@ -75,27 +75,27 @@ fn first_char(bytes: &[u8], place: usize) -> Option<Point>
     let stop = place + 1;
     if lead < 128 {
         let code = lead as u32;
-        Some(Point { code, stop })
+        Some(CodePoint { code, stop })
     } else if lead < 224 {
         let code = lead.saturating_sub(192) as u32;
-        add_byte(bytes, Point { code, stop })
+        add_byte(bytes, CodePoint { code, stop })
     } else if lead < 240 {
         let code = (lead - 224) as u32;
-        add_two(bytes, Point { code, stop })
+        add_two(bytes, CodePoint { code, stop })
     } else {
         let code = (lead - 240) as u32;
-        add_three(bytes, Point { code, stop })
+        add_three(bytes, CodePoint { code, stop })
     }
 }
 
 /// The character at a place, or 0 at the end where there is none.
 #[inline(always)]
-fn char_at(bytes: &[u8], place: usize) -> Point
-    ensures { (cs : List ℕ) → left bytes.now place ≡ cs → ReadsPoint bytes.now cs (char_of cs 0) 1 result }
+fn char_at(bytes: &[u8], place: usize) -> CodePoint
+    ensures { (cs : List ℕ) → left bytes.now place ≡ cs → ReadsCodePoint bytes.now cs (char_of cs 0) 1 result }
 {
     match first_char(bytes, place) {
         Some(first) => first,
-        None => Point {
+        None => CodePoint {
             code: 0,
             stop: bytes.len(),
         },
@@ -116,8 +116,8 @@ fn digit_value(digit: u32) -> u32
 }
 
 /// The number of four hexadecimal digits.
-fn read_digits(bytes: &[u8], place: usize) -> Point
-    ensures reads { (cs : List ℕ) → left bytes.now place ≡ cs → ReadsPoint bytes.now cs (four_digits cs) 4 result }
+fn read_digits(bytes: &[u8], place: usize) -> CodePoint
+    ensures reads { (cs : List ℕ) → left bytes.now place ≡ cs → ReadsCodePoint bytes.now cs (four_digits cs) 4 result }
     ensures size { result.code < 2 ^ 18 }
 {
     let first = char_at(bytes, place);
@@ -126,16 +126,16 @@ fn read_digits(bytes: &[u8], place: usize) -> Point
     let fourth = char_at(bytes, third.stop);
     let high = digit_value(first.code) * 16 + digit_value(second.code);
     let low = digit_value(third.code) * 16 + digit_value(fourth.code);
-    Point {
+    CodePoint {
         code: high * 256 + low,
         stop: fourth.stop,
     }
 }
 
 /// The unit of an escape with `u`; None where another character or escape is at the place.
-fn read_unit(bytes: &[u8], place: usize) -> Option<Point>
+fn read_unit(bytes: &[u8], place: usize) -> Option<CodePoint>
     ensures is { (cs : List ℕ) → left bytes.now place ≡ cs → is_some result ≡ is_unicode cs }
-    ensures reads { IfSome result (λ p. (cs : List ℕ) → left bytes.now place ≡ cs → ReadsPoint bytes.now cs (unit cs) 6 p) }
+    ensures reads { IfSome result (λ p. (cs : List ℕ) → left bytes.now place ≡ cs → ReadsCodePoint bytes.now cs (unit cs) 6 p) }
     ensures size { IfSome result (λ p. p.code < 2 ^ 18) }
 {
     let slash = char_at(bytes, place);
@@ -176,10 +176,10 @@ fn is_low(unit: u32) -> bool
 }
 
 /// The code point of a unit, and of the one that is escaped behind it where the two are a pair.
-fn join(bytes: &[u8], high: Point) -> Point
+fn join(bytes: &[u8], high: CodePoint) -> CodePoint
     requires { high.code < 2 ^ 18 }
-    ensures { (cs : List ℕ) → is_unicode cs ≡ true → ReadsPoint bytes.now cs (unit cs) 6 high
-        → ReadsPoint bytes.now cs (first_point cs) (first_width cs) result }
+    ensures { (cs : List ℕ) → is_unicode cs ≡ true → ReadsCodePoint bytes.now cs (unit cs) 6 high
+        → ReadsCodePoint bytes.now cs (first_code_point cs) (first_width cs) result }
 {
     if !is_high(high.code) {
         return high;
@@ -187,7 +187,7 @@ fn join(bytes: &[u8], high: Point) -> Point
     match read_unit(bytes, high.stop) {
         Some(low) => {
             if is_low(low.code) {
-                Point {
+                CodePoint {
                     code: 0x1_0000 + (high.code - 0xD800) * 0x400 + (low.code - 0xDC00),
                     stop: low.stop,
                 }
@@ -200,16 +200,16 @@ fn join(bytes: &[u8], high: Point) -> Point
 }
 
 /// The code point of an escape.
-fn read_escape(bytes: &[u8], place: usize) -> Point
+fn read_escape(bytes: &[u8], place: usize) -> CodePoint
     ensures { (cs : List ℕ) → left bytes.now place ≡ cs → is_escaped cs ≡ true
-        → ReadsPoint bytes.now cs (first_point cs) (first_width cs) result }
+        → ReadsCodePoint bytes.now cs (first_code_point cs) (first_width cs) result }
 {
     match read_unit(bytes, place) {
         Some(unit) => join(bytes, unit),
         None => {
             let slash = char_at(bytes, place);
             let letter = char_at(bytes, slash.stop);
-            Point {
+            CodePoint {
                 code: escaped(letter.code),
                 stop: letter.stop,
             }
@@ -219,9 +219,9 @@ fn read_escape(bytes: &[u8], place: usize) -> Point
 
 /// The code point at a place, whose first character has been read.
 #[inline(always)]
-fn point_of(bytes: &[u8], place: usize, first: Point) -> Point
+fn code_point_of(bytes: &[u8], place: usize, first: CodePoint) -> CodePoint
     requires { left bytes.now place ≡ after_read bytes.now 0 (Some first) }
-    ensures { let cs = left bytes.now place in ReadsPoint bytes.now cs (first_point cs) (first_width cs) result }
+    ensures { let cs = left bytes.now place in ReadsCodePoint bytes.now cs (first_code_point cs) (first_width cs) result }
 {
     if first.code == b'\\' as u32 {
         read_escape(bytes, place)
@@ -232,37 +232,37 @@ fn point_of(bytes: &[u8], place: usize, first: Point) -> Point
 
 /// The code points of a string's body, from a place on.
 #[derive(Clone, Copy)]
-pub(crate) struct Points<'a> {
+pub(crate) struct CodePoints<'a> {
     bytes: &'a [u8],
     place: usize,
 }
 
-impl<'a> Points<'a> {
+impl<'a> CodePoints<'a> {
     /// The code points of a string, given with its quotes.
-    pub(crate) fn of(spelling: &'a [u8]) -> Points<'a>
+    pub(crate) fn of(spelling: &'a [u8]) -> CodePoints<'a>
         requires { 0 < length spelling.now }
-        ensures { points_left result ≡ text spelling.now }
+        ensures { code_points_left result ≡ text spelling.now }
     {
-        Points {
+        CodePoints {
             bytes: &spelling[..spelling.len() - 1],
             place: 1,
         }
     }
 }
 
-impl<'a> Iterator for Points<'a> {
+impl<'a> Iterator for CodePoints<'a> {
     ghost use Rattle.std.specs.Iterator.{YieldsFirst, item_count};
 
     type Item = u32;
 
-    ghost next_gives = { YieldsFirst points_left };
+    ghost next_gives = { YieldsFirst code_points_left };
 
-    ghost remaining = { item_count points_left };
+    ghost remaining = { item_count code_points_left };
 
     fn next(&mut self) -> Option<u32> {
         match first_char(self.bytes, self.place) {
             Some(first) => {
-                let point = point_of(self.bytes, self.place, first);
+                let point = code_point_of(self.bytes, self.place, first);
                 self.place = point.stop;
                 Some(point.code)
             }
@@ -318,7 +318,7 @@ fn plain_at(bytes: &[u8], place: usize) -> Option<u8>
     ensures place { IfSome result (λ b. (place < length bytes.now) × (place + 1 < 2 ^ 64)) }
     ensures plain { IfSome result (λ b. (b < 128) × (nat_eq b 92 ≡ false)) }
     ensures character { IfSome result (λ b. left bytes.now place ≡ b ∷ left bytes.now (place + 1)) }
-    ensures point { IfSome result (λ b. points_from bytes.now place ≡ b ∷ points_from bytes.now (place + 1)) }
+    ensures point { IfSome result (λ b. code_points_from bytes.now place ≡ b ∷ code_points_from bytes.now (place + 1)) }
 {
     if place >= bytes.len() {
         return None;
@@ -339,7 +339,7 @@ fn is_here(bytes: &[u8], place: usize, byte: u8) -> bool
     requires ascii { byte < 128 }
     requires plain { nat_eq byte 92 ≡ false }
     ensures character { result ≡ true → left bytes.now place ≡ byte ∷ left bytes.now (place + 1) }
-    ensures point { result ≡ true → points_from bytes.now place ≡ byte ∷ points_from bytes.now (place + 1) }
+    ensures point { result ≡ true → code_points_from bytes.now place ≡ byte ∷ code_points_from bytes.now (place + 1) }
 {
     bytes[place] == byte
 }
@@ -352,7 +352,7 @@ fn is_at(bytes: &[u8], place: usize, byte: u8) -> bool
     requires plain { nat_eq byte 92 ≡ false }
     ensures place { result ≡ true → (place < length bytes.now) × (place + 1 < 2 ^ 64) }
     ensures character { result ≡ true → left bytes.now place ≡ byte ∷ left bytes.now (place + 1) }
-    ensures point { result ≡ true → points_from bytes.now place ≡ byte ∷ points_from bytes.now (place + 1) }
+    ensures point { result ≡ true → code_points_from bytes.now place ≡ byte ∷ code_points_from bytes.now (place + 1) }
 {
     place < bytes.len() && bytes[place] == byte
 }
@@ -360,8 +360,8 @@ fn is_at(bytes: &[u8], place: usize, byte: u8) -> bool
 /// Whether a string's text is these characters, by code points: for what is spelled by escapes or is not ASCII.
 #[cold]
 #[inline(never)]
-fn is_text_slowly(points: Points, characters: Characters) -> bool
-    ensures { result ≡ are_same (points_left points.entry) (characters_left characters.entry) }
+fn is_text_slowly(points: CodePoints, characters: Characters) -> bool
+    ensures { result ≡ are_same (code_points_left points.entry) (characters_left characters.entry) }
 {
     let mut rest = characters;
     for point in points {
@@ -379,7 +379,7 @@ fn is_text_slowly(points: Points, characters: Characters) -> bool
 
 /// Whether a string, given with its quotes, is spelled by just the bytes of this text, each of which stands for itself, as
 /// nearly every name is. Where the text is known when the program is compiled, a byte of it costs one comparison.
-#[tactic(auto, using(crate::proofs::Texts::points_between, crate::proofs::Texts::text_ends))]
+#[tactic(auto, using(crate::proofs::Texts::code_points_between, crate::proofs::Texts::text_ends))]
 #[inline(always)]
 fn is_spelled_so(spelling: &[u8], wanted: &str) -> bool
     requires { 0 < length spelling.now }
@@ -403,8 +403,8 @@ fn is_spelled_so(spelling: &[u8], wanted: &str) -> bool
 /// Whether a string's text is these characters.
 #[tactic(auto, using(crate::proofs::Texts::text_ends))]
 #[inline(never)]
-fn is_text(points: Points, characters: Characters) -> bool
-    ensures { result ≡ are_same (points_left points.entry) (characters_left characters.entry) }
+fn is_text(points: CodePoints, characters: Characters) -> bool
+    ensures { result ≡ are_same (code_points_left points.entry) (characters_left characters.entry) }
 {
     let mut left = points;
     let mut wanted = characters;
@@ -427,8 +427,8 @@ fn is_text(points: Points, characters: Characters) -> bool
 /// Whether two strings have one text, by code points: for what is spelled by escapes or is not ASCII.
 #[cold]
 #[inline(never)]
-fn is_same_text_slowly(points: Points, others: Points) -> bool
-    ensures { result ≡ are_same (points_left points.entry) (points_left others.entry) }
+fn is_same_text_slowly(points: CodePoints, others: CodePoints) -> bool
+    ensures { result ≡ are_same (code_points_left points.entry) (code_points_left others.entry) }
 {
     let mut later = others;
     for point in points {
@@ -447,8 +447,8 @@ fn is_same_text_slowly(points: Points, others: Points) -> bool
 /// Whether two strings have one text.
 #[tactic(auto, using(crate::proofs::Texts::texts_end))]
 #[inline]
-fn is_same_text(points: Points, others: Points) -> bool
-    ensures { result ≡ are_same (points_left points.entry) (points_left others.entry) }
+fn is_same_text(points: CodePoints, others: CodePoints) -> bool
+    ensures { result ≡ are_same (code_points_left points.entry) (code_points_left others.entry) }
 {
     let mut left = points;
     let mut right = others;
@@ -491,7 +491,7 @@ pub(crate) fn spells(spelling: &[u8], wanted: &str) -> bool
     if spelling.len() > 1 && !characters.is_empty() && tell_apart(spelling[1], characters[0]) {
         return false;
     }
-    is_spelled_so(spelling, wanted) || is_text(Points::of(spelling), Characters::of(wanted))
+    is_spelled_so(spelling, wanted) || is_text(CodePoints::of(spelling), Characters::of(wanted))
 }
 
 /// Whether two strings, given with their quotes, have one text. Their first bytes are compared before anything else, where
@@ -506,7 +506,7 @@ pub(crate) fn spell_one_text(spelling: &[u8], other: &[u8]) -> bool
     if spelling.len() > 1 && other.len() > 2 && tell_apart(spelling[1], other[1]) {
         return false;
     }
-    is_same_text(Points::of(spelling), Points::of(other))
+    is_same_text(CodePoints::of(spelling), CodePoints::of(other))
 }
 
 /// What the hash of a text begins with.
@@ -515,7 +515,7 @@ const HASH_START: u64 = 14_695_981_039_346_656_037;
 /// The state of the hash after one code point more. No part of it is linear in the code points before, so texts
 /// that are to have one hash have to be searched for.
 #[inline(always)]
-fn hash_point(state: u64, point: u32) -> u64
+fn hash_code_point(state: u64, point: u32) -> u64
     ensures { result ≡ hash_step state point }
 {
     let product = (state ^ point as u64).wrapping_mul(11_400_714_819_323_198_485);
@@ -525,12 +525,12 @@ fn hash_point(state: u64, point: u32) -> u64
 /// The hash after these code points, from a state on, by code points: for what is spelled by escapes or is not ASCII.
 #[cold]
 #[inline(never)]
-fn hash_slowly(state: u64, points: Points) -> u64
-    ensures { result ≡ hash_on state (points_left points.entry) }
+fn hash_slowly(state: u64, points: CodePoints) -> u64
+    ensures { result ≡ hash_on state (code_points_left points.entry) }
 {
     let mut hash = state;
     for point in points {
-        hash = hash_point(hash, point);
+        hash = hash_code_point(hash, point);
     }
     hash
 }
@@ -538,13 +538,13 @@ fn hash_slowly(state: u64, points: Points) -> u64
 /// A number of a string's text: the code points alone make it, not their spelling.
 #[tactic(auto, using(crate::proofs::Texts::hash_ends))]
 #[inline]
-pub(crate) fn hash(points: Points) -> u64
-    ensures { result ≡ hash_on HASH_START (points_left points.entry) }
+pub(crate) fn hash(points: CodePoints) -> u64
+    ensures { result ≡ hash_on HASH_START (code_points_left points.entry) }
 {
     let mut hash = HASH_START;
     let mut left = points;
     while let Some(byte) = plain_at(left.bytes, left.place) {
-        hash = hash_point(hash, byte as u32);
+        hash = hash_code_point(hash, byte as u32);
         left.place += 1;
     }
     if left.place >= left.bytes.len() {

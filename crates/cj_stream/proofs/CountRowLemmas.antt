@@ -3,7 +3,7 @@ use Rattle.std.proofs.Common.{◌≡◌, ℕ, zero, suc, List, [], ◌∷◌, re
 use Rattle.std.specs.Prelude.{replicate}
 use Rattle.std.specs.Str.{chars}
 use lib.Utf8.{encode}
-use Rattle.cj_spans.specs.Text.{text, points_after, first_point, first_width}
+use Rattle.cj_spans.specs.Text.{text, code_points_after, first_code_point, first_width}
 use Rattle.cj_stream.specs.CountRows.{RiseRows, ClassRows, LodRows, three_classes}
 use Rattle.cj_stream.specs.QueryRows.{plain_header}
 use Rattle.cj_stream.specs.Sink.{HasRisen}
@@ -22,13 +22,13 @@ pub rise : RiseRows
 rise = (inl (lit< tt), no-rise, no-fall, inr (refl, refl))
 
 pub classes : ClassRows
-unfolding text points_after first_point first_width chars encode
+unfolding text code_points_after first_code_point first_width chars encode
 classes = (refl, refl, refl, refl, refl, refl, refl)
 
 -- ---- classes of a feature
 
 its_classes : lod_classes plain_header three_classes ≡ 0 ∷ 4 ∷ 5 ∷ []
-unfolding text points_after first_point first_width chars encode
+unfolding text code_points_after first_code_point first_width chars encode
 its_classes = refl
 
 abbrev Counts : List ℕ → List ℕ → Type 0

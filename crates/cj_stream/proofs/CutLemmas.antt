@@ -13,7 +13,7 @@ use Rattle.cj_stream.specs.Item.{Item, raw_item}
 use Rattle.cj_stream.specs.Lines.{Line, NoLf, closed, begun, first_of, ended_line, last_line, lines, whole}
 use Rattle.cj_stream.specs.Verdict.{Rules, verdict, header_of, item_after, refusal_of, refusal_in, refusal_from, good_from, kept_from, kept_first, kept, ending, judged, long_line}
 use Rattle.cj_stream.specs.Cut.{joined, PutsPieces, EndsAt, Copies, TookWhole, IsUnread}
-use Rattle.cj_stream.specs.Engine.{State, rules_of, lines_of, Delivers, Faults, Tells, Concludes}
+use Rattle.cj_stream.specs.Engine.{EngineState, rules_of, lines_of, Delivers, Faults, Tells, Concludes}
 use Rattle.cj_stream.specs.Reading.{Reads}
 use Rattle.cj_stream.specs.Run.{Runs}
 use Rattle.cj_stream.specs.Sink.{Took, LeavesNext}
@@ -248,7 +248,7 @@ unread-concludes rules q n WriteFault h = tt
 unread-concludes rules q n Memory h = tt
 
 -- what an engine that had read some pieces did with the next, or at the end
-pub TookWhole-left : {S : Type 0} (takes leaves : S → Item → S → Type 0) (e : State) (rules : Rules) (pieces : List (List ℕ)) (n count : ℕ) (s m t : S) (end : End)
+pub TookWhole-left : {S : Type 0} (takes leaves : S → Item → S → Type 0) (e : EngineState) (rules : Rules) (pieces : List (List ℕ)) (n count : ℕ) (s m t : S) (end : End)
     → rules_of e ≡ rules → Reads e.reading (joined (take n pieces)) → Delivers takes leaves rules (joined (take n pieces)) 0 (lines_of e) s m None
     → Delivers takes leaves rules (joined (take (n + 1) pieces)) (lines_of e) count m t (Some end) → TookWhole takes leaves rules pieces n count s t end
 TookWhole-left takes leaves e rules pieces n count s m t end same reads before after = record {

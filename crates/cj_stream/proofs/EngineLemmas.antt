@@ -14,7 +14,7 @@ use Rattle.cj_budget.specs.declared.limits.Peaks.{Peaks}
 use Rattle.cj_stream.specs.Bound.{bytes_bound, IsBelow, IsBounded}
 use Rattle.cj_stream.specs.Scanning.{Scanning, HasRoom, Scanned, HoldsFew}
 use Rattle.cj_stream.specs.Reading.{Reading, IsSound, Reads, kept_closed, begun_of, Advances, IsNext, LacksMemory, HasCause, Stops}
-use Rattle.cj_stream.specs.Engine.{State, StandsFor, Counts, Going, Faults, Delivers, Tells, limits_of, held_by, peaks_of}
+use Rattle.cj_stream.specs.Engine.{EngineState, StandsFor, Counts, Going, Faults, Delivers, Tells, limits_of, held_by, peaks_of}
 use Rattle.cj_stream.proofs.LineLemmas.{closed-then, first_content-grows}
 use Rattle.cj_stream.proofs.IsLinesLemmas.{lines-whole}
 use Rattle.cj_stream.proofs.VerdictLemmas.{refusal-append}
@@ -23,7 +23,7 @@ use Rattle.cj_stream.proofs.ReadingLemmas.{length-map_lines, map_lines-append, b
 use Rattle.cj_stream.proofs.Apart.{some-none}
 
 -- what is held is within the peaks
-pub held-below : (e : State) → IsWithin e.reading.header → IsWithin e.reading.line → HasRoom (limits_of e) e.scanning → IsBelow (held_by e) (peaks_of e)
+pub held-below : (e : EngineState) → IsWithin e.reading.header → IsWithin e.reading.line → HasRoom (limits_of e) e.scanning → IsBelow (held_by e) (peaks_of e)
 held-below e header line room = record {
   bytes = omega (arith, header.below_peak, line.below_peak);
   tokens = omega (arith, room.header_within.below_peak, room.line_within.below_peak);
@@ -142,7 +142,7 @@ begun-within f p s h = go (zero_or f.lines)
     go (inl z) = rw (← h.begun, begun_of-first f z) (omega (arith, h.header_within.below_peak, h.header_within.below_limit, s.header))
     go (inr z) = rw (← h.begun, begun_of-later f z) (omega (arith, h.line_within.below_peak, h.line_within.below_limit, s.line))
 
-pub Going-reads : (e : State) (q : List ℕ) → IsSound e.reading → Reads e.reading q → Scanned (limits_of e) (closed q) e.scanning → Going e q
+pub Going-reads : (e : EngineState) (q : List ℕ) → IsSound e.reading → Reads e.reading q → Scanned (limits_of e) (closed q) e.scanning → Going e q
 Going-reads e q s h sc = record {
   good =
       let short : ltb e.reading.rules.limits.line (length (begun q)) ≡ false = let w = begun-within e.reading q s h in grind (arith, nat_tests) in
@@ -151,7 +151,7 @@ Going-reads e q s h sc = record {
   held = same-peaks _ _ _ _ _ _ (rw (h.header, h.line) refl) (omega (arith, sc.header, ap length sc.line)) (ap length sc.opened);
 }
 
-pub StandsFor-reads : (e : State) (p : List ℕ) → e.taken ≡ length p → IsSound e.reading → HasRoom (limits_of e) e.scanning → Reads e.reading p → Scanned (limits_of e) (closed p) e.scanning
+pub StandsFor-reads : (e : EngineState) (p : List ℕ) → e.taken ≡ length p → IsSound e.reading → HasRoom (limits_of e) e.scanning → Reads e.reading p → Scanned (limits_of e) (closed p) e.scanning
     → StandsFor e p
 StandsFor-reads e p taken s room h sc = record {
   held = held-below e h.header_within h.line_within room;
@@ -199,7 +199,7 @@ module _ {S : Type 0} (takes leaves : S → Item → S → Type 0) where
         fault = (Faults-cause leaves rules (p ++ h.done) (p ++ more) g.lines h.middle t e h.reads.lines h.cause);
       }
 
-  pub StandsFor-stops : (old new : State) (s t : S) (p more : List ℕ) (e : End) → new.ended ≡ Some e → IsSound new.reading → HasRoom (limits_of new) new.scanning
+  pub StandsFor-stops : (old new : EngineState) (s t : S) (p more : List ℕ) (e : End) → new.ended ≡ Some e → IsSound new.reading → HasRoom (limits_of new) new.scanning
       → HoldsFew (limits_of new) (length (first_content (p ++ more))) new.scanning → Stops takes leaves old.reading s p more e new.reading t → StandsFor new (p ++ more)
   StandsFor-stops old new s t p more e ended sound room few h =
       let whole : p ++ more ≡ (p ++ h.done) ++ h.left = ap (λ z. p ++ z) h.cut ∙ sym (append_assoc p h.done h.left) in

@@ -12,7 +12,7 @@ use Rattle.cj_stream.specs.declared.ending.End.{End}
 use Rattle.cj_stream.specs.declared.ending.End.TheVariants.{Complete, Refused, ReadFault, ReadLimit, WriteFault, Memory}
 use Rattle.cj_stream.specs.Lines.{Line, closed, begun, begun_after, first_content, ended_line, last_line, later_of, lines}
 use Rattle.cj_stream.specs.Item.{Item}
-use Rattle.cj_stream.specs.Verdict.{WantsTokens, Rules, Verdict, Refuse, Blank, Unasked, Valid, verdict, item_after, refusal_of, is_kept, refusal_in, refusal_from, kept_from, ending, ending_of, kept_first}
+use Rattle.cj_stream.specs.Verdict.{WantsTokens, Rules, Verdict, Refuse, Blank, Unwanted, Valid, verdict, item_after, refusal_of, is_kept, refusal_in, refusal_from, kept_from, ending, ending_of, kept_first}
 use Rattle.cj_stream.specs.Bound.{bytes_bound, greatest, contents, exact_peaks}
 use Rattle.cj_stream.specs.Reading.{Reading, begun_of, next_verdict, next_item, Deals, Settles, Reads, Finishes, FinishesWith, Passes}
 use Rattle.cj_stream.specs.Scanning.{Scanning, Scanned, HasRoom, HoldsFew}
@@ -116,7 +116,7 @@ module _ {S : Type 0} (takes leaves : S → Item → S → Type 0) (f g : Readin
       → Deals takes leaves v (next_item f (unended b c)) f s r g t → Concluded f.rules p g.lines (end_of r)
   concluded-last b c (Refuse place reason) r e h d = rw d.0 (ending-verdict b c e ∙ rw (h, length-cs) refl, ap (λ x. x.lines + 1) (sym d.1))
   concluded-last b c Blank r e h d = rw d.0 (ending-verdict b c e ∙ rw h refl, count-last b c e d.1.lines)
-  concluded-last b c Unasked r e h d = rw d.0 (ending-verdict b c e ∙ rw h refl, count-last b c e d.1.lines)
+  concluded-last b c Unwanted r e h d = rw d.0 (ending-verdict b c e ∙ rw h refl, count-last b c e d.1.lines)
   concluded-last b c Valid (Ok x) e h d = (ending-verdict b c e ∙ rw h refl, count-last b c e d.0.lines)
   concluded-last b c Valid (Err x) e h d = rw d.0 tt
 
@@ -159,7 +159,7 @@ module _ {S : Type 0} (takes leaves : S → Item → S → Type 0) (f g : Readin
       → Deals takes leaves v (next_item f (unended b c)) f s r g t → Counts f.rules p g.lines g.kept
   counts-last b c (Refuse place reason) r e h d = counts-same d.1
   counts-last b c Blank r e h d = counts-passed b c false e d.1 (rw h refl) (rw h refl)
-  counts-last b c Unasked r e h d = counts-passed b c false e d.1 (rw h refl) (rw h refl)
+  counts-last b c Unwanted r e h d = counts-passed b c false e d.1 (rw h refl) (rw h refl)
   counts-last b c Valid (Ok x) e h d = counts-passed b c true e d.0 (rw h refl) (rw h refl)
   counts-last b c Valid (Err x) e h d = counts-same d.1
 
@@ -192,7 +192,7 @@ module _ {S : Type 0} (takes leaves : S → Item → S → Type 0) (f g : Readin
   settled-dealt : (l : Item) (v : Verdict) (r : Result (Unit {0}) End) → Deals takes leaves v l f s r g t → Settled
   settled-dealt l (Refuse place reason) r d = settled-same d.1
   settled-dealt l Blank r d = settled-passed false d.1
-  settled-dealt l Unasked r d = settled-passed false d.1
+  settled-dealt l Unwanted r d = settled-passed false d.1
   settled-dealt l Valid (Ok x) d = settled-passed true d.0
   settled-dealt l Valid (Err x) d = settled-same d.1
 
@@ -238,7 +238,7 @@ module _ {S : Type 0} (takes leaves : S → Item → S → Type 0) (f g : Readin
       clash : Refused (f.lines + 1) place reason ≡ Complete → ⊥
       clash x = cc
   peak-dealt b c Blank r e d done = peak-all false b c e d.1
-  peak-dealt b c Unasked r e d done = peak-all false b c e d.1
+  peak-dealt b c Unwanted r e d done = peak-all false b c e d.1
   peak-dealt b c Valid (Ok x) e d done = peak-all true b c e d.0
   peak-dealt b c Valid (Err x) e d done = absurd (clash (sym d.0 ∙ done))
     where
@@ -271,7 +271,7 @@ module _ {S : Type 0} (takes leaves : S → Item → S → Type 0) (f g : Readin
       dealt : (v : Verdict) (l : Item) (r : Result (Unit {0}) End) → Deals takes leaves v l f s r g t → end_of r ≡ Complete → r ≡ Ok tt
       dealt (Refuse place reason) l r d h = refused (f.lines + 1) place reason r d.0 h
       dealt Blank l r d h = d.0
-      dealt Unasked l r d h = d.0
+      dealt Unwanted l r d h = d.0
       dealt Valid l (Ok x) d h = refl
       dealt Valid l (Err x) d h = cc
 
@@ -302,7 +302,7 @@ module _ {S : Type 0} (takes leaves : S → Item → S → Type 0) (f g : Readin
       dealt : (v : Verdict) (l : Item) (r : Result (Unit {0}) End) → Deals takes leaves v l f s r g t → end_of r ≡ Memory → ⊥
       dealt (Refuse place reason) l r d h = clash _ r d.0 (λ x. cc) h
       dealt Blank l r d h = fine r d.0 h
-      dealt Unasked l r d h = fine r d.0 h
+      dealt Unwanted l r d h = fine r d.0 h
       dealt Valid l (Ok x) d h = cc
       dealt Valid l (Err x) d h = let e : x ≡ WriteFault = d.0 in cc
 
@@ -341,7 +341,7 @@ module _ {S : Type 0} (takes leaves : S → Item → S → Type 0) (f g : Readin
     took = refl;
     fault = d.2;
   })
-  delivers-last b c Unasked r e h d = rw d.0 (record {
+  delivers-last b c Unwanted r e h d = rw d.0 (record {
     added = [];
     middle = s;
     kept = rw d.1.lines (kept-last b c e ∙ rw h refl);

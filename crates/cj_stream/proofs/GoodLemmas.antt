@@ -8,7 +8,7 @@ use Rattle.cj_stream.specs.declared.ending.End.{End}
 use Rattle.cj_stream.specs.declared.ending.End.TheVariants.{Complete, Refused}
 use Rattle.cj_stream.specs.Lines.{Line, lines}
 use Rattle.cj_stream.specs.Item.{Item}
-use Rattle.cj_stream.specs.Verdict.{Rules, Verdict, Refuse, Blank, Unasked, Valid, verdict, item_after, refusal_of, is_kept, refusal_from, refusal_in, good_from, kept_from, good, kept, kept_first, ending, ending_of}
+use Rattle.cj_stream.specs.Verdict.{Rules, Verdict, Refuse, Blank, Unwanted, Valid, verdict, item_after, refusal_of, is_kept, refusal_from, refusal_in, good_from, kept_from, good, kept, kept_first, ending, ending_of}
 use Rattle.cj_stream.proofs.VerdictLemmas.{kept-append, before-more}
 use Rattle.cj_stream.proofs.Apart.{false-true, none-some, some-none}
 
@@ -61,7 +61,7 @@ refusal-good rules before m place reason (l ∷ ls) h = step (verdict rules befo
         → m ≡ length before + 1 + length (cond (is_some (refusal_of (length before + 1) v)) [] (l ∷ good_from rules (before ++ l ∷ []) ls))
     step (Refuse q why) later h = let same : length before + 1 ≡ m = cc in omega (arith, same)
     step Blank later h = omega (arith, later h, one)
-    step Unasked later h = omega (arith, later h, one)
+    step Unwanted later h = omega (arith, later h, one)
     step Valid later h = omega (arith, later h, one)
 
 -- a refusal is no completion
@@ -73,7 +73,7 @@ refusal-kind rules before (l ∷ ls) h = step (verdict rules before l.content) (
         → cond (is_some (refusal_of (length before + 1) v)) (refusal_of (length before + 1) v) (refusal_from rules (before ++ l ∷ []) ls) ≡ Some Complete → ⊥
     step (Refuse q why) later h = cc
     step Blank later h = later h
-    step Unasked later h = later h
+    step Unwanted later h = later h
     step Valid later h = later h
 
 none_of : (o : Option End) → (o ≡ Some Complete → ⊥) → unwrap_or o Complete ≡ Complete → o ≡ None
@@ -132,7 +132,7 @@ kept-head rules before l rest h = step (verdict rules before l.content) refl h
         → kept_from rules before (good_from rules before (l ∷ rest)) ≡ item_after rules before l ∷ kept_from rules (before ++ l ∷ []) (good_from rules (before ++ l ∷ []) rest)
     step (Refuse place reason) e k = absurd (false-true k)
     step Blank e k = absurd (false-true k)
-    step Unasked e k = absurd (false-true k)
+    step Unwanted e k = absurd (false-true k)
     step Valid e k = rw e (rw e refl)
 
 -- where the line after the first n ones is kept: it follows what is kept of them

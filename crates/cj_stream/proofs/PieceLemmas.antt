@@ -9,7 +9,7 @@ use Rattle.cj_stream.specs.declared.ending.End.{End}
 use Rattle.cj_stream.specs.declared.ending.End.TheVariants.{Refused, WriteFault, Memory}
 use Rattle.cj_stream.specs.Lines.{lines, closed, begun, ended_line, last_line, NoLf}
 use Rattle.cj_stream.specs.Item.{Item}
-use Rattle.cj_stream.specs.Verdict.{WantsTokens, Rules, Verdict, Refuse, Blank, Unasked, Valid, verdict, item_after, refusal_of, is_kept, long_line}
+use Rattle.cj_stream.specs.Verdict.{WantsTokens, Rules, Verdict, Refuse, Blank, Unwanted, Valid, verdict, item_after, refusal_of, is_kept, long_line}
 use Rattle.cj_stream.specs.Reading.{Reading, begun_of, next_verdict, next_item, Stores, Passes, Deals, Settles, Reads, kept_closed, Puts, Advances, IsNext, HasCause, Stops}
 use Rattle.cj_stream.specs.Sink.{Took}
 use Rattle.cj_stream.proofs.LineLemmas.{closed-more, begun-more, closed-lf, begun-lf}
@@ -69,7 +69,7 @@ module _ {S : Type 0} (takes leaves : S → Item → S → Type 0) where
       clash : (r : Result (Unit {0}) End) (x : End) → r ≡ Err x → r ≡ Ok tt → ⊥
       clash r x a b = cc
   dealt g h s t p Blank r reads e d ok = passed g h s t p false reads d.1 (rw e refl) (rw e refl) d.2
-  dealt g h s t p Unasked r reads e d ok = passed g h s t p false reads d.1 (rw e refl) (rw e refl) d.2
+  dealt g h s t p Unwanted r reads e d ok = passed g h s t p false reads d.1 (rw e refl) (rw e refl) d.2
   dealt g h s t p Valid (Err x) reads e d ok = absurd (clash x ok)
     where
       clash : (x : End) → ◌≡◌ {A = Result (Unit {0}) End} (Err x) (Ok tt) → ⊥
@@ -193,7 +193,7 @@ module _ {S : Type 0} (takes leaves : S → Item → S → Type 0) where
       let told = sym (next-verdict g (p ++ part) reads (begun_of g)) ∙ is in
       (d.1, rw same (ended_line (begun p ++ part), IsNext-ended g.rules.limits p part more n, refl, rw b at told, d.2))
   undealt g h s t p part more Blank r e n reads b is d err = absurd (good-bad r e d.0 err)
-  undealt g h s t p part more Unasked r e n reads b is d err = absurd (good-bad r e d.0 err)
+  undealt g h s t p part more Unwanted r e n reads b is d err = absurd (good-bad r e d.0 err)
   undealt g h s t p part more Valid (Ok x) e n reads b is d err = absurd (clash err)
     where
       clash : ◌≡◌ {A = Result (Unit {0}) End} (Ok x) (Err e) → ⊥

@@ -5,34 +5,34 @@ use Rattle.std.specs.List.{list_any}
 use Rattle.std.specs.Str.{chars}
 use lib.Utf8.{encode}
 use Rattle.cj_decimal.specs.Affine.{AffineMap, image}
-use Rattle.cj_spans.specs.Text.{text, points_after, first_point, first_width}
+use Rattle.cj_spans.specs.Text.{text, code_points_after, first_code_point, first_width}
 use Rattle.cj_spans.specs.Tree.{Tree}
 use Rattle.cj_geometry.specs.ObjectTypes.{object_types}
 use Rattle.cj_geometry.proofs.Digits.{whole-zero, whole-one}
 use Rattle.cj_feature.specs.Shown.{maps_of}
 use Rattle.cj_feature.specs.Typed.{number_on}
-use Rattle.cj_stream.specs.Asked.{Box, holds, vertices_of}
+use Rattle.cj_stream.specs.Criteria.{Box, holds, vertices_of}
 use Rattle.cj_stream.specs.QueryRows.{plain_header, two_objects, one_instance, boxed, IdRows, TypeRows, LodRows, InstanceRows, InBoxRows, OutOfBoxRows, EachPartRows}
 use Rattle.cj_stream.proofs.BoxRowLemmas.{zero, one}
 
 pub ids : IdRows
-unfolding holds text points_after first_point first_width chars encode
+unfolding holds text code_points_after first_code_point first_width chars encode
 ids = (refl, refl, refl, refl, refl)
 
 pub types : TypeRows
-unfolding holds text points_after first_point first_width chars encode object_types
+unfolding holds text code_points_after first_code_point first_width chars encode object_types
 types = (refl, refl, refl, refl, refl, refl)
 
 pub lods : LodRows
-unfolding holds text points_after first_point first_width chars encode
+unfolding holds text code_points_after first_code_point first_width chars encode
 lods = (refl, refl, refl, refl, refl, refl, refl)
 
 pub instance : InstanceRows
-unfolding holds text points_after first_point first_width chars encode
+unfolding holds text code_points_after first_code_point first_width chars encode
 instance = (rw whole-zero refl, rw whole-zero refl, refl)
 
 pub each : EachPartRows
-unfolding holds text points_after first_point first_width chars encode object_types
+unfolding holds text code_points_after first_code_point first_width chars encode object_types
 each = (refl, refl, refl, refl)
 
 -- ---- boxes
@@ -52,18 +52,18 @@ abbrev itself : AffineMap
 itself = record { scale = pos (10 ^ 18); shift = pos 0 }
 
 maps : maps_of plain_header ≡ itself ∷ itself ∷ []
-unfolding text points_after first_point first_width chars encode
+unfolding text code_points_after first_code_point first_width chars encode
 maps = rw (zero.1, one.1) refl
 
 abbrev two_vertices : List (List (Option ℤ))
 two_vertices = (Some (pos 0) ∷ Some (pos 0) ∷ Some (pos 1) ∷ []) ∷ (Some (pos 1) ∷ Some (pos 0) ∷ Some (pos 0) ∷ []) ∷ []
 
 vertices : vertices_of two_objects ≡ two_vertices
-unfolding text points_after first_point first_width chars encode
+unfolding text code_points_after first_code_point first_width chars encode
 vertices = rw (whole-zero, whole-one) refl
 
 no_vertices : vertices_of one_instance ≡ []
-unfolding text points_after first_point first_width chars encode
+unfolding text code_points_after first_code_point first_width chars encode
 no_vertices = refl
 
 pub within : InBoxRows

@@ -26,8 +26,8 @@ use Rattle.cj_stream.specs.declared.ending.End.TheVariants.{Complete, Refused}
 use Rattle.cj_stream.specs.Item.{raw_item, judged_tree, tree_of}
 use Rattle.cj_stream.specs.Lines.{Line, raw, ended_line}
 use Rattle.cj_stream.specs.Rows.{small_header, small_feature, lost_feature, euro_feature, wide_rules, tight_rules, Gives, WholeRow, BlankRow, OrderRow, BadRow, LongRow}
-use Rattle.cj_stream.specs.Asked.{everything, holds}
-use Rattle.cj_stream.specs.Verdict.{Rules, is_asked, Refuse, Blank, Valid, is_blank_byte, verdict, verdict_at, text_verdict, by_least, tree_verdict, ending_of, good_from, kept_from}
+use Rattle.cj_stream.specs.Criteria.{everything, holds}
+use Rattle.cj_stream.specs.Verdict.{Rules, is_wanted, Refuse, Blank, Valid, is_blank_byte, verdict, verdict_at, text_verdict, by_least, tree_verdict, ending_of, good_from, kept_from}
 use Rattle.cj_stream.proofs.VerdictLemmas.{verdict-long, verdict-json, verdict-blank, tree-valid}
 
 -- ---- trees
@@ -80,7 +80,7 @@ holds-everything header t = refl
 -- the verdict on a line of this tree
 module _ (n : ℕ) (header : Tree) (c : List ℕ) (t : Tree) (json : Json c t) (shallow : nest t ≤ 64) where
   abbrev under : ℕ → Rules
-  under line = record { limits = record { line = line; depth = 64 }; asked = everything }
+  under line = record { limits = record { line = line; depth = 64 }; criteria = everything }
 
   sound : (line : ℕ) → length c ≤ line → IsUtf8 c → nat_lt 1 n && list_all is_blank_byte c ≡ false → verdict_at (under line) n header c ≡ tree_verdict (under line) n header t
   sound line short is_text full = verdict-json (under line) n header c short is_text full ∙ by-tree t json shallow (under line) n header (judgement c 64)
@@ -127,10 +127,10 @@ feature_first : (t : Tree) → verdict_at wide_rules 1 t small_feature ≡ Refus
 feature_first t = sound 1 t small_feature plain_feature.tree feature_json (lit≤ tt) 8388608 (lit≤ tt) feature_text refl ∙ ap (by_least true) feature-no_header
 
 header_second : verdict_at wide_rules 2 (tree_of 64 small_header) small_header ≡ Refuse 0 MissingMember
-header_second = rw header_tree (sound 2 plain_header small_header plain_header header_json (lit≤ tt) 8388608 (lit≤ tt) header_text refl ∙ ap (by_least (is_asked wide_rules 2 plain_header plain_header)) header-no_feature)
+header_second = rw header_tree (sound 2 plain_header small_header plain_header header_json (lit≤ tt) 8388608 (lit≤ tt) header_text refl ∙ ap (by_least (is_wanted wide_rules 2 plain_header plain_header)) header-no_feature)
 
 lost_third : verdict_at wide_rules 3 (tree_of 64 small_header) lost_feature ≡ Refuse 31 IdNotFound
-lost_third = rw header_tree (sound 3 plain_header lost_feature other_id.tree lost_json (lit≤ tt) 8388608 (lit≤ tt) lost_text refl ∙ ap (by_least (is_asked wide_rules 3 plain_header other_id.tree)) other_id-refused)
+lost_third = rw header_tree (sound 3 plain_header lost_feature other_id.tree lost_json (lit≤ tt) 8388608 (lit≤ tt) lost_text refl ∙ ap (by_least (is_wanted wide_rules 3 plain_header other_id.tree)) other_id-refused)
 
 -- what is no JSON text is refused whatever the header
 abbrev cut : List ℕ

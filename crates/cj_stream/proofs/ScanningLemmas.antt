@@ -10,7 +10,7 @@ use Rattle.cj_spans.specs.Judgement.{judged_size, judged_nest}
 use Rattle.cj_spans.specs.Scan.{KeepsLaw}
 use Rattle.cj_spans.proofs.Judgements.{judgement}
 use Rattle.cj_stream.specs.declared.judge.Content.{Content}
-use Rattle.cj_stream.specs.declared.judge.Content.TheVariants.{Faulty, White, Sound}
+use Rattle.cj_stream.specs.declared.judge.Content.TheVariants.{Faulty, BlankLine, Sound}
 use Rattle.cj_stream.specs.Lines.{closed, begun, first_of, first_content, NoLf}
 use Rattle.cj_stream.specs.Bound.{is_text, tree_size, tree_nest}
 use Rattle.cj_stream.specs.Scanning.{Scanning, HasRoom, Scanned, HoldsFew, Rises, Judges, JudgesLine, Forgets}
@@ -84,7 +84,7 @@ module _ (c : List ℕ) (a b : BoundedList Token) (x y : BoundedList ℕ) where
   })
 
   pub kept-judges : (r : Result Content NoMemory) → Judges c a b x y r → Kept
-  kept-judges (Ok White) h = kept-same h.0 h.1
+  kept-judges (Ok BlankLine) h = kept-same h.0 h.1
   kept-judges (Ok Sound) h = kept-law h.1
   kept-judges (Ok (Faulty place reason)) h = kept-law h
   kept-judges (Err e) h = kept-law h
@@ -201,7 +201,7 @@ module _ (limits : LimitPair) (c : List ℕ) (f g h : Scanning) (room : HasRoom 
         line_law = omega (arith, k.line.peak, t.peak, t.count, law.law, none, s.line_law, short);
       }
 
-  pub scanned-blank : (cs : List (List ℕ)) → 0 < length cs → (tree_size limits c ≡ 0) × (tree_nest limits c ≡ 0) → Scanned limits cs f → JudgesLine (length cs) c f g (Ok White)
+  pub scanned-blank : (cs : List (List ℕ)) → 0 < length cs → (tree_size limits c ≡ 0) × (tree_nest limits c ≡ 0) → Scanned limits cs f → JudgesLine (length cs) c f g (Ok BlankLine)
       → Scanned limits (cs ++ c ∷ []) h
   scanned-blank [] later zero s j = absurd (omega arith)
   scanned-blank (d ∷ ds) later zero s j =

@@ -2,7 +2,7 @@
 use Rattle.std.proofs.Common.{◌≡◌, ℕ, ◌+◌, ◌<◌, ◌≤◌, ◌⊎◌, inl, inr, List, Bool, true, false, cond, length, Result, Ok, Err, arith, refl, sym, ap, ◌∙◌}
 use Rattle.cj_stream.specs.declared.ending.End.{End}
 use Rattle.cj_stream.specs.Item.{Item}
-use Rattle.cj_stream.specs.Verdict.{Verdict, Refuse, Blank, Unasked, Valid}
+use Rattle.cj_stream.specs.Verdict.{Verdict, Refuse, Blank, Unwanted, Valid}
 use Rattle.cj_stream.specs.Reading.{Reading, begun_of, IsSound, Stays, Stores, Passes, Deals, Settles}
 use Rattle.cj_stream.proofs.ReadingLemmas.{begun_of-first, begun_of-later, zero_or}
 
@@ -70,7 +70,7 @@ module _ {S : Type 0} (takes leaves : S → Item → S → Type 0) (l : Item) (f
   pub Stays-dealt : (v : Verdict) (r : Result (Unit {0}) End) → IsSound f → Deals takes leaves v l f s r g t → Stays f g
   Stays-dealt (Refuse place reason) r h d = Stays-same f g h d.1
   Stays-dealt Blank r h d = Stays-passed false f g h d.1
-  Stays-dealt Unasked r h d = Stays-passed false f g h d.1
+  Stays-dealt Unwanted r h d = Stays-passed false f g h d.1
   Stays-dealt Valid (Ok x) h d = Stays-passed true f g h d.0
   Stays-dealt Valid (Err x) h d = Stays-same f g h d.1
 
@@ -78,7 +78,7 @@ module _ {S : Type 0} (takes leaves : S → Item → S → Type 0) (l : Item) (f
   pub few-dealt : (v : Verdict) (r : Result (Unit {0}) End) → Deals takes leaves v l f s r g t → g.lines ≤ f.lines + 1
   few-dealt (Refuse place reason) r d = rw d.1 (omega arith)
   few-dealt Blank r d = omega (arith, d.1.lines)
-  few-dealt Unasked r d = omega (arith, d.1.lines)
+  few-dealt Unwanted r d = omega (arith, d.1.lines)
   few-dealt Valid (Ok x) d = omega (arith, d.0.lines)
   few-dealt Valid (Err x) d = rw d.1 (omega arith)
 

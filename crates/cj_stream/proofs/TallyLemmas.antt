@@ -6,13 +6,12 @@ use Rattle.cj_spans.specs.Tree.{Tree}
 use Rattle.cj_stream.specs.declared.count.CountSink.{CountSink}
 use Rattle.cj_stream.specs.declared.ending.End.{End}
 use Rattle.cj_stream.specs.declared.ending.End.TheVariants.{Complete, Refused, ReadFault, ReadLimit, WriteFault, Memory}
-use Rattle.cj_stream.specs.CountSink.{Counts, CountsBy}
 use Rattle.cj_stream.specs.Cut.{joined, PutsPieces}
 use Rattle.cj_stream.specs.Item.{Item, is_feature}
 use Rattle.cj_stream.specs.Lines.{whole}
 use Rattle.cj_stream.specs.Run.{Puts}
 use Rattle.cj_stream.specs.Sink.{Took, LeavesNext}
-use Rattle.cj_stream.specs.Tally.{is_header, counts_of, CountsRun, CountsPieces}
+use Rattle.cj_stream.specs.CountSink.{Counts, CountsBy, is_header, counts_of, CountsRun, CountsPieces}
 use Rattle.cj_stream.specs.Verdict.{Rules, kept}
 
 -- both counts are those of another sink

@@ -15,7 +15,7 @@ use Rattle.cj_stream.specs.Item.{Item, is_feature}
 use Rattle.cj_stream.specs.Lines.{lines, whole}
 use Rattle.cj_stream.specs.Run.{Puts}
 use Rattle.cj_stream.specs.Sink.{Took, LeavesNext}
-use Rattle.cj_stream.specs.Tally.{is_header}
+use Rattle.cj_stream.specs.CountSink.{is_header}
 use Rattle.cj_stream.specs.Tallied.{capped, how_often, type_numbers, lod_classes, numbers_on, beside, over_features}
 use Rattle.cj_stream.specs.TallySink.{Tally, no_tally, Widens, Shows, TalliesBy, Tallies, IsTallyOf, TalliesRun, TalliesPieces}
 use Rattle.cj_stream.specs.Verdict.{Rules, good_from, kept_from, kept}

@@ -8,7 +8,7 @@ use Rattle.cj_stream.specs.Lines.{closed, lines, whole}
 use Rattle.cj_stream.specs.Item.{Item}
 use Rattle.cj_stream.specs.Verdict.{Rules, refusal_in, judged, kept, ending, output}
 use Rattle.cj_stream.specs.Bound.{IsBounded, IsBelow, exact_peaks}
-use Rattle.cj_stream.specs.Engine.{State, Delivers, rules_of, held_by, peaks_of}
+use Rattle.cj_stream.specs.Engine.{EngineState, Delivers, rules_of, held_by, peaks_of}
 use Rattle.cj_stream.specs.Sink.{Took, TookFront, LeavesNext, AppendsPart}
 
 -- the text that pieces are a cut of; pieces may be empty
@@ -79,7 +79,7 @@ EndsAt rules pieces n Memory = Unit {0}
 -- An engine that had been given nothing was given these pieces and then the end, until it ended. So many of them were
 -- wholly taken, of which nothing that could be judged was refused. What it is said to have held at most is what its lists
 -- have held at most, within the bound for the pieces that were given, and exact where the end is complete.
-pub record Fed (rules : Rules) (pieces : List (List ℕ)) (copied : Copied) (engine : State) : Type 0 where
+pub record Fed (rules : Rules) (pieces : List (List ℕ)) (copied : Copied) (engine : EngineState) : Type 0 where
   pub under : rules_of engine ≡ rules
   pub ended : engine.ended ≡ Some copied.ended
   pub few : copied.taken ≤ length pieces

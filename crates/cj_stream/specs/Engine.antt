@@ -14,25 +14,25 @@ use Rattle.cj_stream.specs.Sink.{Took}
 
 -- what a contract sees of an engine: the bytes and the tokens that it holds of a stream, the bytes it has taken, and
 -- the end it has come to
-pub record State : Type 0 where
+pub record EngineState : Type 0 where
   pub reading : Reading
   pub scanning : Scanning
   pub taken : ℕ
   pub ended : Option End
 
 -- the rules that it judges by, and the limits among them
-abbrev pub rules_of : State → Rules
+abbrev pub rules_of : EngineState → Rules
 rules_of e = e.reading.rules
 
-abbrev pub limits_of : State → LimitPair
+abbrev pub limits_of : EngineState → LimitPair
 limits_of e = e.reading.rules.limits
 
 -- the lines that were dealt with
-abbrev pub lines_of : State → ℕ
+abbrev pub lines_of : EngineState → ℕ
 lines_of e = e.reading.lines
 
 -- what is held now
-abbrev pub held_by : State → Peaks
+abbrev pub held_by : EngineState → Peaks
 held_by e = record {
   bytes = length e.reading.header.elements + length e.reading.line.elements;
   tokens = length e.scanning.header.elements + length e.scanning.line.elements;
@@ -40,7 +40,7 @@ held_by e = record {
 }
 
 -- the most that its lists have held, added up
-abbrev pub peaks_of : State → Peaks
+abbrev pub peaks_of : EngineState → Peaks
 peaks_of e = record {
   bytes = e.reading.header.peak + e.reading.line.peak;
   tokens = e.scanning.header.peak + e.scanning.line.peak;
@@ -55,18 +55,18 @@ pub record Counts (rules : Rules) (p : List ℕ) (n features : ℕ) : Type 0 whe
 
 -- the engine stands for these bytes: what it holds is within their bound, its counts are of their lines, and
 -- before an end it has read them all
-pub record StandsFor (e : State) (p : List ℕ) : Type 0 where
+pub record StandsFor (e : EngineState) (p : List ℕ) : Type 0 where
   pub held : IsBelow (held_by e) (peaks_of e)
   pub bounded : IsBounded (limits_of e) p (peaks_of e)
   pub counts : Counts (rules_of e) p (lines_of e) e.reading.kept
   pub going : e.ended ≡ None → Reads e.reading p × Scanned (limits_of e) (closed p) e.scanning × (e.taken ≡ length p)
 
 -- it has been given nothing
-abbrev pub IsFresh : State → Type 0
+abbrev pub IsFresh : EngineState → Type 0
 IsFresh e = StandsFor e [] × (e.ended ≡ None)
 
 -- the bytes given so far, after a piece: those after an end do not count
-abbrev pub given : State → List ℕ → List ℕ → List ℕ
+abbrev pub given : EngineState → List ℕ → List ℕ → List ℕ
 given e p piece = if is_none e.ended then p ++ piece else p
 
 -- what a fault on the line after n may leave, if the end is a write fault, and else nothing
@@ -90,7 +90,7 @@ pub record Delivers {S : Type 0} (takes leaves : S → Item → S → Type 0) (r
 
 -- nothing that could be judged of these bytes was refused: all whole lines are dealt with, and what is held are the
 -- bytes of the first line and of the begun one, and the tokens of the first line if it is whole
-pub record Going (e : State) (q : List ℕ) : Type 0 where
+pub record Going (e : EngineState) (q : List ℕ) : Type 0 where
   pub good : refusal_in (rules_of e) (judged (limits_of e) q) ≡ None
   pub lines : lines_of e ≡ length (lines (whole q))
   pub held : held_by e ≡ record {

@@ -7,8 +7,8 @@ use Rattle.cj_spans.specs.Sound.{AreOf}
 use Rattle.cj_feature.specs.declared.header.parts.HeaderParts.{HeaderParts}
 use Rattle.cj_feature.specs.Shown.{ArePartsOf, parts_box}
 use Rattle.cj_stream.specs.declared.judge.Content.{Content}
-use Rattle.cj_stream.specs.declared.judge.Content.TheVariants.{Faulty, White, Sound}
-use Rattle.cj_stream.specs.Asked.{asks_box}
+use Rattle.cj_stream.specs.declared.judge.Content.TheVariants.{Faulty, BlankLine, Sound}
+use Rattle.cj_stream.specs.Criteria.{needs_box}
 use Rattle.cj_stream.specs.Item.{tree_of}
 use Rattle.cj_stream.specs.Reading.{Reading}
 use Rattle.cj_stream.specs.Scanning.{Scanning}
@@ -17,7 +17,7 @@ use Rattle.cj_stream.specs.Verdict.{Rules, Refuse, Blank, verdict_at, tree_verdi
 -- what a content is says this of its verdict
 abbrev pub Decides : Rules → ℕ → Tree → List ℕ → Content → Type 0
 Decides rules number header c (Faulty place reason) = verdict_at rules number header c ≡ Refuse place reason
-Decides rules number header c White = verdict_at rules number header c ≡ Blank
+Decides rules number header c BlankLine = verdict_at rules number header c ≡ Blank
 Decides rules number header c Sound = verdict_at rules number header c ≡ tree_verdict rules number header (tree_of rules.limits.depth c)
 
 -- and it says so under any rules with this depth limit, whatever the header
@@ -35,7 +35,7 @@ pub record KeepsHeader (c : List ℕ) (rules : Rules) (tokens : List Token) (par
   pub known : HeaderParts
   pub kept : parts ≡ Some known
   pub parts_of : ArePartsOf (tree_of rules.limits.depth c) known
-  pub for_box : parts_box known ≡ asks_box rules.asked
+  pub for_box : parts_box known ≡ needs_box rules.criteria
 
 -- once the first line was dealt with, the header is kept
 abbrev pub KeepsFirst : Reading → Scanning → Option HeaderParts → Type 0

@@ -1,11 +1,11 @@
-pub mod Asked
-pub mod Asking
+pub mod Adding
 pub mod Bound
 pub mod BoundRows
 pub mod BoxRows
 pub mod BoxText
 pub mod CountRows
 pub mod CountSink
+pub mod Criteria
 pub mod Cut
 pub mod Device
 pub mod EndRows
@@ -29,7 +29,6 @@ pub mod Scanning
 pub mod Sink
 pub mod Source
 pub mod Tallied
-pub mod Tally
 pub mod TallySink
 pub mod Verdict
 pub mod WriteSink

@@ -3,7 +3,7 @@ use Rattle.std.specs.Prelude.{ℕ, List, Option, map, option_map, vec_items, str
 use Rattle.cj_budget.specs.Limits.{LimitPair}
 use Rattle.cj_stream.specs.declared.query.Query.{Query}
 use Rattle.cj_stream.specs.declared.query.bounds.Bounds.{Bounds}
-use Rattle.cj_stream.specs.Asked.{Asked, Box}
+use Rattle.cj_stream.specs.Criteria.{Criteria, Box}
 use Rattle.cj_stream.specs.Verdict.{Rules}
 
 -- the box of these bounds
@@ -15,8 +15,8 @@ abbrev pub texts_of : {A B : Type 0} → Option (Vec (String A) B) → Option (L
 texts_of part = option_map (λ texts. map string_bytes (vec_items texts)) part
 
 -- what a query asks
-unfoldable pub asked : Query → Asked
-asked q = record {
+unfoldable pub criteria : Query → Criteria
+criteria q = record {
   ids = texts_of q.ids;
   types = q.types;
   lods = texts_of q.lods;
@@ -25,4 +25,4 @@ asked q = record {
 
 -- what lines are judged by under limits and for a query
 abbrev pub rules_for : LimitPair → Query → Rules
-rules_for limits q = record { limits = limits; asked = asked q }
+rules_for limits q = record { limits = limits; criteria = criteria q }

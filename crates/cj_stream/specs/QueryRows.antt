@@ -3,8 +3,8 @@
 use Rattle.std.specs.Prelude.{◌≡◌, ℕ, ◌*◌, ◌^◌, List, [], ◌∷◌, ◌++◌, Bool, true, false, Some, ℤ, pos, neg_ℤ, codes, slice_set}
 use Rattle.cj_spans.specs.declared.token.Kind.TheVariants.{Number, Text}
 use Rattle.cj_spans.specs.Tree.{Tree, Atom, Items, Members, scalar, array, object, no_items, item, no_members, member}
-use Rattle.cj_stream.specs.Asked.{Asked, Box, everything, holds}
-use Rattle.cj_stream.specs.Asking.{no_types}
+use Rattle.cj_stream.specs.Criteria.{Criteria, Box, everything, holds}
+use Rattle.cj_stream.specs.Adding.{no_types}
 
 -- ---- trees
 
@@ -84,16 +84,16 @@ one_instance = feature ((codes "b", city_object (codes "Building") (instance ∷
 -- ---- rows
 
 -- ids alone, types alone, LoDs alone, and a box alone
-abbrev pub ids : List (List ℕ) → Asked
+abbrev pub ids : List (List ℕ) → Criteria
 ids texts = record everything { ids = Some texts }
 
-abbrev pub types : List Bool → Asked
+abbrev pub types : List Bool → Criteria
 types flags = record everything { types = Some flags }
 
-abbrev pub lods : List (List ℕ) → Asked
+abbrev pub lods : List (List ℕ) → Criteria
 lods texts = record everything { lods = Some texts }
 
-abbrev pub boxed : Box → Asked
+abbrev pub boxed : Box → Criteria
 boxed box = record everything { box = Some box }
 
 -- the feature's id is asked for, the first or a later one; the name of another city object is none, nor is a longer text
@@ -163,7 +163,7 @@ one = pos (10 ^ 18)
 abbrev pub two : ℤ
 two = pos (2 * 10 ^ 18)
 
-abbrev pub box : ℤ → ℤ → ℤ → ℤ → Asked
+abbrev pub box : ℤ → ℤ → ℤ → ℤ → Criteria
 box min_x min_y max_x max_y = boxed (record { min_x = min_x; min_y = min_y; max_x = max_x; max_y = max_y })
 
 -- to touch is enough, and so is a vertex on either side

@@ -11,7 +11,7 @@ use Rattle.cj_stream.specs.declared.ending.End.TheVariants.{Complete, Refused, R
 use Rattle.cj_stream.specs.Lines.{Line, lines, closed, begun, begun_later, ended_line, first_content, later_of}
 use Rattle.cj_stream.specs.Item.{Item, is_feature, tree_of, item_at}
 use Rattle.cj_stream.specs.Query.{rules_for}
-use Rattle.cj_stream.specs.Verdict.{Rules, Verdict, Refuse, Blank, Unasked, Valid, WantsTokens, verdict_at, verdict, item_after, is_kept, refusal_in, kept_from, judged}
+use Rattle.cj_stream.specs.Verdict.{Rules, Verdict, Refuse, Blank, Unwanted, Valid, WantsTokens, verdict_at, verdict, item_after, is_kept, refusal_in, kept_from, judged}
 use Rattle.cj_stream.specs.Bound.{greatest}
 use Rattle.cj_stream.specs.Sink.{Took}
 
@@ -70,7 +70,7 @@ pub record Passes (put : Bool) (old new : Reading) : Type 0 where
 abbrev pub Deals : {S : Type 0} → (S → Item → S → Type 0) → (S → Item → S → Type 0) → Verdict → Item → Reading → S → Result (Unit {0}) End → Reading → S → Type 0
 Deals takes leaves (Refuse place reason) i f s r g t = (r ≡ Err (Refused (f.lines + 1) place reason)) × (g ≡ f) × (t ≡ s)
 Deals takes leaves Blank i f s r g t = (r ≡ Ok tt) × Passes false f g × (t ≡ s)
-Deals takes leaves Unasked i f s r g t = (r ≡ Ok tt) × Passes false f g × (t ≡ s)
+Deals takes leaves Unwanted i f s r g t = (r ≡ Ok tt) × Passes false f g × (t ≡ s)
 Deals takes leaves Valid i f s r g t = MatchResult r (λ _. Passes true f g × takes s i t) (λ e. (e ≡ WriteFault) × (g ≡ f) × leaves s i t)
 
 -- what comes of a line with this verdict, or no memory was granted for its tokens, and nothing comes of it; so it is

@@ -10,7 +10,7 @@ use Rattle.cj_spans.specs.Scan.{KeepsLaw}
 use Rattle.cj_spans.proofs.Judgements.{judgement}
 use Rattle.cj_stream.specs.declared.framer.Framer.{Framer}
 use Rattle.cj_stream.specs.declared.judge.Content.{Content}
-use Rattle.cj_stream.specs.declared.judge.Content.TheVariants.{Faulty, White, Sound}
+use Rattle.cj_stream.specs.declared.judge.Content.TheVariants.{Faulty, BlankLine, Sound}
 use Rattle.cj_stream.specs.Lines.{first_of, later_of}
 use Rattle.cj_stream.specs.Bound.{tree_size, tree_nest, of_first, greatest}
 
@@ -68,7 +68,7 @@ pub record HoldsTree (c : List ℕ) (old new : BoundedList Token) (old_open new_
 -- what judging a content makes of the lists: nothing where it is blank; its tree where it is JSON; and in any other
 -- case no more than the law of a scan allows
 abbrev pub Judges : List ℕ → BoundedList Token → BoundedList Token → BoundedList ℕ → BoundedList ℕ → Result Content NoMemory → Type 0
-Judges c old new old_open new_open (Ok White) = (new ≡ old) × (new_open ≡ old_open)
+Judges c old new old_open new_open (Ok BlankLine) = (new ≡ old) × (new_open ≡ old_open)
 Judges c old new old_open new_open (Ok Sound) = HoldsTree c old new old_open new_open × KeepsLaw c old new old_open new_open
 Judges c old new old_open new_open (Ok (Faulty place reason)) = KeepsLaw c old new old_open new_open
 Judges c old new old_open new_open (Err e) = KeepsLaw c old new old_open new_open

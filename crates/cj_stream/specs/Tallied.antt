@@ -8,7 +8,7 @@ use Rattle.cj_geometry.specs.ObjectTypes.{ObjectRow}
 use Rattle.cj_feature.specs.Feature.{templates_of}
 use Rattle.cj_feature.specs.Typed.{type_row, number_on}
 use Rattle.cj_feature.specs.Walks.{object_geometries}
-use Rattle.cj_stream.specs.Asked.{objects_of, vertices_of}
+use Rattle.cj_stream.specs.Criteria.{objects_of, vertices_of}
 use Rattle.cj_stream.specs.Item.{Item}
 
 -- ---- counts

@@ -7,11 +7,10 @@ use Rattle.cj_decimal.specs.Number.{Number}
 use Rattle.cj_feature.specs.Shown.{transform_values}
 use Rattle.cj_stream.specs.declared.ending.End.{End}
 use Rattle.cj_stream.specs.declared.ending.End.TheVariants.{Complete, Refused, ReadFault, ReadLimit, WriteFault, Memory}
-use Rattle.cj_stream.specs.CountSink.{one_more}
 use Rattle.cj_stream.specs.Cut.{joined}
 use Rattle.cj_stream.specs.Item.{Item, is_feature}
 use Rattle.cj_stream.specs.Lines.{whole}
-use Rattle.cj_stream.specs.Tally.{is_header, tally}
+use Rattle.cj_stream.specs.CountSink.{one_more, is_header, how_many}
 use Rattle.cj_stream.specs.Tallied.{capped, how_often, type_numbers, lod_classes, numbers_on, IsRange, over_features}
 use Rattle.cj_stream.specs.Verdict.{Rules, kept, ending}
 
@@ -77,7 +76,7 @@ last_shown name is = last_or None (map (λ i. transform_values (chars name) i.tr
 
 -- the tally of some items; counts stop at the greatest u64
 pub record IsTallyOf (is : List Item) (t : Tally) : Type 0 where
-  pub features : t.features ≡ tally is_feature is
+  pub features : t.features ≡ how_many is_feature is
   pub types : (n : ℕ) → n < 33 → get_or t.types n 0 ≡ capped (how_often n (over_features (λ header f. type_numbers f) is))
   pub lods : (class : ℕ) → class ≤ 5 → get_or t.lods class 0 ≡ capped (how_often class (over_features lod_classes is))
   pub ranges : (axis : ℕ) → axis < 3 → IsRange (over_features (λ header. numbers_on axis) is) (get_or t.ranges axis None)

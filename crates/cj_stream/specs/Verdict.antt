@@ -15,21 +15,21 @@ use Rattle.cj_feature.specs.Header.{header as header_findings}
 use Rattle.cj_feature.specs.Feature.{feature as feature_findings}
 use Rattle.cj_stream.specs.declared.ending.End.{End}
 use Rattle.cj_stream.specs.declared.ending.End.TheVariants.{Complete, Refused}
-use Rattle.cj_stream.specs.Asked.{Asked, asks_box, holds}
+use Rattle.cj_stream.specs.Criteria.{Criteria, needs_box, holds}
 use Rattle.cj_stream.specs.Lines.{Line, lines, closed, begun, ended_line, last_line}
 use Rattle.cj_stream.specs.Item.{Item, raw_item, is_feature, tree_of, item_at}
 
 -- what lines are judged by: the limits, and what is asked of features
 pub record Rules : Type 0 where
   pub limits : LimitPair
-  pub asked : Asked
+  pub criteria : Criteria
 
 -- a line is refused at a byte of its content for a reason, or blank, or a valid feature that is not asked for, or valid
 -- and to be kept
 pub data Verdict : Type 0 where
   Refuse : ℕ → Reason → Verdict
   Blank : Verdict
-  Unasked : Verdict
+  Unwanted : Verdict
   Valid : Verdict
 
 -- space, tab and CR
@@ -47,20 +47,20 @@ pub record WantsTokens (number : ℕ) (content : List ℕ) : Type 0 where
 
 -- the findings of the tree of a line: of a header on the first line, and of a feature beside the header on a later one
 abbrev pub findings : Rules → ℕ → Tree → Tree → List Finding
-findings rules number header t = if number == 1 then header_findings (asks_box rules.asked) t else feature_findings header t
+findings rules number header t = if number == 1 then header_findings (needs_box rules.criteria) t else feature_findings header t
 
 -- a header is asked for, and a feature that satisfies what is asked
-abbrev pub is_asked : Rules → ℕ → Tree → Tree → Bool
-is_asked rules number header t = number == 1 || holds rules.asked header t
+abbrev pub is_wanted : Rules → ℕ → Tree → Tree → Bool
+is_wanted rules number header t = number == 1 || holds rules.criteria header t
 
 -- the verdict by the least of some findings; where there is none, by whether the tree is asked for
 abbrev pub by_least : Bool → Option Finding → Verdict
-by_least wanted None = if wanted then Valid else Unasked
+by_least wanted None = if wanted then Valid else Unwanted
 by_least wanted (Some f) = Refuse f.place f.reason
 
 -- the verdict on a line of this tree
 abbrev pub tree_verdict : Rules → ℕ → Tree → Tree → Verdict
-tree_verdict rules number header t = by_least (is_asked rules number header t) (least None (findings rules number header t))
+tree_verdict rules number header t = by_least (is_wanted rules number header t) (least None (findings rules number header t))
 
 -- the verdict on bytes of UTF-8, by what they are as a JSON text under a depth limit
 abbrev pub text_verdict : {c : List ℕ} {depth : ℕ} → Rules → ℕ → Tree → Judgement c depth → Verdict
@@ -99,14 +99,14 @@ item_after rules before l = item_at rules.limits.depth (length before + 1) (head
 abbrev pub refusal_of : ℕ → Verdict → Option End
 refusal_of number (Refuse place reason) = Some (Refused number place reason)
 refusal_of number Blank = None
-refusal_of number Unasked = None
+refusal_of number Unwanted = None
 refusal_of number Valid = None
 
 -- a valid line that is asked for is kept
 abbrev pub is_kept : Verdict → Bool
 is_kept (Refuse place reason) = false
 is_kept Blank = false
-is_kept Unasked = false
+is_kept Unwanted = false
 is_kept Valid = true
 
 -- the first refusal among lines that come after others

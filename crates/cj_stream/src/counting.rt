@@ -5,7 +5,7 @@ ghost use Rattle.cj_stream.specs.Cut.{joined, Fed};
 ghost use Rattle.cj_stream.specs.Engine.{IsFresh, rules_of};
 ghost use Rattle.cj_stream.specs.Query.{rules_for};
 ghost use Rattle.cj_stream.specs.Run.{Account};
-ghost use Rattle.cj_stream.specs.Tally.{CountsRun, CountsPieces};
+ghost use Rattle.cj_stream.specs.CountSink.{CountsRun, CountsPieces};
 
 use crate::copying::{Copied, put_pieces};
 use crate::count::CountSink;

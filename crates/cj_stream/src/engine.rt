@@ -31,9 +31,9 @@ impl<'q> Model for Engine<'q> {
     ghost use Rattle.cj_stream.specs.Judging.{KeepsFirst};
     ghost use Rattle.cj_stream.specs.Reading.{reading, IsSound};
     ghost use Rattle.cj_stream.specs.Scanning.{scanning, HasRoom};
-    ghost use Rattle.cj_stream.specs.Engine.{State};
+    ghost use Rattle.cj_stream.specs.Engine.{EngineState};
 
-    ghost Value = { State };
+    ghost Value = { EngineState };
 
     ghost view = { λ e. record { reading = reading e.framer; scanning = scanning e.framer; taken = e.taken; ended = e.ended } };
 

@@ -271,7 +271,7 @@ impl<'q> Framer<'q> {
                 place,
                 reason,
             }),
-            Content::White => {
+            Content::BlankLine => {
                 self.pass(false);
                 Ok(())
             }

@@ -14,13 +14,13 @@ pub enum Content {
     /// It is refused at this byte offset.
     Faulty { place: u64, reason: Reason },
     /// It is blank.
-    White,
+    BlankLine,
     /// It is a JSON text, whose tokens are there.
     Sound,
 }
 
 // Whether there are spaces, tabs and CR alone.
-fn is_white(content: &[u8]) -> bool
+fn is_all_blank(content: &[u8]) -> bool
     ensures { result ≡ list_all is_blank_byte content.now }
 {
     content
@@ -32,7 +32,7 @@ fn is_white(content: &[u8]) -> bool
 fn is_blank(number: u64, content: &[u8]) -> bool
     ensures { result ≡ is_blank_line number content.now }
 {
-    number > 1 && is_white(content)
+    number > 1 && is_all_blank(content)
 }
 
 /// What a content is that is within the line limit, by the line's number. The lists take the tokens of
@@ -51,7 +51,7 @@ pub fn judge(
     ensures memory { OnErr result (WantsTokens number content.now) }
 {
     if is_blank(number, content) {
-        return Ok(Content::White);
+        return Ok(Content::BlankLine);
     }
     let (place, reason) = match scan(content, tokens, opened) {
         Ok(()) => return Ok(Content::Sound),

@@ -3,11 +3,11 @@ ghost use Rattle.std.specs.Prelude.{◌≡◌, true, Some, Ok, Err, [], IfErr, O
 ghost use Rattle.cj_spans.specs.Tree.{Tree};
 ghost use Rattle.cj_feature.specs.HeaderView.{header_tree, has_box};
 ghost use Rattle.cj_feature.specs.View.{feature_tree};
-ghost use Rattle.cj_stream.specs.Asked.{everything, if_set, asks_box, has_id as asked_id, has_type as asked_type, has_lod as asked_lod, is_in as in_box, holds as satisfies};
+ghost use Rattle.cj_stream.specs.Criteria.{everything, if_set, needs_box, has_id as id_holds, has_type as type_holds, has_lod as lod_holds, is_in as in_box, holds as satisfies};
 ghost use Rattle.cj_geometry.specs.ObjectTypes.{row_named};
-ghost use Rattle.cj_stream.specs.Asking.{no_types, with_id, with_lod, with_type, with_box};
+ghost use Rattle.cj_stream.specs.Adding.{no_types, with_id, with_lod, with_type, with_box};
 ghost use Rattle.cj_stream.specs.BoxText.{box_text};
-ghost use Rattle.cj_stream.specs.Query.{asked};
+ghost use Rattle.cj_stream.specs.Query.{criteria};
 ghost use Rattle.cj_stream.specs.declared.query.fault.QueryFault.TheVariants.{Memory, UnknownTypeName};
 
 mod bounds;
@@ -38,10 +38,10 @@ pub struct Query {
 
 impl Query {
     /// No part is set, so every feature satisfies it. It takes no memory.
-    #[tactic(auto, unfolding(crate::specs::Query::asked, crate::specs::Asked::holds))]
+    #[tactic(auto, unfolding(crate::specs::Query::criteria, crate::specs::Criteria::holds))]
     pub fn all(alloc: Global) -> Query
-        ensures all { asked result ≡ everything }
-        ensures every { (header t : Tree) → satisfies (asked result) header t ≡ true }
+        ensures all { criteria result ≡ everything }
+        ensures every { (header t : Tree) → satisfies (criteria result) header t ≡ true }
     {
         Query {
             alloc,
@@ -53,36 +53,36 @@ impl Query {
     }
 
     /// Whether there is a box. The header of a stream is judged for it.
-    #[tactic(auto, unfolding(crate::specs::Query::asked))]
+    #[tactic(auto, unfolding(crate::specs::Query::criteria))]
     pub fn wants_box(&self) -> bool
-        ensures { result ≡ asks_box (asked self.now) }
+        ensures { result ≡ needs_box (criteria self.now) }
     {
         self.bounds.is_some()
     }
 
     /// Sets the part on ids to no id, whatever it was: no feature holds there until one is added. It
     /// takes no memory.
-    #[tactic(auto, unfolding(crate::specs::Query::asked))]
+    #[tactic(auto, unfolding(crate::specs::Query::criteria))]
     pub fn start_ids(&mut self)
-        ensures { asked self.new ≡ record (asked self.old) { ids = Some [] } }
+        ensures { criteria self.new ≡ record (criteria self.old) { ids = Some [] } }
     {
         self.ids = Some(Vec::new(self.alloc));
     }
 
     /// Sets the part on types to no type, whatever it was: no feature holds there until one is added. It
     /// takes no memory.
-    #[tactic(auto, unfolding(crate::specs::Query::asked))]
+    #[tactic(auto, unfolding(crate::specs::Query::criteria))]
     pub fn start_types(&mut self)
-        ensures { asked self.new ≡ record (asked self.old) { types = Some no_types } }
+        ensures { criteria self.new ≡ record (criteria self.old) { types = Some no_types } }
     {
         self.types = Some([false; TYPES]);
     }
 
     /// Sets the part on LoDs to no LoD, whatever it was: no feature holds there until one is added. It
     /// takes no memory.
-    #[tactic(auto, unfolding(crate::specs::Query::asked))]
+    #[tactic(auto, unfolding(crate::specs::Query::criteria))]
     pub fn start_lods(&mut self)
-        ensures { asked self.new ≡ record (asked self.old) { lods = Some [] } }
+        ensures { criteria self.new ≡ record (criteria self.old) { lods = Some [] } }
     {
         self.lods = Some(Vec::new(self.alloc));
     }
@@ -93,10 +93,10 @@ impl Query {
     /// # Errors
     ///
     /// `Memory` where none was granted.
-    #[tactic(auto, unfolding(crate::specs::Query::asked))]
+    #[tactic(auto, unfolding(crate::specs::Query::criteria))]
     pub fn add_id(&mut self, id: &str) -> Result<(), QueryFault>
-        ensures ok { OnOk result (asked self.new ≡ with_id id.now (asked self.old)) }
-        ensures err { OnErr result (asked self.new ≡ asked self.old) }
+        ensures ok { OnOk result (criteria self.new ≡ with_id id.now (criteria self.old)) }
+        ensures err { OnErr result (criteria self.new ≡ criteria self.old) }
         ensures memory { IfErr result (λ fault. fault ≡ Memory) }
     {
         add_text(self.alloc, &mut self.ids, id)
@@ -108,11 +108,11 @@ impl Query {
     /// # Errors
     ///
     /// `UnknownTypeName` where no type has this name.
-    #[tactic(auto, unfolding(crate::specs::Query::asked))]
+    #[tactic(auto, unfolding(crate::specs::Query::criteria))]
     pub fn add_type(&mut self, name: &str) -> Result<(), QueryFault>
         ensures { MatchOption (row_named name.now)
-            ((result ≡ Err UnknownTypeName) × (asked self.new ≡ asked self.old))
-            (λ row. (result ≡ Ok tt) × (asked self.new ≡ with_type row.number (asked self.old))) }
+            ((result ≡ Err UnknownTypeName) × (criteria self.new ≡ criteria self.old))
+            (λ row. (result ≡ Ok tt) × (criteria self.new ≡ with_type row.number (criteria self.old))) }
     {
         let Some(object_type) = ObjectType::named(name) else {
             return Err(QueryFault::UnknownTypeName);
@@ -129,10 +129,10 @@ impl Query {
     /// # Errors
     ///
     /// `Memory` where none was granted.
-    #[tactic(auto, unfolding(crate::specs::Query::asked))]
+    #[tactic(auto, unfolding(crate::specs::Query::criteria))]
     pub fn add_lod(&mut self, lod: &str) -> Result<(), QueryFault>
-        ensures ok { OnOk result (asked self.new ≡ with_lod lod.now (asked self.old)) }
-        ensures err { OnErr result (asked self.new ≡ asked self.old) }
+        ensures ok { OnOk result (criteria self.new ≡ with_lod lod.now (criteria self.old)) }
+        ensures err { OnErr result (criteria self.new ≡ criteria self.old) }
         ensures memory { IfErr result (λ fault. fault ≡ Memory) }
     {
         add_text(self.alloc, &mut self.lods, lod)
@@ -147,11 +147,11 @@ impl Query {
     /// The first of these: `BadBox` where the text is not of this form; `BoxRange` where a number is out
     /// of range, no multiple of 10^-18, or 10^18 or more in size; `EmptyBox` where a least edge is above
     /// the greatest on its axis.
-    #[tactic(auto, unfolding(crate::specs::Query::asked))]
+    #[tactic(auto, unfolding(crate::specs::Query::criteria))]
     pub fn bbox(&mut self, text: &str) -> Result<(), QueryFault>
         ensures { MatchResult (box_text text.now)
-            (λ box. (result ≡ Ok tt) × (asked self.new ≡ with_box box (asked self.old)))
-            (λ fault. (result ≡ Err fault) × (asked self.new ≡ asked self.old)) }
+            (λ box. (result ≡ Ok tt) × (criteria self.new ≡ with_box box (criteria self.old)))
+            (λ fault. (result ≡ Err fault) × (criteria self.new ≡ criteria self.old)) }
     {
         self.bounds = Some(Bounds::read(text)?);
         Ok(())
@@ -159,10 +159,10 @@ impl Query {
 
     /// Whether a feature satisfies it, beside the header of its stream. The parts are tried cheapest
     /// first.
-    #[tactic(auto, unfolding(crate::specs::Asked::holds))]
+    #[tactic(auto, unfolding(crate::specs::Criteria::holds))]
     pub fn holds(&self, feature: &Feature, header: &Header) -> bool
-        requires { has_box header.now ≡ asks_box (asked self.now) }
-        ensures { result ≡ satisfies (asked self.now) (header_tree header.now) (feature_tree feature.now) }
+        requires { has_box header.now ≡ needs_box (criteria self.now) }
+        ensures { result ≡ satisfies (criteria self.now) (header_tree header.now) (feature_tree feature.now) }
     {
         self.has_id(feature)
             && self.has_type(feature)
@@ -171,9 +171,9 @@ impl Query {
     }
 
     // Whether the part on ids holds.
-    #[tactic(auto, unfolding(crate::specs::Query::asked))]
+    #[tactic(auto, unfolding(crate::specs::Query::criteria))]
     fn has_id(&self, feature: &Feature) -> bool
-        ensures { result ≡ if_set (λ ids. asked_id ids (feature_tree feature.now)) (asked self.now).ids }
+        ensures { result ≡ if_set (λ ids. id_holds ids (feature_tree feature.now)) (criteria self.now).ids }
     {
         match &self.ids {
             Some(ids) => holding::has_id(ids.as_slice(), feature),
@@ -182,9 +182,9 @@ impl Query {
     }
 
     // Whether the part on types holds.
-    #[tactic(auto, unfolding(crate::specs::Query::asked))]
+    #[tactic(auto, unfolding(crate::specs::Query::criteria))]
     fn has_type(&self, feature: &Feature) -> bool
-        ensures { result ≡ if_set (λ types. asked_type types (feature_tree feature.now)) (asked self.now).types }
+        ensures { result ≡ if_set (λ types. type_holds types (feature_tree feature.now)) (criteria self.now).types }
     {
         match &self.types {
             Some(types) => holding::has_type(types, feature),
@@ -193,9 +193,9 @@ impl Query {
     }
 
     // Whether the part on LoDs holds.
-    #[tactic(auto, unfolding(crate::specs::Query::asked))]
+    #[tactic(auto, unfolding(crate::specs::Query::criteria))]
     fn has_lod(&self, feature: &Feature, header: &Header) -> bool
-        ensures { result ≡ if_set (λ lods. asked_lod lods (header_tree header.now) (feature_tree feature.now)) (asked self.now).lods }
+        ensures { result ≡ if_set (λ lods. lod_holds lods (header_tree header.now) (feature_tree feature.now)) (criteria self.now).lods }
     {
         match &self.lods {
             Some(lods) => holding::has_lod(lods.as_slice(), feature, header),
@@ -204,10 +204,10 @@ impl Query {
     }
 
     // Whether the part on the box holds.
-    #[tactic(auto, unfolding(crate::specs::Query::asked))]
+    #[tactic(auto, unfolding(crate::specs::Query::criteria))]
     fn is_in(&self, feature: &Feature, header: &Header) -> bool
-        requires { has_box header.now ≡ asks_box (asked self.now) }
-        ensures { result ≡ if_set (λ box. in_box box (header_tree header.now) (feature_tree feature.now)) (asked self.now).box }
+        requires { has_box header.now ≡ needs_box (criteria self.now) }
+        ensures { result ≡ if_set (λ box. in_box box (header_tree header.now) (feature_tree feature.now)) (criteria self.now).box }
     {
         match &self.bounds {
             Some(bounds) => extent::is_in(bounds, feature, header),

@@ -59,13 +59,13 @@ fn words(alloc: Global, parts: &[&str]) -> Result<Vec<String>, Fail> {
 }
 
 /// Runs the command that these words after the program's name ask for.
-pub fn commanded<R: Read>(alloc: Global, asked: &[&str], reader: &mut R) -> Result<Written, Fail> {
-    let asked = words(alloc, asked)?;
+pub fn commanded<R: Read>(alloc: Global, arguments: &[&str], reader: &mut R) -> Result<Written, Fail> {
+    let arguments = words(alloc, arguments)?;
     let mut out = Vec::new(alloc);
     let mut err = Vec::new(alloc);
     let status = command(
         alloc,
-        &asked,
+        &arguments,
         reader,
         &mut Output::new(&mut out),
         &mut Output::new(&mut err),

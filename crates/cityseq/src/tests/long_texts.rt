@@ -147,8 +147,8 @@ fn many_texts_are_asked_for(rt: HostRuntime) -> Result<(), Fail> {
     check_last(&rt, rt.alloc(), "--lod", "2", "2.2")?;
     let unknown = listed(rt.alloc(), "Road", 3_000, "Shed")?;
     let mut reader = SlowReader::new(HEADER, 10);
-    let asked = ["filter", "--type", unknown.as_str()];
-    let written = commanded(rt.alloc(), &asked, &mut reader)?;
+    let arguments = ["filter", "--type", unknown.as_str()];
+    let written = commanded(rt.alloc(), &arguments, &mut reader)?;
     check_written(&rt, &written, 2, b"", b"unknown object type\n");
     check_number(&rt, reader.reads, 0, "reads", 0);
     Ok(())
@@ -165,8 +165,8 @@ fn long_boxes_are_asked_for(rt: HostRuntime) -> Result<(), Fail> {
     check_kept(&rt, rt.alloc(), "--bbox", &bounds, true)?;
     bounds.push_str("1")?;
     let mut reader = SlowReader::new(HEADER, 10);
-    let asked = ["filter", "--bbox", bounds.as_str()];
-    let written = commanded(rt.alloc(), &asked, &mut reader)?;
+    let arguments = ["filter", "--bbox", bounds.as_str()];
+    let written = commanded(rt.alloc(), &arguments, &mut reader)?;
     check_written(&rt, &written, 2, b"", b"box number out of range\n");
     Ok(())
 }

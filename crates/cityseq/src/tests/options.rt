@@ -25,36 +25,36 @@ const MIXED: &[u8] =
 fn check_command(
     rt: &impl Abort,
     alloc: Global,
-    asked: &[&str],
+    arguments: &[&str],
     input: &[u8],
     status: u8,
     out: &[u8],
     err: &[u8],
 ) -> Result<(), Fail> {
-    let written = commanded(alloc, asked, &mut SlowReader::new(input, 1_000))?;
+    let written = commanded(alloc, arguments, &mut SlowReader::new(input, 1_000))?;
     check_written(rt, &written, status, out, err);
     Ok(())
 }
 
 // The same, over a header and a feature; where the feature is kept, both are written, and else the
 // header.
-fn check_kept(rt: &impl Abort, alloc: Global, asked: &[&str], is_kept: bool) -> Result<(), Fail> {
+fn check_kept(rt: &impl Abort, alloc: Global, arguments: &[&str], is_kept: bool) -> Result<(), Fail> {
     let header = joined(alloc, &[HEADER, b"\n"])?;
     let input = joined(alloc, &[HEADER, b"\n", FEATURE, b"\n"])?;
     let out = if is_kept { &input } else { &header };
-    check_command(rt, alloc, asked, &input, 0, out, b"")
+    check_command(rt, alloc, arguments, &input, 0, out, b"")
 }
 
 // The same, where nothing is written but a line on standard error.
 fn check_told(
     rt: &impl Abort,
     alloc: Global,
-    asked: &[&str],
+    arguments: &[&str],
     status: u8,
     err: &[u8],
 ) -> Result<(), Fail> {
     let input = joined(alloc, &[HEADER, b"\n", FEATURE, b"\n"])?;
-    check_command(rt, alloc, asked, &input, status, b"", err)
+    check_command(rt, alloc, arguments, &input, status, b"", err)
 }
 
 #[test]
@@ -169,13 +169,13 @@ const SEVERAL: &[u8] =
 fn check_several(
     rt: &impl Abort,
     alloc: Global,
-    asked: &[&str],
+    arguments: &[&str],
     is_kept: bool,
 ) -> Result<(), Fail> {
     let header = joined(alloc, &[HEADER, b"\n"])?;
     let input = joined(alloc, &[HEADER, b"\n", SEVERAL, b"\n"])?;
     let out = if is_kept { &input } else { &header };
-    check_command(rt, alloc, asked, &input, 0, out, b"")
+    check_command(rt, alloc, arguments, &input, 0, out, b"")
 }
 
 #[test]
@@ -240,11 +240,11 @@ fn a_query_that_cannot_be_asked(rt: HostRuntime) -> Result<(), Fail> {
 fn check_wrong_words(
     rt: &impl Abort,
     alloc: Global,
-    asked: &[&str],
+    arguments: &[&str],
     told: &str,
 ) -> Result<(), Fail> {
     let mut reader = SlowReader::new(HEADER, 10);
-    let written = commanded(alloc, asked, &mut reader)?;
+    let written = commanded(alloc, arguments, &mut reader)?;
     let front = &written.err[..told.len().min(written.err.len())];
     check_bytes(rt, front, told.as_bytes(), "standard error", 0);
     check_bytes(rt, &written.out, b"", "standard output", 0);

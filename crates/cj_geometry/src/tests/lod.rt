@@ -145,7 +145,7 @@ fn numbered(alloc: Global, count: u32) -> Result<String, AllocError> {
 }
 
 /// The level of detail of each of these geometries, asked one after another.
-fn asked_in_turn(
+fn looked_up_in_turn(
     rt: &impl Abort,
     alloc: Global,
     geometries: Node,
@@ -180,7 +180,7 @@ fn instances_of_a_long_list_find_their_templates(rt: HostRuntime) -> Result<(), 
     let list = numbered(rt.alloc(), 300)?;
     let list_tokens = tokens_of(&rt, rt.alloc(), list.as_bytes());
     let tokens = tokens_of(&rt, rt.alloc(), line.as_bytes());
-    let found = asked_in_turn(
+    let found = looked_up_in_turn(
         &rt,
         rt.alloc(),
         Doc::of(line.as_bytes(), tokens.as_slice()).root(),

@@ -3,7 +3,7 @@ ghost use Rattle.std.specs.Prelude.{◌≡◌, map, option_map, string_bytes};
 ghost use Rattle.cj_spans.specs.View.{tree};
 ghost use Rattle.cj_feature.specs.HeaderView.{header_tree};
 ghost use Rattle.cj_feature.specs.View.{feature_tree};
-ghost use Rattle.cj_stream.specs.Asked.{there_is, is_one_of as is_one, has_id as asked_id, has_type as asked_type, has_lod as asked_lod};
+ghost use Rattle.cj_stream.specs.Criteria.{there_is, is_one_of as is_one, has_id as id_holds, has_type as type_holds, has_lod as lod_holds};
 
 use cj_feature::{Feature, Header};
 use cj_geometry::{Lods, lod_of};
@@ -23,14 +23,14 @@ fn is_one_of(texts: &[String], node: Node) -> bool
 
 /// Whether the id of a feature is one of these.
 pub fn has_id(ids: &[String], feature: &Feature) -> bool
-    ensures { result ≡ asked_id (map string_bytes ids.now) (feature_tree feature.now) }
+    ensures { result ≡ id_holds (map string_bytes ids.now) (feature_tree feature.now) }
 {
     is_one_of(ids, feature.id())
 }
 
 /// Whether the type of some city object is one of these.
 pub fn has_type(types: &[bool; 33], feature: &Feature) -> bool
-    ensures { result ≡ asked_type types.now (feature_tree feature.now) }
+    ensures { result ≡ type_holds types.now (feature_tree feature.now) }
 {
     for object in feature.objects() {
         if types[object.object_type.number() as usize] {
@@ -52,7 +52,7 @@ fn is_one_lod(lods: &[String], lod: Option<Node>) -> bool
 
 /// Whether the LoD of some geometry is one of these, each looked up alone.
 fn has_lod_alone(lods: &[String], feature: &Feature, header: &Header) -> bool
-    ensures { result ≡ asked_lod (map string_bytes lods.now) (header_tree header.now) (feature_tree feature.now) }
+    ensures { result ≡ lod_holds (map string_bytes lods.now) (header_tree header.now) (feature_tree feature.now) }
 {
     let templates = header.templates();
     for geometry in feature.geometries() {
@@ -66,7 +66,7 @@ fn has_lod_alone(lods: &[String], feature: &Feature, header: &Header) -> bool
 /// The same, with what is kept of earlier look-ups. It takes 12 KiB of the stack, and some time for that.
 #[inline(never)]
 fn has_lod_together(lods: &[String], feature: &Feature, header: &Header) -> bool
-    ensures { result ≡ asked_lod (map string_bytes lods.now) (header_tree header.now) (feature_tree feature.now) }
+    ensures { result ≡ lod_holds (map string_bytes lods.now) (header_tree header.now) (feature_tree feature.now) }
 {
     let mut known = Lods::beside(header.templates());
     for geometry in feature.geometries() {
@@ -79,7 +79,7 @@ fn has_lod_together(lods: &[String], feature: &Feature, header: &Header) -> bool
 
 /// Whether the LoD of some geometry is one of these. An instance has that of its template.
 pub fn has_lod(lods: &[String], feature: &Feature, header: &Header) -> bool
-    ensures { result ≡ asked_lod (map string_bytes lods.now) (header_tree header.now) (feature_tree feature.now) }
+    ensures { result ≡ lod_holds (map string_bytes lods.now) (header_tree header.now) (feature_tree feature.now) }
 {
     if header.templates().is_empty() {
         has_lod_alone(lods, feature, header)

@@ -1,6 +1,6 @@
 //! The parts of a query that are lists of texts.
 ghost use Rattle.std.specs.Prelude.{◌≡◌, ◌++◌, ◌∷◌, [], vec_items, IfErr, OnOk, OnErr};
-ghost use Rattle.cj_stream.specs.Asking.{with_text};
+ghost use Rattle.cj_stream.specs.Adding.{with_text};
 ghost use Rattle.cj_stream.specs.Query.{texts_of};
 ghost use Rattle.cj_stream.specs.declared.query.fault.QueryFault.TheVariants.{Memory};
 

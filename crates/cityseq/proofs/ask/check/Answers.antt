@@ -7,7 +7,7 @@ use Rattle.cityseq.proofs.ask.check.Goals as goal
 
 pub returns-in-Complete : goal.returns-in-Complete
 returns-in-Complete g c =
-    let rules : rules_for c.args.limits c.all-query.result ≡ all_under c.args.limits = ap (λ a. record { limits = c.args.limits; asked = a }) c.all-query.ensures.all in
+    let rules : rules_for c.args.limits c.all-query.result ≡ all_under c.args.limits = ap (λ a. record { limits = c.args.limits; criteria = a }) c.all-query.ensures.all in
     let e = rw (rules, c.in-Complete.is) at c.count_stream.ensures in
     let w = c.write_check.ensures in (
       e.0,
@@ -17,14 +17,14 @@ returns-in-Complete g c =
       _,
       e.1,
       e.2,
-      Says-check (all_under c.args.limits) e.0 _ _ c.write_check.result c.end_of_text.result (channel g.W.Write.contents c.args.out.now) (channel g.W.Write.contents c.write_check.new.out)
-          e.2.ends.1 (features-kept _ _ _ _ _ _ e.2) c.end_of_text.ensures (record { whole = w.ok; front = w.fault; failures = w.failures }),
-      cause-text c.write_check.result c.end_of_text.result _ _ c.end_of_text.ensures w.failures,
+      Says-check (all_under c.args.limits) e.0 _ _ c.write_check.result c.end_of_writing.result (channel g.W.Write.contents c.args.out.now) (channel g.W.Write.contents c.write_check.new.out)
+          e.2.ends.1 (features-kept _ _ _ _ _ _ e.2) c.end_of_writing.ensures (record { whole = w.ok; front = w.fault; failures = w.failures }),
+      cause-text c.write_check.result c.end_of_writing.result _ _ c.end_of_writing.ensures w.failures,
     )
 
 pub returns : goal.returns
 returns g c =
-    let rules : rules_for c.args.limits c.all-query.result ≡ all_under c.args.limits = ap (λ a. record { limits = c.args.limits; asked = a }) c.all-query.ensures.all in
+    let rules : rules_for c.args.limits c.all-query.result ≡ all_under c.args.limits = ap (λ a. record { limits = c.args.limits; criteria = a }) c.all-query.ensures.all in
     let e = rw rules at c.count_stream.ensures in
     let well = count-no_fault (all_under c.args.limits) e.0 _ _ e.3 in
     (e.0, _, _, _, _, e.1, e.2, Says-nothing _ _ (channel g.W.Write.contents c.args.out.now) c.in_default.not-Complete well, λ is. absurd (well is))

@@ -1,10 +1,10 @@
 use Rattle.std.proofs.Common.{◌≡◌, ◌-◌, length}
 use Rattle.cj_spans.specs.Text.{are_same}
-use Rattle.cj_spans.specs.Decoding.{points_left}
+use Rattle.cj_spans.specs.Decoding.{code_points_left}
 use Rattle.cj_spans.proofs.text.is_same_text.Given as goal
 
 abbrev pub invariant-loop-byte : goal.invariant-loop-byte
-invariant-loop-byte l = are_same (points_left l.left) (points_left l.right) ≡ are_same (points_left l.fn.points) (points_left l.fn.others)
+invariant-loop-byte l = are_same (code_points_left l.left) (code_points_left l.right) ≡ are_same (code_points_left l.fn.points) (code_points_left l.fn.others)
 
 abbrev pub decreases-loop-byte : goal.decreases-loop-byte
 decreases-loop-byte l = length l.left.bytes.now - l.left.place

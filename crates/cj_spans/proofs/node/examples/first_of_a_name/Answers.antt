@@ -1,16 +1,16 @@
 use Rattle.std.proofs.Common.{refl}
 use Rattle.std.specs.Str.{chars}
-use Rattle.cj_spans.specs.Text.{text, points_after, first_point, first_width}
+use Rattle.cj_spans.specs.Text.{text, code_points_after, first_code_point, first_width}
 use Rattle.cj_spans.proofs.node.examples.first_of_a_name.Goals as goal
 
 pub returns-clause-first : goal.returns-clause-first
-unfolding text points_after first_point first_width chars
+unfolding text code_points_after first_code_point first_width chars
 returns-clause-first c = refl
 
 pub returns-clause-spelled : goal.returns-clause-spelled
-unfolding text points_after first_point first_width chars
+unfolding text code_points_after first_code_point first_width chars
 returns-clause-spelled c = refl
 
 pub returns-clause-none : goal.returns-clause-none
-unfolding text points_after first_point first_width chars
+unfolding text code_points_after first_code_point first_width chars
 returns-clause-none c = refl

@@ -1,11 +1,11 @@
 use Rattle.std.proofs.Common.{refl}
 use Rattle.std.specs.Str.{chars}
 use Rattle.cj_spans.specs.Forest.{forest}
-use Rattle.cj_spans.specs.Text.{text, points_after, first_point, first_width}
+use Rattle.cj_spans.specs.Text.{text, code_points_after, first_code_point, first_width}
 use Rattle.cj_spans.proofs.node.examples.parts_of_seven.Goals as goal
 
 pub returns-clause-first : goal.returns-clause-first
-unfolding text points_after first_point first_width chars
+unfolding text code_points_after first_code_point first_width chars
 returns-clause-first c = refl
 
 pub returns-clause-shown : goal.returns-clause-shown

@@ -1,5 +1,5 @@
 use Rattle.std.proofs.Common.{◌≡◌, ◌+◌, ◌<◌, ◌∙◌, inl, ap, refl, subst, arith, Ok}
-use Rattle.cj_stream.specs.declared.judge.Content.TheVariants.{White, Sound}
+use Rattle.cj_stream.specs.declared.judge.Content.TheVariants.{BlankLine, Sound}
 use Rattle.cj_stream.specs.Query.{rules_for}
 use Rattle.cj_stream.specs.Item.{tree_of}
 use Rattle.cj_stream.specs.Reading.{Reading, reading, begun_of, held_header, next_item, next_verdict, Deals}
@@ -12,25 +12,25 @@ use Rattle.cj_stream.proofs.ScanningLemmas.{judges-at, scanned-valid, scanned-bl
 use Rattle.cj_stream.proofs.VerdictLemmas.{blank-is}
 use Rattle.cj_stream.proofs.framer.Framer.deal.Goals as goal
 
-pub returns-in-White-clause-scanned : goal.returns-in-White-clause-scanned
-returns-in-White-clause-scanned g c = λ cs count s.
+pub returns-in-BlankLine-clause-scanned : goal.returns-in-BlankLine-clause-scanned
+returns-in-BlankLine-clause-scanned g c = λ cs count s.
     let content = begun_of (reading c.args.self.now) in
     let limits = c.args.self.now.limits in
     let rules = rules_for c.args.self.now.limits c.args.self.now.query.now in
-    let is : c.judge.result ≡ Ok White = c.in-Ok.is ∙ ap Ok c.in-White.is in
-    let says = rw c.in-White.is at c.in-Ok.ensures.says in
+    let is : c.judge.result ≡ Ok BlankLine = c.in-Ok.is ∙ ap Ok c.in-BlankLine.is in
+    let says = rw c.in-BlankLine.is at c.in-Ok.ensures.says in
     let blank : verdict_at rules (c.args.self.now.lines + 1) (held_header (reading c.args.self.now)) (begun_of (reading c.args.self.now)) ≡ Blank = says rules (held_header (reading c.args.self.now)) c.requires.short refl in
     let b = blank-is rules (c.args.self.now.lines + 1) (held_header (reading c.args.self.now)) content blank in
     let judges = judges-at c.args.self.now.lines _ (begun_of (reading c.args.self.now)) (scanning c.args.self.now) (scanning c.judge.new.self) _ count (let j = rw is at c.judge.ensures.lists in j) in
     scanned-blank limits content (scanning c.args.self.now) (scanning c.judge.new.self) (scanning c.pass.new.self) c.requires.lists c.requires.short c.pass.ensures.forgets cs
     (omega (arith, b.0, count)) (blank-tree limits content b.1) s judges
 
-pub returns-in-White-clause-keeps : goal.returns-in-White-clause-keeps
-returns-in-White-clause-keeps g c =
+pub returns-in-BlankLine-clause-keeps : goal.returns-in-BlankLine-clause-keeps
+returns-in-BlankLine-clause-keeps g c =
     let f = reading c.args.self.now in
     let j = reading c.judge.new.self in
     let rules = rules_for c.args.self.now.limits c.args.self.now.query.now in
-    let says = rw c.in-White.is at c.in-Ok.ensures.says in
+    let says = rw c.in-BlankLine.is at c.in-Ok.ensures.says in
     let blank : verdict_at rules (c.args.self.now.lines + 1) (held_header (reading c.args.self.now)) (begun_of (reading c.args.self.now)) ≡ Blank = says rules (held_header (reading c.args.self.now)) c.requires.short refl in
     let b = blank-is rules (c.args.self.now.lines + 1) (held_header (reading c.args.self.now)) (begun_of (reading c.args.self.now)) blank in
     let later : 0 < c.args.self.now.lines = omega (arith, b.0) in

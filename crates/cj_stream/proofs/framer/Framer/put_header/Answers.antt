@@ -6,7 +6,7 @@ use Rattle.cj_spans.specs.View.{document}
 use Rattle.cj_feature.specs.Header.{header as header_findings}
 use Rattle.cj_stream.specs.declared.ending.End.TheVariants.{Refused}
 use Rattle.cj_stream.specs.Item.{tree_of}
-use Rattle.cj_stream.specs.Asked.{asks_box}
+use Rattle.cj_stream.specs.Criteria.{needs_box}
 use Rattle.cj_stream.specs.Query.{rules_for}
 use Rattle.cj_stream.specs.Reading.{reading, begun_of, held_header}
 use Rattle.cj_stream.specs.Verdict.{findings}
@@ -24,9 +24,9 @@ returns-in-Err-clause-deals g c =
     let json : Json c.as_slice.result.now t = subst (λ b. Json b t) (begun ∙ sym c.as_slice.ensures.value) c.requires.shows.json in
     let shown : t ≡ document c.of-doc.result = sym (c.of-doc.ensures.only t json) in
     let first : eqb (c.args.self.now.lines + 1) 1 ≡ true = let z = c.requires.first in grind (arith, nat_tests) in
-    let found : IsLeast (header_findings (asks_box rules.asked) (document c.of-doc.result)) (Some c.in-Err.finding) =
-    subst (λ b. IsLeast (header_findings b (document c.of-doc.result)) (Some c.in-Err.finding)) c.wants_box.ensures c.in-Err.ensures.verdict in
+    let found : IsLeast (header_findings (needs_box rules.criteria) (document c.of-doc.result)) (Some c.in-Err.finding) =
+    subst (λ b. IsLeast (header_findings b (document c.of-doc.result)) (Some c.in-Err.finding)) c.needs_box.ensures c.in-Err.ensures.verdict in
     let least : IsLeast (findings rules n (held_header f) t) (Some c.in-Err.finding) =
-    rw first (subst (λ u. IsLeast (header_findings (asks_box rules.asked) u) (Some c.in-Err.finding)) (sym shown) found) in
+    rw first (subst (λ u. IsLeast (header_findings (needs_box rules.criteria) u) (Some c.in-Err.finding)) (sym shown) found) in
     rw (tree-refused rules n (held_header f) t c.in-Err.finding least)
     (ap Err (c.refused.ensures ∙ ap (λ k. Refused (k + 1) c.in-Err.finding.place c.in-Err.finding.reason) (sym c.requires.first)), refl, refl)

@@ -22,14 +22,14 @@ pub record Box : Type 0 where
 
 -- The parts that may be set: texts of ids, the types of city objects, texts of LoDs, and a box. The types are told by a
 -- flag for each row of their table. Texts are in UTF-8.
-pub record Asked : Type 0 where
+pub record Criteria : Type 0 where
   pub ids : Option (List (List ℕ))
   pub types : Option (List Bool)
   pub lods : Option (List (List ℕ))
   pub box : Option Box
 
 -- no part is set
-abbrev pub everything : Asked
+abbrev pub everything : Criteria
 everything = record { ids = None; types = None; lods = None; box = None }
 
 -- a test of a part holds, or the part is not set
@@ -94,13 +94,13 @@ is_in box header t =
 -- ---- the whole
 
 -- a feature beside this header satisfies what is asked: each part that is set holds
-unfoldable pub holds : Asked → Tree → Tree → Bool
-holds asked header t =
-    if_set (λ ids. has_id ids t) asked.ids
-    && if_set (λ types. has_type types t) asked.types
-    && if_set (λ lods. has_lod lods header t) asked.lods
-    && if_set (λ box. is_in box header t) asked.box
+unfoldable pub holds : Criteria → Tree → Tree → Bool
+holds criteria header t =
+    if_set (λ ids. has_id ids t) criteria.ids
+    && if_set (λ types. has_type types t) criteria.types
+    && if_set (λ lods. has_lod lods header t) criteria.lods
+    && if_set (λ box. is_in box header t) criteria.box
 
 -- whether there is a box
-abbrev pub asks_box : Asked → Bool
-asks_box asked = there_is (λ box. true) asked.box
+abbrev pub needs_box : Criteria → Bool
+needs_box criteria = there_is (λ box. true) criteria.box

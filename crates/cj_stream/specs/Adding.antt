@@ -1,6 +1,6 @@
 -- What is asked once a part is set or grows: the other parts stay.
 use Rattle.std.specs.Prelude.{ℕ, List, [], ◌∷◌, ◌++◌, Bool, true, false, replicate, slice_set, Option, Some, unwrap_or}
-use Rattle.cj_stream.specs.Asked.{Asked, Box}
+use Rattle.cj_stream.specs.Criteria.{Criteria, Box}
 
 -- no flag of a type is set
 abbrev pub no_types : List Bool
@@ -10,16 +10,16 @@ no_types = replicate 33 false
 abbrev pub with_text : List ℕ → Option (List (List ℕ)) → Option (List (List ℕ))
 with_text s part = Some (unwrap_or part [] ++ s ∷ [])
 
-abbrev pub with_id : List ℕ → Asked → Asked
-with_id s asked = record asked { ids = with_text s asked.ids }
+abbrev pub with_id : List ℕ → Criteria → Criteria
+with_id s criteria = record criteria { ids = with_text s criteria.ids }
 
-abbrev pub with_lod : List ℕ → Asked → Asked
-with_lod s asked = record asked { lods = with_text s asked.lods }
+abbrev pub with_lod : List ℕ → Criteria → Criteria
+with_lod s criteria = record criteria { lods = with_text s criteria.lods }
 
 -- the flag of this number is set too
-abbrev pub with_type : ℕ → Asked → Asked
-with_type n asked = record asked { types = Some (slice_set (unwrap_or asked.types no_types) n true) }
+abbrev pub with_type : ℕ → Criteria → Criteria
+with_type n criteria = record criteria { types = Some (slice_set (unwrap_or criteria.types no_types) n true) }
 
 -- this box, in place of an earlier one
-abbrev pub with_box : Box → Asked → Asked
-with_box box asked = record asked { box = Some box }
+abbrev pub with_box : Box → Criteria → Criteria
+with_box box criteria = record criteria { box = Some box }

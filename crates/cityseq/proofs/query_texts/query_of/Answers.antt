@@ -2,18 +2,17 @@ use Rattle.std.proofs.Common.{◌≡◌, ◌∙◌, ℕ, List, Bool, true, false
 use Rattle.std.specs.Prelude.{if◌then◌else◌, MatchOption, MatchResult, option_map}
 use Rattle.std.specs.List.{list_all}
 use Rattle.std.proofs.lemmas.Result.{err_from_is_err_and}
-use Rattle.cj_stream.specs.Asked.{Asked, Box, everything}
+use Rattle.cj_stream.specs.Criteria.{Criteria, Box, everything}
 use Rattle.cj_stream.specs.BoxText.{fields, is_edge, box_between, is_empty, are_four_numbers, box_text}
-use Rattle.cj_stream.specs.Query.{asked}
+use Rattle.cj_stream.specs.Query.{criteria}
 use Rattle.cj_stream.specs.declared.query.fault.QueryFault.{QueryFault}
 use Rattle.cj_stream.specs.declared.query.fault.QueryFault.TheVariants.{Memory, UnknownTypeName, BadBox, BoxRange, EmptyBox}
-use Rattle.cityseq.specs.Options.{Texts, types_or_fault, types_asked, box_or_fault, box_asked, asked_by, RefusesBy}
-use Rattle.cityseq.specs.Asking.{texts_of}
-use Rattle.cityseq.proofs.asking.query_of.Goals.{in-Some+in_ok-ask_ids, in_default, in-Some-types+in_ok-ask_types, in_default-types, in-Some-lods+in_ok-ask_lods, in_default-lods, in-Some-bbox+in_ok-bbox, in_default-bbox}
-use Rattle.cityseq.proofs.asking.query_of.Goals as goal
+use Rattle.cityseq.specs.Options.{Texts, types_or_fault, types_wanted, box_or_fault, box_wanted, criteria_by, texts_of, RefusesBy}
+use Rattle.cityseq.proofs.query_texts.query_of.Goals.{in-Some+in_ok-add_ids, in_default, in-Some-types+in_ok-add_types, in_default-types, in-Some-lods+in_ok-add_lods, in_default-lods, in-Some-bbox+in_ok-bbox, in_default-bbox}
+use Rattle.cityseq.proofs.query_texts.query_of.Goals as goal
 
--- what `ask_types` and `bbox` answer, with what was asked before and after
-module _ (r : Result (Unit {0}) QueryFault) (old new : Asked) where
+-- what `add_types` and `bbox` answer, with what was asked before and after
+module _ (r : Result (Unit {0}) QueryFault) (old new : Criteria) where
   abbrev SetsTypes : Option (List Bool) → Type 0
   SetsTypes flags = MatchOption flags (r ≡ Err UnknownTypeName) (λ flags. (r ≡ Ok tt) × (new ≡ record old { types = Some flags }))
 
@@ -49,61 +48,61 @@ box-takes-none s = refused-by-text (not (are_four_numbers (fields s))) (not (lis
 pub returns-clause-ok : goal.returns-clause-ok
 returns-clause-ok c =
     let texts = texts_of c.args.texts.now in
-    let first = asked c.match-texts.query in
-    let second = asked c.match-texts-2.query in
-    let third = asked c.match-texts-3.query in
-    let last = asked c.match-texts-4.query in
+    let first = criteria c.match-texts.query in
+    let second = criteria c.match-texts-2.query in
+    let third = criteria c.match-texts-3.query in
+    let last = criteria c.match-texts-4.query in
     let ids : first ≡ record everything { ids = option_map fields texts.ids } =
     elim c.match-texts.branch [
-      | in-Some+in_ok-ask_ids w ↦ rw (w.query-is, w.in_ok-ask_ids.ensures.ok, c.all-query.ensures.all, w.in-Some.is) refl
+      | in-Some+in_ok-add_ids w ↦ rw (w.query-is, w.in_ok-add_ids.ensures.ok, c.all-query.ensures.all, w.in-Some.is) refl
       | in_default w ↦ rw (w.query-is, c.all-query.ensures.all, w.in_default.is) refl
     ] in
-    let types : (types_asked texts.types ≡ Ok second.types) × (second ≡ record first { types = second.types }) =
+    let types : (types_wanted texts.types ≡ Ok second.types) × (second ≡ record first { types = second.types }) =
     elim c.match-texts-2.branch [
-      | in-Some-types+in_ok-ask_types w ↦ rw (w.query-is, w.in-Some-types.is) (types-set w.ask_types.result first (asked w.ask_types.new.query) _ w.ask_types.ensures w.in_ok-ask_types.was)
+      | in-Some-types+in_ok-add_types w ↦ rw (w.query-is, w.in-Some-types.is) (types-set w.add_types.result first (criteria w.add_types.new.query) _ w.add_types.ensures w.in_ok-add_types.was)
       | in_default-types w ↦ rw (w.query-is, w.in_default-types.is, ids) (refl, refl)
     ] in
     let lods : third ≡ record second { lods = option_map fields texts.lods } =
     elim c.match-texts-3.branch [
-      | in-Some-lods+in_ok-ask_lods w ↦ rw (w.query-is, w.in_ok-ask_lods.ensures.ok, w.in-Some-lods.is) refl
+      | in-Some-lods+in_ok-add_lods w ↦ rw (w.query-is, w.in_ok-add_lods.ensures.ok, w.in-Some-lods.is) refl
       | in_default-lods w ↦ rw (w.query-is, w.in_default-lods.is, types.1, ids) refl
     ] in
-    let box : (box_asked texts.box ≡ Ok last.box) × (last ≡ record third { box = last.box }) =
+    let box : (box_wanted texts.box ≡ Ok last.box) × (last ≡ record third { box = last.box }) =
     elim c.match-texts-4.branch [
-      | in-Some-bbox+in_ok-bbox w ↦ rw (w.query-is, w.in-Some-bbox.is) (box-set w.bbox.result third (asked w.bbox.new.self) _ w.bbox.ensures w.in_ok-bbox.was)
+      | in-Some-bbox+in_ok-bbox w ↦ rw (w.query-is, w.in-Some-bbox.is) (box-set w.bbox.result third (criteria w.bbox.new.self) _ w.bbox.ensures w.in_ok-bbox.was)
       | in_default-bbox w ↦ rw (w.query-is, w.in_default-bbox.is, lods, types.1, ids) (refl, refl)
     ] in
     rw (types.0, box.0, box.1, lods, types.1, ids) refl
 
 -- a refusal that is no want of memory is what the texts ask for
-refused : (t : Texts) (fault : QueryFault) → asked_by t ≡ Err fault → (fault ≡ Memory → ⊥) → RefusesBy t fault
+refused : (t : Texts) (fault : QueryFault) → criteria_by t ≡ Err fault → (fault ≡ Memory → ⊥) → RefusesBy t fault
 refused t Memory asks other = absurd (other refl)
 refused t UnknownTypeName asks other = asks
 refused t BadBox asks other = asks
 refused t BoxRange asks other = asks
 refused t EmptyBox asks other = asks
 
-pub returns-in_err-ask_ids-clause-err : goal.returns-in_err-ask_ids-clause-err
-returns-in_err-ask_ids-clause-err c =
+pub returns-in_err-add_ids-clause-err : goal.returns-in_err-add_ids-clause-err
+returns-in_err-add_ids-clause-err c =
     let returned = err_from_is_err_and c.from_residual.result c.from_residual.ensures.1 in
-    let memory : c.in_err-ask_ids.field-0.0 ≡ Memory = c.in_err-ask_ids.ensures.memory in
+    let memory : c.in_err-add_ids.field-0.0 ≡ Memory = c.in_err-add_ids.ensures.memory in
     rw (returned.1, returned.2, memory) (inl (rw c.in-Some.is refl))
 
-pub returns-in_err-ask_types-clause-err : goal.returns-in_err-ask_types-clause-err
-returns-in_err-ask_types-clause-err c =
+pub returns-in_err-add_types-clause-err : goal.returns-in_err-add_types-clause-err
+returns-in_err-add_types-clause-err c =
     let texts = texts_of c.args.texts.now in
-    let returned = err_from_is_err_and c.from_residual-in_err-ask_types.result c.from_residual-in_err-ask_types.ensures.1 in
-    let types = types-refused c.ask_types.result (asked c.match-texts.query) (asked c.ask_types.new.query) c.in_err-ask_types.field-0.0 _ c.ask_types.ensures c.in_err-ask_types.was in
+    let returned = err_from_is_err_and c.from_residual-in_err-add_types.result c.from_residual-in_err-add_types.ensures.1 in
+    let types = types-refused c.add_types.result (criteria c.match-texts.query) (criteria c.add_types.new.query) c.in_err-add_types.field-0.0 _ c.add_types.ensures c.in_err-add_types.was in
     rw (returned.1, returned.2, types.0) (rw (c.in-Some-types.is, types.1) refl)
 
-pub returns-in_err-ask_lods-clause-err : goal.returns-in_err-ask_lods-clause-err
-returns-in_err-ask_lods-clause-err c =
+pub returns-in_err-add_lods-clause-err : goal.returns-in_err-add_lods-clause-err
+returns-in_err-add_lods-clause-err c =
     let texts = texts_of c.args.texts.now in
-    let returned = err_from_is_err_and c.from_residual-in_err-ask_lods.result c.from_residual-in_err-ask_lods.ensures.1 in
-    let memory : c.in_err-ask_lods.field-0.0 ≡ Memory = c.in_err-ask_lods.ensures.memory in
-    let types : (flags : Option (List Bool)) × (types_asked texts.types ≡ Ok flags) =
+    let returned = err_from_is_err_and c.from_residual-in_err-add_lods.result c.from_residual-in_err-add_lods.ensures.1 in
+    let memory : c.in_err-add_lods.field-0.0 ≡ Memory = c.in_err-add_lods.ensures.memory in
+    let types : (flags : Option (List Bool)) × (types_wanted texts.types ≡ Ok flags) =
     elim c.match-texts-2.branch [
-      | in-Some-types+in_ok-ask_types w ↦ rw w.in-Some-types.is (_, (types-set w.ask_types.result (asked c.match-texts.query) (asked w.ask_types.new.query) _ w.ask_types.ensures w.in_ok-ask_types.was).0)
+      | in-Some-types+in_ok-add_types w ↦ rw w.in-Some-types.is (_, (types-set w.add_types.result (criteria c.match-texts.query) (criteria w.add_types.new.query) _ w.add_types.ensures w.in_ok-add_types.was).0)
       | in_default-types w ↦ rw w.in_default-types.is (None, refl)
     ] in
     rw (returned.1, returned.2, memory) (inr (rw c.in-Some-lods.is refl, rw types.1 refl))
@@ -111,13 +110,13 @@ returns-in_err-ask_lods-clause-err c =
 pub returns-in_err-bbox-clause-err : goal.returns-in_err-bbox-clause-err
 returns-in_err-bbox-clause-err c =
     let texts = texts_of c.args.texts.now in
-    let types : (flags : Option (List Bool)) × (types_asked texts.types ≡ Ok flags) =
+    let types : (flags : Option (List Bool)) × (types_wanted texts.types ≡ Ok flags) =
     elim c.match-texts-2.branch [
-      | in-Some-types+in_ok-ask_types w ↦ rw w.in-Some-types.is (_, (types-set w.ask_types.result (asked c.match-texts.query) (asked w.ask_types.new.query) _ w.ask_types.ensures w.in_ok-ask_types.was).0)
+      | in-Some-types+in_ok-add_types w ↦ rw w.in-Some-types.is (_, (types-set w.add_types.result (criteria c.match-texts.query) (criteria w.add_types.new.query) _ w.add_types.ensures w.in_ok-add_types.was).0)
       | in_default-types w ↦ rw w.in_default-types.is (None, refl)
     ] in
     let fault = c.in_err-bbox.field-0.0 in
-    let box = box-refused c.bbox.result (asked c.match-texts-3.query) (asked c.bbox.new.self) fault (box_text c.in-Some-bbox.bbox.now) c.bbox.ensures c.in_err-bbox.was in
-    let asks : asked_by texts ≡ Err fault = rw (types.1, c.in-Some-bbox.is, box) refl in
+    let box = box-refused c.bbox.result (criteria c.match-texts-3.query) (criteria c.bbox.new.self) fault (box_text c.in-Some-bbox.bbox.now) c.bbox.ensures c.in_err-bbox.was in
+    let asks : criteria_by texts ≡ Err fault = rw (types.1, c.in-Some-bbox.is, box) refl in
     let returned = err_from_is_err_and c.from_residual-in_err-bbox.result c.from_residual-in_err-bbox.ensures.1 in
     rw (returned.1, returned.2) (refused texts fault asks (λ same. box-takes-none c.in-Some-bbox.bbox.now (box ∙ ap Err same)))

@@ -1,11 +1,10 @@
 //! What the options of `filter` ask for.
 ghost use Rattle.std.specs.Prelude.{◌≡◌, Some, Ok, Err, IfOk, IfErr, OnOk, MatchOption};
-ghost use Rattle.cj_stream.specs.Asking.{no_types};
+ghost use Rattle.cj_stream.specs.Adding.{no_types};
 ghost use Rattle.cj_stream.specs.BoxText.{fields};
-ghost use Rattle.cj_stream.specs.Query.{asked};
+ghost use Rattle.cj_stream.specs.Query.{criteria};
 ghost use Rattle.cj_stream.specs.declared.query.fault.QueryFault.TheVariants.{Memory, UnknownTypeName};
-ghost use Rattle.cityseq.specs.Options.{asked_by, flags_with, RefusesBy};
-ghost use Rattle.cityseq.specs.Asking.{texts_of};
+ghost use Rattle.cityseq.specs.Options.{criteria_by, flags_with, texts_of, RefusesBy};
 
 use cj_stream::{Query, QueryFault};
 use std::alloc::Global;
@@ -31,18 +30,18 @@ pub struct QueryTexts<'a> {
 /// The first refusal: `Memory` where none was granted for ids; `UnknownTypeName`; `Memory` where none was
 /// granted for LoDs; or what is wrong with the box. Types and a box take no memory.
 pub fn query_of(alloc: Global, texts: &QueryTexts) -> Result<Query, QueryFault>
-    ensures ok { IfOk result (λ query. asked_by (texts_of texts.now) ≡ Ok (asked query)) }
+    ensures ok { IfOk result (λ query. criteria_by (texts_of texts.now) ≡ Ok (criteria query)) }
     ensures err { IfErr result (λ fault. RefusesBy (texts_of texts.now) fault) }
 {
     let mut query = Query::all(alloc);
     if let Some(ids) = texts.ids {
-        ask_ids(&mut query, ids)?;
+        add_ids(&mut query, ids)?;
     }
     if let Some(types) = texts.types {
-        ask_types(&mut query, types)?;
+        add_types(&mut query, types)?;
     }
     if let Some(lods) = texts.lods {
-        ask_lods(&mut query, lods)?;
+        add_lods(&mut query, lods)?;
     }
     if let Some(bbox) = texts.bbox {
         query.bbox(bbox)?;
@@ -51,8 +50,8 @@ pub fn query_of(alloc: Global, texts: &QueryTexts) -> Result<Query, QueryFault>
 }
 
 // Sets the part on ids to what stands between the commas of a text.
-fn ask_ids(query: &mut Query, ids: &str) -> Result<(), QueryFault>
-    ensures ok { OnOk result (asked query.new ≡ record (asked query.old) { ids = Some (fields ids.now) }) }
+fn add_ids(query: &mut Query, ids: &str) -> Result<(), QueryFault>
+    ensures ok { OnOk result (criteria query.new ≡ record (criteria query.old) { ids = Some (fields ids.now) }) }
     ensures memory { IfErr result (λ fault. fault ≡ Memory) }
 {
     query.start_ids();
@@ -63,10 +62,10 @@ fn ask_ids(query: &mut Query, ids: &str) -> Result<(), QueryFault>
 }
 
 // Sets the part on types to those whose names stand between the commas of a text.
-fn ask_types(query: &mut Query, types: &str) -> Result<(), QueryFault>
+fn add_types(query: &mut Query, types: &str) -> Result<(), QueryFault>
     ensures { MatchOption (flags_with (fields types.now) no_types)
         (result ≡ Err UnknownTypeName)
-        (λ flags. (result ≡ Ok tt) × (asked query.new ≡ record (asked query.old) { types = Some flags })) }
+        (λ flags. (result ≡ Ok tt) × (criteria query.new ≡ record (criteria query.old) { types = Some flags })) }
 {
     query.start_types();
     for name in types.split(',') {
@@ -76,8 +75,8 @@ fn ask_types(query: &mut Query, types: &str) -> Result<(), QueryFault>
 }
 
 // Sets the part on LoDs to what stands between the commas of a text.
-fn ask_lods(query: &mut Query, lods: &str) -> Result<(), QueryFault>
-    ensures ok { OnOk result (asked query.new ≡ record (asked query.old) { lods = Some (fields lods.now) }) }
+fn add_lods(query: &mut Query, lods: &str) -> Result<(), QueryFault>
+    ensures ok { OnOk result (criteria query.new ≡ record (criteria query.old) { lods = Some (fields lods.now) }) }
     ensures memory { IfErr result (λ fault. fault ≡ Memory) }
 {
     query.start_lods();
