@@ -29,7 +29,7 @@ pub enum Ask {
     Info(Limits),
 }
 
-// The end that is told where a text of our own followed a complete run, by what came of writing it.
+/// The end that is told where a text of our own followed a complete run, by what came of writing it.
 pub fn end_of_writing(written: Result<(), WriteFault>) -> End
     ensures { result ≡ told_after written }
 {
@@ -39,14 +39,15 @@ pub fn end_of_writing(written: Result<(), WriteFault>) -> End
     }
 }
 
-// Judges the stream, and says how many lines and features it has where it is valid.
+/// Judges the stream, and says how many lines and features it has where it is valid.
 fn check<R: Read, W: Write + Drop>(
     alloc: Global,
     limits: Limits,
     reader: &mut R,
     out: &mut Output<W>,
 ) -> End
-    ensures { (r : List ℕ) × (n features : ℕ) × (peaks : Peaks) × (e : End) × Consumes (R.remaining reader.old) (R.remaining reader.new) r
+    ensures { (r : List ℕ) × (n features : ℕ) × (peaks : Peaks) × (e : End)
+        × Consumes (R.remaining reader.old) (R.remaining reader.new) r
         × Account (all_under limits) r (IsAtEnd (R.remaining reader.new)) n features peaks e
         × SaysCheck (all_under limits) r e result (channel W.contents out.old) (channel W.contents out.new)
         × (result ≡ End.WriteFault → HasRisen (output_failures out.old) (output_failures out.new)) }
@@ -59,14 +60,15 @@ fn check<R: Read, W: Write + Drop>(
     }
 }
 
-// Tallies the stream, and reports what is in it where it is valid.
+/// Tallies the stream, and reports what is in it where it is valid.
 fn info<R: Read, W: Write + Drop>(
     alloc: Global,
     limits: Limits,
     reader: &mut R,
     out: &mut Output<W>,
 ) -> End
-    ensures { (r : List ℕ) × (n features : ℕ) × (peaks : Peaks) × (e : End) × Consumes (R.remaining reader.old) (R.remaining reader.new) r
+    ensures { (r : List ℕ) × (n features : ℕ) × (peaks : Peaks) × (e : End)
+        × Consumes (R.remaining reader.old) (R.remaining reader.new) r
         × Account (all_under limits) r (IsAtEnd (R.remaining reader.new)) n features peaks e
         × SaysReport (all_under limits) r e result (channel W.contents out.old) (channel W.contents out.new)
         × (result ≡ End.WriteFault → HasRisen (output_failures out.old) (output_failures out.new)) }
@@ -79,16 +81,18 @@ fn info<R: Read, W: Write + Drop>(
     }
 }
 
-// Does what is asked with what the reader gives, and tells the end.
+/// Does what is asked with what the reader gives, and tells the end.
 fn answer<R: Read, W: Write + Drop>(
     alloc: Global,
     ask: &Ask,
     reader: &mut R,
     out: &mut Output<W>,
 ) -> End
-    ensures { (r : List ℕ) × (n features : ℕ) × (peaks : Peaks) × (e : End) × Consumes (R.remaining reader.old) (R.remaining reader.new) r
+    ensures { (r : List ℕ) × (n features : ℕ) × (peaks : Peaks) × (e : End)
+        × Consumes (R.remaining reader.old) (R.remaining reader.new) r
         × Account (rules_of_ask ask.now) r (IsAtEnd (R.remaining reader.new)) n features peaks e
-        × Answers ask.now r (IsAtEnd (R.remaining reader.new)) peaks e result (channel W.contents out.old) (channel W.contents out.new)
+        × Answers ask.now r (IsAtEnd (R.remaining reader.new)) peaks e result (channel W.contents out.old)
+        (channel W.contents out.new)
         × (result ≡ End.WriteFault → HasRisen (output_failures out.old) (output_failures out.new)) }
 {
     match ask {
@@ -108,7 +112,8 @@ pub fn perform<R: Read, W: Write + Drop, E: Write + Drop>(
     err: &mut Output<E>,
 ) -> u8
     ensures { (r : List ℕ) × Consumes (R.remaining reader.old) (R.remaining reader.new) r
-        × Performs ask.now r (IsAtEnd (R.remaining reader.new)) result (channel W.contents out.old) (channel W.contents out.new)
+        × Performs ask.now r (IsAtEnd (R.remaining reader.new)) result (channel W.contents out.old)
+        (channel W.contents out.new)
         (channel E.contents err.old) (channel E.contents err.new) }
 {
     let told = answer(alloc, ask, reader, out);

@@ -34,7 +34,7 @@ enum NoAsk {
     Query(QueryFault),
 }
 
-// What a command with these options asks for.
+/// What a command with these options asks for.
 fn ask_of(alloc: Global, name: &str, options: &ArgMatches) -> Result<Ask, NoAsk>
     ensures ok { IfOk result (λ ask. AsksBy name.now options.now ask) }
     ensures err { (fault : QueryFault) → IsErrOf result (NoAsk.Query fault) → CannotAsk name.now options.now fault }
@@ -54,7 +54,7 @@ fn ask_of(alloc: Global, name: &str, options: &ArgMatches) -> Result<Ask, NoAsk>
     }
 }
 
-// What the words ask for.
+/// What the words ask for.
 fn read_ask(alloc: Global, words: &[String]) -> Result<Ask, NoAsk>
     ensures ok { IfOk result (λ ask. (name : List ℕ) × (options : ArgMatches) × AsksBy name options ask) }
     ensures err { IfErr result MayDecline }
@@ -69,7 +69,7 @@ fn read_ask(alloc: Global, words: &[String]) -> Result<Ask, NoAsk>
     }
 }
 
-// Says that memory was refused, and answers the status of that.
+/// Says that memory was refused, and answers the status of that.
 fn out_of_memory<E: Write + Drop>(err: &mut Output<E>) -> u8
     ensures { TellsMemory result (channel E.contents err.old) (channel E.contents err.new) }
 {
@@ -77,7 +77,7 @@ fn out_of_memory<E: Write + Drop>(err: &mut Output<E>) -> u8
     status(End::Memory)
 }
 
-// Says what is wrong with the words, and answers the status of that.
+/// Says what is wrong with the words, and answers the status of that.
 fn wrong_words<E: Write + Drop>(text: &str, err: &mut Output<E>) -> u8
     ensures { TellsFault text.now 2 result (channel E.contents err.old) (channel E.contents err.new) }
 {
@@ -85,17 +85,19 @@ fn wrong_words<E: Write + Drop>(text: &str, err: &mut Output<E>) -> u8
     WRONG_WORDS
 }
 
-// Says that a query cannot be asked, and answers the status of that.
+/// Says that a query cannot be asked, and answers the status of that.
 fn refused_query<E: Write + Drop>(fault: QueryFault, err: &mut Output<E>) -> u8
-    ensures { TellsFault (query_line fault) (status_of_query fault) result (channel E.contents err.old) (channel E.contents err.new) }
+    ensures { TellsFault (query_line fault) (status_of_query fault) result (channel E.contents err.old)
+        (channel E.contents err.new) }
 {
     let _ = write_query_fault(err, fault);
     query_status(fault)
 }
 
-// Says that a limit is out of its range.
+/// Says that a limit is out of its range.
 fn refused_limit<E: Write + Drop>(alloc: Global, fault: LimitFault, err: &mut Output<E>) -> u8
-    ensures { TellsMemory result (channel E.contents err.old) (channel E.contents err.new) ⊎ TellsWrongWords result (channel E.contents err.old) (channel E.contents err.new) }
+    ensures { TellsMemory result (channel E.contents err.old) (channel E.contents err.new)
+        ⊎ TellsWrongWords result (channel E.contents err.old) (channel E.contents err.new) }
 {
     match format!(in alloc; "{fault}\n") {
         Ok(text) => wrong_words(&text, err),
@@ -103,7 +105,7 @@ fn refused_limit<E: Write + Drop>(alloc: Global, fault: LimitFault, err: &mut Ou
     }
 }
 
-// Writes the help that was asked for to `out`, flushes it, and says on `err` how that ended.
+/// Writes the help that was asked for to `out`, flushes it, and says on `err` how that ended.
 fn help<W: Write + Drop, E: Write + Drop>(
     text: &str,
     out: &mut Output<W>,
@@ -116,7 +118,7 @@ fn help<W: Write + Drop, E: Write + Drop>(
     status(show(out.flush(), told, err).end)
 }
 
-// Writes the help that was asked for to `out`, or what is wrong with the words to `err`.
+/// Writes the help that was asked for to `out`, or what is wrong with the words to `err`.
 fn tell<W: Write + Drop, E: Write + Drop>(
     alloc: Global,
     error: &Error,
@@ -139,7 +141,7 @@ fn tell<W: Write + Drop, E: Write + Drop>(
     }
 }
 
-// Says why nothing is done with the stream, and answers the status of that.
+/// Says why nothing is done with the stream, and answers the status of that.
 fn decline<W: Write + Drop, E: Write + Drop>(
     alloc: Global,
     why: &NoAsk,
@@ -166,10 +168,13 @@ pub fn command<R: Read, W: Write + Drop, E: Write + Drop>(
     out: &mut Output<W>,
     err: &mut Output<E>,
 ) -> u8
-    ensures { ((name : List ℕ) × (options : ArgMatches) × (ask : Ask) × AsksBy name options ask × (r : List ℕ) × Consumes (R.remaining reader.old) (R.remaining reader.new) r
-        × Performs ask r (IsAtEnd (R.remaining reader.new)) result (channel W.contents out.old) (channel W.contents out.new)
+    ensures { ((name : List ℕ) × (options : ArgMatches) × (ask : Ask) × AsksBy name options ask × (r : List ℕ)
+        × Consumes (R.remaining reader.old) (R.remaining reader.new) r
+        × Performs ask r (IsAtEnd (R.remaining reader.new)) result (channel W.contents out.old)
+        (channel W.contents out.new)
         (channel E.contents err.old) (channel E.contents err.new))
-        ⊎ ((reader.new ≡ reader.old) × (why : NoAsk) × MayDecline why × Declines why result (channel W.contents out.old) (channel W.contents out.new)
+        ⊎ ((reader.new ≡ reader.old) × (why : NoAsk) × MayDecline why
+        × Declines why result (channel W.contents out.old) (channel W.contents out.new)
         (channel E.contents err.old) (channel E.contents err.new)) }
 {
     match read_ask(alloc, words) {

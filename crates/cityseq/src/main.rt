@@ -39,7 +39,7 @@ enum WordsFault {
     Memory,
 }
 
-// The arguments, the program's name first.
+/// The arguments, the program's name first.
 fn read_words(rt: &HostRuntime) -> Result<Vec<String>, WordsFault> {
     let arguments = match env::args(rt) {
         Ok(arguments) => arguments,
@@ -51,7 +51,7 @@ fn read_words(rt: &HostRuntime) -> Result<Vec<String>, WordsFault> {
         .map_err(|_: AllocError| WordsFault::Memory)
 }
 
-// Says that memory was refused.
+/// Says that memory was refused.
 fn tell_no_memory(rt: &HostRuntime) -> u8 {
     let _ = write_fault_line(&mut Output::new(rt.stderr()), End::Memory);
     status(End::Memory)

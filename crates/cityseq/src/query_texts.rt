@@ -49,7 +49,7 @@ pub fn query_of(alloc: Global, texts: &QueryTexts) -> Result<Query, QueryFault>
     Ok(query)
 }
 
-// Sets the part on ids to what stands between the commas of a text.
+/// Sets the part on ids to what stands between the commas of a text.
 fn add_ids(query: &mut Query, ids: &str) -> Result<(), QueryFault>
     ensures ok { OnOk result (criteria query.new ≡ record (criteria query.old) { ids = Some (fields ids.now) }) }
     ensures memory { IfErr result (λ fault. fault ≡ Memory) }
@@ -61,7 +61,7 @@ fn add_ids(query: &mut Query, ids: &str) -> Result<(), QueryFault>
     Ok(())
 }
 
-// Sets the part on types to those whose names stand between the commas of a text.
+/// Sets the part on types to those whose names stand between the commas of a text.
 fn add_types(query: &mut Query, types: &str) -> Result<(), QueryFault>
     ensures { MatchOption (flags_with (fields types.now) no_types)
         (result ≡ Err UnknownTypeName)
@@ -74,7 +74,7 @@ fn add_types(query: &mut Query, types: &str) -> Result<(), QueryFault>
     Ok(())
 }
 
-// Sets the part on LoDs to what stands between the commas of a text.
+/// Sets the part on LoDs to what stands between the commas of a text.
 fn add_lods(query: &mut Query, lods: &str) -> Result<(), QueryFault>
     ensures ok { OnOk result (criteria query.new ≡ record (criteria query.old) { lods = Some (fields lods.now) }) }
     ensures memory { IfErr result (λ fault. fault ≡ Memory) }

@@ -49,7 +49,7 @@ pub fn query_status(fault: QueryFault) -> u8
     }
 }
 
-// The end that is shown of a run, by what came of the flush after it.
+/// The end that is shown of a run, by what came of the flush after it.
 fn end_after(flushed: Result<(), WriteFault>, ended: End) -> End
     ensures { result ≡ shown_end flushed ended }
 {
@@ -61,8 +61,12 @@ fn end_after(flushed: Result<(), WriteFault>, ended: End) -> End
 
 /// Writes these parts, one after another.
 pub fn write_parts<W: Write + Drop>(out: &mut Output<W>, parts: &[&[u8]]) -> Result<(), WriteFault>
-    ensures ok { OnOk result (Appends (W.contents (output_writer out.old)) (W.contents (output_writer out.new)) (joined (map (λ part. part.now) parts.now))) }
-    ensures fault { OnErr result (AppendsPart (W.contents (output_writer out.old)) (W.contents (output_writer out.new)) (joined (map (λ part. part.now) parts.now))) }
+    ensures ok { OnOk result
+        (Appends (W.contents (output_writer out.old)) (W.contents (output_writer out.new))
+        (joined (map (λ part. part.now) parts.now))) }
+    ensures fault { OnErr result
+        (AppendsPart (W.contents (output_writer out.old)) (W.contents (output_writer out.new))
+        (joined (map (λ part. part.now) parts.now))) }
     ensures failures { RisesOnErr result (output_failures out.old) (output_failures out.new) }
 {
     for part in parts {
@@ -77,8 +81,12 @@ fn write_refusal<E: Write + Drop>(
     place: u64,
     reason: Reason,
 ) -> Result<(), WriteFault>
-    ensures ok { OnOk result (Appends (E.contents (output_writer err.old)) (E.contents (output_writer err.new)) (fault_line (End.Refused line place reason))) }
-    ensures fault { OnErr result (AppendsPart (E.contents (output_writer err.old)) (E.contents (output_writer err.new)) (fault_line (End.Refused line place reason))) }
+    ensures ok { OnOk result
+        (Appends (E.contents (output_writer err.old)) (E.contents (output_writer err.new))
+        (fault_line (End.Refused line place reason))) }
+    ensures fault { OnErr result
+        (AppendsPart (E.contents (output_writer err.old)) (E.contents (output_writer err.new))
+        (fault_line (End.Refused line place reason))) }
     ensures failures { RisesOnErr result (output_failures err.old) (output_failures err.new) }
 {
     let mut line_digits = Buffer::new();
@@ -100,8 +108,10 @@ fn write_refusal<E: Write + Drop>(
 
 /// Writes the line that an end has on standard error; a complete run has none.
 pub fn write_fault_line<E: Write + Drop>(err: &mut Output<E>, end: End) -> Result<(), WriteFault>
-    ensures ok { OnOk result (Appends (E.contents (output_writer err.old)) (E.contents (output_writer err.new)) (fault_line end)) }
-    ensures fault { OnErr result (AppendsPart (E.contents (output_writer err.old)) (E.contents (output_writer err.new)) (fault_line end)) }
+    ensures ok { OnOk result
+        (Appends (E.contents (output_writer err.old)) (E.contents (output_writer err.new)) (fault_line end)) }
+    ensures fault { OnErr result
+        (AppendsPart (E.contents (output_writer err.old)) (E.contents (output_writer err.new)) (fault_line end)) }
     ensures failures { RisesOnErr result (output_failures err.old) (output_failures err.new) }
 {
     match end {
@@ -123,8 +133,10 @@ pub fn write_query_fault<E: Write + Drop>(
     err: &mut Output<E>,
     fault: QueryFault,
 ) -> Result<(), WriteFault>
-    ensures ok { OnOk result (Appends (E.contents (output_writer err.old)) (E.contents (output_writer err.new)) (query_line fault)) }
-    ensures fault { OnErr result (AppendsPart (E.contents (output_writer err.old)) (E.contents (output_writer err.new)) (query_line fault)) }
+    ensures ok { OnOk result
+        (Appends (E.contents (output_writer err.old)) (E.contents (output_writer err.new)) (query_line fault)) }
+    ensures fault { OnErr result
+        (AppendsPart (E.contents (output_writer err.old)) (E.contents (output_writer err.new)) (query_line fault)) }
     ensures failures { RisesOnErr result (output_failures err.old) (output_failures err.new) }
 {
     match fault {
@@ -144,8 +156,11 @@ pub fn show<E: Write + Drop>(
     err: &mut Output<E>,
 ) -> Shown
     ensures end { result.end ≡ shown_end flushed ended }
-    ensures whole { OnOk result.line (Appends (E.contents (output_writer err.old)) (E.contents (output_writer err.new)) (fault_line result.end)) }
-    ensures front { OnErr result.line (AppendsPart (E.contents (output_writer err.old)) (E.contents (output_writer err.new)) (fault_line result.end)) }
+    ensures whole { OnOk result.line
+        (Appends (E.contents (output_writer err.old)) (E.contents (output_writer err.new)) (fault_line result.end)) }
+    ensures front { OnErr result.line
+        (AppendsPart (E.contents (output_writer err.old)) (E.contents (output_writer err.new))
+        (fault_line result.end)) }
     ensures failures { RisesOnErr result.line (output_failures err.old) (output_failures err.new) }
 {
     let end = end_after(flushed, ended);

@@ -27,8 +27,12 @@ pub fn write_check<W: Write + Drop>(
     lines: u64,
     features: u64,
 ) -> Result<(), WriteFault>
-    ensures ok { OnOk result (Appends (W.contents (output_writer out.old)) (W.contents (output_writer out.new)) (check_text lines features)) }
-    ensures fault { OnErr result (AppendsPart (W.contents (output_writer out.old)) (W.contents (output_writer out.new)) (check_text lines features)) }
+    ensures ok { OnOk result
+        (Appends (W.contents (output_writer out.old)) (W.contents (output_writer out.new))
+        (check_text lines features)) }
+    ensures fault { OnErr result
+        (AppendsPart (W.contents (output_writer out.old)) (W.contents (output_writer out.new))
+        (check_text lines features)) }
     ensures failures { RisesOnErr result (output_failures out.old) (output_failures out.new) }
 {
     let mut line_digits = Buffer::new();
@@ -43,14 +47,18 @@ pub fn write_check<W: Write + Drop>(
     write_parts(out, &parts)
 }
 
-// Writes a line: a name, and words after it, each behind a space.
+/// Writes a line: a name, and words after it, each behind a space.
 fn write_line<W: Write + Drop>(
     out: &mut Output<W>,
     name: &str,
     words: &[&str],
 ) -> Result<(), WriteFault>
-    ensures ok { OnOk result (Appends (W.contents (output_writer out.old)) (W.contents (output_writer out.new)) (text_line name.now (map (λ word. word.now) words.now))) }
-    ensures fault { OnErr result (AppendsPart (W.contents (output_writer out.old)) (W.contents (output_writer out.new)) (text_line name.now (map (λ word. word.now) words.now))) }
+    ensures ok { OnOk result
+        (Appends (W.contents (output_writer out.old)) (W.contents (output_writer out.new))
+        (text_line name.now (map (λ word. word.now) words.now))) }
+    ensures fault { OnErr result
+        (AppendsPart (W.contents (output_writer out.old)) (W.contents (output_writer out.new))
+        (text_line name.now (map (λ word. word.now) words.now))) }
     ensures failures { RisesOnErr result (output_failures out.old) (output_failures out.new) }
 {
     out.write_whole(name.as_bytes())?;
@@ -60,29 +68,37 @@ fn write_line<W: Write + Drop>(
     out.write_whole(b"\n")
 }
 
-// Writes a line with a count.
+/// Writes a line with a count.
 fn write_count<W: Write + Drop>(
     out: &mut Output<W>,
     name: &str,
     count: u64,
 ) -> Result<(), WriteFault>
-    ensures ok { OnOk result (Appends (W.contents (output_writer out.old)) (W.contents (output_writer out.new)) (count_line name.now count)) }
-    ensures fault { OnErr result (AppendsPart (W.contents (output_writer out.old)) (W.contents (output_writer out.new)) (count_line name.now count)) }
+    ensures ok { OnOk result
+        (Appends (W.contents (output_writer out.old)) (W.contents (output_writer out.new))
+        (count_line name.now count)) }
+    ensures fault { OnErr result
+        (AppendsPart (W.contents (output_writer out.old)) (W.contents (output_writer out.new))
+        (count_line name.now count)) }
     ensures failures { RisesOnErr result (output_failures out.old) (output_failures out.new) }
 {
     let mut digits = Buffer::new();
     write_line(out, name, &[digits.format(count)])
 }
 
-// Writes a line with the count of something among others of its kind, unless it is 0.
+/// Writes a line with the count of something among others of its kind, unless it is 0.
 fn write_counted<W: Write + Drop>(
     out: &mut Output<W>,
     kind: &str,
     name: &str,
     count: u64,
 ) -> Result<(), WriteFault>
-    ensures ok { OnOk result (Appends (W.contents (output_writer out.old)) (W.contents (output_writer out.new)) (counted kind.now name.now count)) }
-    ensures fault { OnErr result (AppendsPart (W.contents (output_writer out.old)) (W.contents (output_writer out.new)) (counted kind.now name.now count)) }
+    ensures ok { OnOk result
+        (Appends (W.contents (output_writer out.old)) (W.contents (output_writer out.new))
+        (counted kind.now name.now count)) }
+    ensures fault { OnErr result
+        (AppendsPart (W.contents (output_writer out.old)) (W.contents (output_writer out.new))
+        (counted kind.now name.now count)) }
     ensures failures { RisesOnErr result (output_failures out.old) (output_failures out.new) }
 {
     if count == 0 {
@@ -92,10 +108,13 @@ fn write_counted<W: Write + Drop>(
     write_line(out, kind, &[name, digits.format(count)])
 }
 
-// Writes a number, behind a space, as its coefficient, `e`, and its power of ten.
+/// Writes a number, behind a space, as its coefficient, `e`, and its power of ten.
 fn write_power<W: Write + Drop>(out: &mut Output<W>, number: Decimal) -> Result<(), WriteFault>
-    ensures ok { OnOk result (Appends (W.contents (output_writer out.old)) (W.contents (output_writer out.new)) (32 ∷ power_text number)) }
-    ensures fault { OnErr result (AppendsPart (W.contents (output_writer out.old)) (W.contents (output_writer out.new)) (32 ∷ power_text number)) }
+    ensures ok { OnOk result
+        (Appends (W.contents (output_writer out.old)) (W.contents (output_writer out.new)) (32 ∷ power_text number)) }
+    ensures fault { OnErr result
+        (AppendsPart (W.contents (output_writer out.old)) (W.contents (output_writer out.new))
+        (32 ∷ power_text number)) }
     ensures failures { RisesOnErr result (output_failures out.old) (output_failures out.new) }
 {
     let mut coefficient = Buffer::new();
@@ -109,14 +128,18 @@ fn write_power<W: Write + Drop>(out: &mut Output<W>, number: Decimal) -> Result<
     write_parts(out, &parts)
 }
 
-// Writes a line with the numbers of a transform, if there is one.
+/// Writes a line with the numbers of a transform, if there is one.
 fn write_numbers<W: Write + Drop>(
     out: &mut Output<W>,
     name: &str,
     numbers: Option<[Decimal; 3]>,
 ) -> Result<(), WriteFault>
-    ensures ok { OnOk result (Appends (W.contents (output_writer out.old)) (W.contents (output_writer out.new)) (numbers_line name.now numbers)) }
-    ensures fault { OnErr result (AppendsPart (W.contents (output_writer out.old)) (W.contents (output_writer out.new)) (numbers_line name.now numbers)) }
+    ensures ok { OnOk result
+        (Appends (W.contents (output_writer out.old)) (W.contents (output_writer out.new))
+        (numbers_line name.now numbers)) }
+    ensures fault { OnErr result
+        (AppendsPart (W.contents (output_writer out.old)) (W.contents (output_writer out.new))
+        (numbers_line name.now numbers)) }
     ensures failures { RisesOnErr result (output_failures out.old) (output_failures out.new) }
 {
     let Some(numbers) = numbers else {
@@ -129,10 +152,12 @@ fn write_numbers<W: Write + Drop>(
     out.write_whole(b"\n")
 }
 
-// Writes how many city objects there are of each type of which there are some.
+/// Writes how many city objects there are of each type of which there are some.
 fn write_types<W: Write + Drop>(out: &mut Output<W>, tally: &TallySink) -> Result<(), WriteFault>
-    ensures ok { OnOk result (Appends (W.contents (output_writer out.old)) (W.contents (output_writer out.new)) (types_text tally.now)) }
-    ensures fault { OnErr result (AppendsPart (W.contents (output_writer out.old)) (W.contents (output_writer out.new)) (types_text tally.now)) }
+    ensures ok { OnOk result
+        (Appends (W.contents (output_writer out.old)) (W.contents (output_writer out.new)) (types_text tally.now)) }
+    ensures fault { OnErr result
+        (AppendsPart (W.contents (output_writer out.old)) (W.contents (output_writer out.new)) (types_text tally.now)) }
     ensures failures { RisesOnErr result (output_failures out.old) (output_failures out.new) }
 {
     for object_type in ObjectType::all() {
@@ -141,7 +166,7 @@ fn write_types<W: Write + Drop>(out: &mut Output<W>, tally: &TallySink) -> Resul
     Ok(())
 }
 
-// The name of a class of levels of detail.
+/// The name of a class of levels of detail.
 fn class_name(class: u8) -> &'static str
     requires { class ≤ 5 }
     ensures { result.now ≡ get_or class_names class [] }
@@ -156,10 +181,12 @@ fn class_name(class: u8) -> &'static str
     }
 }
 
-// Writes how many geometries there are of each class of LoDs of which there are some.
+/// Writes how many geometries there are of each class of LoDs of which there are some.
 fn write_lods<W: Write + Drop>(out: &mut Output<W>, tally: &TallySink) -> Result<(), WriteFault>
-    ensures ok { OnOk result (Appends (W.contents (output_writer out.old)) (W.contents (output_writer out.new)) (lods_text tally.now)) }
-    ensures fault { OnErr result (AppendsPart (W.contents (output_writer out.old)) (W.contents (output_writer out.new)) (lods_text tally.now)) }
+    ensures ok { OnOk result
+        (Appends (W.contents (output_writer out.old)) (W.contents (output_writer out.new)) (lods_text tally.now)) }
+    ensures fault { OnErr result
+        (AppendsPart (W.contents (output_writer out.old)) (W.contents (output_writer out.new)) (lods_text tally.now)) }
     ensures failures { RisesOnErr result (output_failures out.old) (output_failures out.new) }
 {
     for class in 0..CLASSES {
@@ -168,14 +195,18 @@ fn write_lods<W: Write + Drop>(out: &mut Output<W>, tally: &TallySink) -> Result
     Ok(())
 }
 
-// Writes the least and the greatest number of the vertices on an axis, if there are some.
+/// Writes the least and the greatest number of the vertices on an axis, if there are some.
 fn write_range<W: Write + Drop>(
     out: &mut Output<W>,
     axis: &str,
     range: Option<(i64, i64)>,
 ) -> Result<(), WriteFault>
-    ensures ok { OnOk result (Appends (W.contents (output_writer out.old)) (W.contents (output_writer out.new)) (range_line axis.now range)) }
-    ensures fault { OnErr result (AppendsPart (W.contents (output_writer out.old)) (W.contents (output_writer out.new)) (range_line axis.now range)) }
+    ensures ok { OnOk result
+        (Appends (W.contents (output_writer out.old)) (W.contents (output_writer out.new))
+        (range_line axis.now range)) }
+    ensures fault { OnErr result
+        (AppendsPart (W.contents (output_writer out.old)) (W.contents (output_writer out.new))
+        (range_line axis.now range)) }
     ensures failures { RisesOnErr result (output_failures out.old) (output_failures out.new) }
 {
     let Some((least, greatest)) = range else {
@@ -190,10 +221,13 @@ fn write_range<W: Write + Drop>(
     )
 }
 
-// Writes the range of each axis.
+/// Writes the range of each axis.
 fn write_ranges<W: Write + Drop>(out: &mut Output<W>, tally: &TallySink) -> Result<(), WriteFault>
-    ensures ok { OnOk result (Appends (W.contents (output_writer out.old)) (W.contents (output_writer out.new)) (ranges_text tally.now)) }
-    ensures fault { OnErr result (AppendsPart (W.contents (output_writer out.old)) (W.contents (output_writer out.new)) (ranges_text tally.now)) }
+    ensures ok { OnOk result
+        (Appends (W.contents (output_writer out.old)) (W.contents (output_writer out.new)) (ranges_text tally.now)) }
+    ensures fault { OnErr result
+        (AppendsPart (W.contents (output_writer out.old)) (W.contents (output_writer out.new))
+        (ranges_text tally.now)) }
     ensures failures { RisesOnErr result (output_failures out.old) (output_failures out.new) }
 {
     write_range(out, "x", tally.range(0))?;
@@ -201,10 +235,12 @@ fn write_ranges<W: Write + Drop>(out: &mut Output<W>, tally: &TallySink) -> Resu
     write_range(out, "z", tally.range(2))
 }
 
-// Writes a tally.
+/// Writes a tally.
 fn write_tally<W: Write + Drop>(out: &mut Output<W>, tally: &TallySink) -> Result<(), WriteFault>
-    ensures ok { OnOk result (Appends (W.contents (output_writer out.old)) (W.contents (output_writer out.new)) (tally_text tally.now)) }
-    ensures fault { OnErr result (AppendsPart (W.contents (output_writer out.old)) (W.contents (output_writer out.new)) (tally_text tally.now)) }
+    ensures ok { OnOk result
+        (Appends (W.contents (output_writer out.old)) (W.contents (output_writer out.new)) (tally_text tally.now)) }
+    ensures fault { OnErr result
+        (AppendsPart (W.contents (output_writer out.old)) (W.contents (output_writer out.new)) (tally_text tally.now)) }
     ensures failures { RisesOnErr result (output_failures out.old) (output_failures out.new) }
 {
     write_count(out, "features", tally.features())?;
@@ -215,10 +251,12 @@ fn write_tally<W: Write + Drop>(out: &mut Output<W>, tally: &TallySink) -> Resul
     write_ranges(out, tally)
 }
 
-// Writes how much was held at most.
+/// Writes how much was held at most.
 fn write_peaks<W: Write + Drop>(out: &mut Output<W>, peaks: Peaks) -> Result<(), WriteFault>
-    ensures ok { OnOk result (Appends (W.contents (output_writer out.old)) (W.contents (output_writer out.new)) (peaks_text peaks)) }
-    ensures fault { OnErr result (AppendsPart (W.contents (output_writer out.old)) (W.contents (output_writer out.new)) (peaks_text peaks)) }
+    ensures ok { OnOk result
+        (Appends (W.contents (output_writer out.old)) (W.contents (output_writer out.new)) (peaks_text peaks)) }
+    ensures fault { OnErr result
+        (AppendsPart (W.contents (output_writer out.old)) (W.contents (output_writer out.new)) (peaks_text peaks)) }
     ensures failures { RisesOnErr result (output_failures out.old) (output_failures out.new) }
 {
     write_count(out, "peak bytes", peaks.bytes)?;
@@ -238,8 +276,12 @@ pub fn write_report<W: Write + Drop>(
     tally: &TallySink,
     peaks: Peaks,
 ) -> Result<(), WriteFault>
-    ensures ok { OnOk result (Appends (W.contents (output_writer out.old)) (W.contents (output_writer out.new)) (report lines tally.now peaks)) }
-    ensures fault { OnErr result (AppendsPart (W.contents (output_writer out.old)) (W.contents (output_writer out.new)) (report lines tally.now peaks)) }
+    ensures ok { OnOk result
+        (Appends (W.contents (output_writer out.old)) (W.contents (output_writer out.new))
+        (report lines tally.now peaks)) }
+    ensures fault { OnErr result
+        (AppendsPart (W.contents (output_writer out.old)) (W.contents (output_writer out.new))
+        (report lines tally.now peaks)) }
     ensures failures { RisesOnErr result (output_failures out.old) (output_failures out.new) }
 {
     write_count(out, "lines", lines)?;

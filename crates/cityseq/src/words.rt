@@ -70,21 +70,21 @@ and translation, city objects by type, geometries by LoD, the least and the grea
 vertices on each axis, and the most bytes, tokens and open containers that were held. See
 'cityseq --help' for the exit status.";
 
-// The line limit where none is given, as the text that `clap` reads and shows.
+/// The line limit where none is given, as the text that `clap` reads and shows.
 fn usual_line() -> &'static str
     ensures { result.now ≡ decimal 8388608 }
 {
     "8388608"
 }
 
-// The depth limit where none is given, as the text that `clap` reads and shows.
+/// The depth limit where none is given, as the text that `clap` reads and shows.
 fn usual_depth() -> &'static str
     ensures { result.now ≡ decimal 64 }
 {
     "64"
 }
 
-// The options that all commands have.
+/// The options that all commands have.
 fn with_limits(command: Command<'_>, alloc: Global) -> Result<Command<'_>, AllocError> {
     let line = Arg::new(alloc, LINE_LIMIT)
         .long(LINE_LIMIT)
@@ -101,7 +101,7 @@ fn with_limits(command: Command<'_>, alloc: Global) -> Result<Command<'_>, Alloc
     command.arg(line)?.arg(depth)
 }
 
-// An option of `filter` that takes texts.
+/// An option of `filter` that takes texts.
 fn texts_option<'a>(alloc: Global, name: &'a str, value: &'a str, help: &'a str) -> Arg<'a> {
     Arg::new(alloc, name)
         .long(name)
@@ -178,7 +178,7 @@ pub fn read_words<'a>(alloc: Global, words: &'a [String]) -> Result<ArgMatches<'
     program(alloc)?.try_get_matches_from(words)
 }
 
-// The number that an option was given, or the usual one.
+/// The number that an option was given, or the usual one.
 fn number_of(matches: &ArgMatches, option: &str, usual: u64) -> u64
     ensures { HasNumber matches.now option.now usual result }
 {

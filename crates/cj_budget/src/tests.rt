@@ -11,7 +11,7 @@ struct LimitRow {
     fault: Option<LimitFault>,
 }
 
-// Makes the limits of each row.
+/// Makes the limits of each row.
 fn check_limits(rt: &impl Abort, rows: &[LimitRow]) {
     for row in rows {
         match Limits::new(row.line, row.depth) {

@@ -34,7 +34,10 @@ impl Model for Affine {
 
     ghost invariant = { λ a. IsSplit a.scale a.whole a.part × IsInUnits a.scale a.shift };
 
-    ghost inverse = { λ m. record { scale = m.scale; whole = int_div_euclid m.scale (pos (10 ^ 18)); part = int_rem_euclid m.scale (pos (10 ^ 18)); shift = m.shift } };
+    ghost inverse =
+    { λ m. record
+    { scale = m.scale; whole = int_div_euclid m.scale (pos (10 ^ 18)); part = int_rem_euclid m.scale
+    (pos (10 ^ 18)); shift = m.shift } };
 
     ghost inverse_ok = { λ a h i. record { scale = a.scale; whole = h.0.whole_is i; part = h.0.part_is i; shift = a.shift } };
 }

@@ -110,7 +110,8 @@ pub fn trees_of_features()
     ensures other_id { forest other_id.line (preorder other_id.tree) ≡ other_id.tree ∷ [] }
     ensures unlisted_group { forest unlisted_group.line (preorder unlisted_group.tree) ≡ unlisted_group.tree ∷ [] }
     ensures group_of_other { forest group_of_other.line (preorder group_of_other.tree) ≡ group_of_other.tree ∷ [] }
-    ensures part_of_no_object { forest part_of_no_object.line (preorder part_of_no_object.tree) ≡ part_of_no_object.tree ∷ [] }
+    ensures part_of_no_object { forest part_of_no_object.line (preorder part_of_no_object.tree)
+        ≡ part_of_no_object.tree ∷ [] }
     ensures no_objects { forest no_objects.line (preorder no_objects.tree) ≡ no_objects.tree ∷ [] }
 {}
 

@@ -110,7 +110,8 @@ impl<'a> Feature<'a> {
     /// The city objects, in order.
     #[tactic(auto, unfolding(crate::specs::View::feature_tree, crate::specs::View::feature_line))]
     pub fn objects(&self) -> Objects<'a>
-        ensures objects { objects_left result ≡ members_if (member_of (chars (codes "CityObjects")) (feature_tree self.now)) }
+        ensures objects { objects_left result
+            ≡ members_if (member_of (chars (codes "CityObjects")) (feature_tree self.now)) }
         ensures line { objects_line result ≡ feature_line self.now }
     {
         Objects::over(self.objects_node().members())
@@ -119,7 +120,9 @@ impl<'a> Feature<'a> {
     /// The geometries of all city objects, in order.
     #[tactic(auto, unfolding(crate::specs::View::feature_tree, crate::specs::View::feature_line))]
     pub fn geometries(&self) -> Geometries<'a>
-        ensures geometries { geometries_left result ≡ flat_map object_geometries (members_if (member_of (chars (codes "CityObjects")) (feature_tree self.now))) }
+        ensures geometries { geometries_left result
+            ≡ flat_map object_geometries
+            (members_if (member_of (chars (codes "CityObjects")) (feature_tree self.now))) }
         ensures line { geometries_line result ≡ feature_line self.now }
     {
         Geometries::over(self.objects_node().members())
@@ -128,7 +131,8 @@ impl<'a> Feature<'a> {
     /// The vertices, in order.
     #[tactic(auto, unfolding(crate::specs::View::feature_tree))]
     pub fn vertices(&self) -> Vertices<'a>
-        ensures { vertices_left result ≡ map vertex_of (items_if (member_of (chars (codes "vertices")) (feature_tree self.now))) }
+        ensures { vertices_left result
+            ≡ map vertex_of (items_if (member_of (chars (codes "vertices")) (feature_tree self.now))) }
     {
         Vertices::over(self.vertices.items())
     }
@@ -137,7 +141,9 @@ impl<'a> Feature<'a> {
     #[tactic(auto, unfolding(crate::specs::View::feature_tree, crate::specs::Walks::vertices_left))]
     pub fn coordinates(&self, axis: usize) -> Coordinates<'a>
         requires { axis < 3 }
-        ensures { coordinates_left result ≡ map (number_on axis) (map vertex_of (items_if (member_of (chars (codes "vertices")) (feature_tree self.now)))) }
+        ensures { coordinates_left result
+            ≡ map (number_on axis)
+            (map vertex_of (items_if (member_of (chars (codes "vertices")) (feature_tree self.now)))) }
     {
         Coordinates::over(self.vertices().items, axis)
     }

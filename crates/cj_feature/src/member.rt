@@ -39,7 +39,8 @@ fn check_name(node: Node, text: &str, reason: Reason, found: &mut Least)
 /// The object has a member of this name, which is this text; another text has `reason`.
 #[inline(always)]
 pub fn check_name_member(object: Node, name: &str, text: &str, reason: Reason, found: &mut Least)
-    ensures { found.new ≡ least found.old (has_member_named (chars name.now) reason (chars text.now) (tree object.entry)) }
+    ensures { found.new
+        ≡ least found.old (has_member_named (chars name.now) reason (chars text.now) (tree object.entry)) }
 {
     if let Some(value) = needed(object, name, found) {
         check_name(value, text, reason, found);

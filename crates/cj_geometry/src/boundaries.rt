@@ -72,7 +72,8 @@ fn check_shape(node: Node, depth: u8, vertices: Option<u64>, found: &mut Least)
 
 /// The geometry has boundaries of this depth.
 pub fn check_boundaries(object: Node, depth: u8, vertices: Option<u64>, found: &mut Least)
-    ensures { found.new ≡ least found.old (needs (chars (codes "boundaries")) (shape vertices depth) (tree object.entry)) }
+    ensures { found.new
+        ≡ least found.old (needs (chars (codes "boundaries")) (shape vertices depth) (tree object.entry)) }
 {
     if let Some(boundaries) = needed(object, "boundaries", found) {
         check_shape(boundaries, depth, vertices, found);

@@ -52,7 +52,8 @@ pub fn a_complete_instance()
 pub fn what_an_instance_needs()
     ensures short { least None (geometry (Some 1) (listed templates) short_instance) ≡ Some (found_at 80 BadInstance) }
     ensures long { least None (geometry (Some 1) (listed templates) long_instance) ≡ Some (found_at 80 BadInstance) }
-    ensures negative { least None (geometry (Some 1) (listed templates) negative_instance) ≡ Some (found_at 54 VertexIndex) }
+    ensures negative { least None (geometry (Some 1) (listed templates) negative_instance)
+        ≡ Some (found_at 54 VertexIndex) }
     ensures past { least None (geometry (Some 1) (listed templates) past_instance) ≡ Some (found_at 38 TemplateIndex) }
     ensures none { least None (geometry (Some 1) empty complete_instance) ≡ Some (found_at 38 TemplateIndex) }
     ensures template { least None (geometry (Some 1) itself complete_instance) ≡ Some (found_at 8 BadInstance) }
@@ -95,10 +96,14 @@ pub fn trees_of_their_lines()
 /// And so those of the instances and their list.
 pub fn instances_of_their_lines()
     ensures templates { forest templates_line (preorder templates) ≡ templates ∷ [] }
-    ensures complete { forest (placed_line (codes "0") (codes "0") sixteen) (preorder complete_instance) ≡ complete_instance ∷ [] }
-    ensures short { forest (placed_line (codes "0") (codes "0") fifteen) (preorder short_instance) ≡ short_instance ∷ [] }
-    ensures long { forest (placed_line (codes "0") (codes "0") seventeen) (preorder long_instance) ≡ long_instance ∷ [] }
-    ensures negative { forest (placed_line (codes "0") (codes "-1") sixteen) (preorder negative_instance) ≡ negative_instance ∷ [] }
+    ensures complete { forest (placed_line (codes "0") (codes "0") sixteen) (preorder complete_instance)
+        ≡ complete_instance ∷ [] }
+    ensures short { forest (placed_line (codes "0") (codes "0") fifteen) (preorder short_instance)
+        ≡ short_instance ∷ [] }
+    ensures long { forest (placed_line (codes "0") (codes "0") seventeen) (preorder long_instance)
+        ≡ long_instance ∷ [] }
+    ensures negative { forest (placed_line (codes "0") (codes "-1") sixteen) (preorder negative_instance)
+        ≡ negative_instance ∷ [] }
     ensures past { forest (placed_line (codes "1") (codes "0") sixteen) (preorder past_instance) ≡ past_instance ∷ [] }
 {}
 

@@ -37,7 +37,10 @@ fn check_form(
     templates: Templates,
     found: &mut Least,
 )
-    ensures { found.new ≡ least found.old (form_rules vertices (given templates.entry) (tree object.entry) (tree name.entry) (form_of_tree (tree name.entry))) }
+    ensures { found.new
+        ≡ least found.old
+        (form_rules vertices (given templates.entry) (tree object.entry) (tree name.entry)
+        (form_of_tree (tree name.entry))) }
 {
     match form_of(name) {
         Some(Form::Parts { depth, values }) => {

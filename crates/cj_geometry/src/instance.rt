@@ -13,7 +13,9 @@ use cj_spans::{Least, Node, Reason};
 
 /// The instance names a template.
 fn check_template(object: Node, templates: u64, found: &mut Least)
-    ensures { found.new ≡ least found.old (needs (chars (codes "template")) (index TemplateIndex (Some templates)) (tree object.entry)) }
+    ensures { found.new
+        ≡ least found.old
+        (needs (chars (codes "template")) (index TemplateIndex (Some templates)) (tree object.entry)) }
 {
     if let Some(value) = needed(object, "template", found) {
         check_index(value, Reason::TemplateIndex, Some(templates), found);
@@ -32,7 +34,10 @@ fn check_point(node: Node, vertices: Option<u64>, found: &mut Least)
 
 /// The instance has one vertex.
 fn check_point_member(object: Node, vertices: Option<u64>, found: &mut Least)
-    ensures { found.new ≡ least found.old (needs (chars (codes "boundaries")) (of_length BadInstance 1 (index VertexIndex vertices)) (tree object.entry)) }
+    ensures { found.new
+        ≡ least found.old
+        (needs (chars (codes "boundaries")) (of_length BadInstance 1 (index VertexIndex vertices))
+        (tree object.entry)) }
 {
     if let Some(value) = needed(object, "boundaries", found) {
         check_point(value, vertices, found);
@@ -51,7 +56,9 @@ fn check_matrix(node: Node, found: &mut Least)
 
 /// The instance has a matrix.
 fn check_matrix_member(object: Node, found: &mut Least)
-    ensures { found.new ≡ least found.old (needs (chars (codes "transformationMatrix")) (of_length BadInstance 16 number) (tree object.entry)) }
+    ensures { found.new
+        ≡ least found.old
+        (needs (chars (codes "transformationMatrix")) (of_length BadInstance 16 number) (tree object.entry)) }
 {
     if let Some(value) = needed(object, "transformationMatrix", found) {
         check_matrix(value, found);

@@ -146,7 +146,7 @@ impl<'a> Lods<'a> {
         }
     }
 
-    // The level of detail of an instance's template.
+    /// The level of detail of an instance's template.
     #[inline(never)]
     fn lod_of_template(&mut self, node: Node<'a>) -> Option<Node<'a>>
         ensures lod { option_map tree result ≡ template_lod (given_to self.old) (tree node.entry) }
@@ -158,9 +158,10 @@ impl<'a> Lods<'a> {
         }
     }
 
-    // The level of detail of the template that this index chooses, if there is one.
+    /// The level of detail of the template that this index chooses, if there is one.
     fn lod_chosen(&mut self, index: Node) -> Option<Node<'a>>
-        ensures lod { option_map tree result ≡ option_and_then (member_of (chars (codes "lod"))) (chosen (given_to self.old) (tree index.entry)) }
+        ensures lod { option_map tree result
+            ≡ option_and_then (member_of (chars (codes "lod"))) (chosen (given_to self.old) (tree index.entry)) }
         ensures same { given_to self.new ≡ given_to self.old }
     {
         match self.templates.nodes() {
@@ -172,10 +173,11 @@ impl<'a> Lods<'a> {
         }
     }
 
-    // The level of detail of the template of this number in the list, from 0.
+    /// The level of detail of the template of this number in the list, from 0.
     fn lod_at(&mut self, list: Node<'a>, number: u64) -> Option<Node<'a>>
         requires { Some (tree list) ≡ list_of (given_to self.old) }
-        ensures lod { option_map tree result ≡ option_and_then (member_of (chars (codes "lod"))) (slice_get (items_of (tree list.entry)) number) }
+        ensures lod { option_map tree result
+            ≡ option_and_then (member_of (chars (codes "lod"))) (slice_get (items_of (tree list.entry)) number) }
         ensures same { given_to self.new ≡ given_to self.old }
     {
         if let Some(answer) = answer_for(&self.answers, number) {
@@ -186,11 +188,12 @@ impl<'a> Lods<'a> {
         lod
     }
 
-    // The same, looked for in the list.
+    /// The same, looked for in the list.
     #[inline(never)]
     fn lod_found(&mut self, list: Node<'a>, number: u64) -> Option<Node<'a>>
         requires { Some (tree list) ≡ list_of (given_to self.old) }
-        ensures lod { option_map tree result ≡ option_and_then (member_of (chars (codes "lod"))) (slice_get (items_of (tree list.entry)) number) }
+        ensures lod { option_map tree result
+            ≡ option_and_then (member_of (chars (codes "lod"))) (slice_get (items_of (tree list.entry)) number) }
         ensures same { given_to self.new ≡ given_to self.old }
     {
         match self.template_at(list, number) {
@@ -199,11 +202,12 @@ impl<'a> Lods<'a> {
         }
     }
 
-    // Keeps an answer, in place of the oldest.
+    /// Keeps an answer, in place of the oldest.
     #[inline(never)]
     fn note(&mut self, list: Node<'a>, answer: Answer<'a>)
         requires list { Some (tree list) ≡ list_of (given_to self.old) }
-        requires right { option_map tree answer.lod ≡ option_and_then (member_of (chars (codes "lod"))) (slice_get (items_of (tree list)) answer.number) }
+        requires right { option_map tree answer.lod
+            ≡ option_and_then (member_of (chars (codes "lod"))) (slice_get (items_of (tree list)) answer.number) }
         ensures same { given_to self.new ≡ given_to self.old }
     {
         let slot = self.oldest % PLACES;
@@ -211,7 +215,7 @@ impl<'a> Lods<'a> {
         self.oldest = slot + 1;
     }
 
-    // The template of this number in the list, from 0.
+    /// The template of this number in the list, from 0.
     fn template_at(&mut self, list: Node<'a>, number: u64) -> Option<Node<'a>>
         requires { Some (tree list) ≡ list_of (given_to self.old) }
         ensures template { option_map tree result ≡ slice_get (items_of (tree list.entry)) number }
@@ -223,7 +227,7 @@ impl<'a> Lods<'a> {
         item_at(place.left, number - place.number)
     }
 
-    // The place that is kept here, or else that of this number, which is then kept.
+    /// The place that is kept here, or else that of this number, which is then kept.
     #[inline(never)]
     fn place_at(&mut self, list: Node<'a>, slot: usize, number: u64) -> Place<'a>
         requires list { Some (tree list) ≡ list_of (given_to self.old) }

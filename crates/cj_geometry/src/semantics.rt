@@ -68,7 +68,10 @@ fn check_entry(node: Node, surfaces: Option<u64>, found: &mut Least)
 
 /// The items are entries, as many as the parts beside them: the lowest level, where nearly all of them are.
 fn check_entries(node: Node, part: Option<Node>, surfaces: Option<u64>, found: &mut Least)
-    ensures { found.new ≡ least found.old (flat_map (entry surfaces) (items_of (tree node.entry)) ++ other_count (tree node.entry) (option_map tree part.entry)) }
+    ensures { found.new
+        ≡ least found.old
+        (flat_map (entry surfaces) (items_of (tree node.entry)) ++ other_count (tree node.entry)
+        (option_map tree part.entry)) }
 {
     let mut parts = walk(part);
     let mut even = true;
@@ -154,7 +157,11 @@ fn count_surfaces(object: Node) -> Option<u64>
 
 /// The object has values of this depth beside the boundaries.
 fn check_values_member(object: Node, boundaries: Option<Node>, depth: u8, found: &mut Least)
-    ensures { found.new ≡ least found.old (needs (chars (codes "values")) (λ v. values (count_of (member_of (chars (codes "surfaces")) (tree object.entry))) depth v (option_map tree boundaries.entry)) (tree object.entry)) }
+    ensures { found.new
+        ≡ least found.old
+        (needs (chars (codes "values"))
+        (λ v. values (count_of (member_of (chars (codes "surfaces")) (tree object.entry))) depth v
+        (option_map tree boundaries.entry)) (tree object.entry)) }
 {
     if let Some(value) = needed(object, "values", found) {
         check_values(value, boundaries, depth, count_surfaces(object), found);

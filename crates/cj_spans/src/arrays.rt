@@ -63,7 +63,8 @@ struct Behind {
 fn close_arrays(line: &[u8], from: usize, tokens: &mut Bounded<Token>, stack: &mut Stack) -> Behind
     requires stands { Stands line.now tokens.old stack.old After from }
     requires array { InArray stack.old.elements tokens.old.elements }
-    ensures answer { (ts : BoundedList TokenOf) (ks : BoundedList ℕ) → Standing line.now ts ks tokens.old stack.old After from
+    ensures answer { (ts : BoundedList TokenOf) (ks : BoundedList ℕ)
+        → Standing line.now ts ks tokens.old stack.old After from
         → Standing line.now ts ks tokens.new stack.new After result.place }
     ensures comma { IsTrue result.comma → IsComma line.now tokens.new stack.new result.place }
     ensures order { from ≤ result.place }
@@ -89,7 +90,8 @@ fn end_number(line: &[u8], stop: usize, tokens: &mut Bounded<Token>, stack: &mut
     requires stands { Stands line.now tokens.old stack.old After stop }
     requires array { InArray stack.old.elements tokens.old.elements }
     requires within { stop < length line.now }
-    ensures answer { (ts : BoundedList TokenOf) (ks : BoundedList ℕ) → Standing line.now ts ks tokens.old stack.old After stop
+    ensures answer { (ts : BoundedList TokenOf) (ks : BoundedList ℕ)
+        → Standing line.now ts ks tokens.old stack.old After stop
         → Standing line.now ts ks tokens.new stack.new After result.place }
     ensures comma { IsTrue result.comma → IsComma line.now tokens.new stack.new result.place }
     ensures order { stop ≤ result.place }
@@ -114,7 +116,8 @@ pub fn read_arrays(
     requires stands { Stands line.now tokens.old stack.old from.mode from.place }
     requires array { InArray stack.old.elements tokens.old.elements }
     requires begins { BeginsValue from.mode }
-    ensures answer { (ts : BoundedList TokenOf) (ks : BoundedList ℕ) → Standing line.now ts ks tokens.old stack.old from.mode from.place
+    ensures answer { (ts : BoundedList TokenOf) (ks : BoundedList ℕ)
+        → Standing line.now ts ks tokens.old stack.old from.mode from.place
         → GoesOn line.now ts ks result tokens.new stack.new }
     ensures order { IfOk result (λ n. from.place ≤ n.place) }
 {

@@ -32,7 +32,8 @@ fn read_text(line: &[u8], place: usize, tokens: &mut Bounded<Token>) -> Option<u
     requires within { place < length line.now }
     requires room { length tokens.old.elements < tokens.old.limit }
     ensures text { IfSome result (λ k. IsQuoted line.now place k
-        × Becomes tokens.old (tokens.old.elements ++ token_at place k (length tokens.old.elements + 1) ∷ []) tokens.new) }
+        × Becomes tokens.old
+        (tokens.old.elements ++ token_at place k (length tokens.old.elements + 1) ∷ []) tokens.new) }
     ensures none { IfNone result (tokens.new ≡ tokens.old) }
 {
     let stop = plain_text_stop(line, place)?;

@@ -64,7 +64,8 @@ pub fn read_number(line: &[u8], place: usize, tokens: &mut Bounded<Token>) -> Op
     requires small { length tokens.old.elements < 2 ^ 31 }
     requires room { length tokens.old.elements < tokens.old.limit }
     ensures number { IfSome result (λ k. IsNumberItem line.now place k
-        × Becomes tokens.old (tokens.old.elements ++ token_at place k (length tokens.old.elements + 1) ∷ []) tokens.new) }
+        × Becomes tokens.old
+        (tokens.old.elements ++ token_at place k (length tokens.old.elements + 1) ∷ []) tokens.new) }
     ensures none { IfNone result (tokens.new ≡ tokens.old) }
 {
     let stop = number_stop(line, place)?;

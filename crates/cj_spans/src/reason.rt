@@ -59,7 +59,7 @@ pub enum Reason {
     TransformNotFixed,
 }
 
-// The code and the text of a reason.
+/// The code and the text of a reason.
 #[derive(Clone, Copy)]
 struct Entry {
     code: u8,
@@ -74,7 +74,7 @@ fn make_entry(code: u8, text: &'static str) -> Entry
 }
 
 impl Reason {
-    // The table of reasons.
+    /// The table of reasons.
     fn entry(self) -> Entry
         ensures code { result.code ≡ code_of self }
         ensures text { result.text.now ≡ words_of self }

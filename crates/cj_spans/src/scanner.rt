@@ -63,7 +63,8 @@ fn end_atom(
 /// Goes on past the colon that stands right behind a name.
 #[inline(always)]
 fn pass_colon(line: &[u8], from: Next) -> Next
-    ensures answer { (s : State) (ks : List ℕ) (ts : List TokenOf) (p : ℕ) → ComesTo line.now s (state (between from.mode) ks ts from.place p)
+    ensures answer { (s : State) (ks : List ℕ) (ts : List TokenOf) (p : ℕ)
+        → ComesTo line.now s (state (between from.mode) ks ts from.place p)
         → ComesTo line.now s (state (between result.mode) ks ts result.place p) }
     ensures order { from.place ≤ result.place }
     ensures end { from.place ≤ length line.now → result.place ≤ length line.now }
@@ -141,7 +142,8 @@ fn pass_parts(
         → InArray stack.old.elements tokens.old.elements × BeginsValue next.mode }
     requires object { StaysInObjectNext (byte_of line.now place) taken
         → InObject stack.old.elements tokens.old.elements }
-    ensures answer { (ts : BoundedList TokenOf) (ks : BoundedList ℕ) → Standing line.now ts ks tokens.old stack.old next.mode next.place
+    ensures answer { (ts : BoundedList TokenOf) (ks : BoundedList ℕ)
+        → Standing line.now ts ks tokens.old stack.old next.mode next.place
         → GoesOn line.now ts ks result tokens.new stack.new }
     ensures order { IfOk result (λ n. next.place ≤ n.place) }
 {

@@ -140,7 +140,9 @@ fn close(
 ) -> Result<Move, ScanFault>
     requires small { FitsToken place tokens.old }
     requires lists { IsWithin tokens.old × IsWithin stack.old }
-    ensures { ReadsByte (λ s. close_token_of index (slice_get s.tokens index) s) place result tokens.old tokens.new stack.old stack.new }
+    ensures { ReadsByte
+        (λ s. close_token_of index (slice_get s.tokens index) s) place result tokens.old tokens.new
+        stack.old stack.new }
 {
     match token_of(tokens.as_slice(), index) {
         None => Err(ScanFault::Syntax(place as u64)),

@@ -468,7 +468,7 @@ fn lists_are_emptied_first(rt: HostRuntime) -> Result<(), Fail> {
     Ok(())
 }
 
-// Run also with each growth refused in turn, by `rt try --test --fail-alloc N`.
+/// Run also with each growth refused in turn, by `rt try --test --fail-alloc N`.
 #[test]
 fn a_refused_growth_is_memory(rt: HostRuntime) -> Result<(), Fail> {
     let line = [b'['; 300];

@@ -135,7 +135,8 @@ fn read_digits(bytes: &[u8], place: usize) -> CodePoint
 /// The unit of an escape with `u`; None where another character or escape is at the place.
 fn read_unit(bytes: &[u8], place: usize) -> Option<CodePoint>
     ensures is { (cs : List ℕ) → left bytes.now place ≡ cs → is_some result ≡ is_unicode cs }
-    ensures reads { IfSome result (λ p. (cs : List ℕ) → left bytes.now place ≡ cs → ReadsCodePoint bytes.now cs (unit cs) 6 p) }
+    ensures reads { IfSome result
+        (λ p. (cs : List ℕ) → left bytes.now place ≡ cs → ReadsCodePoint bytes.now cs (unit cs) 6 p) }
     ensures size { IfSome result (λ p. p.code < 2 ^ 18) }
 {
     let slash = char_at(bytes, place);
@@ -221,7 +222,8 @@ fn read_escape(bytes: &[u8], place: usize) -> CodePoint
 #[inline(always)]
 fn code_point_of(bytes: &[u8], place: usize, first: CodePoint) -> CodePoint
     requires { left bytes.now place ≡ after_read bytes.now 0 (Some first) }
-    ensures { let cs = left bytes.now place in ReadsCodePoint bytes.now cs (first_code_point cs) (first_width cs) result }
+    ensures { let cs = left bytes.now place in
+        ReadsCodePoint bytes.now cs (first_code_point cs) (first_width cs) result }
 {
     if first.code == b'\\' as u32 {
         read_escape(bytes, place)

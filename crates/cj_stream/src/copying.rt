@@ -30,8 +30,10 @@ pub fn copy<R: Read, W: Write + Drop>(
     query: &Query,
 ) -> Outcome
     ensures { (r : List ℕ) × Consumes (R.remaining reader.old) (R.remaining reader.new) r
-        × Account (rules_for limits query.now) r (IsAtEnd (R.remaining reader.new)) result.lines result.kept result.peaks result.ended
-        × Writes (rules_for limits query.now) r result.ended (W.contents (writer_of sink.old)) (W.contents (writer_of sink.new))
+        × Account (rules_for limits query.now) r
+        (IsAtEnd (R.remaining reader.new)) result.lines result.kept result.peaks result.ended
+        × Writes (rules_for limits query.now) r result.ended (W.contents (writer_of sink.old))
+        (W.contents (writer_of sink.new))
         × HeadlineOfRun (rules_for limits query.now) r (IsAtEnd (R.remaining reader.new)) result.ended result.peaks
         (sink_channel W.contents sink.old) (sink_channel W.contents sink.new) }
 {
@@ -47,8 +49,10 @@ pub fn copy_out<R: Read, W: Write + Drop>(
     query: &Query,
 ) -> Outcome
     ensures { (r : List ℕ) × Consumes (R.remaining reader.old) (R.remaining reader.new) r
-        × Account (rules_for limits query.now) r (IsAtEnd (R.remaining reader.new)) result.lines result.kept result.peaks result.ended
-        × Writes (rules_for limits query.now) r result.ended (W.contents (output_writer out.old)) (W.contents (output_writer out.new))
+        × Account (rules_for limits query.now) r
+        (IsAtEnd (R.remaining reader.new)) result.lines result.kept result.peaks result.ended
+        × Writes (rules_for limits query.now) r result.ended (W.contents (output_writer out.old))
+        (W.contents (output_writer out.new))
         × HeadlineOfRun (rules_for limits query.now) r (IsAtEnd (R.remaining reader.new)) result.ended result.peaks
         (channel W.contents out.old) (channel W.contents out.new) }
 {
@@ -68,7 +72,7 @@ pub struct Copied {
     pub ended: End,
 }
 
-// Feeds all pieces, and finishes, until an end.
+/// Feeds all pieces, and finishes, until an end.
 fn feed_all<S: LineSink>(engine: &mut Engine, pieces: &[&[u8]], sink: &mut S) -> Copied
     requires fresh { IsFresh engine.old }
     requires short { length (joined (map (λ piece. piece.now) pieces.now)) ≤ 2 ^ 60 }

@@ -35,15 +35,20 @@ impl<'q> Model for Engine<'q> {
 
     ghost Value = { EngineState };
 
-    ghost view = { λ e. record { reading = reading e.framer; scanning = scanning e.framer; taken = e.taken; ended = e.ended } };
+    ghost view =
+    { λ e. record { reading = reading e.framer; scanning = scanning e.framer; taken = e.taken; ended = e.ended } };
 
-    ghost invariant = { λ e. IsSound (reading e.framer) × HasRoom e.framer.limits (scanning e.framer) × KeepsFirst (reading e.framer) (scanning e.framer) e.framer.parts × (e.ended ≡ None → e.framer.lines ≤ e.taken) × (e.taken ≤ 2 ^ 60) };
+    ghost invariant =
+    { λ e. IsSound (reading e.framer) × HasRoom e.framer.limits (scanning e.framer)
+    × KeepsFirst (reading e.framer) (scanning e.framer) e.framer.parts × (e.ended ≡ None → e.framer.lines ≤ e.taken)
+    × (e.taken ≤ 2 ^ 60) };
 }
 
 impl<'q> Engine<'q> {
     /// An engine that has read nothing. It takes no memory.
     pub fn open(alloc: Global, limits: Limits, query: &'q Query) -> Result<Engine<'q>, NoMemory>
-        ensures empty { IfOk result (λ e. StandsFor e [] × (rules_of e ≡ rules_for limits query.now) × (e.ended ≡ None) × (e.taken ≡ 0)) }
+        ensures empty { IfOk result
+            (λ e. StandsFor e [] × (rules_of e ≡ rules_for limits query.now) × (e.ended ≡ None) × (e.taken ≡ 0)) }
         ensures opens { IsOk result }
     {
         Ok(Engine {
@@ -171,7 +176,7 @@ impl<'q> Engine<'q> {
     }
 }
 
-// The end of a stream, by what came of its last line.
+/// The end of a stream, by what came of its last line.
 fn last_end(answer: Result<(), End>) -> End
     ensures { result ≡ end_of answer }
 {

@@ -80,7 +80,7 @@ impl<'q> Framer<'q> {
         }
     }
 
-    // Stores a part of the begun line.
+    /// Stores a part of the begun line.
     fn store(&mut self, part: &[u8]) -> Result<(), End>
         requires sound { IsSound (reading self.old) }
         requires room { self.old.lines < 2 ^ 62 }
@@ -108,7 +108,7 @@ impl<'q> Framer<'q> {
         }
     }
 
-    // The begun line is done with.
+    /// The begun line is done with.
     fn pass(&mut self, put: bool)
         requires sound { IsSound (reading self.old) }
         requires room { self.old.lines < 2 ^ 62 }
@@ -125,7 +125,7 @@ impl<'q> Framer<'q> {
         self.opened.clear();
     }
 
-    // What the begun line is as a text.
+    /// What the begun line is as a text.
     fn judge(&mut self) -> Result<Content, NoMemory>
         requires sound { IsSound (reading self.old) }
         requires room { self.old.lines < 2 ^ 62 }
@@ -133,12 +133,14 @@ impl<'q> Framer<'q> {
         requires short { length (begun_of (reading self.old)) ≤ self.old.limits.line }
         ensures reading { reading self.new ≡ reading self.old }
         ensures parts { self.new.parts ≡ self.old.parts }
-        ensures says { IfOk result (λ x. Says (self.old.lines + 1) (begun_of (reading self.old)) self.old.limits.depth x) }
+        ensures says { IfOk result
+            (λ x. Says (self.old.lines + 1) (begun_of (reading self.old)) self.old.limits.depth x) }
         ensures first { IfOk result (λ x. x ≡ Content.Sound → self.old.lines ≡ 0
             → ShowsTree (begun_of (reading self.old)) self.old.limits.depth (scanning self.new).header.elements) }
         ensures later { IfOk result (λ x. x ≡ Content.Sound → 0 < self.old.lines
             → ShowsTree (begun_of (reading self.old)) self.old.limits.depth (scanning self.new).line.elements) }
-        ensures lists { JudgesLine self.old.lines (begun_of (reading self.old)) (scanning self.old) (scanning self.new) result }
+        ensures lists { JudgesLine self.old.lines (begun_of (reading self.old)) (scanning self.old)
+            (scanning self.new) result }
         ensures memory { OnErr result (WantsTokens (self.old.lines + 1) (begun_of (reading self.old))) }
     {
         if self.lines == 0 {
@@ -158,15 +160,19 @@ impl<'q> Framer<'q> {
         }
     }
 
-    // Judges the tree of the first line, and puts it to the sink if it is a valid header.
+    /// Judges the tree of the first line, and puts it to the sink if it is a valid header.
     fn put_header<S: LineSink>(&mut self, lf: bool, sink: &mut S) -> Result<(), End>
         requires sound { IsSound (reading self.old) }
         requires first { self.old.lines ≡ 0 }
-        requires shows { ShowsTree (begun_of (reading self.old)) self.old.limits.depth (scanning self.old).header.elements }
+        requires shows { ShowsTree (begun_of (reading self.old)) self.old.limits.depth
+            (scanning self.old).header.elements }
         ensures counts { S.failures sink.old ≤ S.failures sink.new }
         ensures cause { IsErrOf result End.WriteFault → HasRisen (S.failures sink.old) (S.failures sink.new) }
-        ensures deals { Deals S.takes S.leaves (tree_verdict (reading self.old).rules (self.old.lines + 1) (held_header (reading self.old)) (tree_of self.old.limits.depth (begun_of (reading self.old))))
-            (next_item (reading self.old) (record { content = begun_of (reading self.old); lf = lf })) (reading self.old) sink.old result (reading self.new) sink.new }
+        ensures deals { Deals S.takes S.leaves
+            (tree_verdict (reading self.old).rules (self.old.lines + 1) (held_header (reading self.old))
+            (tree_of self.old.limits.depth (begun_of (reading self.old))))
+            (next_item (reading self.old) (record { content = begun_of (reading self.old); lf = lf }))
+            (reading self.old) sink.old result (reading self.new) sink.new }
         ensures forgets { OnOk result (Forgets (scanning self.old) (scanning self.new)) }
         ensures same { OnErr result (scanning self.new ≡ scanning self.old) }
         ensures keeps { KeepsFirst (reading self.new) (scanning self.new) self.new.parts }
@@ -185,17 +191,21 @@ impl<'q> Framer<'q> {
         Ok(())
     }
 
-    // Judges the tree of a later line, and puts it to the sink if it is a valid feature.
+    /// Judges the tree of a later line, and puts it to the sink if it is a valid feature.
     fn put_feature<S: LineSink>(&mut self, lf: bool, sink: &mut S) -> Result<(), End>
         requires sound { IsSound (reading self.old) }
         requires room { self.old.lines < 2 ^ 62 }
         requires later { 0 < self.old.lines }
-        requires shows { ShowsTree (begun_of (reading self.old)) self.old.limits.depth (scanning self.old).line.elements }
+        requires shows { ShowsTree (begun_of (reading self.old)) self.old.limits.depth
+            (scanning self.old).line.elements }
         requires keeps { KeepsFirst (reading self.old) (scanning self.old) self.old.parts }
         ensures counts { S.failures sink.old ≤ S.failures sink.new }
         ensures cause { IsErrOf result End.WriteFault → HasRisen (S.failures sink.old) (S.failures sink.new) }
-        ensures deals { Deals S.takes S.leaves (tree_verdict (reading self.old).rules (self.old.lines + 1) (held_header (reading self.old)) (tree_of self.old.limits.depth (begun_of (reading self.old))))
-            (next_item (reading self.old) (record { content = begun_of (reading self.old); lf = lf })) (reading self.old) sink.old result (reading self.new) sink.new }
+        ensures deals { Deals S.takes S.leaves
+            (tree_verdict (reading self.old).rules (self.old.lines + 1) (held_header (reading self.old))
+            (tree_of self.old.limits.depth (begun_of (reading self.old))))
+            (next_item (reading self.old) (record { content = begun_of (reading self.old); lf = lf }))
+            (reading self.old) sink.old result (reading self.new) sink.new }
         ensures forgets { OnOk result (Forgets (scanning self.old) (scanning self.new)) }
         ensures same { OnErr result (scanning self.new ≡ scanning self.old) }
         ensures keeps { KeepsFirst (reading self.new) (scanning self.new) self.new.parts }
@@ -221,17 +231,22 @@ impl<'q> Framer<'q> {
         Ok(())
     }
 
-    // Judges the tree of the begun line, and puts it to the sink if it is valid.
+    /// Judges the tree of the begun line, and puts it to the sink if it is valid.
     fn put<S: LineSink>(&mut self, lf: bool, sink: &mut S) -> Result<(), End>
         requires sound { IsSound (reading self.old) }
         requires room { self.old.lines < 2 ^ 62 }
-        requires first { self.old.lines ≡ 0 → ShowsTree (begun_of (reading self.old)) self.old.limits.depth (scanning self.old).header.elements }
-        requires later { 0 < self.old.lines → ShowsTree (begun_of (reading self.old)) self.old.limits.depth (scanning self.old).line.elements }
+        requires first { self.old.lines ≡ 0
+            → ShowsTree (begun_of (reading self.old)) self.old.limits.depth (scanning self.old).header.elements }
+        requires later { 0 < self.old.lines
+            → ShowsTree (begun_of (reading self.old)) self.old.limits.depth (scanning self.old).line.elements }
         requires keeps { KeepsFirst (reading self.old) (scanning self.old) self.old.parts }
         ensures counts { S.failures sink.old ≤ S.failures sink.new }
         ensures cause { IsErrOf result End.WriteFault → HasRisen (S.failures sink.old) (S.failures sink.new) }
-        ensures deals { Deals S.takes S.leaves (tree_verdict (reading self.old).rules (self.old.lines + 1) (held_header (reading self.old)) (tree_of self.old.limits.depth (begun_of (reading self.old))))
-            (next_item (reading self.old) (record { content = begun_of (reading self.old); lf = lf })) (reading self.old) sink.old result (reading self.new) sink.new }
+        ensures deals { Deals S.takes S.leaves
+            (tree_verdict (reading self.old).rules (self.old.lines + 1) (held_header (reading self.old))
+            (tree_of self.old.limits.depth (begun_of (reading self.old))))
+            (next_item (reading self.old) (record { content = begun_of (reading self.old); lf = lf }))
+            (reading self.old) sink.old result (reading self.new) sink.new }
         ensures forgets { OnOk result (Forgets (scanning self.old) (scanning self.new)) }
         ensures same { OnErr result (scanning self.new ≡ scanning self.old) }
         ensures keeps { KeepsFirst (reading self.new) (scanning self.new) self.new.parts }
@@ -243,7 +258,7 @@ impl<'q> Framer<'q> {
         }
     }
 
-    // Judges the begun line, and puts it to the sink if it is kept.
+    /// Judges the begun line, and puts it to the sink if it is kept.
     fn deal<S: LineSink>(&mut self, lf: bool, sink: &mut S) -> Result<(), End>
         requires sound { IsSound (reading self.old) }
         requires room { self.old.lines < 2 ^ 62 }
@@ -253,10 +268,12 @@ impl<'q> Framer<'q> {
         ensures counts { S.failures sink.old ≤ S.failures sink.new }
         ensures cause { IsErrOf result End.WriteFault → HasRisen (S.failures sink.old) (S.failures sink.new) }
         ensures settles { Settles S.takes S.leaves (next_verdict (reading self.old) (begun_of (reading self.old)))
-            (next_item (reading self.old) (record { content = begun_of (reading self.old); lf = lf })) (reading self.old) sink.old result (reading self.new) sink.new }
+            (next_item (reading self.old) (record { content = begun_of (reading self.old); lf = lf }))
+            (reading self.old) sink.old result (reading self.new) sink.new }
         ensures room { HasRoom self.old.limits (scanning self.new) }
         ensures rises { Rises (scanning self.old) (scanning self.new) }
-        ensures scanned { OnOk result ((cs : List (List ℕ)) → length cs ≡ self.old.lines → Scanned self.old.limits cs (scanning self.old)
+        ensures scanned { OnOk result
+            ((cs : List (List ℕ)) → length cs ≡ self.old.lines → Scanned self.old.limits cs (scanning self.old)
             → Scanned self.old.limits (cs ++ begun_of (reading self.old) ∷ []) (scanning self.new)) }
         ensures few { (cs : List (List ℕ)) → length cs ≡ self.old.lines → Scanned self.old.limits cs (scanning self.old)
             → HoldsFew self.old.limits (length (first_of cs (begun_of (reading self.old)))) (scanning self.new) }
@@ -279,7 +296,7 @@ impl<'q> Framer<'q> {
         }
     }
 
-    // Takes the last part of a line that LF ends.
+    /// Takes the last part of a line that LF ends.
     fn take_line<S: LineSink>(&mut self, part: &[u8], sink: &mut S) -> Result<(), End>
         requires sound { IsSound (reading self.old) }
         requires room { self.old.lines < 2 ^ 62 }
@@ -294,13 +311,17 @@ impl<'q> Framer<'q> {
         ensures ok { OnOk result ((p : List ℕ) → Reads (reading self.old) p →
             Advances S.takes (reading self.old) sink.old p (part.now ++ newline ∷ []) (reading self.new) sink.new) }
         ensures err { IfErr result (λ e. (p more : List ℕ) → Reads (reading self.old) p →
-            Stops S.takes S.leaves (reading self.old) sink.old p (part.now ++ newline ∷ more) e (reading self.new) sink.new) }
+            Stops S.takes S.leaves (reading self.old) sink.old p (part.now ++ newline ∷ more) e
+            (reading self.new) sink.new) }
         ensures room { HasRoom self.old.limits (scanning self.new) }
         ensures rises { Rises (scanning self.old) (scanning self.new) }
-        ensures scanned { OnOk result ((p : List ℕ) → Reads (reading self.old) p → Scanned self.old.limits (closed p) (scanning self.old)
+        ensures scanned { OnOk result
+            ((p : List ℕ) → Reads (reading self.old) p → Scanned self.old.limits (closed p) (scanning self.old)
             → Scanned self.old.limits (closed (p ++ (part.now ++ newline ∷ []))) (scanning self.new)) }
-        ensures held { OnErr result ((p more : List ℕ) → Reads (reading self.old) p → Scanned self.old.limits (closed p) (scanning self.old)
-            → HoldsFew self.old.limits (length (first_content (p ++ (part.now ++ newline ∷ more)))) (scanning self.new)) }
+        ensures held { OnErr result
+            ((p more : List ℕ) → Reads (reading self.old) p → Scanned self.old.limits (closed p) (scanning self.old)
+            → HoldsFew self.old.limits (length (first_content (p ++ (part.now ++ newline ∷ more))))
+            (scanning self.new)) }
     {
         self.store(part)?;
         self.deal(true, sink)?;
@@ -324,9 +345,11 @@ impl<'q> Framer<'q> {
             Stops S.takes S.leaves (reading self.old) sink.old p piece.now e (reading self.new) sink.new) }
         ensures room { HasRoom self.old.limits (scanning self.new) }
         ensures rises { Rises (scanning self.old) (scanning self.new) }
-        ensures scanned { OnOk result ((p : List ℕ) → Reads (reading self.old) p → Scanned self.old.limits (closed p) (scanning self.old)
+        ensures scanned { OnOk result
+            ((p : List ℕ) → Reads (reading self.old) p → Scanned self.old.limits (closed p) (scanning self.old)
             → Scanned self.old.limits (closed (p ++ piece.now)) (scanning self.new)) }
-        ensures held { OnErr result ((p : List ℕ) → Reads (reading self.old) p → Scanned self.old.limits (closed p) (scanning self.old)
+        ensures held { OnErr result
+            ((p : List ℕ) → Reads (reading self.old) p → Scanned self.old.limits (closed p) (scanning self.old)
             → HoldsFew self.old.limits (length (first_content (p ++ piece.now))) (scanning self.new)) }
     {
         let mut rest = piece;
@@ -353,9 +376,11 @@ impl<'q> Framer<'q> {
             Finishes S.takes S.leaves (reading self.old) sink.old p result (reading self.new) sink.new }
         ensures room { HasRoom self.old.limits (scanning self.new) }
         ensures rises { Rises (scanning self.old) (scanning self.new) }
-        ensures scanned { OnOk result ((p : List ℕ) → Reads (reading self.old) p → Scanned self.old.limits (closed p) (scanning self.old)
+        ensures scanned { OnOk result
+            ((p : List ℕ) → Reads (reading self.old) p → Scanned self.old.limits (closed p) (scanning self.old)
             → Scanned self.old.limits (contents p) (scanning self.new)) }
-        ensures held { (p : List ℕ) → Reads (reading self.old) p → Scanned self.old.limits (closed p) (scanning self.old)
+        ensures held { (p : List ℕ) → Reads (reading self.old) p
+            → Scanned self.old.limits (closed p) (scanning self.old)
             → HoldsFew self.old.limits (length (first_content p)) (scanning self.new) }
     {
         if !self.begun().is_empty() {
@@ -416,7 +441,7 @@ impl<'q> Framer<'q> {
     }
 }
 
-// The end that a finding on a line makes.
+/// The end that a finding on a line makes.
 fn refused(line: u64, finding: Finding) -> End
     ensures { result ≡ End.Refused line finding.place finding.reason }
 {

@@ -19,7 +19,7 @@ pub enum Content {
     Sound,
 }
 
-// Whether there are spaces, tabs and CR alone.
+/// Whether there are spaces, tabs and CR alone.
 fn is_all_blank(content: &[u8]) -> bool
     ensures { result ≡ list_all is_blank_byte content.now }
 {
@@ -28,7 +28,7 @@ fn is_all_blank(content: &[u8]) -> bool
         .all(|b| *b == b' ' || *b == b'\t' || *b == b'\r')
 }
 
-// Whether a line is blank, which the first one never is.
+/// Whether a line is blank, which the first one never is.
 fn is_blank(number: u64, content: &[u8]) -> bool
     ensures { result ≡ is_blank_line number content.now }
 {

@@ -30,17 +30,23 @@ impl<'w, W: Write + Drop> LentSink<'w, W> {
 impl<W: Write + Drop> LineSink for LentSink<'_, W> {
     ghost use Rattle.cj_stream.specs.LentSink.{lent_writer, lent_name, lent_failures};
 
-    ghost takes = { λ a i b. (lent_name b ≡ lent_name a) × Appends (W.contents (lent_writer a)) (W.contents (lent_writer b)) (raw_item i) };
+    ghost takes =
+    { λ a i b. (lent_name b ≡ lent_name a)
+    × Appends (W.contents (lent_writer a)) (W.contents (lent_writer b)) (raw_item i) };
 
-    ghost leaves = { λ a i b. (lent_name b ≡ lent_name a) × AppendsPart (W.contents (lent_writer a)) (W.contents (lent_writer b)) (raw_item i) };
+    ghost leaves =
+    { λ a i b. (lent_name b ≡ lent_name a)
+    × AppendsPart (W.contents (lent_writer a)) (W.contents (lent_writer b)) (raw_item i) };
 
     ghost failures = { lent_failures };
 
     fn header(&mut self, header: &Header<'_>, lf: bool) -> Result<(), WriteFault>
         ensures ok { OnOk result ((lent_name self.new ≡ lent_name self.old)
-            × Appends (W.contents (lent_writer self.old)) (W.contents (lent_writer self.new)) (raw_item (header_item header.now lf))) }
+            × Appends (W.contents (lent_writer self.old)) (W.contents (lent_writer self.new))
+            (raw_item (header_item header.now lf))) }
         ensures fault { OnErr result ((lent_name self.new ≡ lent_name self.old)
-            × AppendsPart (W.contents (lent_writer self.old)) (W.contents (lent_writer self.new)) (raw_item (header_item header.now lf))) }
+            × AppendsPart (W.contents (lent_writer self.old)) (W.contents (lent_writer self.new))
+            (raw_item (header_item header.now lf))) }
         ensures cause { OnErr result (HasRisen (lent_failures self.old) (lent_failures self.new)) }
         ensures counts { lent_failures self.old ≤ lent_failures self.new }
         ensures counted { lent_failures self.new ≡ counted (lent_failures self.old) result }
@@ -50,9 +56,11 @@ impl<W: Write + Drop> LineSink for LentSink<'_, W> {
 
     fn put(&mut self, feature: &Feature<'_>, lf: bool) -> Result<(), WriteFault>
         ensures ok { OnOk result ((lent_name self.new ≡ lent_name self.old)
-            × Appends (W.contents (lent_writer self.old)) (W.contents (lent_writer self.new)) (raw_item (feature_item feature.now lf))) }
+            × Appends (W.contents (lent_writer self.old)) (W.contents (lent_writer self.new))
+            (raw_item (feature_item feature.now lf))) }
         ensures fault { OnErr result ((lent_name self.new ≡ lent_name self.old)
-            × AppendsPart (W.contents (lent_writer self.old)) (W.contents (lent_writer self.new)) (raw_item (feature_item feature.now lf))) }
+            × AppendsPart (W.contents (lent_writer self.old)) (W.contents (lent_writer self.new))
+            (raw_item (feature_item feature.now lf))) }
         ensures cause { OnErr result (HasRisen (lent_failures self.old) (lent_failures self.new)) }
         ensures counts { lent_failures self.old ≤ lent_failures self.new }
         ensures counted { lent_failures self.new ≡ counted (lent_failures self.old) result }

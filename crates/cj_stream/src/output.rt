@@ -14,8 +14,8 @@ use thiserror::Error;
 #[error("a line could not be written")]
 pub struct WriteFault;
 
-// What a write of some bytes says by its answer: how many it took, or that it failed. Each error is a
-// failure, also `Interrupted`, and so is a write that took none.
+/// What a write of some bytes says by its answer: how many it took, or that it failed. Each error is a
+/// failure, also `Interrupted`, and so is a write that took none.
 fn bytes_taken(answer: io::Result<usize>) -> Result<usize, WriteFault>
     ensures { result ≡ taken_by answer }
 {
@@ -25,7 +25,7 @@ fn bytes_taken(answer: io::Result<usize>) -> Result<usize, WriteFault>
     }
 }
 
-// What a flush says by its answer. Each error is a failure.
+/// What a flush says by its answer. Each error is a failure.
 fn flushed(answer: io::Result<()>) -> Result<(), WriteFault>
     ensures { result ≡ flushed_by answer }
 {
@@ -73,13 +73,16 @@ impl<W: Write + Drop> Output<W> {
         writer
     }
 
-    // Writes once, and counts a failure.
+    /// Writes once, and counts a failure.
     fn write(&mut self, bytes: &[u8]) -> Result<usize, WriteFault>
         requires { 0 < length bytes.now }
         ensures some { IfOk result (λ n. 0 < n) }
         ensures bound { IfOk result (λ n. n ≤ length bytes.now) }
-        ensures ok { IfOk result (λ n. Appends (W.contents (output_writer self.old)) (W.contents (output_writer self.new)) (take n bytes.now)) }
-        ensures fault { OnErr result (Keeps (W.contents (output_writer self.old)) (W.contents (output_writer self.new))) }
+        ensures ok { IfOk result
+            (λ n. Appends (W.contents (output_writer self.old)) (W.contents (output_writer self.new))
+            (take n bytes.now)) }
+        ensures fault { OnErr result
+            (Keeps (W.contents (output_writer self.old)) (W.contents (output_writer self.new))) }
         ensures cause { OnErr result (HasRisen (output_failures self.old) (output_failures self.new)) }
         ensures counts { output_failures self.old ≤ output_failures self.new }
         ensures noted { flush_answer self.new ≡ flush_answer self.old }
@@ -95,8 +98,10 @@ impl<W: Write + Drop> Output<W> {
     /// Writes all of the bytes, by one write after another, or as many as the writer takes before it
     /// fails. An error of a write, also `Interrupted`, and a write that takes none are failures.
     pub fn write_whole(&mut self, bytes: &[u8]) -> Result<(), WriteFault>
-        ensures ok { OnOk result (Appends (W.contents (output_writer self.old)) (W.contents (output_writer self.new)) bytes.now) }
-        ensures fault { OnErr result (AppendsPart (W.contents (output_writer self.old)) (W.contents (output_writer self.new)) bytes.now) }
+        ensures ok { OnOk result
+            (Appends (W.contents (output_writer self.old)) (W.contents (output_writer self.new)) bytes.now) }
+        ensures fault { OnErr result
+            (AppendsPart (W.contents (output_writer self.old)) (W.contents (output_writer self.new)) bytes.now) }
         ensures cause { OnErr result (HasRisen (output_failures self.old) (output_failures self.new)) }
         ensures failures { RisesOnErr result (output_failures self.old) (output_failures self.new) }
         ensures counts { output_failures self.old ≤ output_failures self.new }
@@ -118,7 +123,8 @@ impl<W: Write + Drop> Output<W> {
     pub fn write_line(&mut self, content: &[u8], lf: bool) -> Result<(), WriteFault>
         ensures ok { OnOk result (Appends (W.contents (output_writer self.old)) (W.contents (output_writer self.new))
             (raw (record { content = content.now; lf = lf }))) }
-        ensures fault { OnErr result (AppendsPart (W.contents (output_writer self.old)) (W.contents (output_writer self.new))
+        ensures fault { OnErr result
+            (AppendsPart (W.contents (output_writer self.old)) (W.contents (output_writer self.new))
             (raw (record { content = content.now; lf = lf }))) }
         ensures cause { OnErr result (HasRisen (output_failures self.old) (output_failures self.new)) }
         ensures counts { output_failures self.old ≤ output_failures self.new }

@@ -170,7 +170,7 @@ impl Query {
             && self.is_in(feature, header)
     }
 
-    // Whether the part on ids holds.
+    /// Whether the part on ids holds.
     #[tactic(auto, unfolding(crate::specs::Query::criteria))]
     fn has_id(&self, feature: &Feature) -> bool
         ensures { result ≡ if_set (λ ids. id_holds ids (feature_tree feature.now)) (criteria self.now).ids }
@@ -181,7 +181,7 @@ impl Query {
         }
     }
 
-    // Whether the part on types holds.
+    /// Whether the part on types holds.
     #[tactic(auto, unfolding(crate::specs::Query::criteria))]
     fn has_type(&self, feature: &Feature) -> bool
         ensures { result ≡ if_set (λ types. type_holds types (feature_tree feature.now)) (criteria self.now).types }
@@ -192,10 +192,12 @@ impl Query {
         }
     }
 
-    // Whether the part on LoDs holds.
+    /// Whether the part on LoDs holds.
     #[tactic(auto, unfolding(crate::specs::Query::criteria))]
     fn has_lod(&self, feature: &Feature, header: &Header) -> bool
-        ensures { result ≡ if_set (λ lods. lod_holds lods (header_tree header.now) (feature_tree feature.now)) (criteria self.now).lods }
+        ensures { result
+            ≡ if_set (λ lods. lod_holds lods (header_tree header.now) (feature_tree feature.now))
+            (criteria self.now).lods }
     {
         match &self.lods {
             Some(lods) => holding::has_lod(lods.as_slice(), feature, header),
@@ -203,11 +205,12 @@ impl Query {
         }
     }
 
-    // Whether the part on the box holds.
+    /// Whether the part on the box holds.
     #[tactic(auto, unfolding(crate::specs::Query::criteria))]
     fn is_in(&self, feature: &Feature, header: &Header) -> bool
         requires { has_box header.now ≡ needs_box (criteria self.now) }
-        ensures { result ≡ if_set (λ box. in_box box (header_tree header.now) (feature_tree feature.now)) (criteria self.now).box }
+        ensures { result
+            ≡ if_set (λ box. in_box box (header_tree header.now) (feature_tree feature.now)) (criteria self.now).box }
     {
         match &self.bounds {
             Some(bounds) => extent::is_in(bounds, feature, header),

@@ -40,7 +40,8 @@ pub struct Outcome {
 impl Outcome {
     /// The outcome of a run that was refused its memory before the first read.
     fn refused() -> Outcome
-        ensures { result ≡ record { lines = 0; kept = 0; peaks = record { bytes = 0; tokens = 0; depth = 0 }; ended = End.Memory } }
+        ensures { result
+            ≡ record { lines = 0; kept = 0; peaks = record { bytes = 0; tokens = 0; depth = 0 }; ended = End.Memory } }
     {
         Outcome {
             lines: 0,
@@ -55,8 +56,8 @@ impl Outcome {
     }
 }
 
-// Feeds what the source gives, by pieces of at most the buffer's length, and finishes at its end. The
-// first read that fails is the end.
+/// Feeds what the source gives, by pieces of at most the buffer's length, and finishes at its end. The
+/// first read that fails is the end.
 fn drive<R: Read, S: LineSink>(
     engine: &mut Engine,
     buffer: &mut [u8],
@@ -69,8 +70,10 @@ fn drive<R: Read, S: LineSink>(
     requires fresh { IsFresh engine.old }
     ensures rules { rules_of engine.new ≡ rules_of engine.old }
     ensures same_reference { source_name source.new ≡ source_name source.old }
-    ensures runs { (r : List ℕ) × Consumes (R.remaining (source_reader source.old)) (R.remaining (source_reader source.new)) r
-        × Runs S.takes S.leaves (rules_of engine.old) r (IsAtEnd (R.remaining (source_reader source.new))) sink.old sink.new
+    ensures runs { (r : List ℕ)
+        × Consumes (R.remaining (source_reader source.old)) (R.remaining (source_reader source.new)) r
+        × Runs S.takes S.leaves (rules_of engine.old) r
+        (IsAtEnd (R.remaining (source_reader source.new))) sink.old sink.new
         (lines_of engine.new) engine.new.reading.kept (peaks_of engine.new) result }
     ensures cause { result ≡ End.WriteFault → HasRisen (S.failures sink.old) (S.failures sink.new) }
     ensures reads { reads_of source.new ≤ MOST_READS }

@@ -74,8 +74,12 @@ impl<W: Write + Drop> LineSink for WriteSink<W> {
     ghost failures = { failures_of };
 
     fn header(&mut self, header: &Header<'_>, lf: bool) -> Result<(), WriteFault>
-        ensures ok { OnOk result (Appends (W.contents (writer_of self.old)) (W.contents (writer_of self.new)) (raw_item (header_item header.now lf))) }
-        ensures fault { OnErr result (AppendsPart (W.contents (writer_of self.old)) (W.contents (writer_of self.new)) (raw_item (header_item header.now lf))) }
+        ensures ok { OnOk result
+            (Appends (W.contents (writer_of self.old)) (W.contents (writer_of self.new))
+            (raw_item (header_item header.now lf))) }
+        ensures fault { OnErr result
+            (AppendsPart (W.contents (writer_of self.old)) (W.contents (writer_of self.new))
+            (raw_item (header_item header.now lf))) }
         ensures cause { OnErr result (HasRisen (failures_of self.old) (failures_of self.new)) }
         ensures counts { failures_of self.old ≤ failures_of self.new }
         ensures counted { failures_of self.new ≡ counted (failures_of self.old) result }
@@ -84,8 +88,12 @@ impl<W: Write + Drop> LineSink for WriteSink<W> {
     }
 
     fn put(&mut self, feature: &Feature<'_>, lf: bool) -> Result<(), WriteFault>
-        ensures ok { OnOk result (Appends (W.contents (writer_of self.old)) (W.contents (writer_of self.new)) (raw_item (feature_item feature.now lf))) }
-        ensures fault { OnErr result (AppendsPart (W.contents (writer_of self.old)) (W.contents (writer_of self.new)) (raw_item (feature_item feature.now lf))) }
+        ensures ok { OnOk result
+            (Appends (W.contents (writer_of self.old)) (W.contents (writer_of self.new))
+            (raw_item (feature_item feature.now lf))) }
+        ensures fault { OnErr result
+            (AppendsPart (W.contents (writer_of self.old)) (W.contents (writer_of self.new))
+            (raw_item (feature_item feature.now lf))) }
         ensures cause { OnErr result (HasRisen (failures_of self.old) (failures_of self.new)) }
         ensures counts { failures_of self.old ≤ failures_of self.new }
         ensures counted { failures_of self.new ≡ counted (failures_of self.old) result }

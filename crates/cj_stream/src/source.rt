@@ -11,8 +11,8 @@ use std::io::Read;
 #[derive(Clone, Copy, Debug, PartialEq, Eq)]
 pub struct ReadFault;
 
-// What a read says by its answer: how many bytes it gave, or that it failed. Each error is a failure,
-// also `Interrupted`.
+/// What a read says by its answer: how many bytes it gave, or that it failed. Each error is a failure,
+/// also `Interrupted`.
 fn bytes_given(answer: io::Result<usize>) -> Result<usize, ReadFault>
     ensures { result ≡ given_by answer }
 {
@@ -54,7 +54,8 @@ impl<'r, R: Read> Source<'r, R> {
         requires few { reads_of self.old < 2 ^ 60 }
         ensures same_reference { source_name self.new ≡ source_name self.old }
         ensures bound { ReadsAtMost result buffer.new }
-        ensures bytes { ReadConsumes (R.remaining (source_reader self.old)) (R.remaining (source_reader self.new)) result buffer.new }
+        ensures bytes { ReadConsumes (R.remaining (source_reader self.old))
+            (R.remaining (source_reader self.new)) result buffer.new }
         ensures counted { reads_of self.new ≡ reads_of self.old + 1 }
         ensures failed { has_failed self.new ≡ is_err result }
     {

@@ -25,7 +25,8 @@ pub fn tally_stream<R: Read>(
     query: &Query,
 ) -> (TallySink, Outcome)
     ensures { (r : List ℕ) × Consumes (R.remaining reader.old) (R.remaining reader.new) r
-        × Account (rules_for limits query.now) r (IsAtEnd (R.remaining reader.new)) result.1.lines result.1.kept result.1.peaks result.1.ended
+        × Account (rules_for limits query.now) r
+        (IsAtEnd (R.remaining reader.new)) result.1.lines result.1.kept result.1.peaks result.1.ended
         × TalliesRun (rules_for limits query.now) r result.1.ended result.0 }
 {
     let mut sink = TallySink::new();
@@ -39,7 +40,8 @@ pub fn tally_pieces(engine: &mut Engine, pieces: &[&[u8]]) -> (TallySink, Copied
     requires fresh { IsFresh engine.old }
     requires short { length (joined (map (λ piece. piece.now) pieces.now)) ≤ 2 ^ 60 }
     ensures fed { Fed (rules_of engine.old) (map (λ piece. piece.now) pieces.now) result.1 engine.new }
-    ensures tallies { TalliesPieces (rules_of engine.old) (map (λ piece. piece.now) pieces.now) result.1.taken result.1.ended result.0 }
+    ensures tallies { TalliesPieces (rules_of engine.old)
+        (map (λ piece. piece.now) pieces.now) result.1.taken result.1.ended result.0 }
 {
     let mut sink = TallySink::new();
     let copied = put_pieces(engine, pieces, &mut sink);

@@ -48,7 +48,7 @@ pub fn check_written(rt: &impl Abort, written: &Written, status: u8, out: &[u8],
     check_bytes(rt, &written.err, err, "standard error", 0);
 }
 
-// The program's name and these words.
+/// The program's name and these words.
 fn words(alloc: Global, parts: &[&str]) -> Result<Vec<String>, Fail> {
     let mut words = Vec::new(alloc);
     words.push(String::from_str(alloc, "cityseq")?)?;

@@ -28,7 +28,7 @@ fn an_empty_input_has_no_header(rt: HostRuntime) -> Result<(), Fail> {
     Ok(())
 }
 
-// Filters what a reader gives to a writer, and answers the status.
+/// Filters what a reader gives to a writer, and answers the status.
 fn filter_to<W: Write, E: Write>(
     alloc: Global,
     limits: Limits,
@@ -46,7 +46,7 @@ fn filter_to<W: Write, E: Write>(
     )
 }
 
-// Filters what a reader gives.
+/// Filters what a reader gives.
 fn filtered(alloc: Global, limits: Limits, reader: &mut SlowReader) -> Written {
     let mut out = Vec::new(alloc);
     let mut err = Vec::new(alloc);
@@ -54,7 +54,7 @@ fn filtered(alloc: Global, limits: Limits, reader: &mut SlowReader) -> Written {
     Written { status, out, err }
 }
 
-// Filters a header and a text, of which the header alone is written, since a line is refused.
+/// Filters a header and a text, of which the header alone is written, since a line is refused.
 fn check_refused_line(
     rt: &impl Abort,
     alloc: Global,
@@ -103,7 +103,7 @@ fn a_read_fault(rt: HostRuntime) -> Result<(), Fail> {
     Ok(())
 }
 
-// Filters a text to a writer that fails, of which so much is written.
+/// Filters a text to a writer that fails, of which so much is written.
 fn check_write_fault(
     rt: &impl Abort,
     alloc: Global,
@@ -132,7 +132,7 @@ fn a_write_fault(rt: HostRuntime) -> Result<(), Fail> {
     check_write_fault(&rt, rt.alloc(), HEADER, out, b"")
 }
 
-// Filters a text to a writer whose flush fails, of which so much is written.
+/// Filters a text to a writer whose flush fails, of which so much is written.
 fn check_failed_flush_of(
     rt: &impl Abort,
     alloc: Global,
@@ -154,7 +154,7 @@ fn a_failed_flush_is_a_write_fault(rt: HostRuntime) -> Result<(), Fail> {
     check_failed_flush(&rt, rt.alloc(), b"")
 }
 
-// A read fails after the header, and then the flush: the flush is told.
+/// A read fails after the header, and then the flush: the flush is told.
 #[test]
 fn a_failed_read_before_a_failed_flush(rt: HostRuntime) -> Result<(), Fail> {
     let text = joined(rt.alloc(), &[HEADER, b"\n", FEATURE, b"\n"])?;
@@ -177,7 +177,7 @@ fn a_failed_read_before_a_failed_flush(rt: HostRuntime) -> Result<(), Fail> {
     Ok(())
 }
 
-// A line is refused, and then the flush fails: the flush is told.
+/// A line is refused, and then the flush fails: the flush is told.
 #[test]
 fn a_refused_line_before_a_failed_flush(rt: HostRuntime) -> Result<(), Fail> {
     let text = joined(rt.alloc(), &[HEADER, b"\n[]\n"])?;
@@ -185,7 +185,7 @@ fn a_refused_line_before_a_failed_flush(rt: HostRuntime) -> Result<(), Fail> {
     check_failed_flush_of(&rt, rt.alloc(), &text, &header)
 }
 
-// Filters nothing, with a standard error that fails at this write.
+/// Filters nothing, with a standard error that fails at this write.
 fn check_failing_error(rt: &impl Abort, alloc: Global, fails_at: u64) -> Result<(), Fail> {
     let limits = Limits::new(8_388_608, 64)?;
     let mut out = Vec::new(alloc);

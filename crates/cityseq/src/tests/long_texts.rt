@@ -10,7 +10,7 @@ use std::io::BufWriter;
 use std::process::Abort;
 use std::test::Fail;
 
-// A header, and this many features.
+/// A header, and this many features.
 fn many_features(alloc: Global, features: usize) -> Result<Vec<u8>, Fail> {
     let mut text = joined(alloc, &[HEADER, b"\n"])?;
     for _i in 0..features {
@@ -20,7 +20,7 @@ fn many_features(alloc: Global, features: usize) -> Result<Vec<u8>, Fail> {
     Ok(text)
 }
 
-// Filters a text to a buffer over a writer, as the program does, and answers the status.
+/// Filters a text to a buffer over a writer, as the program does, and answers the status.
 fn filter_through(
     alloc: Global,
     text: &[u8],
@@ -39,7 +39,7 @@ fn filter_through(
     ))
 }
 
-// Filters a text to a writer that takes `step` bytes a write, and fails at this write, or, at 0, at the flush.
+/// Filters a text to a writer that takes `step` bytes a write, and fails at this write, or, at 0, at the flush.
 fn check_fault(
     rt: &impl Abort,
     alloc: Global,
@@ -73,7 +73,7 @@ fn a_writer_that_fails_behind_a_buffer(rt: HostRuntime) -> Result<(), Fail> {
     check_fault(&rt, rt.alloc(), HEADER, 1, 140)
 }
 
-// Filters a text to a writer that takes `step` bytes a write.
+/// Filters a text to a writer that takes `step` bytes a write.
 fn check_whole(rt: &impl Abort, alloc: Global, text: &[u8], step: usize) -> Result<(), Fail> {
     let mut writer = SlowWriter::new(Vec::new(alloc), step);
     let mut err = Vec::new(alloc);
@@ -95,7 +95,7 @@ fn a_writer_that_takes_a_few_bytes_of_a_long_text(rt: HostRuntime) -> Result<(),
 
 // ---- long words
 
-// This many texts with a comma after each, and a last one.
+/// This many texts with a comma after each, and a last one.
 fn listed(alloc: Global, text: &str, times: usize, last: &str) -> Result<String, Fail> {
     let mut all = String::new(alloc);
     for _i in 0..times {
@@ -106,7 +106,7 @@ fn listed(alloc: Global, text: &str, times: usize, last: &str) -> Result<String,
     Ok(all)
 }
 
-// Filters a header and a feature by an option, by which the feature is kept or not.
+/// Filters a header and a feature by an option, by which the feature is kept or not.
 fn check_kept(
     rt: &impl Abort,
     alloc: Global,
@@ -122,7 +122,7 @@ fn check_kept(
     Ok(())
 }
 
-// Of very many texts the last is the one that the feature has, or none is.
+/// Of very many texts the last is the one that the feature has, or none is.
 fn check_last(
     rt: &impl Abort,
     alloc: Global,
@@ -154,7 +154,7 @@ fn many_texts_are_asked_for(rt: HostRuntime) -> Result<(), Fail> {
     Ok(())
 }
 
-// A number with so many digits behind its point is no multiple of 10^-18 where the last is no 0.
+/// A number with so many digits behind its point is no multiple of 10^-18 where the last is no 0.
 #[test]
 fn long_boxes_are_asked_for(rt: HostRuntime) -> Result<(), Fail> {
     let zeros = listed(rt.alloc(), "", 0, "0,0,1001,2001.")?;
@@ -173,7 +173,7 @@ fn long_boxes_are_asked_for(rt: HostRuntime) -> Result<(), Fail> {
 
 // ---- the usual limits
 
-// Bytes that are alike.
+/// Bytes that are alike.
 fn alike(alloc: Global, byte: u8, count: usize) -> Result<Vec<u8>, Fail> {
     let mut bytes = Vec::new(alloc);
     for _i in 0..count {
@@ -182,7 +182,7 @@ fn alike(alloc: Global, byte: u8, count: usize) -> Result<Vec<u8>, Fail> {
     Ok(bytes)
 }
 
-// Each command judges a header and a line without limits, and says this.
+/// Each command judges a header and a line without limits, and says this.
 fn check_refused(rt: &impl Abort, alloc: Global, line: &[u8], told: &[u8]) -> Result<(), Fail> {
     let header = joined(alloc, &[HEADER, b"\n"])?;
     let input = joined(alloc, &[&header, line])?;
@@ -198,7 +198,7 @@ fn check_refused(rt: &impl Abort, alloc: Global, line: &[u8], told: &[u8]) -> Re
     Ok(())
 }
 
-// 8,388,608 bytes and 64 open containers are the most.
+/// 8,388,608 bytes and 64 open containers are the most.
 #[test]
 fn the_usual_limits(rt: HostRuntime) -> Result<(), Fail> {
     let told = b"line 2, byte 8388608: 2 line too long\n";

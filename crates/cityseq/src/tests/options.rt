@@ -21,7 +21,7 @@ const ODD_HEADER: &[u8] =
 const MIXED: &[u8] =
     b"{\"type\":\"CityJSONFeature\",\"id\":\"m\",\"CityObjects\":{\"m\":{\"type\":\"Road\",\"geometry\":[{\"type\":\"MultiPoint\",\"lod\":\"x\",\"boundaries\":[0]},{\"type\":\"MultiPoint\",\"lod\":\"\\u0032.2\",\"boundaries\":[1]},{\"type\":\"MultiPoint\",\"lod\":\"\",\"boundaries\":[1]}]},\"n\":{\"type\":\"Bridge\"}},\"vertices\":[[-5,7,-9],[3,-2,-1]]}";
 
-// The words ask for something of an input, which has to be answered so.
+/// The words ask for something of an input, which has to be answered so.
 fn check_command(
     rt: &impl Abort,
     alloc: Global,
@@ -36,8 +36,8 @@ fn check_command(
     Ok(())
 }
 
-// The same, over a header and a feature; where the feature is kept, both are written, and else the
-// header.
+/// The same, over a header and a feature; where the feature is kept, both are written, and else the
+/// header.
 fn check_kept(rt: &impl Abort, alloc: Global, arguments: &[&str], is_kept: bool) -> Result<(), Fail> {
     let header = joined(alloc, &[HEADER, b"\n"])?;
     let input = joined(alloc, &[HEADER, b"\n", FEATURE, b"\n"])?;
@@ -45,7 +45,7 @@ fn check_kept(rt: &impl Abort, alloc: Global, arguments: &[&str], is_kept: bool)
     check_command(rt, alloc, arguments, &input, 0, out, b"")
 }
 
-// The same, where nothing is written but a line on standard error.
+/// The same, where nothing is written but a line on standard error.
 fn check_told(
     rt: &impl Abort,
     alloc: Global,
@@ -165,7 +165,7 @@ fn a_box_is_asked_for(rt: HostRuntime) -> Result<(), Fail> {
 const SEVERAL: &[u8] =
     b"{\"type\":\"CityJSONFeature\",\"id\":\"b1\",\"CityObjects\":{\"b1\":{\"type\":\"Building\",\"geometry\":[{\"type\":\"MultiPoint\",\"lod\":\"1\",\"boundaries\":[0]},{\"type\":\"MultiPoint\",\"lod\":\"1.2\",\"boundaries\":[1]}]},\"r1\":{\"type\":\"Road\",\"geometry\":[{\"type\":\"MultiPoint\",\"lod\":\"2.2\",\"boundaries\":[0]}]}},\"vertices\":[[0,0,0],[1000,1000,0]]}";
 
-// The same as for the usual feature.
+/// The same as for the usual feature.
 fn check_several(
     rt: &impl Abort,
     alloc: Global,
@@ -236,7 +236,7 @@ fn a_query_that_cannot_be_asked(rt: HostRuntime) -> Result<(), Fail> {
     )
 }
 
-// Nothing is read or written, the status is 2, and standard error is told so much.
+/// Nothing is read or written, the status is 2, and standard error is told so much.
 fn check_wrong_words(
     rt: &impl Abort,
     alloc: Global,
@@ -327,7 +327,7 @@ fn info_reports_odd_numbers(rt: HostRuntime) -> Result<(), Fail> {
     Ok(())
 }
 
-// Asks for a text of the program's own, to a writer that fails; of the text a front is written.
+/// Asks for a text of the program's own, to a writer that fails; of the text a front is written.
 fn check_failing_text(
     rt: &impl Abort,
     alloc: Global,

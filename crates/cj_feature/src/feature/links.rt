@@ -54,7 +54,8 @@ pub fn is_group(object: Node) -> bool
 
 /// A child is in the feature, and lists the city object of this name as a parent.
 pub fn check_child(objects: Node, name: Node, item: Node, found: &mut Least)
-    ensures { found.new ≡ least found.old (child (members_of (tree objects.entry)) (tree name.entry) (tree item.entry)) }
+    ensures { found.new
+        ≡ least found.old (child (members_of (tree objects.entry)) (tree name.entry) (tree item.entry)) }
 {
     match item.kind() {
         Kind::Text => {
@@ -70,7 +71,8 @@ pub fn check_child(objects: Node, name: Node, item: Node, found: &mut Least)
 
 /// A parent that is in the feature lists the city object of this name as a child.
 pub fn check_parent(objects: Node, name: Node, item: Node, found: &mut Least)
-    ensures { found.new ≡ least found.old (parent (members_of (tree objects.entry)) (tree name.entry) (tree item.entry)) }
+    ensures { found.new
+        ≡ least found.old (parent (members_of (tree objects.entry)) (tree name.entry) (tree item.entry)) }
 {
     if is_known(objects, item) {
         if !lists(objects, "children", item, name) {
@@ -81,7 +83,8 @@ pub fn check_parent(objects: Node, name: Node, item: Node, found: &mut Least)
 
 /// The children of a city object, unless it is a group, which may reach over features.
 fn check_children(objects: Node, name: Node, object: Node, found: &mut Least)
-    ensures { found.new ≡ least found.old (children (members_of (tree objects.entry)) (trees (name.entry, object.entry))) }
+    ensures { found.new
+        ≡ least found.old (children (members_of (tree objects.entry)) (trees (name.entry, object.entry))) }
 {
     let Some(value) = object.get("children") else {
         return;
@@ -96,7 +99,8 @@ fn check_children(objects: Node, name: Node, object: Node, found: &mut Least)
 
 /// The parents of a city object.
 fn check_parents(objects: Node, name: Node, object: Node, found: &mut Least)
-    ensures { found.new ≡ least found.old (parents (members_of (tree objects.entry)) (trees (name.entry, object.entry))) }
+    ensures { found.new
+        ≡ least found.old (parents (members_of (tree objects.entry)) (trees (name.entry, object.entry))) }
 {
     let Some(value) = object.get("parents") else {
         return;
@@ -145,7 +149,8 @@ fn check_part(objects: Node, name: Node, object: Node, found: &mut Least)
 
 /// The links of a city object. Where it lists no parents, nothing can be wrong with them.
 fn check_object_links(objects: Node, name: Node, object: Node, found: &mut Least)
-    ensures { found.new ≡ least found.old (object_links (members_of (tree objects.entry)) (trees (name.entry, object.entry))) }
+    ensures { found.new
+        ≡ least found.old (object_links (members_of (tree objects.entry)) (trees (name.entry, object.entry))) }
 {
     check_children(objects, name, object, found);
     if object.get("parents").is_none() {
@@ -194,7 +199,8 @@ fn has_many(objects: Node) -> bool {
 
 /// The links of few city objects.
 fn check_few_links(objects: Node, found: &mut Least)
-    ensures { let all = members_of (tree objects.entry) in found.new ≡ least found.old (flat_map (object_links all) all) }
+    ensures { let all = members_of (tree objects.entry) in
+        found.new ≡ least found.old (flat_map (object_links all) all) }
 {
     for (name, object) in objects.members() {
         check_object_links(objects, name, object, found);

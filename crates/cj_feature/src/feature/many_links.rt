@@ -26,7 +26,8 @@ fn check_child<'a>(
     found: &mut Least,
 )
     requires { ArePairsOf (chars (codes "parents")) (members_of (tree objects)) table.old.pairs }
-    ensures found { found.new ≡ least found.old (child (members_of (tree objects.entry)) (tree ahead.entry.name) (tree item.entry)) }
+    ensures found { found.new
+        ≡ least found.old (child (members_of (tree objects.entry)) (tree ahead.entry.name) (tree item.entry)) }
     ensures pairs { ArePairsOf (chars (codes "parents")) (members_of (tree objects.entry)) table.new.pairs }
 {
     if is_told_before(*found, item) {
@@ -48,7 +49,8 @@ fn check_children<'a>(
     found: &mut Least,
 )
     requires { ArePairsOf (chars (codes "parents")) (members_of (tree objects)) table.old.pairs }
-    ensures found { found.new ≡ least found.old (children (members_of (tree objects.entry)) (trees (name.entry, object.entry))) }
+    ensures found { found.new
+        ≡ least found.old (children (members_of (tree objects.entry)) (trees (name.entry, object.entry))) }
     ensures pairs { ArePairsOf (chars (codes "parents")) (members_of (tree objects.entry)) table.new.pairs }
 {
     let Some(value) = object.get("children") else {
@@ -88,7 +90,8 @@ fn check_parent<'a>(
 ) -> bool
     requires pairs { ArePairsOf (chars (codes "children")) (members_of (tree objects)) table.old.pairs }
     requires absent { AreAbsent (members_of (tree objects)) absent.old.texts }
-    ensures found { found.new ≡ least found.old (parent (members_of (tree objects.entry)) (tree ahead.entry.name) (tree item.entry)) }
+    ensures found { found.new
+        ≡ least found.old (parent (members_of (tree objects.entry)) (tree ahead.entry.name) (tree item.entry)) }
     ensures known { IsTrue result → is_known_in (members_of (tree objects.entry)) (tree item.entry) ≡ true }
     ensures pairs { ArePairsOf (chars (codes "children")) (members_of (tree objects.entry)) table.new.pairs }
     ensures absent { AreAbsent (members_of (tree objects.entry)) absent.new.texts }
@@ -118,8 +121,11 @@ fn check_parents<'a>(
 ) -> bool
     requires pairs { ArePairsOf (chars (codes "children")) (members_of (tree objects)) table.old.pairs }
     requires absent { AreAbsent (members_of (tree objects)) absent.old.texts }
-    ensures found { found.new ≡ least found.old (parents (members_of (tree objects.entry)) (trees (name.entry, object.entry))) }
-    ensures known { IsTrue result → list_any (is_known_in (members_of (tree objects.entry))) (listed_in (chars (codes "parents")) (tree object.entry)) ≡ true }
+    ensures found { found.new
+        ≡ least found.old (parents (members_of (tree objects.entry)) (trees (name.entry, object.entry))) }
+    ensures known { IsTrue result
+        → list_any (is_known_in (members_of (tree objects.entry)))
+        (listed_in (chars (codes "parents")) (tree object.entry)) ≡ true }
     ensures pairs { ArePairsOf (chars (codes "children")) (members_of (tree objects.entry)) table.new.pairs }
     ensures absent { AreAbsent (members_of (tree objects.entry)) absent.new.texts }
 {
@@ -171,9 +177,12 @@ fn check_part<'a>(
     absent: &mut Absent<'a>,
     found: &mut Least,
 )
-    requires known { IsTrue known → list_any (is_known_in (members_of (tree objects))) (listed_in (chars (codes "parents")) (tree object)) ≡ true }
+    requires known { IsTrue known
+        → list_any (is_known_in (members_of (tree objects)))
+        (listed_in (chars (codes "parents")) (tree object)) ≡ true }
     requires absent { AreAbsent (members_of (tree objects)) absent.old.texts }
-    ensures found { found.new ≡ least found.old (part (members_of (tree objects.entry)) (trees (name.entry, object.entry))) }
+    ensures found { found.new
+        ≡ least found.old (part (members_of (tree objects.entry)) (trees (name.entry, object.entry))) }
     ensures absent { AreAbsent (members_of (tree objects.entry)) absent.new.texts }
 {
     if known {
@@ -193,7 +202,8 @@ fn check_part<'a>(
 /// The parents of all city objects. What is found takes 800 KB of the stack.
 #[inline(never)]
 fn check_all_parents(objects: Node, found: &mut Least)
-    ensures { let all = members_of (tree objects.entry) in found.new ≡ least found.old (flat_map (λ m. parents all m ++ part all m) all) }
+    ensures { let all = members_of (tree objects.entry) in
+        found.new ≡ least found.old (flat_map (λ m. parents all m ++ part all m) all) }
 {
     let mut table = Table::new();
     let mut absent = Absent::new();
@@ -208,7 +218,8 @@ fn check_all_parents(objects: Node, found: &mut Least)
 #[cold]
 #[inline(never)]
 pub fn check_many_links(objects: Node, found: &mut Least)
-    ensures { let all = members_of (tree objects.entry) in found.new ≡ least found.old (flat_map (object_links all) all) }
+    ensures { let all = members_of (tree objects.entry) in
+        found.new ≡ least found.old (flat_map (object_links all) all) }
 {
     check_all_children(objects, found);
     check_all_parents(objects, found);

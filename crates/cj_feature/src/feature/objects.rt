@@ -72,7 +72,9 @@ fn check_geometry_member(
     templates: Templates,
     found: &mut Least,
 )
-    ensures { found.new ≡ least found.old (may_have (chars (codes "geometry")) (geometries vertices (given templates.entry)) (tree object.entry)) }
+    ensures { found.new
+        ≡ least found.old
+        (may_have (chars (codes "geometry")) (geometries vertices (given templates.entry)) (tree object.entry)) }
 {
     if let Some(value) = object.get("geometry") {
         check_geometries(value, vertices, templates, found);
@@ -134,7 +136,8 @@ fn check_city_object(
     templates: Templates,
     found: &mut Least,
 ) -> bool
-    ensures unlinked { result ≡ false → (all : List (Tree × Tree)) → (name : Tree) → object_links all (name, tree node.entry) ≡ [] }
+    ensures unlinked { result ≡ false → (all : List (Tree × Tree)) → (name : Tree)
+        → object_links all (name, tree node.entry) ≡ [] }
     ensures found { found.new ≡ least found.old (city_object vertices (given templates.entry) (tree node.entry)) }
 {
     if check_object(node, found) {
@@ -182,7 +185,9 @@ pub fn check_city_objects_member(
 ) -> bool
     requires { option_map tree objects ≡ member_of (chars (codes "CityObjects")) (tree object) }
     ensures unlinked { result ≡ false → links (option_map tree objects.entry) ≡ [] }
-    ensures found { found.new ≡ least found.old (needs (chars (codes "CityObjects")) (city_objects vertices (given templates.entry)) (tree object.entry)) }
+    ensures found { found.new
+        ≡ least found.old
+        (needs (chars (codes "CityObjects")) (city_objects vertices (given templates.entry)) (tree object.entry)) }
 {
     check_there(object, objects, found);
     match objects {

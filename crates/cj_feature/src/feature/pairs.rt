@@ -168,7 +168,8 @@ impl<'a> Table<'a> {
     /// Keeps a pair that is listed, if its number is noted.
     fn keep(&mut self, list: &str, objects: Node, pair: Pair<'a>, number: u64)
         requires pairs { ArePairsOf (chars list.now) (members_of (tree objects)) self.old.pairs }
-        requires listed { (from to : Tree) → same_text (tree pair.name) from ≡ true → same_text (tree pair.item) to ≡ true
+        requires listed { (from to : Tree) → same_text (tree pair.name) from ≡ true
+            → same_text (tree pair.item) to ≡ true
             → lists_of (chars list.now) (members_of (tree objects)) from to ≡ true }
         ensures { ArePairsOf (chars list.now) (members_of (tree objects.entry)) self.new.pairs }
     {
@@ -182,7 +183,8 @@ impl<'a> Table<'a> {
     /// Keeps the pairs of a city object's list whose numbers are noted.
     fn keep_object(&mut self, list: &str, objects: Node, name: Node<'a>, object: Node<'a>)
         requires pairs { ArePairsOf (chars list.now) (members_of (tree objects)) self.old.pairs }
-        requires listed { (from to : Tree) → same_text (tree name) from ≡ true → has_item_of (listed_in (chars list.now) (tree object)) to ≡ true
+        requires listed { (from to : Tree) → same_text (tree name) from ≡ true
+            → has_item_of (listed_in (chars list.now) (tree object)) to ≡ true
             → lists_of (chars list.now) (members_of (tree objects)) from to ≡ true }
         ensures { ArePairsOf (chars list.now) (members_of (tree objects.entry)) self.new.pairs }
     {
@@ -213,7 +215,8 @@ impl<'a> Table<'a> {
     /// Whether the pair is kept, whose texts have the number.
     fn has(&self, list: &str, objects: Node, from: Node, to: Node, number: u64) -> bool
         requires { ArePairsOf (chars list.now) (members_of (tree objects)) self.now.pairs }
-        ensures { IsTrue result → lists_of (chars list.now) (members_of (tree objects.entry)) (tree from.entry) (tree to.entry) ≡ true }
+        ensures { IsTrue result
+            → lists_of (chars list.now) (members_of (tree objects.entry)) (tree from.entry) (tree to.entry) ≡ true }
     {
         match self.place_of(number) {
             Some(place) => match pair_at(&self.pairs, place) {
@@ -236,7 +239,8 @@ impl<'a> Table<'a> {
         ahead: Ahead,
     ) -> bool
         requires { ArePairsOf (chars list.now) (members_of (tree objects)) self.old.pairs }
-        ensures found { IsTrue result → lists_of (chars list.now) (members_of (tree objects.entry)) (tree from.entry) (tree to.entry) ≡ true }
+        ensures found { IsTrue result
+            → lists_of (chars list.now) (members_of (tree objects.entry)) (tree from.entry) (tree to.entry) ≡ true }
         ensures pairs { ArePairsOf (chars list.now) (members_of (tree objects.entry)) self.new.pairs }
     {
         let number = pair_number(from.text_hash(), to.text_hash());

@@ -98,7 +98,8 @@ pub fn check_root(
 )
     requires objects { option_map tree objects ≡ member_of (chars (codes "CityObjects")) (tree node) }
     requires vertices { option_map tree vertices ≡ member_of (chars (codes "vertices")) (tree node) }
-    ensures { found.new ≡ least found.old (of_kind is_object (feature_rules (given templates.entry)) (tree node.entry)) }
+    ensures { found.new
+        ≡ least found.old (of_kind is_object (feature_rules (given templates.entry)) (tree node.entry)) }
 {
     if check_object(node, found) {
         check_names(node, found);

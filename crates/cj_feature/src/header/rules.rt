@@ -152,7 +152,8 @@ fn check_template_vertices(node: Node, found: &mut Least)
 
 /// The templates have vertices.
 fn check_template_vertices_member(object: Node, found: &mut Least)
-    ensures { found.new ≡ least found.old (needs (chars (codes "vertices-templates")) template_vertices (tree object.entry)) }
+    ensures { found.new
+        ≡ least found.old (needs (chars (codes "vertices-templates")) template_vertices (tree object.entry)) }
 {
     if let Some(value) = needed(object, "vertices-templates", found) {
         check_template_vertices(value, found);
@@ -172,7 +173,11 @@ fn check_template_list(node: Node, vertices: Option<u64>, found: &mut Least)
 
 /// The templates are geometries, over the vertices beside them.
 fn check_template_list_member(object: Node, found: &mut Least)
-    ensures { found.new ≡ least found.old (needs (chars (codes "templates")) (template_list (count_of (member_of (chars (codes "vertices-templates")) (tree object.entry)))) (tree object.entry)) }
+    ensures { found.new
+        ≡ least found.old
+        (needs (chars (codes "templates"))
+        (template_list (count_of (member_of (chars (codes "vertices-templates")) (tree object.entry))))
+        (tree object.entry)) }
 {
     if let Some(value) = needed(object, "templates", found) {
         let vertices = count_member(object, "vertices-templates");
@@ -193,7 +198,8 @@ fn check_templates(node: Node, found: &mut Least)
 
 /// The header may have templates.
 fn check_templates_member(object: Node, found: &mut Least)
-    ensures { found.new ≡ least found.old (may_have (chars (codes "geometry-templates")) geometry_templates (tree object.entry)) }
+    ensures { found.new
+        ≡ least found.old (may_have (chars (codes "geometry-templates")) geometry_templates (tree object.entry)) }
 {
     if let Some(value) = object.get("geometry-templates") {
         check_templates(value, found);

@@ -6,7 +6,9 @@ ghost use Rattle.cj_spans.specs.Finding.{least, found_at};
 /// A finding at an earlier place is kept, and at one place that of the lesser code.
 pub fn least_of_three()
     ensures earlier { least (Some (found_at 5 WrongKind)) (found_at 47 VertexIndex ∷ []) ≡ Some (found_at 5 WrongKind) }
-    ensures code { least None (found_at 5 WrongKind ∷ found_at 47 VertexIndex ∷ found_at 5 MissingMember ∷ []) ≡ Some (found_at 5 MissingMember) }
-    ensures order { least None (found_at 47 VertexIndex ∷ found_at 5 MissingMember ∷ found_at 5 WrongKind ∷ []) ≡ Some (found_at 5 MissingMember) }
+    ensures code { least None (found_at 5 WrongKind ∷ found_at 47 VertexIndex ∷ found_at 5 MissingMember ∷ [])
+        ≡ Some (found_at 5 MissingMember) }
+    ensures order { least None (found_at 47 VertexIndex ∷ found_at 5 MissingMember ∷ found_at 5 WrongKind ∷ [])
+        ≡ Some (found_at 5 MissingMember) }
     ensures none { least None [] ≡ None }
 {}

@@ -35,7 +35,8 @@ fn four_fields(text: &str) -> Option<(&str, &str, &str, &str)>
 
 /// The number of a field, where it can be an edge.
 fn read_edge(field: &str) -> Result<Option<Fixed18>, QueryFault>
-    ensures { result ≡ (if is_number field.now then Ok (if is_edge field.now then Some (edge field.now) else None) else Err BadBox) }
+    ensures { result
+        ≡ (if is_number field.now then Ok (if is_edge field.now then Some (edge field.now) else None) else Err BadBox) }
 {
     match Decimal::read(field.as_bytes()) {
         Ok(number) => Ok(number.fixed18()),

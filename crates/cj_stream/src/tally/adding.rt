@@ -87,7 +87,8 @@ fn widened(range: Option<(i64, i64)>, number: i64) -> Option<(i64, i64)>
 
 /// The ranges of the numbers on each axis, with those of the vertices of a feature.
 pub fn widen_all(ranges: [Option<(i64, i64)>; 3], feature: &Feature) -> [Option<(i64, i64)>; 3]
-    ensures { (axis : ℕ) → axis < 3 → Widens (get_or ranges axis None) (numbers_on axis (feature_tree feature.now)) (get_or result axis None) }
+    ensures { (axis : ℕ) → axis < 3
+        → Widens (get_or ranges axis None) (numbers_on axis (feature_tree feature.now)) (get_or result axis None) }
 {
     let [mut on_x, mut on_y, mut on_z] = ranges;
     for [x, y, z] in feature.vertices() {

@@ -9,7 +9,7 @@ use std::alloc::Global;
 use std::process::Abort;
 use std::test::Fail;
 
-// Runs over a header, a line that is dropped, and a feature.
+/// Runs over a header, a line that is dropped, and a feature.
 fn check_dropped(rt: &impl Abort, alloc: Global, line: &[u8], bytes: u64) -> Result<(), Fail> {
     let text = joined(alloc, &[HEADER, b"\n", line, b"\n", FEATURE, b"\n"])?;
     let written = joined(alloc, &[HEADER, b"\n", FEATURE, b"\n"])?;
@@ -57,7 +57,7 @@ fn a_blank_last_line_without_lf(rt: HostRuntime) -> Result<(), Fail> {
     Ok(())
 }
 
-// A first line is never blank.
+/// A first line is never blank.
 #[test]
 fn a_first_line_of_spaces_and_tabs(rt: HostRuntime) -> Result<(), Fail> {
     let wanted = Wanted {

@@ -28,7 +28,7 @@ fn a_writer_that_takes_five_bytes_and_fails(rt: HostRuntime) -> Result<(), Fail>
     Ok(())
 }
 
-// Copies to a writer that takes a byte a write, up to the write that fails.
+/// Copies to a writer that takes a byte a write, up to the write that fails.
 fn check_failing_write(
     rt: &impl Abort,
     alloc: Global,
@@ -67,7 +67,7 @@ fn a_writer_that_fails_at_each_call(rt: HostRuntime) -> Result<(), Fail> {
     Ok(())
 }
 
-// Copies to a writer that takes `step` bytes a write, and is not asked again after it took none.
+/// Copies to a writer that takes `step` bytes a write, and is not asked again after it took none.
 fn check_step(
     rt: &impl Abort,
     alloc: Global,
@@ -94,14 +94,14 @@ fn a_writer_that_takes_one_byte_and_one_that_takes_none(rt: HostRuntime) -> Resu
     check_step(&rt, rt.alloc(), &text, 0, End::WriteFault, b"")
 }
 
-// Runs over a reader up to a fault: the outcome, and what was written.
+/// Runs over a reader up to a fault: the outcome, and what was written.
 fn run_over(alloc: Global, reader: &mut SlowReader, limits: Limits) -> (Outcome, Vec<u8>) {
     let mut sink = WriteSink::new(Vec::new(alloc));
     let outcome = run(alloc, reader, &mut sink, limits, &Query::all(alloc));
     (outcome, sink.into_inner())
 }
 
-// Runs over a reader that gives a byte a read, up to the read that fails.
+/// Runs over a reader that gives a byte a read, up to the read that fails.
 fn check_failing_read(
     rt: &impl Abort,
     alloc: Global,
@@ -150,7 +150,7 @@ fn a_reader_that_fails_in_the_second_line(rt: HostRuntime) -> Result<(), Fail> {
     Ok(())
 }
 
-// Runs over a text to a sink whose writer may fail.
+/// Runs over a text to a sink whose writer may fail.
 fn run_to<S: LineSink>(alloc: Global, text: &[u8], sink: &mut S) -> Result<End, Fail> {
     let limits = Limits::new(8_388_608, 64)?;
     let query = Query::all(alloc);
@@ -166,7 +166,7 @@ fn check_fault_stays<S: LineSink>(rt: &impl Abort, engine: &mut Engine, sink: &m
     check_number(rt, engine.lines(), 0, "lines", 0);
 }
 
-// The engine asks the sink once; another run asks it again.
+/// The engine asks the sink once; another run asks it again.
 #[test]
 fn a_write_fault_stays_the_end(rt: HostRuntime) -> Result<(), Fail> {
     let mut writer = SlowWriter::new(Vec::new(rt.alloc()), 0);
@@ -188,8 +188,8 @@ fn a_write_fault_stays_the_end(rt: HostRuntime) -> Result<(), Fail> {
     Ok(())
 }
 
-// Runs over a text to a sink whose writer fails in it, and once more. How often a sink's writer failed
-// is seen by contracts alone; what can be seen here is that a failure does not stay.
+/// Runs over a text to a sink whose writer fails in it, and once more. How often a sink's writer failed
+/// is seen by contracts alone; what can be seen here is that a failure does not stay.
 fn check_one_failure<S: LineSink>(
     rt: &impl Abort,
     alloc: Global,
@@ -201,7 +201,7 @@ fn check_one_failure<S: LineSink>(
     Ok(())
 }
 
-// A writer that fails at this write, to which `front` was written before, and then the whole text.
+/// A writer that fails at this write, to which `front` was written before, and then the whole text.
 fn check_sinks(
     rt: &impl Abort,
     alloc: Global,
@@ -236,7 +236,7 @@ fn a_sink_takes_lines_after_a_failure(rt: HostRuntime) -> Result<(), Fail> {
     check_sinks(&rt, rt.alloc(), &text, 3, &header)
 }
 
-// A line that is refused for what it says is not put to the sink: its writer fails at the next write.
+/// A line that is refused for what it says is not put to the sink: its writer fails at the next write.
 #[test]
 fn a_refused_line_is_not_put(rt: HostRuntime) -> Result<(), Fail> {
     let header = joined(rt.alloc(), &[HEADER, b"\n"])?;

@@ -13,7 +13,7 @@ use std::test::Fail;
 const PARTS: &[u8] =
     b"{\"type\":\"CityJSONFeature\",\"id\":\"\\u0070\",\"CityObjects\":{\"q\":{\"type\":\"Building\",\"children\":[\"p\"]},\"p\":{\"type\":\"BuildingPart\",\"parents\":[\"q\"],\"geometry\":[{\"type\":\"MultiPoint\",\"lod\":\"0\",\"boundaries\":[2]},{\"type\":\"MultiSurface\",\"lod\":\"1\",\"boundaries\":[[[0,1,2]]]}]}},\"vertices\":[[-1,2,3],[4e0,5.0,6],[7,8,9]]}";
 
-// Notes what it is lent. It never fails: where memory is refused, it notes that it has lost something.
+/// Notes what it is lent. It never fails: where memory is refused, it notes that it has lost something.
 #[derive(Drop)]
 struct NoteSink {
     alloc: Global,
@@ -31,7 +31,7 @@ impl NoteSink {
     }
 }
 
-// The header's scale and translation, each number by its coefficient and power of ten.
+/// The header's scale and translation, each number by its coefficient and power of ten.
 fn header_note(alloc: Global, header: &Header, lf: bool) -> Result<String, AllocError> {
     let mut note = String::from_str(alloc, "header")?;
     for number in header.scale() {
@@ -47,7 +47,7 @@ fn header_note(alloc: Global, header: &Header, lf: bool) -> Result<String, Alloc
     Ok(note)
 }
 
-// The types of the city objects.
+/// The types of the city objects.
 fn objects_note(alloc: Global, feature: &Feature) -> Result<String, AllocError> {
     let mut note = String::new(alloc);
     let mut count = 0u64;
@@ -59,7 +59,7 @@ fn objects_note(alloc: Global, feature: &Feature) -> Result<String, AllocError> 
     format!(in alloc; " objects {count}{note}")
 }
 
-// How many geometries there are.
+/// How many geometries there are.
 fn geometries_note(alloc: Global, feature: &Feature) -> Result<String, AllocError> {
     let mut count = 0u64;
     for _geometry in feature.geometries() {
@@ -77,7 +77,7 @@ fn vertices_note(alloc: Global, feature: &Feature) -> Result<String, AllocError>
     Ok(note)
 }
 
-// The feature's id as it is spelled, its city objects, geometries and vertices.
+/// The feature's id as it is spelled, its city objects, geometries and vertices.
 fn feature_note(alloc: Global, feature: &Feature, lf: bool) -> Result<String, AllocError> {
     let id = String::from_utf8_lossy(alloc, feature.id().bytes())?;
     let objects = objects_note(alloc, feature)?;
@@ -106,7 +106,7 @@ impl LineSink for NoteSink {
     }
 }
 
-// Runs over a text to a sink, by reads of `step` bytes.
+/// Runs over a text to a sink, by reads of `step` bytes.
 fn run_by<S: LineSink>(
     alloc: Global,
     text: &[u8],
@@ -149,7 +149,7 @@ feature "b1" objects 1 Building geometries 1 vertices 0,0,0 1000,0,0 1000,1000,0
 feature "\u0070" objects 2 Building BuildingPart geometries 2 vertices -1,2,3 4,5,6 7,8,9 lf false
 "#;
 
-// What is lent of the second feature is of its own line, and not of the first one's.
+/// What is lent of the second feature is of its own line, and not of the first one's.
 #[test]
 fn a_sink_is_lent_the_header_and_each_feature(rt: HostRuntime) -> Result<(), Fail> {
     let text = joined(rt.alloc(), &[HEADER, b"\n", FEATURE, b"\n", PARTS])?;

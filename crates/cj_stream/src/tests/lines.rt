@@ -19,7 +19,7 @@ const HEADER: &str =
 const TEMPLATES: &str =
     r#"{"type":"CityJSON","version":"2.0","transform":{"scale":[0.001,0.001,0.001],"translate":[1000.0,2000.0,0.0]},"CityObjects":{},"vertices":[],"geometry-templates":{"templates":[{"type":"MultiSurface","lod":"1","boundaries":[[[0,1,2]]]}],"vertices-templates":[[0.0,0.0,0.0],[1.0,0.0,0.0],[0.0,1.0,0.0]]}}"#;
 
-// What is said of an end.
+/// What is said of an end.
 fn said(alloc: Global, end: End) -> Result<String, AllocError> {
     match end {
         End::Complete => Ok(String::new(alloc)),
@@ -36,7 +36,7 @@ fn said(alloc: Global, end: End) -> Result<String, AllocError> {
     }
 }
 
-// What a row wants to be said.
+/// What a row wants to be said.
 fn wanted_of(alloc: Global, cell: &str) -> Result<String, AllocError> {
     match cell {
         "none" => Ok(String::new(alloc)),
@@ -44,7 +44,7 @@ fn wanted_of(alloc: Global, cell: &str) -> Result<String, AllocError> {
     }
 }
 
-// The line with a cell in the hole.
+/// The line with a cell in the hole.
 fn filled(alloc: Global, pattern: &str, cell: &str) -> Result<String, AllocError> {
     match pattern.split_once('_') {
         Some((front, back)) => format!(in alloc; "{front}{cell}{back}"),
@@ -52,7 +52,7 @@ fn filled(alloc: Global, pattern: &str, cell: &str) -> Result<String, AllocError
     }
 }
 
-// What a run has to come to: how many lines and features, what is written, and what is said.
+/// What a run has to come to: how many lines and features, what is written, and what is said.
 #[derive(Clone, Copy)]
 struct Wanted<'a> {
     row: &'a str,
@@ -67,7 +67,7 @@ fn check_counts(rt: &impl Abort, outcome: &Outcome, wanted: &Wanted, step: u64) 
     check_number(rt, outcome.kept, wanted.kept, wanted.row, step);
 }
 
-// Runs over a text by reads of `step` bytes.
+/// Runs over a text by reads of `step` bytes.
 fn check_step(
     rt: &impl Abort,
     alloc: Global,
@@ -89,7 +89,7 @@ fn check_steps(rt: &impl Abort, alloc: Global, text: &[u8], wanted: &Wanted) -> 
     check_step(rt, alloc, text, 1, wanted)
 }
 
-// Runs over a header, of which a row says this.
+/// Runs over a header, of which a row says this.
 fn check_first<'a>(
     rt: &impl Abort,
     alloc: Global,
@@ -110,7 +110,7 @@ fn check_first<'a>(
     check_steps(rt, alloc, &text, &wanted)
 }
 
-// Runs over a line after a header, of which a row says this.
+/// Runs over a line after a header, of which a row says this.
 fn check_later<'a>(
     rt: &impl Abort,
     alloc: Global,
@@ -132,7 +132,7 @@ fn check_later<'a>(
     check_steps(rt, alloc, &text, &wanted)
 }
 
-// The line of a row, and what is to be said of it.
+/// The line of a row, and what is to be said of it.
 fn read_row(
     rt: &impl Abort,
     alloc: Global,
@@ -146,7 +146,7 @@ fn read_row(
     Ok((filled(alloc, pattern, cell)?, wanted_of(alloc, want)?))
 }
 
-// Each row of the table, as a header.
+/// Each row of the table, as a header.
 fn headers_meet(rt: &impl Abort, alloc: Global, pattern: &str, rows: &str) -> Result<(), Fail> {
     for row in rows.trim().lines() {
         let (line, say) = read_row(rt, alloc, pattern, row)?;
@@ -155,7 +155,7 @@ fn headers_meet(rt: &impl Abort, alloc: Global, pattern: &str, rows: &str) -> Re
     Ok(())
 }
 
-// Each row of the table, as a line after this header.
+/// Each row of the table, as a line after this header.
 fn features_meet(
     rt: &impl Abort,
     alloc: Global,
@@ -279,7 +279,7 @@ fn templates(rt: HostRuntime) -> Result<(), Fail> {
     features_meet(&rt, rt.alloc(), HEADER, TREE, none)
 }
 
-// The header's templates stay while lines come and go.
+/// The header's templates stay while lines come and go.
 #[test]
 fn templates_after_other_lines(rt: HostRuntime) -> Result<(), Fail> {
     let good = filled(rt.alloc(), TREE, "0")?;

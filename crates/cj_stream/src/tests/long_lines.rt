@@ -7,7 +7,7 @@ use std::alloc::Global;
 use std::process::Abort;
 use std::test::Fail;
 
-// This many digits, 1 to 9 in turn.
+/// This many digits, 1 to 9 in turn.
 fn digits(alloc: Global, count: usize) -> Result<Vec<u8>, Fail> {
     let mut digits = Vec::new(alloc);
     for i in 0..count {
@@ -22,7 +22,7 @@ pub fn long_text(alloc: Global, length: usize) -> Result<Vec<u8>, Fail> {
     joined(alloc, &[HEADER, b"\n", &line, b"\n"])
 }
 
-// Feeds a text by pieces of `step` bytes.
+/// Feeds a text by pieces of `step` bytes.
 fn feed_by(
     rt: &impl Abort,
     engine: &mut Engine,
@@ -37,7 +37,7 @@ fn feed_by(
     check_finish(rt, engine, sink, End::Complete);
 }
 
-// Gives a text to an engine by pieces of `step` bytes.
+/// Gives a text to an engine by pieces of `step` bytes.
 fn check_pieces(
     rt: &impl Abort,
     alloc: Global,
@@ -61,8 +61,8 @@ fn check_pieces(
     Ok(())
 }
 
-// Runs over a header and a feature of this many bytes, by whole reads and by shorter ones. Feeds them
-// in one piece, in one whose LF comes after it, and in pieces of 50 bytes.
+/// Runs over a header and a feature of this many bytes, by whole reads and by shorter ones. Feeds them
+/// in one piece, in one whose LF comes after it, and in pieces of 50 bytes.
 fn check_long_line(rt: &impl Abort, alloc: Global, length: usize) -> Result<(), Fail> {
     let text = long_text(alloc, length)?;
     let bytes = (length as u64).saturating_add(140);
@@ -89,7 +89,7 @@ fn a_line_of_a_hundred_thousand_bytes(rt: HostRuntime) -> Result<(), Fail> {
     check_long_line(&rt, rt.alloc(), 100_000)
 }
 
-// By pieces of 50 bytes these are 20,003.
+/// By pieces of 50 bytes these are 20,003.
 #[test]
 fn a_line_of_a_million_bytes(rt: HostRuntime) -> Result<(), Fail> {
     check_long_line(&rt, rt.alloc(), 1_000_000)

@@ -26,7 +26,7 @@ const ALL: Parts = Parts {
     bounds: None,
 };
 
-// A query by ids, by types, by LoDs and by a box.
+/// A query by ids, by types, by LoDs and by a box.
 const fn by_ids<'a>(ids: &'a [&'a str]) -> Parts<'a> {
     Parts {
         ids: Some(ids),
@@ -79,7 +79,7 @@ fn set_lods(query: &mut Query, lods: &[&str]) -> Result<(), QueryFault> {
     Ok(())
 }
 
-// The query of these parts.
+/// The query of these parts.
 fn query_of(alloc: Global, parts: &Parts) -> Result<Query, QueryFault> {
     let mut query = Query::all(alloc);
     if let Some(ids) = parts.ids {
@@ -97,7 +97,7 @@ fn query_of(alloc: Global, parts: &Parts) -> Result<Query, QueryFault> {
     Ok(query)
 }
 
-// Runs over a text: the outcome, and what was written.
+/// Runs over a text: the outcome, and what was written.
 fn kept_of(alloc: Global, text: &[u8], limits: Limits, query: &Query) -> (Outcome, Vec<u8>) {
     let mut reader = SlowReader::new(text, 8_192);
     let mut sink = WriteSink::new(Vec::new(alloc));
@@ -124,7 +124,7 @@ const MIXED: Pair = Pair {
     feature: b"{\"type\":\"CityJSONFeature\",\"id\":\"b1\",\"CityObjects\":{\"b1\":{\"type\":\"Building\",\"geometry\":[{\"type\":\"MultiPoint\",\"lod\":\"1\",\"boundaries\":[0]},{\"type\":\"MultiPoint\",\"lod\":\"1.2\",\"boundaries\":[1]}]},\"r1\":{\"type\":\"Road\",\"geometry\":[{\"type\":\"MultiPoint\",\"lod\":\"2.2\",\"boundaries\":[2]}]},\"w1\":{\"type\":\"WaterBody\"}},\"vertices\":[[0,0,0],[1000,500,0],[500,1000,0]]}",
 };
 
-// Runs over a header and a feature, of which the feature has to be kept or not.
+/// Runs over a header and a feature, of which the feature has to be kept or not.
 fn check_keeps(
     rt: &impl Abort,
     alloc: Global,
@@ -145,7 +145,7 @@ fn check_keeps(
     Ok(())
 }
 
-// Runs over a header and a feature, of which one is refused.
+/// Runs over a header and a feature, of which one is refused.
 fn check_refused(
     rt: &impl Abort,
     alloc: Global,
@@ -244,7 +244,7 @@ fn by_box_of_the_usual_feature(rt: HostRuntime) -> Result<(), Fail> {
     Ok(())
 }
 
-// The first scale is below 0, so x runs from 999 to 1000; and then it is 0, so x is 1000 throughout.
+/// The first scale is below 0, so x runs from 999 to 1000; and then it is 0, so x is 1000 throughout.
 #[test]
 fn by_box_under_other_scales(rt: HostRuntime) -> Result<(), Fail> {
     let turned = Pair {
@@ -267,7 +267,7 @@ fn by_box_under_other_scales(rt: HostRuntime) -> Result<(), Fail> {
     Ok(())
 }
 
-// The greatest scale and the greatest numbers of vertices: the coordinates have 36 digits.
+/// The greatest scale and the greatest numbers of vertices: the coordinates have 36 digits.
 #[test]
 fn by_box_of_great_numbers(rt: HostRuntime) -> Result<(), Fail> {
     let header =
@@ -285,7 +285,7 @@ fn by_box_of_great_numbers(rt: HostRuntime) -> Result<(), Fail> {
     check_keeps(&rt, rt.alloc(), wide, &parts, true, "wide")
 }
 
-// A translation that is no multiple of 10^-18 is refused with a box alone.
+/// A translation that is no multiple of 10^-18 is refused with a box alone.
 #[test]
 fn a_box_needs_fixed_numbers(rt: HostRuntime) -> Result<(), Fail> {
     let fine = Pair {
@@ -297,7 +297,7 @@ fn a_box_needs_fixed_numbers(rt: HostRuntime) -> Result<(), Fail> {
     check_keeps(&rt, rt.alloc(), fine, &ALL, true, "no box")
 }
 
-// A feature without vertices is in no box.
+/// A feature without vertices is in no box.
 #[test]
 fn by_box_without_vertices(rt: HostRuntime) -> Result<(), Fail> {
     let bare = Pair {
@@ -310,7 +310,7 @@ fn by_box_without_vertices(rt: HostRuntime) -> Result<(), Fail> {
     check_keeps(&rt, rt.alloc(), bare, &by_ids(&["b"]), true, "its id")
 }
 
-// Texts are compared with their escapes undone, and a comma in one is a letter as others are.
+/// Texts are compared with their escapes undone, and a comma in one is a letter as others are.
 #[test]
 fn by_texts_with_escapes(rt: HostRuntime) -> Result<(), Fail> {
     let escaped = Pair {
@@ -341,7 +341,7 @@ const TREE: &[u8] =
 const SECOND: &[u8] =
     b"{\"type\":\"CityJSONFeature\",\"id\":\"b\",\"CityObjects\":{\"b\":{\"type\":\"SolitaryVegetationObject\",\"geometry\":[{\"type\":\"GeometryInstance\",\"template\":1,\"boundaries\":[0],\"transformationMatrix\":[1,0,0,0,0,1,0,0,0,0,1,0,0,0,0,1]}]}},\"vertices\":[[0,0,0]]}";
 
-// An instance has the LoD of its template, and no other.
+/// An instance has the LoD of its template, and no other.
 #[test]
 fn by_the_lod_of_a_template(rt: HostRuntime) -> Result<(), Fail> {
     let tree = Pair {
@@ -388,7 +388,7 @@ fn by_the_lod_of_a_template_among_several(rt: HostRuntime) -> Result<(), Fail> {
     Ok(())
 }
 
-// What a part may be: not set, empty, one that the usual feature has, or one that it has not.
+/// What a part may be: not set, empty, one that the usual feature has, or one that it has not.
 fn texts<'a>(state: u32, has: &'a [&'a str], lacks: &'a [&'a str]) -> Option<&'a [&'a str]> {
     match state {
         0 => None,
@@ -407,12 +407,12 @@ fn bounds(state: u32) -> Option<&'static str> {
     }
 }
 
-// The feature satisfies each part, or the part is not set.
+/// The feature satisfies each part, or the part is not set.
 fn is_kept(state: u32) -> bool {
     state == 0 || state == 2
 }
 
-// Each part in each state, beside each state of each other part.
+/// Each part in each state, beside each state of each other part.
 fn check_each_part<'a>(
     rt: &impl Abort,
     alloc: Global,
@@ -440,7 +440,7 @@ fn each_part_has_to_hold(rt: HostRuntime) -> Result<(), Fail> {
     check_each_part(&rt, rt.alloc(), MIXED, &["Bridge", "WaterBody"])
 }
 
-// Compares what a setter answered.
+/// Compares what a setter answered.
 fn check_fault(
     rt: &impl Abort,
     got: Result<(), QueryFault>,
@@ -450,7 +450,7 @@ fn check_fault(
     assert_eq!(rt; got, wanted, "{row}");
 }
 
-// Runs over the usual header and feature, which has to be kept or not.
+/// Runs over the usual header and feature, which has to be kept or not.
 fn check_query(
     rt: &impl Abort,
     alloc: Global,
@@ -465,7 +465,7 @@ fn check_query(
     Ok(())
 }
 
-// A type that is not known is refused, and changes nothing.
+/// A type that is not known is refused, and changes nothing.
 #[test]
 fn an_unknown_type(rt: HostRuntime) -> Result<(), Fail> {
     let mut query = Query::all(rt.alloc());
@@ -478,7 +478,7 @@ fn an_unknown_type(rt: HostRuntime) -> Result<(), Fail> {
     check_query(&rt, rt.alloc(), &query, false, "no type")
 }
 
-// A box that is refused leaves the one before it.
+/// A box that is refused leaves the one before it.
 fn check_box(
     rt: &impl Abort,
     alloc: Global,
@@ -513,7 +513,7 @@ fn boxes_that_are_refused(rt: HostRuntime) -> Result<(), Fail> {
     Ok(())
 }
 
-// A part that is set anew begins empty; a text that is added to a part that is not set is its first.
+/// A part that is set anew begins empty; a text that is added to a part that is not set is its first.
 #[test]
 fn parts_are_set_anew(rt: HostRuntime) -> Result<(), Fail> {
     let mut query = Query::all(rt.alloc());

@@ -49,7 +49,7 @@ pub fn check_run(
     check_bytes(rt, &written, wanted.written, wanted.name, step as u64);
 }
 
-// Copies the text cut in two at this place.
+/// Copies the text cut in two at this place.
 fn check_cut(
     rt: &impl Abort,
     alloc: Global,
@@ -78,7 +78,7 @@ fn check_cut(
     check_bytes(rt, &written, wanted.written, wanted.name, at as u64);
 }
 
-// Copies the text cut in two at each place.
+/// Copies the text cut in two at each place.
 fn check_cuts(rt: &impl Abort, alloc: Global, text: &[u8], limits: Limits, wanted: &Wanted) {
     for at in 0..text.len() {
         check_cut(rt, alloc, text, at, limits, wanted);
@@ -192,7 +192,7 @@ struct Refusal {
     peaks: Peaks,
 }
 
-// Runs over a header and a line that is refused.
+/// Runs over a header and a line that is refused.
 fn check_refused(
     rt: &impl Abort,
     alloc: Global,
@@ -229,7 +229,7 @@ fn a_comma_before_a_brace(rt: HostRuntime) -> Result<(), Fail> {
     check_refused(&rt, rt.alloc(), line, limits, refusal)
 }
 
-// Cut within the value of the geometry's type: 15 values and names stand before it.
+/// Cut within the value of the geometry's type: 15 values and names stand before it.
 #[test]
 fn a_feature_cut_short(rt: HostRuntime) -> Result<(), Fail> {
     let refusal = Refusal {
@@ -273,7 +273,7 @@ fn places_of_syntax(rt: HostRuntime) -> Result<(), Fail> {
     check_place(&rt, rt.alloc(), b"[1", 2)
 }
 
-// Runs over a text whose first line is no JSON text from its first byte on.
+/// Runs over a text whose first line is no JSON text from its first byte on.
 fn check_first(rt: &impl Abort, alloc: Global, text: &[u8], bytes: u64) -> Result<(), Fail> {
     let wanted = Wanted {
         name: "no JSON text at first",
@@ -357,7 +357,7 @@ fn a_character_of_three_bytes(rt: HostRuntime) -> Result<(), Fail> {
     Ok(())
 }
 
-// Runs over a header and a line whose character at byte 170 is cut short.
+/// Runs over a header and a line whose character at byte 170 is cut short.
 fn check_cut_character(
     rt: &impl Abort,
     alloc: Global,
@@ -405,7 +405,7 @@ fn nothing_is_judged_after_a_refused_line(rt: HostRuntime) -> Result<(), Fail> {
     Ok(())
 }
 
-// A line that is refused for what it says is none of the output, also where it has no LF.
+/// A line that is refused for what it says is none of the output, also where it has no LF.
 fn check_refused_first(
     rt: &impl Abort,
     alloc: Global,

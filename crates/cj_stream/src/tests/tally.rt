@@ -37,7 +37,7 @@ const TYPES: &str = " 1 1 1 2";
 /// What is tallied of nothing.
 const NOTHING: &str = "features 0\nlods 0 0 0 0 0 0\n";
 
-// The counts by class, on a line.
+/// The counts by class, on a line.
 fn add_lods(alloc: Global, tally: &TallySink, text: &mut String) -> Result<(), AllocError> {
     text.push_str("lods")?;
     for class in 0u8..6 {
@@ -47,7 +47,7 @@ fn add_lods(alloc: Global, tally: &TallySink, text: &mut String) -> Result<(), A
     text.push_str("\n")
 }
 
-// The range of each axis that has one, on a line.
+/// The range of each axis that has one, on a line.
 fn add_ranges(alloc: Global, tally: &TallySink, text: &mut String) -> Result<(), AllocError> {
     for axis in 0usize..3 {
         if let Some((least, greatest)) = tally.range(axis) {
@@ -58,7 +58,7 @@ fn add_ranges(alloc: Global, tally: &TallySink, text: &mut String) -> Result<(),
     Ok(())
 }
 
-// The numbers of the transform, if there is one.
+/// The numbers of the transform, if there is one.
 fn add_transform(alloc: Global, tally: &TallySink, text: &mut String) -> Result<(), AllocError> {
     if let Some(numbers) = tally.scale() {
         for number in numbers {
@@ -75,7 +75,7 @@ fn add_transform(alloc: Global, tally: &TallySink, text: &mut String) -> Result<
     Ok(())
 }
 
-// A tally as a text.
+/// A tally as a text.
 fn report(alloc: Global, tally: &TallySink) -> Result<String, AllocError> {
     let mut text = format!(in alloc; "features {}\n", tally.features())?;
     add_lods(alloc, tally, &mut text)?;
@@ -84,7 +84,7 @@ fn report(alloc: Global, tally: &TallySink) -> Result<String, AllocError> {
     Ok(text)
 }
 
-// The header, the feature of the rows, and the one with an instance.
+/// The header, the feature of the rows, and the one with an instance.
 fn sample(alloc: Global) -> Result<Vec<u8>, Fail> {
     joined(
         alloc,
@@ -99,8 +99,8 @@ fn sample(alloc: Global) -> Result<Vec<u8>, Fail> {
     )
 }
 
-// Tallies, and notes after each feature how many city objects there are of the type of each of its own. It
-// never fails: where memory is refused, it notes that it has lost something.
+/// Tallies, and notes after each feature how many city objects there are of the type of each of its own. It
+/// never fails: where memory is refused, it notes that it has lost something.
 #[derive(Drop)]
 struct TypesSink {
     alloc: Global,
@@ -142,7 +142,7 @@ impl LineSink for TypesSink {
     }
 }
 
-// Tallies the text cut in two at this place.
+/// Tallies the text cut in two at this place.
 fn check_cut(rt: &impl Abort, alloc: Global, text: &[u8], at: usize) -> Result<(), Fail> {
     assert!(rt; at <= text.len());
     assert!(rt; text.len() <= 10_000);
