@@ -38,7 +38,7 @@ end_of_writing (Ok x) = Complete
 end_of_writing (Err fault) = WriteFault
 
 -- After a run that wrote nothing and ended so a text is written where the run is complete, and nothing otherwise. What is
--- told is the run's end; or a write fault where a write of the text failed, and then a front of it was written.
+-- told is the run's end; or a write fault where a write of the text failed, and then a prefix of it was written.
 abbrev pub Says : List ℕ → End → End → Channel → Channel → Type 0
 Says text Complete told old new = (written : Result (Unit {0}) Unwritten) × (told ≡ end_of_writing written) × Wrote text written old new
 Says text (Refused line place reason) told old new = (told ≡ Refused line place reason) × Keeps old.bytes new.bytes
@@ -104,7 +104,7 @@ pub record TellsHelp (answer : ℕ) (old_out new_out old_err new_err : Channel) 
   pub reports : Reports told new_out.flushed shown old_err new_err
   pub status : answer ≡ status_of shown.end
 
--- standard error has got all of this line, or a front of it where it failed; and the answer is the status that is due
+-- standard error has got all of this line, or a prefix of it where it failed; and the answer is the status that is due
 pub record TellsFault (line : List ℕ) (due answer : ℕ) (old_err new_err : Channel) : Type 0 where
   pub written : Result (Unit {0}) Unwritten
   pub wrote : Wrote line written old_err new_err

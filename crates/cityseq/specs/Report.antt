@@ -54,14 +54,14 @@ abbrev pub shown_end : Result (Unit {0}) Unwritten → End → End
 shown_end (Ok x) e = e
 shown_end (Err f) e = WriteFault
 
--- a text was written, by this answer: all of it, or a front of it where a write failed
+-- a text was written, by this answer: all of it, or a prefix of it where a write failed
 pub record Wrote (text : List ℕ) (answer : Result (Unit {0}) Unwritten) (old new : Channel) : Type 0 where
   pub whole : OnOk answer (Appends old.bytes new.bytes text)
   pub front : OnErr answer (AppendsPart old.bytes new.bytes text)
   pub failures : RisesOnErr answer old.failures new.failures
 
 -- a run ended so, its output noted this of the flush after it, and this is shown: the run's end, or a write fault where
--- that flush failed; and the line of that end, of which standard error has taken all, or a front where it failed
+-- that flush failed; and the line of that end, of which standard error has taken all, or a prefix where it failed
 pub record Reports (e : End) (noted : Option (Result (Unit {0}) Unwritten)) (shown : Shown) (old new : Channel) : Type 0 where
   pub flushed : Result (Unit {0}) Unwritten
   pub told : noted ≡ Some flushed

@@ -21,7 +21,7 @@ const CLASSES: u8 = 6;
 ///
 /// # Errors
 ///
-/// A write fault, after a front of the text.
+/// A write fault, after a prefix of the text.
 pub fn write_check<W: Write + Drop>(
     out: &mut Output<W>,
     lines: u64,
@@ -269,7 +269,7 @@ fn write_peaks<W: Write + Drop>(out: &mut Output<W>, peaks: Peaks) -> Result<(),
 ///
 /// # Errors
 ///
-/// A write fault, after a front of the report.
+/// A write fault, after a prefix of the report.
 pub fn write_report<W: Write + Drop>(
     out: &mut Output<W>,
     lines: u64,

@@ -1,4 +1,4 @@
--- The ranges of the limits (own).
+-- The ranges of the limits.
 use Rattle.std.specs.Prelude.{ℕ, ◌≤◌}
 
 -- what a contract sees of limits: the most content bytes of a line, and the most open containers

@@ -102,7 +102,7 @@ fn fixed(rt: &impl Abort, spelling: &str) -> Fixed18 {
     decimal.fixed18().expect(rt, "a fixed number")
 }
 
-/// A front, so many zeros and a back.
+/// A prefix, so many zeros and a back.
 fn padded(alloc: Global, front: &[u8], zeros: usize, back: &[u8]) -> Result<Vec<u8>, AllocError> {
     let mut text = Vec::new(alloc);
     text.extend_from_slice(front)?;

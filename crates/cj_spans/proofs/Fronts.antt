@@ -1,4 +1,4 @@
--- The machine is at a state after the first i bytes exactly where they are a front.
+-- The machine is at a state after the first i bytes exactly where they are a prefix.
 use Rattle.std.proofs.Common.{◌≡◌, ℕ, suc, ◌+◌, List, [], ◌∷◌, ◌++◌, length, max, refl, ap, subst, arith, inl, inr}
 use Rattle.std.proofs.lemmas.Bool.{cases_lt}
 use Rattle.cj_spans.specs.declared.token.Token.{Token}
@@ -105,7 +105,7 @@ context_front {b} (in_array e0 j0 e ks ts us c o l w) j n f =
 context_front {b} (in_member e0 j0 k e ks ts us nm c o l d w) j n f =
     front_n _ _ (omega arith) (context_front c j (suc n) (front_member e0 e0 j0 k j n us nm (no_white b e0) o l d (front_white w f)))
 
--- what was read is a front, with as many containers open as the stack has
+-- what was read is a prefix, with as many containers open as the stack has
 pub inv_front : {b : List ℕ} (s : State) → Inv b s → Front b 0 s.place (length s.stack)
 inv_front {b} s (ready k p ks ts c) = front_n _ _ (omega arith) (context_front c k 0 (blank k k (no_white b k)))
 inv_front {b} s (first_item e k p ks ts c o w) = front_n _ _ (omega arith) (context_front c k 1 (front_array e e (suc e) k 0 no_items (no_white b e) o (no_led (suc e)) (blank (suc e) k w)))

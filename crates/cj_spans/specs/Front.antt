@@ -29,7 +29,7 @@ pub record IsFront (b : List ℕ) (i : ℕ) : Type 0 where
   pub open_count : ℕ
   pub front : Front b 0 i open_count
 
--- i is the least place for which the first i + 1 bytes are no front, or the length of a b that is only a front
+-- i is the least place for which the first i + 1 bytes are no prefix, or the length of a b that is only a prefix
 pub data SyntaxAt (b : List ℕ) (i : ℕ) : Type 0 where
   stuck : i < length b → ((k : ℕ) → k < i → IsFront b (suc k)) → (IsFront b (suc i) → ⊥) → SyntaxAt b i
   short : i ≡ length b → ((k : ℕ) → k < i → IsFront b (suc k)) → ((t : Tree) → Json b t → ⊥) → SyntaxAt b i

@@ -1,4 +1,4 @@
-//! What a line can be refused for (own).
+//! What a line can be refused for.
 ghost use Rattle.std.specs.Prelude.{◌≡◌};
 ghost use Rattle.cj_spans.specs.Reason.{code_of, words_of};
 

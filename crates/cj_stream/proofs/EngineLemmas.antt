@@ -60,7 +60,7 @@ get-next xs ys l n e = rw e (go xs)
     go [] = refl
     go (x ∷ xs) = go xs
 
--- the lines that LF ended in a front, counted
+-- the lines that LF ended in a prefix, counted
 pub lines-front : (n : ℕ) (p more : List ℕ) → n ≡ length (closed p) → take n (lines (p ++ more)) ≡ map ended_line (closed p)
 lines-front n p more e =
     let cs = map ended_line (closed p) in
@@ -85,7 +85,7 @@ Counts-front f p more h = record {
   kept = rw (lines-front f.lines p more h.lines) h.kept;
 }
 
--- what can be judged is a front of the lines
+-- what can be judged is a prefix of the lines
 pub judged-front : (limits : LimitPair) (q : List ℕ) → (extra : List Line) × (lines q ≡ judged limits q ++ extra)
 judged-front limits q = go (nat_lt limits.line (length (begun q)))
   where
@@ -99,7 +99,7 @@ next-line limits n p q l h e =
     let cs = map ended_line (closed p) in
     rw (x.1, h.1, append_assoc cs (l ∷ h.0) x.0) (get-next cs (h.0 ++ x.0) l n (e ∙ sym (length-map_lines (closed p))))
 
--- as many lines as LF ended in a front, of a text that goes on with a line that can be judged
+-- as many lines as LF ended in a prefix, of a text that goes on with a line that can be judged
 front-next : (limits : LimitPair) (p q : List ℕ) (l : Line) (n : ℕ) → IsNext limits p q l → n ≡ length (closed p) → take n (lines q) ≡ map ended_line (closed p)
 front-next limits p q l n h e =
     let x = judged-front limits q in

@@ -12,7 +12,7 @@ use Rattle.cj_stream.specs.Verdict.{Rules, Verdict, Refuse, Blank, Unwanted, Val
 use Rattle.cj_stream.proofs.VerdictLemmas.{kept-append, before-more}
 use Rattle.cj_stream.proofs.Apart.{false-true, none-some, some-none}
 
--- good lines are a front
+-- good lines are a prefix
 pub good-take : (rules : Rules) (before ls : List Line) → take (length (good_from rules before ls)) ls ≡ good_from rules before ls
 good-take rules before [] = refl
 good-take rules before (l ∷ ls) = step (refusal_of (length before + 1) (verdict rules before l.content)) (good-take rules (before ++ l ∷ []) ls)

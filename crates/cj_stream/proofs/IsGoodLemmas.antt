@@ -1,4 +1,4 @@
--- The good lines are the longest front of the lines of which none is refused.
+-- The good lines are the longest prefix of the lines of which none is refused.
 use Rattle.std.proofs.Common.{◌≡◌, ℕ, ◌+◌, ◌≤◌, List, [], ◌∷◌, ◌++◌, cond, length, Option, Some, None, refl, sym, ap, ◌∙◌, subst, arith, append_assoc, length-append}
 use Rattle.std.specs.Prelude.{is_some, unwrap_or}
 use Rattle.std.proofs.lemmas.List.{append-nil}
@@ -46,7 +46,7 @@ module _ (rules : Rules) where
   refused-none : (ls : List Line) → NoneRefused rules ls → refusal_in rules ls ≡ None
   refused-none ls h = each-none [] ls h
 
-  -- the good lines are a front without a refusal, and the line after them is refused
+  -- the good lines are a prefix without a refusal, and the line after them is refused
   good-front : (b ls : List Line) → (rest : List Line) × (ls ≡ good_from rules b ls ++ rest)
   good-front b [] = ([], refl)
   good-front b (l ∷ ls) = go (refusal_of (length b + 1) (verdict rules b l.content)) (good-front (b ++ l ∷ []) ls)

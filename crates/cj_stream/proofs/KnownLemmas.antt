@@ -37,7 +37,7 @@ pub on_ok_any : {T E P : Type 0} (r : Result T E) → P → OnOk r P
 on_ok_any (Ok x) p = p
 on_ok_any (Err x) p = tt
 
--- some bytes, and then a front of others
+-- some bytes, and then a prefix of others
 pub AppendsPart-after : (a b c : Option (List ℕ)) (x y : List ℕ) → Appends a b x → AppendsPart b c y → AppendsPart a c (x ++ y)
 AppendsPart-after a b c x y p q = record {
   front = x ++ q.front;
@@ -46,7 +46,7 @@ AppendsPart-after a b c x y p q = record {
   grows = Appends-then a b c x q.front p q.grows;
 }
 
--- a front of some bytes, of which others follow
+-- a prefix of some bytes, of which others follow
 pub AppendsPart-front : (a b : Option (List ℕ)) (x y : List ℕ) → AppendsPart a b x → AppendsPart a b (x ++ y)
 AppendsPart-front a b x y q = record {
   front = q.front;
@@ -60,7 +60,7 @@ pub AppendsPart-raw : (a b : Option (List ℕ)) (content : List ℕ) (lf : Bool)
 AppendsPart-raw a b content true q = AppendsPart-front a b content (10 ∷ []) q
 AppendsPart-raw a b content false q = q
 
--- all of some bytes, or a front of them
+-- all of some bytes, or a prefix of them
 pub AppendsPart-either : {T E : Type 0} (r : Result T E) (a b : Option (List ℕ)) (x : List ℕ) → OnOk r (Appends a b x) → OnErr r (AppendsPart a b x) → AppendsPart a b x
 AppendsPart-either (Ok y) a b x p q = record { front = x; rest = []; whole = sym (append-nil x); grows = p }
 AppendsPart-either (Err y) a b x p q = q

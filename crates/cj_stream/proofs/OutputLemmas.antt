@@ -137,7 +137,7 @@ module _ {S : Type 0} (contents : S → Option (List ℕ)) where
   abbrev pub writes_part : S → Item → S → Type 0
   writes_part a l b = AppendsPart (contents a) (contents b) (raw_item l)
 
-  -- the bytes of a front of some items
+  -- the bytes of a prefix of some items
   pub front-bytes : (then : List Item → S → S → Type 0) → ((others : List Item) (a b : S) → then others a b → AppendsPart (contents a) (contents b) (flat_map raw_item others))
       → (all first : List Item) (s t : S) → TookFront writes then all first s t
       → AppendsPart (contents s) (contents t) (flat_map raw_item all) × AppendsMore (contents s) (contents t) (flat_map raw_item first)

@@ -38,7 +38,7 @@ how_many p is = min (length (filter p is)) (2 ^ 64 - 1)
 abbrev pub counts_of : List Item → CountSink
 counts_of is = record { headers = how_many is_header is; features = how_many is_feature is }
 
--- a count of a front of some items, with all of these
+-- a count of a prefix of some items, with all of these
 pub record CountsFront (items first : List Item) (c : CountSink) : Type 0 where
   pub more : List Item
   pub others : List Item
@@ -46,7 +46,7 @@ pub record CountsFront (items first : List Item) (c : CountSink) : Type 0 where
   pub counts : c ≡ counts_of (first ++ more)
 
 -- the count of what is kept of the bytes r that a run read, by its end; of their whole lines where a read failed, and
--- of a front where memory was refused. A count never fails.
+-- of a prefix where memory was refused. A count never fails.
 abbrev pub CountsRun : Rules → List ℕ → End → CountSink → Type 0
 CountsRun rules r Complete c = c ≡ counts_of (kept rules r)
 CountsRun rules r (Refused number place reason) c = c ≡ counts_of (kept rules r)
@@ -55,7 +55,7 @@ CountsRun rules r ReadLimit c = c ≡ counts_of (kept rules (whole r))
 CountsRun rules r WriteFault c = ⊥
 CountsRun rules r Memory c = CountsFront (kept rules r) [] c
 
--- the count of what is kept of a cut text, whose ending is the answer; or, where memory was refused, of a front of the
+-- the count of what is kept of a cut text, whose ending is the answer; or, where memory was refused, of a prefix of the
 -- pieces that were given, of which n were wholly taken
 abbrev pub CountsPieces : Rules → List (List ℕ) → ℕ → End → CountSink → Type 0
 CountsPieces rules pieces n Complete c = (ending rules (joined pieces) ≡ Complete) × (c ≡ counts_of (kept rules (joined pieces)))

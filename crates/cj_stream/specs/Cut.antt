@@ -16,13 +16,13 @@ abbrev pub joined : List (List ℕ) → List ℕ
 joined [] = []
 joined (piece ∷ pieces) = piece ++ joined pieces
 
--- a sink took a front of what is kept of the first n pieces and the next, with all that is kept of the whole lines of
+-- a sink took a prefix of what is kept of the first n pieces and the next, with all that is kept of the whole lines of
 -- the first n, and then this happened to it, by the items that were to come
 abbrev pub PutsFront : {S : Type 0} → (S → Item → S → Type 0) → (List Item → S → S → Type 0) → Rules → List (List ℕ) → ℕ → S → S → Type 0
 PutsFront takes then rules pieces n s t = TookFront takes then (kept rules (joined (take (n + 1) pieces))) (kept rules (whole (joined (take n pieces)))) s t
 
 -- a sink that was given a cut text: it took what is kept of the whole text, whose ending is the answer; or, after a
--- fault, a front of it, by the pieces that were given, of which n were wholly taken: a write fault leaves of the sink
+-- fault, a prefix of it, by the pieces that were given, of which n were wholly taken: a write fault leaves of the sink
 -- what the next step may, and refused memory all
 abbrev pub PutsPieces : {S : Type 0} → (S → Item → S → Type 0) → (S → Item → S → Type 0) → Rules → List (List ℕ) → ℕ → End → S → S → Type 0
 PutsPieces takes leaves rules pieces n Complete s t = (ending rules (joined pieces) ≡ Complete) × Took takes s (kept rules (joined pieces)) t
@@ -40,14 +40,14 @@ pub record AppendsMore (old new : Option (List ℕ)) (bs : List ℕ) : Type 0 wh
   pub first : Appends old middle bs
   pub grows : Appends middle new more
 
--- the known bytes grow by a front of the output of the first n pieces and the next, with all of the output of the whole
+-- the known bytes grow by a prefix of the output of the first n pieces and the next, with all of the output of the whole
 -- lines of the first n
 abbrev pub AppendsFront : Rules → List (List ℕ) → ℕ → Option (List ℕ) → Option (List ℕ) → Type 0
 AppendsFront rules pieces n old new =
     AppendsPart old new (output rules (joined (take (n + 1) pieces))) × AppendsMore old new (output rules (whole (joined (take n pieces))))
 
 -- a writer that was given a cut text: it has the output of the whole text, whose ending is the answer; or, after a
--- fault, a front of the output of the pieces that were given, of which n were wholly taken
+-- fault, a prefix of the output of the pieces that were given, of which n were wholly taken
 abbrev pub Copies : Rules → List (List ℕ) → ℕ → End → Option (List ℕ) → Option (List ℕ) → Type 0
 Copies rules pieces n Complete old new = (ending rules (joined pieces) ≡ Complete) × Appends old new (output rules (joined pieces))
 Copies rules pieces n (Refused number place reason) old new = (ending rules (joined pieces) ≡ Refused number place reason) × Appends old new (output rules (joined pieces))

@@ -19,7 +19,7 @@ IsUnhindered ReadLimit = Unit {0}
 IsUnhindered WriteFault = ⊥
 IsUnhindered Memory = ⊥
 
--- A text, under rules of two limits and of what is asked, was given to an engine as far as a front of it, until this end.
+-- A text, under rules of two limits and of what is asked, was given to an engine as far as a prefix of it, until this end.
 -- Where no growth was refused and no write failed, the writer has got exactly the header and the valid features that
 -- satisfy what is asked, byte for byte, in order, up to the first invalid line; and that line is refused with its number,
 -- place and reason, or the end is complete. A write fault is told only where a write to it has failed. Whatever came, no

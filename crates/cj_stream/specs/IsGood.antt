@@ -6,7 +6,7 @@ use Rattle.cj_stream.specs.declared.ending.End.TheVariants.{Complete, Refused}
 use Rattle.cj_stream.specs.Lines.{Line, lines}
 use Rattle.cj_stream.specs.Verdict.{Rules, verdict, refusal_of}
 
--- these are a front of all
+-- these are a prefix of all
 pub record IsFront (ls all : List Line) : Type 0 where
   pub rest : List Line
   pub whole : all ≡ ls ++ rest
@@ -15,7 +15,7 @@ pub record IsFront (ls all : List Line) : Type 0 where
 abbrev pub NoneRefused : Rules → List Line → Type 0
 NoneRefused rules ls = (before : List Line) (l : Line) (after : List Line) → ls ≡ before ++ l ∷ after → refusal_of (length before + 1) (verdict rules before l.content) ≡ None
 
--- the longest front of the lines of a text of which none is refused
+-- the longest prefix of the lines of a text of which none is refused
 pub record AreGood (rules : Rules) (s : List ℕ) (ls : List Line) : Type 0 where
   pub front : IsFront ls (lines s)
   pub unrefused : NoneRefused rules ls

@@ -31,7 +31,7 @@ pub record Account (rules : Rules) (r : List ℕ) (at_end : Type 0) (n features 
   pub ends : Ends rules r n at_end e
 
 -- what a sink took of the bytes r, by the end of the run: what is kept of them, or of their whole lines where a read
--- failed or the reads ran out; or a front of that, and then what a failed step of the next one may leave, or nothing
+-- failed or the reads ran out; or a prefix of that, and then what a failed step of the next one may leave, or nothing
 -- more where memory was refused
 abbrev pub Puts : {S : Type 0} → (S → Item → S → Type 0) → (S → Item → S → Type 0) → Rules → List ℕ → End → S → S → Type 0
 Puts takes leaves rules r Complete s t = Took takes s (kept rules r) t
@@ -48,7 +48,7 @@ pub record Runs {S : Type 0} (takes leaves : S → Item → S → Type 0) (rules
   pub puts : Puts takes leaves rules r e s t
 
 -- the bytes that a writer got of r, by the end of the run: the output of r, or of its whole lines where a read
--- failed, or a front of the output where a write failed or memory was refused
+-- failed, or a prefix of the output where a write failed or memory was refused
 abbrev pub Writes : Rules → List ℕ → End → Option (List ℕ) → Option (List ℕ) → Type 0
 Writes rules r Complete old new = Appends old new (output rules r)
 Writes rules r (Refused number place reason) old new = Appends old new (output rules r)

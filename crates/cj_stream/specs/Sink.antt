@@ -26,7 +26,7 @@ abbrev pub LeavesNext : {S X : Type 0} → (S → X → S → Type 0) → List X
 LeavesNext leaves [] old new = ⊥
 LeavesNext leaves (x ∷ xs) old new = leaves old x new
 
--- a front of these made steps, with all of the first of them, and then this happened, by those that were to come
+-- a prefix of these made steps, with all of the first of them, and then this happened, by those that were to come
 pub record TookFront {S X : Type 0} (takes : S → X → S → Type 0) (then : List X → S → S → Type 0) (all first : List X) (old new : S) : Type 0 where
   pub more : List X
   pub others : List X
@@ -35,7 +35,7 @@ pub record TookFront {S X : Type 0} (takes : S → X → S → Type 0) (then : L
   pub took : Took takes old (first ++ more) middle
   pub left : then others middle new
 
--- the known bytes grow by a front of bs
+-- the known bytes grow by a prefix of bs
 pub record AppendsPart (old new : Option (List ℕ)) (bs : List ℕ) : Type 0 where
   pub front : List ℕ
   pub rest : List ℕ

@@ -85,7 +85,7 @@ pub record IsTallyOf (is : List Item) (t : Tally) : Type 0 where
 
 -- ---- streams
 
--- the tally of a front of some items, with all of these
+-- the tally of a prefix of some items, with all of these
 pub record TalliesFront (items first : List Item) (t : Tally) : Type 0 where
   pub more : List Item
   pub others : List Item
@@ -93,7 +93,7 @@ pub record TalliesFront (items first : List Item) (t : Tally) : Type 0 where
   pub tally : IsTallyOf (first ++ more) t
 
 -- the tally of what is kept of the bytes r that a run read, by its end; of their whole lines where a read failed, and
--- of a front where memory was refused. A tally never fails.
+-- of a prefix where memory was refused. A tally never fails.
 abbrev pub TalliesRun : Rules → List ℕ → End → Tally → Type 0
 TalliesRun rules r Complete t = IsTallyOf (kept rules r) t
 TalliesRun rules r (Refused number place reason) t = IsTallyOf (kept rules r) t
@@ -102,7 +102,7 @@ TalliesRun rules r ReadLimit t = IsTallyOf (kept rules (whole r)) t
 TalliesRun rules r WriteFault t = ⊥
 TalliesRun rules r Memory t = TalliesFront (kept rules r) [] t
 
--- the tally of what is kept of a cut text, whose ending is the answer; or, where memory was refused, of a front of the
+-- the tally of what is kept of a cut text, whose ending is the answer; or, where memory was refused, of a prefix of the
 -- pieces that were given, of which n were wholly taken
 abbrev pub TalliesPieces : Rules → List (List ℕ) → ℕ → End → Tally → Type 0
 TalliesPieces rules pieces n Complete t = (ending rules (joined pieces) ≡ Complete) × IsTallyOf (kept rules (joined pieces)) t

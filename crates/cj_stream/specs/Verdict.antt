@@ -116,7 +116,7 @@ refusal_from rules before (l ∷ ls) =
     let first = refusal_of (length before + 1) (verdict rules before l.content) in
     if is_some first then first else refusal_from rules (before ++ l ∷ []) ls
 
--- the longest front without a refused line
+-- the longest prefix without a refused line
 abbrev pub good_from : Rules → List Line → List Line → List Line
 good_from rules before [] = []
 good_from rules before (l ∷ ls) =
@@ -129,7 +129,7 @@ kept_from rules before (l ∷ ls) =
     if is_kept (verdict rules before l.content) then item_after rules before l ∷ kept_from rules (before ++ l ∷ []) ls
     else kept_from rules (before ++ l ∷ []) ls
 
--- the first refusal among the lines of a text, or of a front of them
+-- the first refusal among the lines of a text, or of a prefix of them
 abbrev pub refusal_in : Rules → List Line → Option End
 refusal_in rules ls = refusal_from rules [] ls
 

@@ -103,7 +103,7 @@ fn feed_all<S: LineSink>(engine: &mut Engine, pieces: &[&[u8]], sink: &mut S) ->
 
 /// Gives all pieces of a text to an engine that has been given nothing, and then the end, until it
 /// ends. However the text is cut, the sink takes what is kept of the text, one after another, and the
-/// end is its ending, unless a step of the sink fails or memory is refused: then it took a front of what
+/// end is its ending, unless a step of the sink fails or memory is refused: then it took a prefix of what
 /// is kept of the pieces that were given, with all that is kept of the whole lines of those that were
 /// wholly taken.
 pub fn put_pieces<S: LineSink>(engine: &mut Engine, pieces: &[&[u8]], sink: &mut S) -> Copied

@@ -17,7 +17,7 @@ pub fn lines_are_the_lines(text: &[u8])
     let _ = text;
 }
 
-/// The good lines of a text are the longest front of its lines of which none is refused, and its ending
+/// The good lines of a text are the longest prefix of its lines of which none is refused, and its ending
 /// is that of the line after them: under all rules.
 pub fn good_lines_are_the_longest(text: &[u8])
     ensures are { (rules : Rules) → AreGood rules text.now (good rules text.now) }

@@ -18,7 +18,7 @@ use std::io::Write;
 ///
 /// The engine is one that `Engine::open` has made for the limits and the query, and that has been given
 /// nothing. What is written, and how it ends, is said where no write fails and no memory is refused, of
-/// a writer that tells its bytes; what is held, whatever comes. After a fault the writer has a front of
+/// a writer that tells its bytes; what is held, whatever comes. After a fault the writer has a prefix of
 /// the output of the pieces that were given, with all of the output of those that were wholly taken.
 pub fn headline<W: Write + Drop>(
     engine: &mut Engine,

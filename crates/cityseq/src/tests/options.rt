@@ -327,7 +327,7 @@ fn info_reports_odd_numbers(rt: HostRuntime) -> Result<(), Fail> {
     Ok(())
 }
 
-/// Asks for a text of the program's own, to a writer that fails; of the text a front is written.
+/// Asks for a text of the program's own, to a writer that fails; of the text a prefix is written.
 fn check_failing_text(
     rt: &impl Abort,
     alloc: Global,

@@ -51,7 +51,7 @@ fn check_id(id: Node, objects: Option<Node>, found: &mut Least)
     }
 }
 
-/// The feature has an id, which is the name of one of its city objects (own).
+/// The feature has an id, which is the name of one of its city objects.
 pub fn check_id_member(object: Node, objects: Option<Node>, found: &mut Least)
     requires { option_map tree objects ≡ member_of (chars (codes "CityObjects")) (tree object) }
     ensures { found.new ≡ least found.old (id_rule (tree object.entry)) }

@@ -15,7 +15,7 @@ const AFTER_BACKSLASH: &[u8] = b"\"\\/bfnrtu";
 /// White space.
 const WHITE_SPACE: &[u8] = b" \t\n\r";
 
-/// What a scan answers of a front, a byte and a back.
+/// What a scan answers of a prefix, a byte and a back.
 fn answer(
     rt: &impl Abort,
     alloc: Global,

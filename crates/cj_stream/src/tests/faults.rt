@@ -1,4 +1,4 @@
-//! Devices that fail: what is written is a front of the output, and the end says why.
+//! Devices that fail: what is written is a prefix of the output, and the end says why.
 use super::calls::{
     check_bytes, check_ended, check_feed, check_finish, check_number, copied, copied_to, joined,
     refused,
