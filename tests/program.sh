@@ -520,6 +520,11 @@ row_less_memory_than_a_line_takes() {
   lines "$header" | answered 5 'out of memory'
 }
 
+row_each_allocation_refused_in_turn() {
+  command -v cc > "$scratch/noise" || return $skipped
+  tests/refused_growth.sh "$program" > "$scratch/noise" 2>&1 || { cat "$scratch/noise"; false; }
+}
+
 # ---- the example for embedders
 
 # It is tried with no proof, as that takes a minute whatever is proved: `examples/embed/run.sh` proves it.
