@@ -72,11 +72,11 @@ halted b ks ts m a k p x r none kind =
     ∙ ap (λ q. option_and_then (read m (byte b k)) (end_atom m a q s)) kind
 
 -- a scalar that may end where it halts has ended there
-pub ends_ok : (b : List ℕ) (i k n p : ℕ) (x y : Lex) (kd : Kind) (m : Mode) (ks : List ℕ) (ts us : List Token) → Continues b (suc i) x k y → Halts b k y → lex_kind y ≡ Some kd → n ≡ length ts → us ≡ ts ++ token_at i k (n + 1) ∷ []
+pub ends_ok : (b : List ℕ) (i k p : ℕ) (x y : Lex) (kd : Kind) (m : Mode) (ks : List ℕ) (ts us : List Token) → Continues b (suc i) x k y → Halts b k y → lex_kind y ≡ Some kd → us ≡ ts ++ token_at i k (length ts + 1) ∷ []
     → ComesTo b (state (in_atom m i x) ks ts (suc i) p) (state (between m) ks us k p)
-ends_ok b i k n p x y kd m ks ts us c h kind count is =
+ends_ok b i k p x y kd m ks ts us c h kind is =
     let last = state (in_atom m i y) ks ts k p in
-    let next : suc (length ts) ≡ n + 1 = omega arith in
+    let next : suc (length ts) ≡ length ts + 1 = omega arith in
     let e : ts ++ token_at i k (suc (length ts)) ∷ [] ≡ us = ap (λ l. ts ++ token_at i k l ∷ []) next ∙ sym is in
     record {
       last = last;

@@ -360,21 +360,21 @@ BeginsValue Ready = Unit {0}
 BeginsValue FirstItem = Unit {0}
 BeginsValue _ = ⊥
 
--- the innermost open container is an array
-pub record InArray (ks : List ℕ) (ts : List Token) : Type 0 where
+-- the innermost open container is of this kind
+pub record IsInnermost (d : Kind) (ks : List ℕ) (ts : List Token) : Type 0 where
   pub top : ℕ
   pub token : Token
   pub innermost : slice_get ks 0 ≡ Some top
   pub there : slice_get ts top ≡ Some token
-  pub array : open_kind token ≡ Array
+  pub kind : open_kind token ≡ d
 
--- the innermost open container is an object
-pub record InObject (ks : List ℕ) (ts : List Token) : Type 0 where
-  pub top : ℕ
-  pub token : Token
-  pub innermost : slice_get ks 0 ≡ Some top
-  pub there : slice_get ts top ≡ Some token
-  pub object : open_kind token ≡ Object
+-- it is an array
+abbrev pub InArray : List ℕ → List Token → Type 0
+InArray ks ts = IsInnermost Array ks ts
+
+-- it is an object
+abbrev pub InObject : List ℕ → List Token → Type 0
+InObject ks ts = IsInnermost Object ks ts
 
 -- a name may begin in the mode
 abbrev pub BeginsName : Mode → Type 0

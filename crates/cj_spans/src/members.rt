@@ -12,8 +12,8 @@ ghost use Rattle.cj_spans.specs.Pass.{StandsInObject, Leads};
 
 use crate::lex::plain_text_stop;
 use crate::step::{Mode, Move, Next};
-use crate::token::Token;
-use cj_budget::Bounded;
+use crate::token::{Token, keep_atom};
+use cj_budget::{Bounded, NoMemory};
 
 /// Whether this byte stands at the place.
 #[inline(always)]
@@ -37,14 +37,9 @@ fn read_text(line: &[u8], place: usize, tokens: &mut Bounded<Token>) -> Option<u
     ensures none { IfNone result (tokens.new ≡ tokens.old) }
 {
     let stop = plain_text_stop(line, place)?;
-    let token = Token {
-        start: place as u32,
-        stop: stop as u32,
-        link: tokens.len() as u32 + 1,
-    };
-    match tokens.put(token) {
+    match keep_atom(place, stop, tokens) {
         Ok(()) => Some(stop),
-        Err(_) => None,
+        Err(NoMemory) => None,
     }
 }
 
