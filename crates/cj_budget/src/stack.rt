@@ -1,4 +1,7 @@
 //! The open containers of a line: a stack with a limit, which keeps its greatest length.
+//!
+//! Contracts see it from the top on, since a scan looks at the innermost container; the code pushes at
+//! the end. Its first items lie in the stack itself, so `push` has a clause of its own for them.
 ghost use Rattle.std.specs.Prelude.{◌≡◌, ◌<◌, ◌↔◌, ◌∷◌, [], length, drop, IsTrue, IsOk, slice_get};
 ghost use Rattle.cj_budget.specs.Bounded.{IsNew, IsWithin, Becomes, Adds};
 
