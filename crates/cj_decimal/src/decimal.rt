@@ -1,4 +1,8 @@
-//! A number c * 10^p in normal form.
+//! A number c * 10^p in normal form: a coefficient and a power of ten, since a float would round.
+//!
+//! Normal form is made once, in `from_parts`, and is the type's invariant: `==` compares fields, and the
+//! range is judged of it and not of the spelling. A new way to make a `Decimal` has to trim its zeros, and
+//! 0 is (0, 0).
 ghost use Rattle.std.specs.Prelude.{◌≡◌, ◌↔◌, ℕ, ◌*◌, ◌^◌, ◌<◌, ◌≤◌, ℤ, pos, neg_ℤ, ◌-ℤ◌, ◌*ℤ◌, unsigned_abs, IsTrue, IfSome, IfNone, IsSome, IfOk, IsOk, IsErrOf};
 ghost use Rattle.std.proofs.Common.{rules};
 ghost use Rattle.std.specs.Cmp.Rules.{comparing};
@@ -15,10 +19,20 @@ use crate::trimming::without_zeros;
 use std::marker::Model;
 use thiserror::Error;
 
-/// The least and the greatest power of ten of a decimal.
+/// The least power of ten of a decimal.
 const LEAST_POWER: i128 = -1_000_000;
 
+/// The greatest power of ten of a decimal.
 const GREATEST_POWER: i128 = 1_000_000;
+
+/// The most digits of a decimal, and of a number of units of 10^-18.
+const DIGITS: u32 = 36;
+
+/// The most digits of a decimal as a whole number.
+const WHOLE_DIGITS: u32 = 18;
+
+/// The digits after the point of a [`Fixed18`].
+const FIXED_AFTER_POINT: u32 = 18;
 
 /// Why a spelling is no decimal.
 #[derive(Clone, Copy, Debug, PartialEq, Eq, Error)]
@@ -99,10 +113,10 @@ impl Decimal {
     fn from_parts(parts: Parts) -> Option<Decimal>
         ensures some { (n : ℕ) (e : ℤ) → StandsFor parts.digits.lead parts.digits.extra parts.digits.lost n
             → Saturates e parts.exponent
-            → IfSome result (SameValue (number (signed parts.negative n) (e -ℤ pos parts.places))) }
+            → IfSome result (SameValue (number (signed parts.negative n) (e -ℤ pos parts.after_point))) }
         ensures none { (n : ℕ) (e : ℤ) → StandsFor parts.digits.lead parts.digits.extra parts.digits.lost n
             → Saturates e parts.exponent
-            → IfNone result (IsOutOfRange (number (signed parts.negative n) (e -ℤ pos parts.places))) }
+            → IfNone result (IsOutOfRange (number (signed parts.negative n) (e -ℤ pos parts.after_point))) }
         ensures form { IfSome result (λ d. IsNormal d × IsInRange d) }
     {
         if parts.digits.lost {
@@ -116,7 +130,7 @@ impl Decimal {
         }
         let (lead, zeros) = without_zeros(parts.digits.lead);
         let shift = parts.digits.extra as i128 + zeros as i128;
-        let power = parts.exponent - parts.places as i128 + shift;
+        let power = parts.exponent - parts.after_point as i128 + shift;
         if power < LEAST_POWER {
             return None;
         }
@@ -156,16 +170,16 @@ impl Decimal {
         Ok(decimal)
     }
 
-    /// The number as a number of units of 10^-places, where it is a whole number of them, below 10^digits in size.
-    fn in_units(self, places: u32, digits: u32) -> Option<i128>
+    /// The number as a number of units of 10^-after_point, where it is a whole number of them, below 10^digits in size.
+    fn in_units(self, after_point: u32, digits: u32) -> Option<i128>
         requires bounded { digits ≤ 36 }
-        requires apart { places < digits }
+        requires apart { after_point < digits }
         ensures value { IfSome result
-            (λ u. SameValue self (number u (neg_ℤ (pos places))) × (unsigned_abs u < 10 ^ digits)) }
-        ensures none { IfNone result ((u : ℤ) → SameValue self (number u (neg_ℤ (pos places)))
+            (λ u. SameValue self (number u (neg_ℤ (pos after_point))) × (unsigned_abs u < 10 ^ digits)) }
+        ensures none { IfNone result ((u : ℤ) → SameValue self (number u (neg_ℤ (pos after_point)))
             → 10 ^ digits ≤ unsigned_abs u) }
     {
-        let power = self.power + places as i32;
+        let power = self.power + after_point as i32;
         if power < 0 {
             return None;
         }
@@ -180,7 +194,7 @@ impl Decimal {
         ensures value { IfSome result (IsWhole self) }
         ensures whole { IsSome result ↔ ((w : ℤ) × IsWhole self w) }
     {
-        match self.in_units(0, 18) {
+        match self.in_units(0, WHOLE_DIGITS) {
             Some(whole) => Some(whole as i64),
             None => None,
         }
@@ -191,7 +205,7 @@ impl Decimal {
         ensures value { IfSome result (IsFixed self) }
         ensures fixed { IsSome result ↔ ((u : ℤ) × IsFixed self u) }
     {
-        match self.in_units(18, 36) {
+        match self.in_units(FIXED_AFTER_POINT, DIGITS) {
             Some(units) => Some(Fixed18::from_units(units)),
             None => None,
         }

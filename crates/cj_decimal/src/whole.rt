@@ -1,4 +1,7 @@
 //! Whole numbers, which nearly all numbers of a city model are, read without what other numbers need.
+//!
+//! `read_few` and `read_few_signed` answer what digits alone spell. `read_whole` asks them first, and leaves
+//! the rest to `read`: `12.0`, `1e2` and a 0 in front go there.
 ghost use Rattle.std.specs.Prelude.{◌≡◌, ◌<◌, ◌≤◌, ◌^◌, length, pos, unsigned_abs, IfOk, IfSome, IsSome, ◌↔◌};
 ghost use Rattle.cj_decimal.specs.Class.{Class, whole_answer};
 ghost use Rattle.cj_decimal.specs.Reading.{IsShort};
