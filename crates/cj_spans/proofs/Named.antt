@@ -3,12 +3,12 @@ use Rattle.std.proofs.Common.{◌≡◌, ℕ, suc, ◌+◌, ◌<◌, List, [], �
 use Rattle.cj_budget.specs.Bounded.{BoundedList, Becomes}
 use Rattle.cj_spans.specs.declared.token.Kind.TheVariants.{Text, Object}
 use Rattle.cj_spans.specs.declared.token.Token.{Token}
-use Rattle.cj_spans.specs.declared.lex.Lex.TheVariants.{InText, TextDone}
+use Rattle.cj_spans.specs.declared.lex.Lex.TheVariants.{InString, StringDone}
 use Rattle.cj_spans.specs.declared.step.Mode.{Mode}
 use Rattle.cj_spans.specs.declared.step.Mode.TheVariants.{Ready, After, FirstName, NextName, AfterName}
 use Rattle.cj_spans.specs.Json.{byte}
 use Rattle.cj_spans.specs.Preorder.{token_at}
-use Rattle.cj_spans.specs.Machine.{State, state, in_atom, start, step, ComesTo, BeginsName, TextLeads, IsQuoted}
+use Rattle.cj_spans.specs.Machine.{State, state, in_atom, start, step, ComesTo, BeginsName, StringLeads, IsQuoted}
 use Rattle.cj_spans.specs.Pass.{StandsInObject, Leads}
 use Rattle.cj_spans.proofs.Runs.{idle}
 use Rattle.cj_spans.proofs.Atoms.{ends_ok}
@@ -18,20 +18,20 @@ use Rattle.cj_spans.proofs.Standing.{standing_small, standing_name_room, standin
 -- ---- one step of the machine
 
 -- a quote begins a string where a value or a name may begin
-text_begins : (m n : Mode) (c : ℕ) (ks : List ℕ) (ts : List Token) (i p : ℕ) → TextLeads m n → c ≡ 34 → step c (idle m ks ts i p) ≡ Some (state (in_atom n i InText) ks ts (suc i) p)
-text_begins Ready After c ks ts i p v e = ap (λ x. step x (idle Ready ks ts i p)) e
-text_begins FirstName AfterName c ks ts i p v e = ap (λ x. step x (idle FirstName ks ts i p)) e
-text_begins NextName AfterName c ks ts i p v e = ap (λ x. step x (idle NextName ks ts i p)) e
-text_begins _ _ c ks ts i p v e = absurd v
+string_begins : (m n : Mode) (c : ℕ) (ks : List ℕ) (ts : List Token) (i p : ℕ) → StringLeads m n → c ≡ 34 → step c (idle m ks ts i p) ≡ Some (state (in_atom n i InString) ks ts (suc i) p)
+string_begins Ready After c ks ts i p v e = ap (λ x. step x (idle Ready ks ts i p)) e
+string_begins FirstName AfterName c ks ts i p v e = ap (λ x. step x (idle FirstName ks ts i p)) e
+string_begins NextName AfterName c ks ts i p v e = ap (λ x. step x (idle NextName ks ts i p)) e
+string_begins _ _ c ks ts i p v e = absurd v
 
 -- the machine has read a string
-text_read : (b : List ℕ) (s : State) (m n : Mode) (ks : List ℕ) (ts us : List Token) (i k p : ℕ) → IsQuoted b i k → TextLeads m n → us ≡ ts ++ token_at i k (length ts + 1) ∷ [] → ComesTo b s (idle m ks ts i p) → ComesTo b s (idle n ks us k p)
-text_read b s m n ks ts us i k p q v e h =
+string_read : (b : List ℕ) (s : State) (m n : Mode) (ks : List ℕ) (ts us : List Token) (i k p : ℕ) → IsQuoted b i k → StringLeads m n → us ≡ ts ++ token_at i k (length ts + 1) ∷ [] → ComesTo b s (idle m ks ts i p) → ComesTo b s (idle n ks us k p)
+string_read b s m n ks ts us i k p q v e h =
     let o = q.order in let w = q.within in
-    let r = step_on b s (idle m ks ts i p) (state (in_atom n i InText) ks ts (suc i) p) h (omega arith) (text_begins m n (byte b i) ks ts i p v q.opens) in
-    settles_both r (ends_ok b i k p InText TextDone Text n ks ts us q.goes (inr refl) refl e)
+    let r = step_on b s (idle m ks ts i p) (state (in_atom n i InString) ks ts (suc i) p) h (omega arith) (string_begins m n (byte b i) ks ts i p v q.opens) in
+    settles_both r (ends_ok b i k p InString StringDone Text n ks ts us q.goes (inr refl) refl e)
 
-pub name_leads : (m : Mode) → BeginsName m → TextLeads m AfterName
+pub name_leads : (m : Mode) → BeginsName m → StringLeads m AfterName
 name_leads FirstName h = tt
 name_leads NextName h = tt
 name_leads _ h = absurd h
@@ -50,10 +50,10 @@ module _ (b : List ℕ) (ts : BoundedList Token) where
       let h = f s.stands.tokens0 s.stands.stack0 s.stack s.object s.stands.standing in
       record { stack = s.stack; stands = record { tokens0 = s.stands.tokens0; stack0 = s.stands.stack0; standing = h.1; room = s.stands.room }; object = h.0 }
 
-  pub leads_text : (us : BoundedList Token) (m n : Mode) (i k : ℕ) → TextLeads m n → IsQuoted b i k → Becomes ts (ts.elements ++ token_at i k (length ts.elements + 1) ∷ []) us → Leads b ts m i us n k
-  leads_text us m n i k v q e = λ t0 s0 ks a s. (
+  pub leads_string : (us : BoundedList Token) (m n : Mode) (i k : ℕ) → StringLeads m n → IsQuoted b i k → Becomes ts (ts.elements ++ token_at i k (length ts.elements + 1) ∷ []) us → Leads b ts m i us n k
+  leads_string us m n i k v q e = λ t0 s0 ks a s. (
     innermost_more Object ks.elements ts.elements us.elements _ a e.elements,
-    standing_with b t0 s0 ts us ks m n i k s (grown_more ts us _ s.kept.within e) q.within (λ p. text_read b start m n ks.elements ts.elements us.elements i k p q v e.elements),
+    standing_with b t0 s0 ts us ks m n i k s (grown_more ts us _ s.kept.within e) q.within (λ p. string_read b start m n ks.elements ts.elements us.elements i k p q v e.elements),
   )
 
   pub leads_colon : (k : ℕ) → (k < length b) × (byte b k ≡ 58) → Leads b ts AfterName k ts Ready (k + 1)
@@ -76,5 +76,5 @@ module _ (b : List ℕ) (ts : BoundedList Token) where
   pub name_room : (m : Mode) (i : ℕ) → StandsInObject b ts m i → i < length b → BeginsName m → length ts.elements < ts.limit
   name_room m i s l v = standing_name_room b s.stands.tokens0 s.stands.stack0 ts s.stack m i s.stands.standing s.stands.room.room l v
 
-  pub text_room : (i : ℕ) → StandsInObject b ts Ready i → i < length b → length ts.elements < ts.limit
-  text_room i s l = standing_room b s.stands.tokens0 s.stands.stack0 ts s.stack Ready i s.stands.standing s.stands.room.room l tt
+  pub string_room : (i : ℕ) → StandsInObject b ts Ready i → i < length b → length ts.elements < ts.limit
+  string_room i s l = standing_room b s.stands.tokens0 s.stands.stack0 ts s.stack Ready i s.stands.standing s.stands.room.room l tt

@@ -163,7 +163,7 @@ fn pass_parts(
     Ok(next)
 }
 
-/// Whether a text may end here.
+/// Whether the line is a JSON text if it ends here.
 #[inline(always)]
 fn is_end(mode: Mode, stack: &Stack) -> bool
     ensures { IsTrue result ↔ ((mode ≡ After) × (stack.now.elements ≡ [])) }
@@ -237,7 +237,7 @@ pub fn scan(line: &[u8], tokens: &mut Bounded<Token>, stack: &mut Stack) -> Resu
     ensures memory { IsTrue tokens.old.reserved → IsTrue stack.old.reserved
         → IsErrOf result ScanFault.Memory → ⊥ }
 
-    // The same places, told by the texts that the line begins.
+    // The same places, told by the JSON texts that the line begins.
     ensures first_too_deep { (i : ℕ) → IsErrOf result (ScanFault.TooDeep i)
         → IsFirstTooDeep line.now stack.old.limit i }
     ensures first_fault { (i : ℕ) → IsErrOf result (ScanFault.Syntax i) → IsFirstFault line.now i }
