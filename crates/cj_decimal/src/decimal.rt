@@ -6,16 +6,17 @@
 ghost use Rattle.std.specs.Prelude.{◌≡◌, ◌↔◌, ℕ, ◌*◌, ◌^◌, ◌<◌, ◌≤◌, ℤ, pos, neg_ℤ, ◌-ℤ◌, ◌*ℤ◌, unsigned_abs, IsTrue, IfSome, IfNone, IsSome, IfOk, IsOk, IsErrOf};
 ghost use Rattle.std.proofs.Common.{rules};
 ghost use Rattle.std.specs.Cmp.Rules.{comparing};
-ghost use Rattle.cj_decimal.specs.Spelling.{IsNumber, IsValue, IsNumberInRange, IsNumberOutOfRange, HasOneValue};
-ghost use Rattle.cj_decimal.specs.Class.{Class};
+ghost use Rattle.cj_decimal.specs.Spelling.{IsFewDigits, IsFewSigned, IsNumber, IsValue, IsNumberInRange, IsNumberOutOfRange, HasOneValue};
+ghost use Rattle.cj_decimal.specs.Class.{Class, whole_answer};
 ghost use Rattle.cj_decimal.specs.Number.{number, signed, same_parts, SameValue, IsNormal, IsInRange, IsOutOfRange, IsWhole, IsFixed};
 ghost use Rattle.cj_decimal.specs.Digits.{StandsFor};
 ghost use Rattle.cj_decimal.specs.Reading.{Saturates};
 
 use crate::fixed::Fixed18;
 use crate::powers::wide_ten_to;
-use crate::spelling::{Parts, read_parts};
+use crate::spelling::{Parts, after_minus, has_byte, read_parts};
 use crate::trimming::without_zeros;
+use crate::whole::{read_any, read_few_digits};
 use std::marker::Model;
 use thiserror::Error;
 
@@ -168,6 +169,54 @@ impl Decimal {
             return Err(DecimalFault::NumberRange);
         };
         Ok(decimal)
+    }
+
+    /// The number that at most 18 digits spell, where nothing else stands there and no 0 before another digit: what
+    /// nearly all indices are. None where it is anything else, which may be a whole number too.
+    #[inline(always)]
+    pub fn read_few(spelling: &[u8]) -> Option<u64>
+        ensures answer { IfSome result (λ n. (c : Class spelling.now) → whole_answer c ≡ Ok (Some (pos n))) }
+        ensures small { IfSome result (λ n. n < 10 ^ 18) }
+        ensures few { IsSome result ↔ IsFewDigits spelling.now }
+    {
+        read_few_digits(spelling)
+    }
+
+    /// The number that such digits spell, or a minus and such digits: what nearly all coordinates are. None where
+    /// it is anything else, which may be a whole number too.
+    #[inline(always)]
+    pub fn read_few_signed(spelling: &[u8]) -> Option<i64>
+        ensures answer { IfSome result (λ w. (c : Class spelling.now) → whole_answer c ≡ Ok (Some w)) }
+        ensures small { IfSome result (λ w. unsigned_abs w < 10 ^ 18) }
+        ensures few { IsSome result ↔ IsFewSigned spelling.now }
+    {
+        let negative = has_byte(spelling, 0, b'-');
+        let from = after_minus(spelling, negative);
+        let Some(size) = read_few_digits(&spelling[from..]) else {
+            return None;
+        };
+        if negative {
+            Some(-(size as i64))
+        } else {
+            Some(size as i64)
+        }
+    }
+
+    /// Reads the spelling of a number of JSON (RFC 8259, section 6) as a whole number: its value where that
+    /// is whole and below 10^18 in size, None where it is a number in range and not so.
+    ///
+    /// # Errors
+    ///
+    /// Those of [`Decimal::read`].
+    #[inline]
+    pub fn read_whole(spelling: &[u8]) -> Result<Option<i64>, DecimalFault>
+        ensures answer { (c : Class spelling.now) → result ≡ whole_answer c }
+        ensures small { IfOk result (λ o. IfSome o (λ w. unsigned_abs w < 10 ^ 18)) }
+    {
+        match Decimal::read_few_signed(spelling) {
+            Some(whole) => Ok(Some(whole)),
+            None => read_any(spelling),
+        }
     }
 
     /// The number as a number of units of 10^-after_point, where it is a whole number of them, below 10^digits in size.
