@@ -1,4 +1,4 @@
--- The ranges of the limits.
+-- The limits of a run: their ranges, and the usual ones.
 use Rattle.std.specs.Prelude.{ℕ, ◌≤◌}
 
 -- what a contract sees of limits: the most content bytes of a line, and the most open containers
@@ -13,3 +13,7 @@ InLine line = (1 ≤ line) × (line ≤ 1073741824)
 -- a depth limit in range
 abbrev pub InDepth : ℕ → Type 0
 InDepth depth = (1 ≤ depth) × (depth ≤ 1024)
+
+-- the limits where none are given: 8 MiB a line, and 64 open containers
+abbrev pub usual_limits : LimitPair
+usual_limits = record { line = 8388608; depth = 64 }

@@ -1,4 +1,14 @@
 //! A list with a limit, which keeps its greatest length.
+//!
+//! Three numbers are apart: the length, the peak (the greatest length so far) and the limit. The peak is
+//! told by the list itself, so that what was held inside a call is counted too. Whatever takes elements
+//! away has to store the peak first, as `clear` does; a push need not.
+//!
+//! The limit is asked before memory is, so `Full` comes also where memory would have been refused, and
+//! only where the list is full. A refused growth must leave list, peak and room as they were: so room is
+//! asked for first, and the step after it cannot fail. Whether there is room for the limit is a part of
+//! what contracts see (`reserved`), so that a caller can know that a call succeeds; each call has to keep
+//! it. `Vec` may take more room than the limit: the bound speaks of lengths alone.
 ghost use Rattle.std.specs.Prelude.{◌≡◌, ◌+◌, ◌<◌, ◌≤◌, ◌↔◌, ◌++◌, ◌∷◌, [], length, IsTrue, IsOk, OnOk, OnErr, IsErrOf, slice_set};
 ghost use Rattle.cj_budget.specs.Bounded.{IsNew, IsWithin, Becomes, Adds};
 
@@ -123,8 +133,7 @@ impl<T: Copy> Bounded<T> {
         Ok(())
     }
 
-    /// Puts an element in the place of the one at an index. The length, the peak and the room stay.
-    /// It takes no memory.
+    /// Replaces the element at an index. The length, the peak and the room stay. It takes no memory.
     pub fn set(&mut self, i: usize, x: T)
         requires { i < length self.old.elements }
         ensures set { self.new ≡ record self.old { elements = slice_set self.old.elements i x } }

@@ -6,7 +6,7 @@
 //! above hold nothing that grows in any other list, so what they hold is bounded by the limits.
 //!
 //! ```text
-//! let limits = Limits::new(8_388_608, 64)?;
+//! let limits = Limits::usual(); // or Limits::new(1_000_000, 16)?
 //! let mut line = Bounded::new(alloc, limits.line() as usize);
 //! line.extend_from_slice(b"{}")?; // Full past the limit, Memory where no more is granted
 //! line.clear(); // the peak stays 2
@@ -20,5 +20,5 @@ mod stack;
 mod tests;
 
 pub use bounded::{Bounded, ExtendFault, NoMemory, Refused};
-pub use limits::{LimitFault, Limits, Peaks};
+pub use limits::{LimitFault, Limits, Peaks, USUAL_DEPTH, USUAL_LINE};
 pub use stack::Stack;

@@ -1,12 +1,24 @@
 //! The limits of a run, and the greatest sizes that it reached.
 ghost use Rattle.std.specs.Prelude.{◌≡◌, ◌↔◌, IsOk, IfOk, IsErrOf};
-ghost use Rattle.cj_budget.specs.Limits.{InLine, InDepth};
+ghost use Rattle.cj_budget.specs.Limits.{InLine, InDepth, usual_limits};
 
 use std::marker::Model;
 use thiserror::Error;
 
-/// The greatest line limit, in bytes.
+/// The line limit where none is given, in bytes: 8 MiB.
+pub const USUAL_LINE: u64 = 8_388_608;
+
+/// The depth limit where none is given.
+pub const USUAL_DEPTH: u64 = 64;
+
+/// The least line limit, in bytes.
+const LEAST_LINE: u64 = 1;
+
+/// The greatest line limit, in bytes: 1 GiB.
 const GREATEST_LINE: u64 = 1_073_741_824;
+
+/// The least depth limit.
+const LEAST_DEPTH: u64 = 1;
 
 /// The greatest depth limit.
 const GREATEST_DEPTH: u64 = 1_024;
@@ -49,13 +61,23 @@ impl Limits {
         ensures line_limit { IsErrOf result LimitFault.LineLimit ↔ ¬ InLine line }
         ensures depth_limit { IsErrOf result LimitFault.DepthLimit ↔ (InLine line × ¬ InDepth depth) }
     {
-        if line < 1 || line > GREATEST_LINE {
+        if line < LEAST_LINE || line > GREATEST_LINE {
             return Err(LimitFault::LineLimit);
         }
-        if depth < 1 || depth > GREATEST_DEPTH {
+        if depth < LEAST_DEPTH || depth > GREATEST_DEPTH {
             return Err(LimitFault::DepthLimit);
         }
         Ok(Limits { line, depth })
+    }
+
+    /// The limits where none are given: lines of up to 8 MiB, and up to 64 open containers.
+    pub fn usual() -> Limits
+        ensures { result ≡ usual_limits }
+    {
+        Limits {
+            line: USUAL_LINE,
+            depth: USUAL_DEPTH,
+        }
     }
 
     /// The most content bytes of a line: its bytes without the LF.

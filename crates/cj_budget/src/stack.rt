@@ -1,4 +1,7 @@
 //! The open containers of a line: a stack with a limit, which keeps its greatest length.
+//!
+//! Contracts see it from the top on, since a scan looks at the innermost container; the code pushes at
+//! the end. Its first items lie in the stack itself, so `push` has a clause of its own for them.
 ghost use Rattle.std.specs.Prelude.{◌≡◌, ◌<◌, ◌↔◌, ◌∷◌, [], length, drop, IsTrue, IsOk, slice_get};
 ghost use Rattle.cj_budget.specs.Bounded.{IsNew, IsWithin, Becomes, Adds};
 
@@ -7,12 +10,15 @@ use smallvec::SmallVec;
 use std::alloc::Global;
 use std::marker::Model;
 
+/// How many items lie in the stack itself: as many as the usual depth limit allows, so that it seldom takes memory.
+const INLINE: usize = 64;
+
 /// A stack of numbers that never holds more than its limit, and that keeps its peak, the greatest
 /// number of items that it has had. Its first 64 items need no memory. Contracts see its items from
 /// the top on.
 #[derive(Drop)]
 pub struct Stack {
-    items: SmallVec<u32, 64>,
+    items: SmallVec<u32, INLINE>,
     limit: usize,
     peak: usize,
 }

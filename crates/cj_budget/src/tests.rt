@@ -1,5 +1,8 @@
 //! Rows on limits and lists.
-use crate::{Bounded, ExtendFault, LimitFault, Limits, NoMemory, Peaks, Refused, Stack};
+use crate::{
+    Bounded, ExtendFault, LimitFault, Limits, NoMemory, Peaks, Refused, Stack, USUAL_DEPTH,
+    USUAL_LINE,
+};
 use std::process::Abort;
 use std::test::Fail;
 
@@ -73,6 +76,14 @@ fn limits_in_range_are_kept(rt: HostRuntime) {
         },
     ];
     check_limits(&rt, &rows);
+}
+
+#[test]
+fn the_usual_limits(rt: HostRuntime) {
+    let usual = Limits::usual();
+    assert_eq!(rt; usual.line(), 8_388_608);
+    assert_eq!(rt; usual.depth(), 64);
+    assert_eq!(rt; Limits::new(USUAL_LINE, USUAL_DEPTH), Ok(usual));
 }
 
 #[test]

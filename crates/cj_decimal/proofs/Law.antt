@@ -25,27 +25,27 @@ has_one_value s = record {
 }
 
 -- the number of the parts that were read
-abbrev pub read_number : (s : List ℕ) (negative : Bool) (lead extra : ℕ) (lost : Bool) (places : ℕ) (exponent : ℤ) → IsReadOf s negative lead extra lost places exponent → Number
-read_number s negative lead extra lost places exponent r = number (signed negative (digits_value (r.written.int ++ r.written.frac))) (r.written.exponent -ℤ pos places)
+abbrev pub read_number : (s : List ℕ) (negative : Bool) (lead extra : ℕ) (lost : Bool) (after_point : ℕ) (exponent : ℤ) → IsReadOf s negative lead extra lost after_point exponent → Number
+read_number s negative lead extra lost after_point exponent r = number (signed negative (digits_value (r.written.int ++ r.written.frac))) (r.written.exponent -ℤ pos after_point)
 
-is_number_of : (s : List ℕ) (negative : Bool) (lead extra : ℕ) (lost : Bool) (places : ℕ) (exponent : ℤ) (r : IsReadOf s negative lead extra lost places exponent) → read_number s negative lead extra lost places exponent r ≡ number_of r.written
-is_number_of s negative lead extra lost places exponent r =
+is_number_of : (s : List ℕ) (negative : Bool) (lead extra : ℕ) (lost : Bool) (after_point : ℕ) (exponent : ℤ) (r : IsReadOf s negative lead extra lost after_point exponent) → read_number s negative lead extra lost after_point exponent r ≡ number_of r.written
+is_number_of s negative lead extra lost after_point exponent r =
     let n : ℕ = digits_value (r.written.int ++ r.written.frac) in
-    ap (λ b. number (signed b n) (r.written.exponent -ℤ pos places)) (sym r.sign) ∙ ap (λ k. number (signed r.written.negative n) (r.written.exponent -ℤ pos k)) (sym r.places_are)
+    ap (λ b. number (signed b n) (r.written.exponent -ℤ pos after_point)) (sym r.sign) ∙ ap (λ k. number (signed r.written.negative n) (r.written.exponent -ℤ pos k)) (sym r.after_point_is)
 
-pub value_of_read : (s : List ℕ) (negative : Bool) (lead extra : ℕ) (lost : Bool) (places : ℕ) (exponent : ℤ) (r : IsReadOf s negative lead extra lost places exponent) (v : Number)
-    → SameValue (read_number s negative lead extra lost places exponent r) v → IsNormal v → IsValue s v
-value_of_read s negative lead extra lost places exponent r v same normal = record {
+pub value_of_read : (s : List ℕ) (negative : Bool) (lead extra : ℕ) (lost : Bool) (after_point : ℕ) (exponent : ℤ) (r : IsReadOf s negative lead extra lost after_point exponent) (v : Number)
+    → SameValue (read_number s negative lead extra lost after_point exponent r) v → IsNormal v → IsValue s v
+value_of_read s negative lead extra lost after_point exponent r v same normal = record {
   written = r.written;
   spells = r.spells;
-  same = rw (is_number_of s negative lead extra lost places exponent r) at same;
+  same = rw (is_number_of s negative lead extra lost after_point exponent r) at same;
   normal = normal;
 }
 
-pub out_of_read : (s : List ℕ) (negative : Bool) (lead extra : ℕ) (lost : Bool) (places : ℕ) (exponent : ℤ) (r : IsReadOf s negative lead extra lost places exponent)
-    → IsOutOfRange (read_number s negative lead extra lost places exponent r) → IsNumberOutOfRange s
-out_of_read s negative lead extra lost places exponent r o =
-    (o.normal_form, value_of_read s negative lead extra lost places exponent r o.normal_form o.same o.normal, o.out)
+pub out_of_read : (s : List ℕ) (negative : Bool) (lead extra : ℕ) (lost : Bool) (after_point : ℕ) (exponent : ℤ) (r : IsReadOf s negative lead extra lost after_point exponent)
+    → IsOutOfRange (read_number s negative lead extra lost after_point exponent r) → IsNumberOutOfRange s
+out_of_read s negative lead extra lost after_point exponent r o =
+    (o.normal_form, value_of_read s negative lead extra lost after_point exponent r o.normal_form o.same o.normal, o.out)
 
 pub not_both : (s : List ℕ) → IsNumberInRange s → ¬ IsNumberOutOfRange s
 not_both s a b =

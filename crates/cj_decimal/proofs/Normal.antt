@@ -99,17 +99,17 @@ stands_trimmed lead extra lost n c k s e t = s.whole e ∙ ap (λ l. l * 10 ^ ex
     regroup c p q = omega arith
 
 -- the power that is computed of what was read is the number's power where it is in range, and out of range where that is
-pub power_in : (e r : ℤ) (places up : ℕ) → Saturates e r → places < 2 ^ 64 → up < 2 ^ 65 → neg_ℤ (pos 1000000) ≤ℤ (r -ℤ pos places +ℤ pos up) → (r -ℤ pos places +ℤ pos up) ≤ℤ pos 1000000
-    → e -ℤ pos places +ℤ pos up ≡ r -ℤ pos places +ℤ pos up
-power_in e r places up s a b low high = let same : e ≡ r = s.same (omega (arith, ints)) in omega (arith, ints)
+pub power_in : (e r : ℤ) (after_point up : ℕ) → Saturates e r → after_point < 2 ^ 64 → up < 2 ^ 65 → neg_ℤ (pos 1000000) ≤ℤ (r -ℤ pos after_point +ℤ pos up) → (r -ℤ pos after_point +ℤ pos up) ≤ℤ pos 1000000
+    → e -ℤ pos after_point +ℤ pos up ≡ r -ℤ pos after_point +ℤ pos up
+power_in e r after_point up s a b low high = let same : e ≡ r = s.same (omega (arith, ints)) in omega (arith, ints)
 
-pub power_low_out : (e r : ℤ) (places up : ℕ) → Saturates e r → places < 2 ^ 64 → up < 2 ^ 65 → (r -ℤ pos places +ℤ pos up) <ℤ neg_ℤ (pos 1000000) → (e -ℤ pos places +ℤ pos up) <ℤ neg_ℤ (pos 1000000)
-power_low_out e r places up s a b h = by_lt_z (neg_ℤ (pos (10 ^ 35))) r
+pub power_low_out : (e r : ℤ) (after_point up : ℕ) → Saturates e r → after_point < 2 ^ 64 → up < 2 ^ 65 → (r -ℤ pos after_point +ℤ pos up) <ℤ neg_ℤ (pos 1000000) → (e -ℤ pos after_point +ℤ pos up) <ℤ neg_ℤ (pos 1000000)
+power_low_out e r after_point up s a b h = by_lt_z (neg_ℤ (pos (10 ^ 35))) r
     (λ k. let same : e ≡ r = s.same (omega (arith, ints)) in omega (arith, ints))
     (λ k. let far : e ≤ℤ neg_ℤ (pos (10 ^ 35)) = s.low k in omega (arith, ints))
 
-pub power_high_out : (e r : ℤ) (places up : ℕ) → Saturates e r → places < 2 ^ 64 → up < 2 ^ 65 → pos 1000000 <ℤ (r -ℤ pos places +ℤ pos up) → pos 1000000 <ℤ (e -ℤ pos places +ℤ pos up)
-power_high_out e r places up s a b h = by_lt_z r (pos (10 ^ 35))
+pub power_high_out : (e r : ℤ) (after_point up : ℕ) → Saturates e r → after_point < 2 ^ 64 → up < 2 ^ 65 → pos 1000000 <ℤ (r -ℤ pos after_point +ℤ pos up) → pos 1000000 <ℤ (e -ℤ pos after_point +ℤ pos up)
+power_high_out e r after_point up s a b h = by_lt_z r (pos (10 ^ 35))
     (λ k. let same : e ≡ r = s.same (omega (arith, ints)) in omega (arith, ints))
     (λ k. let far : pos (10 ^ 35) ≤ℤ e = s.high k in omega (arith, ints))
 
@@ -137,8 +137,8 @@ pub sign_cast : (s : Bool) (c : ℕ) (x : ℤ) → x ≡ signed s c → c < 10 ^
 sign_cast s c x e small = to_z-of_z w128 x (fits_signed_from_abs w128 x (omega (arith, ap unsigned_abs e, signed_size s c))) ∙ e
 
 -- the power as the code computes it
-pub power_cast : (r : ℤ) (places extra more : ℕ) → unsigned_abs r < 10 ^ 36 → places < 2 ^ 64 → extra < 2 ^ 64 → more < 39
-    → neg_ℤ (pos 1000000) ≤ℤ (r -ℤ pos places +ℤ pos (extra + more)) → (r -ℤ pos places +ℤ pos (extra + more)) ≤ℤ pos 1000000
-    → cast_signed w32 (cast_unsigned w32 (cast_signed w128 (cast_unsigned w128 (cast_signed w128 (cast_unsigned w128 (cast_signed w128 (cast_unsigned w128 r) -ℤ cast_signed w128 places)) +ℤ cast_signed w128 (cast_unsigned w128 (cast_signed w128 extra +ℤ cast_signed w128 more))))))
-    ≡ r -ℤ pos places +ℤ pos (extra + more)
-power_cast r places extra more a b c d low high = omega (arith, ints)
+pub power_cast : (r : ℤ) (after_point extra more : ℕ) → unsigned_abs r < 10 ^ 36 → after_point < 2 ^ 64 → extra < 2 ^ 64 → more < 39
+    → neg_ℤ (pos 1000000) ≤ℤ (r -ℤ pos after_point +ℤ pos (extra + more)) → (r -ℤ pos after_point +ℤ pos (extra + more)) ≤ℤ pos 1000000
+    → cast_signed w32 (cast_unsigned w32 (cast_signed w128 (cast_unsigned w128 (cast_signed w128 (cast_unsigned w128 (cast_signed w128 (cast_unsigned w128 r) -ℤ cast_signed w128 after_point)) +ℤ cast_signed w128 (cast_unsigned w128 (cast_signed w128 extra +ℤ cast_signed w128 more))))))
+    ≡ r -ℤ pos after_point +ℤ pos (extra + more)
+power_cast r after_point extra more a b c d low high = omega (arith, ints)

@@ -248,7 +248,7 @@ integer_read s negative short sign int none value =
       spells = integer_spells s int none;
       sign = sym sign;
       digits = rw (frac.1, append_nil (digits_front (body s)), ← value) (short_stands short);
-      places_are = ap length frac.1;
+      after_point_is = ap length frac.1;
       exponent_is = (exp_none _ frac.2).1;
     }
 

@@ -57,12 +57,12 @@ pub size_of_units : (v : Number) (u t : ℤ) (k : ℕ) → v.power ≡ t +ℤ po
 size_of_units v u t k f same = ap unsigned_abs (units_are v u t k f same) ∙ abs_times v.coefficient (10 ^ k)
 
 -- where the zeros alone are as many as the bound has, the number is too large
-pub far_units : (v : Number) (u : ℤ) (places digits k : ℕ) → IsNormal v → v.power ≡ neg_ℤ (pos places) +ℤ pos k → places < digits → digits ≤ k → SameValue v (number u (neg_ℤ (pos places))) → 10 ^ digits ≤ unsigned_abs u
-far_units v u places digits k normal f apart h same = by_size (unsigned_abs v.coefficient) refl
+pub far_units : (v : Number) (u : ℤ) (after_point digits k : ℕ) → IsNormal v → v.power ≡ neg_ℤ (pos after_point) +ℤ pos k → after_point < digits → digits ≤ k → SameValue v (number u (neg_ℤ (pos after_point))) → 10 ^ digits ≤ unsigned_abs u
+far_units v u after_point digits k normal f apart h same = by_size (unsigned_abs v.coefficient) refl
   where
     by_size : (n : ℕ) → unsigned_abs v.coefficient ≡ n → 10 ^ digits ≤ unsigned_abs u
     by_size zero e = absurd (omega (arith, ints, f, ap (λ (n : Number). n.power) (normal.normal (ap (λ n. n % 10) e))))
-    by_size (suc n) e = omega (arith, size_of_units v u (neg_ℤ (pos places)) k f same, zeros_large (unsigned_abs v.coefficient) k digits (omega (arith, e)) h)
+    by_size (suc n) e = omega (arith, size_of_units v u (neg_ℤ (pos after_point)) k f same, zeros_large (unsigned_abs v.coefficient) k digits (omega (arith, e)) h)
 
 -- where the coefficient with its zeros reaches the bound, likewise
 pub large_units : (v : Number) (u t : ℤ) (digits k : ℕ) → v.power ≡ t +ℤ pos k → 10 ^ digits ≤ unsigned_abs v.coefficient * 10 ^ k → SameValue v (number u t) → 10 ^ digits ≤ unsigned_abs u

@@ -1,5 +1,5 @@
 -- What reading a whole number answers.
-use Rattle.std.proofs.Common.{◌≡◌, ℕ, ◌*◌, ◌^◌, ◌<◌, ◌≤◌, ◌++◌, List, [], length, drop, get_or, Bool, true, false, Option, Some, None, Result, Ok, Err, ℤ, pos, negsuc, neg_ℤ, inl, inr, ⊎_elim, refl, sym, ap, ◌∙◌, subst, arith, rules}
+use Rattle.std.proofs.Common.{◌≡◌, ℕ, ◌*◌, ◌^◌, ◌<◌, ◌≤◌, ◌++◌, List, [], length, drop, get_or, Bool, true, false, Option, Some, None, Result, Ok, Err, ℤ, pos, negsuc, inl, inr, ⊎_elim, refl, sym, ap, ◌∙◌, subst, arith, rules}
 use Rattle.std.specs.Prelude.{IfOk, IfSome, IsSome, unsigned_abs}
 use Rattle.std.specs.Char.{is_ascii_digit}
 use Rattle.std.proofs.Math.Nat.{le-mul_of_pos_right}

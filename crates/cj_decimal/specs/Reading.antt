@@ -117,10 +117,10 @@ pub record SaturatesSize (n r : ℕ) : Type 0 where
   pub high : 10 ^ 35 ≤ r → 10 ^ 35 ≤ n
 
 -- the parts that were read stand for what the spelling s says
-pub record IsReadOf (s : List ℕ) (negative : Bool) (lead extra : ℕ) (lost : Bool) (places : ℕ) (exponent : ℤ) : Type 0 where
+pub record IsReadOf (s : List ℕ) (negative : Bool) (lead extra : ℕ) (lost : Bool) (after_point : ℕ) (exponent : ℤ) : Type 0 where
   pub written : Written
   pub spells : Spells s written
   pub sign : written.negative ≡ negative
   pub digits : StandsFor lead extra lost (digits_value (written.int ++ written.frac))
-  pub places_are : length written.frac ≡ places
+  pub after_point_is : length written.frac ≡ after_point
   pub exponent_is : Saturates written.exponent exponent

@@ -1,4 +1,7 @@
 //! Whole numbers scaled and shifted, compared exactly.
+//!
+//! A scale is split rounding down, not towards 0: what is left is then never negative, and the sign of the
+//! whole part decides.
 ghost use Rattle.std.specs.Prelude.{◌≡◌, ◌<◌, ◌≤◌, ◌^◌, ◌+ℤ◌, ◌*ℤ◌, ◌*◌, ◌≤ℤ◌, ◌<ℤ◌, pos, unsigned_abs};
 ghost use Rattle.std.specs.Int.{int_div_euclid, int_rem_euclid};
 ghost use Rattle.std.specs.Ordering.{int_cmp};
@@ -34,10 +37,12 @@ impl Model for Affine {
 
     ghost invariant = { λ a. IsSplit a.scale a.whole a.part × IsInUnits a.scale a.shift };
 
-    ghost inverse =
-    { λ m. record
-    { scale = m.scale; whole = int_div_euclid m.scale (pos (10 ^ 18)); part = int_rem_euclid m.scale
-    (pos (10 ^ 18)); shift = m.shift } };
+    ghost inverse = { λ m. record {
+      scale = m.scale;
+      whole = int_div_euclid m.scale (pos (10 ^ 18));
+      part = int_rem_euclid m.scale (pos (10 ^ 18));
+      shift = m.shift;
+    } };
 
     ghost inverse_ok = { λ a h i. record { scale = a.scale; whole = h.0.whole_is i; part = h.0.part_is i; shift = a.shift } };
 }

@@ -1,24 +1,39 @@
-//! A number c * 10^p in normal form.
+//! A number c * 10^p in normal form: a coefficient and a power of ten, since a float would round.
+//!
+//! Normal form is made once, in `from_parts`, and is the type's invariant: `==` compares fields, and the
+//! range is judged of it and not of the spelling. A new way to make a `Decimal` has to trim its zeros, and
+//! 0 is (0, 0).
 ghost use Rattle.std.specs.Prelude.{◌≡◌, ◌↔◌, ℕ, ◌*◌, ◌^◌, ◌<◌, ◌≤◌, ℤ, pos, neg_ℤ, ◌-ℤ◌, ◌*ℤ◌, unsigned_abs, IsTrue, IfSome, IfNone, IsSome, IfOk, IsOk, IsErrOf};
 ghost use Rattle.std.proofs.Common.{rules};
 ghost use Rattle.std.specs.Cmp.Rules.{comparing};
-ghost use Rattle.cj_decimal.specs.Spelling.{IsNumber, IsValue, IsNumberInRange, IsNumberOutOfRange, HasOneValue};
-ghost use Rattle.cj_decimal.specs.Class.{Class};
+ghost use Rattle.cj_decimal.specs.Spelling.{IsFewDigits, IsFewSigned, IsNumber, IsValue, IsNumberInRange, IsNumberOutOfRange, HasOneValue};
+ghost use Rattle.cj_decimal.specs.Class.{Class, whole_answer};
 ghost use Rattle.cj_decimal.specs.Number.{number, signed, same_parts, SameValue, IsNormal, IsInRange, IsOutOfRange, IsWhole, IsFixed};
 ghost use Rattle.cj_decimal.specs.Digits.{StandsFor};
 ghost use Rattle.cj_decimal.specs.Reading.{Saturates};
 
 use crate::fixed::Fixed18;
 use crate::powers::wide_ten_to;
-use crate::spelling::{Parts, read_parts};
+use crate::spelling::{Parts, after_minus, has_byte, read_parts};
 use crate::trimming::without_zeros;
+use crate::whole::{read_any, read_few_digits};
 use std::marker::Model;
 use thiserror::Error;
 
-/// The least and the greatest power of ten of a decimal.
+/// The least power of ten of a decimal.
 const LEAST_POWER: i128 = -1_000_000;
 
+/// The greatest power of ten of a decimal.
 const GREATEST_POWER: i128 = 1_000_000;
+
+/// The most digits of a decimal, and of a number of units of 10^-18.
+const DIGITS: u32 = 36;
+
+/// The most digits of a decimal as a whole number.
+const WHOLE_DIGITS: u32 = 18;
+
+/// The digits after the point of a [`Fixed18`].
+const FIXED_AFTER_POINT: u32 = 18;
 
 /// Why a spelling is no decimal.
 #[derive(Clone, Copy, Debug, PartialEq, Eq, Error)]
@@ -99,10 +114,10 @@ impl Decimal {
     fn from_parts(parts: Parts) -> Option<Decimal>
         ensures some { (n : ℕ) (e : ℤ) → StandsFor parts.digits.lead parts.digits.extra parts.digits.lost n
             → Saturates e parts.exponent
-            → IfSome result (SameValue (number (signed parts.negative n) (e -ℤ pos parts.places))) }
+            → IfSome result (SameValue (number (signed parts.negative n) (e -ℤ pos parts.after_point))) }
         ensures none { (n : ℕ) (e : ℤ) → StandsFor parts.digits.lead parts.digits.extra parts.digits.lost n
             → Saturates e parts.exponent
-            → IfNone result (IsOutOfRange (number (signed parts.negative n) (e -ℤ pos parts.places))) }
+            → IfNone result (IsOutOfRange (number (signed parts.negative n) (e -ℤ pos parts.after_point))) }
         ensures form { IfSome result (λ d. IsNormal d × IsInRange d) }
     {
         if parts.digits.lost {
@@ -116,7 +131,7 @@ impl Decimal {
         }
         let (lead, zeros) = without_zeros(parts.digits.lead);
         let shift = parts.digits.extra as i128 + zeros as i128;
-        let power = parts.exponent - parts.places as i128 + shift;
+        let power = parts.exponent - parts.after_point as i128 + shift;
         if power < LEAST_POWER {
             return None;
         }
@@ -156,16 +171,64 @@ impl Decimal {
         Ok(decimal)
     }
 
-    /// The number as a number of units of 10^-places, where it is a whole number of them, below 10^digits in size.
-    fn in_units(self, places: u32, digits: u32) -> Option<i128>
+    /// The number that at most 18 digits spell, where nothing else stands there and no 0 before another digit: what
+    /// nearly all indices are. None where it is anything else, which may be a whole number too.
+    #[inline(always)]
+    pub fn read_few(spelling: &[u8]) -> Option<u64>
+        ensures answer { IfSome result (λ n. (c : Class spelling.now) → whole_answer c ≡ Ok (Some (pos n))) }
+        ensures small { IfSome result (λ n. n < 10 ^ 18) }
+        ensures few { IsSome result ↔ IsFewDigits spelling.now }
+    {
+        read_few_digits(spelling)
+    }
+
+    /// The number that such digits spell, or a minus and such digits: what nearly all coordinates are. None where
+    /// it is anything else, which may be a whole number too.
+    #[inline(always)]
+    pub fn read_few_signed(spelling: &[u8]) -> Option<i64>
+        ensures answer { IfSome result (λ w. (c : Class spelling.now) → whole_answer c ≡ Ok (Some w)) }
+        ensures small { IfSome result (λ w. unsigned_abs w < 10 ^ 18) }
+        ensures few { IsSome result ↔ IsFewSigned spelling.now }
+    {
+        let negative = has_byte(spelling, 0, b'-');
+        let from = after_minus(spelling, negative);
+        let Some(size) = read_few_digits(&spelling[from..]) else {
+            return None;
+        };
+        if negative {
+            Some(-(size as i64))
+        } else {
+            Some(size as i64)
+        }
+    }
+
+    /// Reads the spelling of a number of JSON (RFC 8259, section 6) as a whole number: its value where that
+    /// is whole and below 10^18 in size, None where it is a number in range and not so.
+    ///
+    /// # Errors
+    ///
+    /// Those of [`Decimal::read`].
+    #[inline]
+    pub fn read_whole(spelling: &[u8]) -> Result<Option<i64>, DecimalFault>
+        ensures answer { (c : Class spelling.now) → result ≡ whole_answer c }
+        ensures small { IfOk result (λ o. IfSome o (λ w. unsigned_abs w < 10 ^ 18)) }
+    {
+        match Decimal::read_few_signed(spelling) {
+            Some(whole) => Ok(Some(whole)),
+            None => read_any(spelling),
+        }
+    }
+
+    /// The number as a number of units of 10^-after_point, where it is a whole number of them, below 10^digits in size.
+    fn in_units(self, after_point: u32, digits: u32) -> Option<i128>
         requires bounded { digits ≤ 36 }
-        requires apart { places < digits }
+        requires apart { after_point < digits }
         ensures value { IfSome result
-            (λ u. SameValue self (number u (neg_ℤ (pos places))) × (unsigned_abs u < 10 ^ digits)) }
-        ensures none { IfNone result ((u : ℤ) → SameValue self (number u (neg_ℤ (pos places)))
+            (λ u. SameValue self (number u (neg_ℤ (pos after_point))) × (unsigned_abs u < 10 ^ digits)) }
+        ensures none { IfNone result ((u : ℤ) → SameValue self (number u (neg_ℤ (pos after_point)))
             → 10 ^ digits ≤ unsigned_abs u) }
     {
-        let power = self.power + places as i32;
+        let power = self.power + after_point as i32;
         if power < 0 {
             return None;
         }
@@ -180,7 +243,7 @@ impl Decimal {
         ensures value { IfSome result (IsWhole self) }
         ensures whole { IsSome result ↔ ((w : ℤ) × IsWhole self w) }
     {
-        match self.in_units(0, 18) {
+        match self.in_units(0, WHOLE_DIGITS) {
             Some(whole) => Some(whole as i64),
             None => None,
         }
@@ -191,7 +254,7 @@ impl Decimal {
         ensures value { IfSome result (IsFixed self) }
         ensures fixed { IsSome result ↔ ((u : ℤ) × IsFixed self u) }
     {
-        match self.in_units(18, 36) {
+        match self.in_units(FIXED_AFTER_POINT, DIGITS) {
             Some(units) => Some(Fixed18::from_units(units)),
             None => None,
         }

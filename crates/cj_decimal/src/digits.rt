@@ -1,4 +1,8 @@
 //! The digits of a spelling, kept in few numbers however many they are.
+//!
+//! At most 36 are kept, since a number below 10^36 and the product of two below 10^18 stay well inside 128
+//! bits. They count from the first that is not 0; zeros at the end are counted apart, and only a later
+//! digit that is not 0 makes the number too long.
 ghost use Rattle.std.specs.Prelude.{◌≡◌, ℕ, ◌+◌, ◌*◌, ◌^◌, ◌<◌, ◌≤◌, length, drop, [], IsTrue, ◌-◌, slice_index};
 ghost use Rattle.cj_decimal.specs.Digits.{StandsFor};
 ghost use Rattle.cj_decimal.specs.Spelling.{value_after};
@@ -10,7 +14,8 @@ const FULL: u128 = 100_000_000_000_000_000_000_000_000_000_000_000;
 /// The least number of 18 digits: up to here one more digit fits in the short loop.
 const SHORT: u64 = 100_000_000_000_000_000;
 
-/// The digits read so far: the first 36 from the first that is not 0, and the zeros after them.
+/// The digits read so far: the first 36 from the first that is not 0 (`lead`), how many zeros stand after
+/// them (`extra`), and whether another digit does (`lost`).
 #[derive(Clone, Copy)]
 pub struct Digits {
     pub lead: u128,

@@ -11,7 +11,7 @@ use crate::digits::{Digits, Run, read_digits, read_long, read_on, read_short};
 struct Fraction {
     digits: Digits,
     stop: usize,
-    places: usize,
+    after_point: usize,
 }
 
 /// Whether this byte stands at a place.
@@ -68,7 +68,7 @@ fn read_frac(spelling: &[u8], from: usize, start: Digits) -> Option<Fraction>
     ensures reads { MatchOption result (is_frac (drop from spelling.now) ≡ false)
         (λ frac. (is_frac (drop from spelling.now) ≡ true)
         × (drop frac.stop spelling.now ≡ after_frac (drop from spelling.now))
-        × (length (frac_digits (drop from spelling.now)) ≡ frac.places)
+        × (length (frac_digits (drop from spelling.now)) ≡ frac.after_point)
         × ((n : ℕ) → StandsFor start.lead start.extra start.lost n
         → StandsFor frac.digits.lead frac.digits.extra frac.digits.lost
         (value_after n (frac_digits (drop from spelling.now))))) }
@@ -79,7 +79,7 @@ fn read_frac(spelling: &[u8], from: usize, start: Digits) -> Option<Fraction>
         return Some(Fraction {
             digits: start,
             stop: from,
-            places: 0,
+            after_point: 0,
         });
     }
     let run = read_digits(spelling, from + 1, start);
@@ -89,7 +89,7 @@ fn read_frac(spelling: &[u8], from: usize, start: Digits) -> Option<Fraction>
     Some(Fraction {
         digits: run.digits,
         stop: run.stop,
-        places: run.stop - (from + 1),
+        after_point: run.stop - (from + 1),
     })
 }
 
@@ -166,7 +166,7 @@ pub struct Parts {
     pub negative: bool,
     pub digits: Digits,
     /// How many digits stand after the point.
-    pub places: usize,
+    pub after_point: usize,
     /// The exponent, or a number of 36 digits where it has more.
     pub exponent: i128,
     ghost exponent_fits: { unsigned_abs exponent < 10 ^ 36 },
@@ -182,7 +182,7 @@ fn integer_parts(spelling: &[u8], negative: bool, from: usize, short: u64) -> Op
     ensures number { IsSome result ↔ IsNumber spelling.now }
     ensures reads { IfSome result
         (λ parts. IsReadOf spelling.now parts.negative parts.digits.lead parts.digits.extra
-        parts.digits.lost parts.places parts.exponent) }
+        parts.digits.lost parts.after_point parts.exponent) }
 {
     if !is_int_part(spelling, from, spelling.len()) {
         return None;
@@ -194,7 +194,7 @@ fn integer_parts(spelling: &[u8], negative: bool, from: usize, short: u64) -> Op
             extra: 0,
             lost: false,
         },
-        places: 0,
+        after_point: 0,
         exponent: 0,
     })
 }
@@ -204,7 +204,7 @@ pub fn read_parts(spelling: &[u8]) -> Option<Parts>
     ensures number { IsSome result ↔ IsNumber spelling.now }
     ensures reads { IfSome result
         (λ parts. IsReadOf spelling.now parts.negative parts.digits.lead parts.digits.extra
-        parts.digits.lost parts.places parts.exponent) }
+        parts.digits.lost parts.after_point parts.exponent) }
 {
     let negative = has_byte(spelling, 0, b'-');
     let from = after_minus(spelling, negative);
@@ -218,7 +218,7 @@ pub fn read_parts(spelling: &[u8]) -> Option<Parts>
     Some(Parts {
         negative,
         digits: frac.digits,
-        places: frac.places,
+        after_point: frac.after_point,
         exponent,
     })
 }

@@ -5,7 +5,7 @@ use Rattle.std.specs.Prelude.{option_and_then}
 use Rattle.cj_spans.specs.declared.token.Kind.{Kind}
 use Rattle.cj_spans.specs.declared.token.Token.{Token}
 use Rattle.cj_spans.specs.declared.lex.Lex.{Lex}
-use Rattle.cj_spans.specs.declared.lex.Lex.TheVariants.{InText}
+use Rattle.cj_spans.specs.declared.lex.Lex.TheVariants.{InString}
 use Rattle.cj_spans.specs.declared.step.Mode.{Mode}
 use Rattle.cj_spans.specs.declared.step.Mode.TheVariants.{After}
 use Rattle.cj_spans.specs.declared.step.Move.{Move}
@@ -29,8 +29,8 @@ read_more b i k x y z o r is h =
 pub read_same : (b : List ℕ) (i k : ℕ) (x y : Lex) → Continues b i x k y → lex_step y (byte b k) ≡ Some y → Continues b i x (k + 1) y
 read_same b i k x y r h = let e : suc k ≡ k + 1 = omega arith in subst (λ n. Continues b i x n y) e (further k y y r h)
 
-pub read_plain : (b : List ℕ) (i k : ℕ) (x : Lex) → Continues b i x k InText → is_plain (byte b k) ≡ true → Continues b i x (k + 1) InText
-read_plain b i k x r h = read_same b i k x InText r (plain_goes (byte b k) h)
+pub read_plain : (b : List ℕ) (i k : ℕ) (x : Lex) → Continues b i x k InString → is_plain (byte b k) ≡ true → Continues b i x (k + 1) InString
+read_plain b i k x r h = read_same b i k x InString r (plain_goes (byte b k) h)
 
 -- n bytes that leave the reading as it is
 pub read_run : (n : ℕ) (b : List ℕ) (i k : ℕ) (x y : Lex) → ((j : ℕ) → k ≤ j → j < k + n → lex_step y (byte b j) ≡ Some y) → Continues b i x k y → Continues b i x (k + n) y
@@ -46,11 +46,11 @@ read_to b i k n x y l each r =
     subst (λ j. Continues b i x j y) e (read_run (n - k) b i k x y (λ j a c. each j a (omega arith)) r)
 
 -- bytes of a string that stand for themselves
-pub plain_run : (n : ℕ) (b : List ℕ) (i k : ℕ) (x : Lex) → ((j : ℕ) → k ≤ j → j < k + n → is_plain (byte b j) ≡ true) → Continues b i x k InText → Continues b i x (k + n) InText
-plain_run n b i k x each r = read_run n b i k x InText (λ j a c. plain_goes (byte b j) (each j a c)) r
+pub plain_run : (n : ℕ) (b : List ℕ) (i k : ℕ) (x : Lex) → ((j : ℕ) → k ≤ j → j < k + n → is_plain (byte b j) ≡ true) → Continues b i x k InString → Continues b i x (k + n) InString
+plain_run n b i k x each r = read_run n b i k x InString (λ j a c. plain_goes (byte b j) (each j a c)) r
 
-pub plain_to : (b : List ℕ) (i k n : ℕ) (x : Lex) → k ≤ n → ((j : ℕ) → k ≤ j → j < n → is_plain (byte b j) ≡ true) → Continues b i x k InText → Continues b i x n InText
-plain_to b i k n x l each r = read_to b i k n x InText l (λ j a c. plain_goes (byte b j) (each j a c)) r
+pub plain_to : (b : List ℕ) (i k n : ℕ) (x : Lex) → k ≤ n → ((j : ℕ) → k ≤ j → j < n → is_plain (byte b j) ≡ true) → Continues b i x k InString → Continues b i x n InString
+plain_to b i k n x l each r = read_to b i k n x InString l (λ j a c. plain_goes (byte b j) (each j a c)) r
 
 -- ---- the machine
 
@@ -72,11 +72,11 @@ halted b ks ts m a k p x r none kind =
     ∙ ap (λ q. option_and_then (read m (byte b k)) (end_atom m a q s)) kind
 
 -- a scalar that may end where it halts has ended there
-pub ends_ok : (b : List ℕ) (i k n p : ℕ) (x y : Lex) (kd : Kind) (m : Mode) (ks : List ℕ) (ts us : List Token) → Continues b (suc i) x k y → Halts b k y → lex_kind y ≡ Some kd → n ≡ length ts → us ≡ ts ++ token_at i k (n + 1) ∷ []
+pub ends_ok : (b : List ℕ) (i k p : ℕ) (x y : Lex) (kd : Kind) (m : Mode) (ks : List ℕ) (ts us : List Token) → Continues b (suc i) x k y → Halts b k y → lex_kind y ≡ Some kd → us ≡ ts ++ token_at i k (length ts + 1) ∷ []
     → ComesTo b (state (in_atom m i x) ks ts (suc i) p) (state (between m) ks us k p)
-ends_ok b i k n p x y kd m ks ts us c h kind count is =
+ends_ok b i k p x y kd m ks ts us c h kind is =
     let last = state (in_atom m i y) ks ts k p in
-    let next : suc (length ts) ≡ n + 1 = omega arith in
+    let next : suc (length ts) ≡ length ts + 1 = omega arith in
     let e : ts ++ token_at i k (suc (length ts)) ∷ [] ≡ us = ap (λ l. ts ++ token_at i k l ∷ []) next ∙ sym is in
     record {
       last = last;

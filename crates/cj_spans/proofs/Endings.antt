@@ -11,7 +11,7 @@ use Rattle.cj_spans.specs.declared.token.Kind.{Kind}
 use Rattle.cj_spans.specs.declared.token.Kind.TheVariants.{Array, Object}
 use Rattle.cj_spans.specs.declared.token.Token.{Token}
 use Rattle.cj_spans.specs.declared.lex.Lex.{Lex}
-use Rattle.cj_spans.specs.declared.lex.Lex.TheVariants.{Zero, InText, TextDone}
+use Rattle.cj_spans.specs.declared.lex.Lex.TheVariants.{Zero, InString, StringDone}
 use Rattle.cj_spans.specs.declared.step.Mode.{Mode}
 use Rattle.cj_spans.specs.declared.step.Mode.TheVariants.{Ready, FirstItem, After, FirstName, NextName, AfterName}
 use Rattle.cj_spans.specs.Tree.{Tree, nest}
@@ -216,11 +216,11 @@ read_value c ks ts j p e f a = read_zero c Ready ks ts (suc j) p tt f (read_colo
 read_name : (c : List ℕ) (m : Mode) (ks : List ℕ) (ts : List Token) (j p : ℕ) → BeginsName m → byte c j ≡ 34 → byte c (suc j) ≡ 34 → Reaches c start (idle m ks ts j p)
     → Arrives c start (idle AfterName ks (ts ++ token_at j (suc (suc j)) (suc (length ts)) ∷ []) (suc (suc j)) p)
 read_name c m ks ts j p h e f r =
-    let s = state (in_atom AfterName j InText) ks ts (suc j) p in
+    let s = state (in_atom AfterName j InString) ks ts (suc j) p in
     let q = on (idle m ks ts j p) s r (ap (λ z. step z (idle m ks ts j p)) e ∙ name_34 m ks ts j p h) in
     record {
-      at = state (in_atom AfterName j TextDone) ks ts (suc (suc j)) p;
-      reached = on s (state (in_atom AfterName j TextDone) ks ts (suc (suc j)) p) q (ap (λ z. step z s) f);
+      at = state (in_atom AfterName j StringDone) ks ts (suc (suc j)) p;
+      reached = on s (state (in_atom AfterName j StringDone) ks ts (suc (suc j)) p) q (ap (λ z. step z s) f);
       settles = refl;
     }
 
@@ -317,8 +317,8 @@ finish_in_name l k p ks ts x w q all =
       tokens = us ++ token_at (suc (k + n)) (suc (suc (k + n))) (suc (length us)) ∷ [];
       containers = containers_more ks us _ (containers_more ks ts _ all);
       goes = λ c r b.
-          let f = continues_run z.rest c k k x x TextDone still z.run (λ i h. b i (omega arith) ∙ front_byte z.rest (58 ∷ 48 ∷ []) i h) in
-          let s = state (in_atom AfterName l TextDone) ks ts (k + n) p in
+          let f = continues_run z.rest c k k x x StringDone still z.run (λ i h. b i (omega arith) ∙ front_byte z.rest (58 ∷ 48 ∷ []) i h) in
+          let s = state (in_atom AfterName l StringDone) ks ts (k + n) p in
           let a : Arrives c start (idle AfterName ks us (k + n) p) = record { at = s; reached = continues_reaches f start AfterName l ks ts p r; settles = refl } in
           arrives_at c ks _ (suc (suc (k + n))) (k + length (z.rest ++ 58 ∷ 48 ∷ [])) p (omega arith)
           (read_value c ks us (k + n) p

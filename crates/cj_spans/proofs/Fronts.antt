@@ -6,7 +6,7 @@ use Rattle.cj_spans.specs.declared.step.Mode.{Mode}
 use Rattle.cj_spans.specs.declared.step.Mode.TheVariants.{Ready, FirstItem, After, FirstName, AfterName}
 use Rattle.cj_spans.specs.Tree.{Members, no_items, no_members}
 use Rattle.cj_spans.specs.Json.{byte, White, padded, no_led, LedMembers, no_led_members}
-use Rattle.cj_spans.specs.Front.{Front, blank, begun, whole, in_object}
+use Rattle.cj_spans.specs.Front.{Front, white, begun, whole, in_object}
 use Rattle.cj_spans.specs.Front.{in_array as front_array, in_member as front_member, in_name as front_name, after_name as front_after_name}
 use Rattle.cj_spans.specs.Preorder.{flatten, token_at}
 use Rattle.cj_spans.specs.Machine.{State, state, in_atom, Reaches, on, BeginsValue}
@@ -52,7 +52,7 @@ object_at {b} i j k us w o ld s m ks ts p h r =
     record { mode = r2.mode; tokens = _; deepest = _; begins = r2.begins; reached = r2.reached }
 
 pub front_runs : {b : List ℕ} {i j n : ℕ} → Front b i j n → (s : State) (m : Mode) (ks : List ℕ) (ts : List Token) (p : ℕ) → BeginsValue m → Reaches b s (idle m ks ts i p) → Live b s j (n + length ks)
-front_runs {b} (blank i j w) s m ks ts p h r = live_n _ _ (omega arith) (lives s (idle m ks ts j p) (skip w s m ks ts p r))
+front_runs {b} (white i j w) s m ks ts p h r = live_n _ _ (omega arith) (lives s (idle m ks ts j p) (skip w s m ks ts p r))
 front_runs {b} (begun i j l k w g) s m ks ts p h r =
     let q = begun_reading g in
     live_n _ _ (omega arith) (lives s (state (in_atom After j q.last) ks ts l p) (run_begun q.inside s m ks ts p h (skip w s m ks ts p r)))
@@ -86,7 +86,7 @@ white_join {b} {i} {j} {k} v w =
     record { order = omega arith; each = λ n l u. elim (cases_lt n j) [ inl s ↦ v.each n l s | inr g ↦ w.each n g u ] }
 
 front_white : {b : List ℕ} {i j k n : ℕ} → White b i j → Front b j k n → Front b i k n
-front_white {i = i} v (blank j k w) = blank i k (white_join v w)
+front_white {i = i} v (white j k w) = white i k (white_join v w)
 front_white {i = i} v (begun j k l kd w g) = begun i k l kd (white_join v w) g
 front_white {i = i} v (whole j k t (padded j2 a c k2 t2 w p x)) = whole i k t (padded i a c k t (white_join v w) p x)
 front_white {i = i} v (front_array j k l m n us w o ld q) = front_array i k l m n us (white_join v w) o ld q
@@ -107,8 +107,8 @@ context_front {b} (in_member e0 j0 k e ks ts us nm c o l d w) j n f =
 
 -- what was read is a prefix, with as many containers open as the stack has
 pub inv_front : {b : List ℕ} (s : State) → Inv b s → Front b 0 s.place (length s.stack)
-inv_front {b} s (ready k p ks ts c) = front_n _ _ (omega arith) (context_front c k 0 (blank k k (no_white b k)))
-inv_front {b} s (first_item e k p ks ts c o w) = front_n _ _ (omega arith) (context_front c k 1 (front_array e e (suc e) k 0 no_items (no_white b e) o (no_led (suc e)) (blank (suc e) k w)))
+inv_front {b} s (ready k p ks ts c) = front_n _ _ (omega arith) (context_front c k 0 (white k k (no_white b k)))
+inv_front {b} s (first_item e k p ks ts c o w) = front_n _ _ (omega arith) (context_front c k 1 (front_array e e (suc e) k 0 no_items (no_white b e) o (no_led (suc e)) (white (suc e) k w)))
 inv_front {b} s (after_tree e j k p ks ts t c v w) = front_n _ _ (omega arith) (context_front c k 0 (whole e k t (padded e e j k t (no_white b e) v w)))
 inv_front {b} s (first_name e k p ks ts c o w) = front_n _ _ (omega arith) (context_front c k 1 (in_object e e (suc e) k no_members (no_white b e) o (no_led_members (suc e)) w))
 inv_front {b} s (next_name e j k p ks ts us c o l w) = front_n _ _ (omega arith) (context_front c k 1 (in_object e e j k us (no_white b e) o l w))

@@ -15,7 +15,7 @@ pub mod Standing
 pub mod Nested
 pub mod Named
 pub mod WholeNumbers
-pub mod Colons
+pub mod Signs
 pub mod Vectors
 pub mod Verdicts
 pub mod Endings

@@ -14,11 +14,11 @@ use Rattle.cj_spans.specs.Preorder.{token_at}
 use Rattle.cj_spans.specs.Machine.{State, state, between, start, read, with_opened, phase_after, deepest_after, Answers, ReadsByte, BeginsValue, InArray, IsNumberItem, FitsToken, Grown, Kept}
 use Rattle.cj_spans.specs.Pass.{Standing, Stands, GoesOn, IsComma}
 use Rattle.cj_spans.proofs.Spellings.{some_same}
-use Rattle.cj_spans.proofs.Lists.{slice_get-seam}
 use Rattle.cj_spans.proofs.Runs.{idle}
 use Rattle.cj_spans.proofs.Atoms.{settles_at}
-use Rattle.cj_spans.proofs.WholeNumbers.{number_read, comma_read, in_array_same, grown_more}
-use Rattle.cj_spans.proofs.Standing.{standing_small, standing_room, standing_step, standing_fault, standing_law, stepped_on, standing_with, grown_same}
+use Rattle.cj_spans.proofs.WholeNumbers.{number_read}
+use Rattle.cj_spans.proofs.Signs.{comma_read, innermost_same, innermost_opened}
+use Rattle.cj_spans.proofs.Standing.{standing_small, standing_room, standing_step, standing_fault, standing_law, stepped_on, standing_with, grown_same, grown_more}
 
 -- what goes on from where a pass stands leaves one that stands
 pub stands_on : (b : List ℕ) (ts ts1 : BoundedList Token) (ks ks1 : BoundedList ℕ) (m n : Mode) (i j : ℕ) → Stands b ts ks m i → ((t0 : BoundedList Token) (s0 : BoundedList ℕ) → Standing b t0 s0 ts ks m i → Standing b t0 s0 ts1 ks1 n j) → Stands b ts1 ks1 n j
@@ -48,13 +48,13 @@ module _ (b : List ℕ) (t0 : BoundedList Token) (s0 : BoundedList ℕ) where
   pub standing_comma : (ts : BoundedList Token) (ks : BoundedList ℕ) (i : ℕ) → Standing b t0 s0 ts ks After i → IsComma b ts ks i → Standing b t0 s0 ts ks Ready (i + 1)
   standing_comma ts ks i s c =
       let l = c.within in
-      standing_with b t0 s0 ts ts ks After Ready i (i + 1) s (grown_same ts s.kept.within) (omega arith) (λ p. comma_read b start ks.elements ts.elements i p c.array c.within c.comma)
+      standing_with b t0 s0 ts ts ks After Ready i (i + 1) s (grown_same ts s.kept.within) (omega arith) (λ p. comma_read b start Array Ready ks.elements ts.elements i p (λ _ _ _. refl) c.array c.within c.comma)
 
   -- behind a number
   pub standing_number : (ts ts1 : BoundedList Token) (ks : BoundedList ℕ) (m : Mode) (i k : ℕ) → Standing b t0 s0 ts ks m i → BeginsValue m → IsNumberItem b i k → Becomes ts (ts.elements ++ token_at i k (length ts.elements + 1) ∷ []) ts1 → Standing b t0 s0 ts1 ks After k
   standing_number ts ts1 ks m i k s v n e =
       let inside = n.within in
-      standing_with b t0 s0 ts ts1 ks m After i k s (grown_more ts ts ts1 _ (grown_same ts s.kept.within) e) (omega arith) (λ p. number_read b start m ks.elements ts.elements ts1.elements i k (length ts.elements) p n v refl e.elements)
+      standing_with b t0 s0 ts ts1 ks m After i k s (grown_more ts ts1 _ s.kept.within e) (omega arith) (λ p. number_read b start m ks.elements ts.elements ts1.elements i k p n v e.elements)
 
 -- `[` opens an array where a value may begin
 opened_at : (m : Mode) (s : State) → BeginsValue m → read m 91 s ≡ Some (with_opened Array FirstItem s)
@@ -79,9 +79,7 @@ module _ (b : List ℕ) (ts ts1 : BoundedList Token) (ks ks1 : BoundedList ℕ) 
   pub opened_in : (v : Move) → ReadsByte opens i (Ok v) ts ts1 ks ks1 → InArray ks1.elements ts1.elements
   opened_in v r =
       let e = some_same _ _ (r.answer m 0) in
-      let t = token_at i 0 0 in
-      in_array_same (length ts.elements ∷ ks.elements) ks1.elements (ts.elements ++ t ∷ []) ts1.elements (ap (λ u. u.stack) e) (ap (λ u. u.tokens) e)
-      (record { top = length ts.elements; token = t; innermost = refl; there = slice_get-seam ts.elements [] t; array = refl })
+      innermost_same Array _ ks1.elements _ ts1.elements (ap (λ u. u.stack) e) (ap (λ u. u.tokens) e) (innermost_opened Array ks.elements ts.elements i refl)
 
   -- where it is refused
   pub standing_refused : (f : ScanFault) → ReadsByte opens i (Err f) ts ts1 ks ks1 → BeginsValue m → i < length b → byte b i ≡ 91 → (t0 : BoundedList Token) (s0 : BoundedList ℕ) → Standing b t0 s0 ts ks m i → GoesOn b t0 s0 (Err f) ts1 ks1

@@ -9,7 +9,7 @@ use Rattle.cj_spans.specs.declared.token.Kind.{Kind}
 use Rattle.cj_spans.specs.declared.token.Kind.TheVariants.{Text}
 use Rattle.cj_spans.specs.declared.token.Token.{Token}
 use Rattle.cj_spans.specs.declared.lex.Lex.{Lex}
-use Rattle.cj_spans.specs.declared.lex.Lex.TheVariants.{AfterN, AfterNu, AfterNul, NullDone, AfterT, AfterTr, AfterTru, AfterF, AfterFa, AfterFal, AfterFals, TruthDone, Minus, Zero, Whole, Point, Fraction, Mark, MarkSign, Exponent, InText, Escape, Hex4, Hex3, Hex2, Hex1, TextDone}
+use Rattle.cj_spans.specs.declared.lex.Lex.TheVariants.{AfterN, AfterNu, AfterNul, NullDone, AfterT, AfterTr, AfterTru, AfterF, AfterFa, AfterFal, AfterFals, TruthDone, Minus, Zero, Whole, Point, Fraction, Mark, MarkSign, Exponent, InString, Escape, Hex4, Hex3, Hex2, Hex1, StringDone}
 use Rattle.cj_spans.specs.declared.step.Mode.{Mode}
 use Rattle.cj_spans.specs.declared.step.Mode.TheVariants.{Ready, FirstItem, After, FirstName, NextName, AfterName}
 use Rattle.cj_spans.specs.Spelling.{is_white_space, IsScalar}
@@ -68,13 +68,13 @@ no_zero Fraction = refl
 no_zero Mark = refl
 no_zero MarkSign = refl
 no_zero Exponent = refl
-no_zero InText = refl
+no_zero InString = refl
 no_zero Escape = refl
 no_zero Hex4 = refl
 no_zero Hex3 = refl
 no_zero Hex2 = refl
 no_zero Hex1 = refl
-no_zero TextDone = refl
+no_zero StringDone = refl
 
 within_step : (b : List ℕ) (k : ℕ) (x y : Lex) → lex_step x (get_or b k 0) ≡ Some y → k < length b
 within_step b k x y h = elim (cases_lt k (length b)) [ inl l ↦ l | inr g ↦ none_some y (sym (no_zero x) ∙ ap (lex_step x) (sym (past_end b k g)) ∙ h) ]
@@ -136,7 +136,7 @@ in_text {b} {i} {k} {x} r q = by_first (slice_range b i k) (sym (first_byte b i 
   where
     by_first : (s : List ℕ) → get_or s 0 0 ≡ 34 → reading s ≡ Some x → IsOfText x
     by_first [] e h = none_some x h
-    by_first (c ∷ s) e h = of_text s (Some InText) x tt (sym (ap (λ d. option_and_then (lex_run s) (lex_start d)) e) ∙ h)
+    by_first (c ∷ s) e h = of_text s (Some InString) x tt (sym (ap (λ d. option_and_then (lex_run s) (lex_start d)) e) ∙ h)
 
 pub name_kind : {b : List ℕ} {i k : ℕ} {x : Lex} → InAtom b i k x → byte b i ≡ 34 → (kd : Kind) → lex_kind x ≡ Some kd → kd ≡ Text
 name_kind {x = x} r q kd h = text_kind x kd (in_text r q) h
@@ -144,7 +144,7 @@ name_kind {x = x} r q kd h = text_kind x kd (in_text r q) h
 pub name_begun : {b : List ℕ} {i k : ℕ} {x : Lex} → InAtom b i k x → byte b i ≡ 34 → Begun b Text i k
 name_begun {b} {i} {k} {x} r q =
     let c = text_end x (in_text r q) in
-    record { order = r.order; within = r.within; rest = c.rest; spelled = reading_sound (slice_range b i k ++ c.rest) TextDone Text (reading-append (slice_range b i k) c.rest x r.run ∙ c.run) refl }
+    record { order = r.order; within = r.within; rest = c.rest; spelled = reading_sound (slice_range b i k ++ c.rest) StringDone Text (reading-append (slice_range b i k) c.rest x r.run ∙ c.run) refl }
 
 -- ---- the machine over a scalar
 
@@ -177,12 +177,12 @@ step_atom c x Ready ks ts i p b h = cond_not (is_white_space c) _ _ (starts_not_
 step_atom c x FirstItem ks ts i p b h = cond_not (is_white_space c) _ _ (starts_not_white c x h) ∙ cond_not (nat_eq c 93) _ _ (starts_not c 93 x h refl) ∙ begin_atom c x FirstItem ks ts i p h
 step_atom c x _ ks ts i p b h = absurd b
 
-pub name_34 : (m : Mode) (ks : List ℕ) (ts : List Token) (i p : ℕ) → BeginsName m → step 34 (idle m ks ts i p) ≡ Some (state (in_atom AfterName i InText) ks ts (suc i) p)
+pub name_34 : (m : Mode) (ks : List ℕ) (ts : List Token) (i p : ℕ) → BeginsName m → step 34 (idle m ks ts i p) ≡ Some (state (in_atom AfterName i InString) ks ts (suc i) p)
 name_34 FirstName ks ts i p g = refl
 name_34 NextName ks ts i p g = refl
 name_34 _ ks ts i p g = absurd g
 
-step_name : (c : ℕ) (m : Mode) (ks : List ℕ) (ts : List Token) (i p : ℕ) → BeginsName m → c ≡ 34 → step c (idle m ks ts i p) ≡ Some (state (in_atom AfterName i InText) ks ts (suc i) p)
+step_name : (c : ℕ) (m : Mode) (ks : List ℕ) (ts : List Token) (i p : ℕ) → BeginsName m → c ≡ 34 → step c (idle m ks ts i p) ≡ Some (state (in_atom AfterName i InString) ks ts (suc i) p)
 step_name c m ks ts i p g q = ap (λ d. step d (idle m ks ts i p)) q ∙ name_34 m ks ts i p g
 
 stepped : (f : Lex → Option Lex) (o : Option Lex) (y : Lex) → option_and_then f o ≡ Some y → (z : Lex) × (o ≡ Some z) × (f z ≡ Some y)
@@ -233,9 +233,9 @@ run_begun {b} {i} {k} {y} r s m ks ts p g h =
 pub run_begun_name : {b : List ℕ} {i k : ℕ} {y : Lex} → InAtom b i k y → byte b i ≡ 34 → (s : State) (m : Mode) (ks : List ℕ) (ts : List Token) (p : ℕ) → BeginsName m → Reaches b s (idle m ks ts i p) → Reaches b s (state (in_atom AfterName i y) ks ts k p)
 run_begun_name {b} {i} {k} {y} r q s m ks ts p g h =
     let z = started b i k y r in
-    let e : InText ≡ z.first = some_same InText z.first (sym (ap lex_start q) ∙ z.starts) in
+    let e : InString ≡ z.first = some_same InString z.first (sym (ap lex_start q) ∙ z.starts) in
     let c = subst (λ w. Continues b (suc i) w k y) (sym e) z.goes in
-    continues_reaches c s AfterName i ks ts p (on (idle m ks ts i p) (state (in_atom AfterName i InText) ks ts (suc i) p) h (step_name (byte b i) m ks ts i p g q))
+    continues_reaches c s AfterName i ks ts p (on (idle m ks ts i p) (state (in_atom AfterName i InString) ks ts (suc i) p) h (step_name (byte b i) m ks ts i p g q))
 
 -- ---- scalars of the grammar
 

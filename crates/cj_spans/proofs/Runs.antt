@@ -6,7 +6,7 @@ use Rattle.std.proofs.lemmas.Bool.{eqb-true, cond-true, cond-false}
 use Rattle.cj_spans.specs.declared.token.Kind.{Kind}
 use Rattle.cj_spans.specs.declared.token.Token.{Token}
 use Rattle.cj_spans.specs.declared.lex.Lex.{Lex}
-use Rattle.cj_spans.specs.declared.lex.Lex.TheVariants.{AfterN, AfterNu, AfterNul, NullDone, AfterT, AfterTr, AfterTru, AfterF, AfterFa, AfterFal, AfterFals, TruthDone, Minus, Zero, Whole, Point, Fraction, Mark, MarkSign, Exponent, InText, Escape, Hex4, Hex3, Hex2, Hex1, TextDone}
+use Rattle.cj_spans.specs.declared.lex.Lex.TheVariants.{AfterN, AfterNu, AfterNul, NullDone, AfterT, AfterTr, AfterTru, AfterF, AfterFa, AfterFal, AfterFals, TruthDone, Minus, Zero, Whole, Point, Fraction, Mark, MarkSign, Exponent, InString, Escape, Hex4, Hex3, Hex2, Hex1, StringDone}
 use Rattle.cj_spans.specs.declared.step.Mode.{Mode}
 use Rattle.cj_spans.specs.declared.step.Mode.TheVariants.{FirstName, NextName}
 use Rattle.cj_spans.specs.Spelling.{is_white_space}
@@ -68,7 +68,7 @@ atom_ends Zero c k h e = point_end e
 atom_ends Whole c k h e = cond-false (is_digit c) _ _ (digit_end e) ∙ point_end e
 atom_ends Fraction c k h e = fraction_end e
 atom_ends Exponent c k h e = cond-false (is_digit c) _ _ (digit_end e)
-atom_ends TextDone c k h e = refl
+atom_ends StringDone c k h e = refl
 atom_ends AfterN c k h e = cc
 atom_ends AfterNu c k h e = cc
 atom_ends AfterNul c k h e = cc
@@ -83,7 +83,7 @@ atom_ends Minus c k h e = cc
 atom_ends Point c k h e = cc
 atom_ends Mark c k h e = cc
 atom_ends MarkSign c k h e = cc
-atom_ends InText c k h e = cc
+atom_ends InString c k h e = cc
 atom_ends Escape c k h e = cc
 atom_ends Hex4 c k h e = cc
 atom_ends Hex3 c k h e = cc

@@ -8,7 +8,7 @@ use Rattle.cj_spans.specs.declared.token.Kind.{Kind}
 use Rattle.cj_spans.specs.declared.token.Kind.TheVariants.{Text, Array, Object}
 use Rattle.cj_spans.specs.declared.token.Token.{Token}
 use Rattle.cj_spans.specs.declared.lex.Lex.{Lex}
-use Rattle.cj_spans.specs.declared.lex.Lex.TheVariants.{InText}
+use Rattle.cj_spans.specs.declared.lex.Lex.TheVariants.{InString}
 use Rattle.cj_spans.specs.declared.step.Mode.{Mode}
 use Rattle.cj_spans.specs.declared.step.Mode.TheVariants.{Ready, FirstItem, After, FirstName, NextName, AfterName}
 use Rattle.cj_spans.specs.Tree.{Atom, Tree, scalar, array, object, Items, no_items, Members, no_members, add_item, add_member}
@@ -212,8 +212,8 @@ module _ (b : List ℕ) where
           | inr q ↦ elim (split (nat_eq (byte b k) 34) _ _ (Some u) q) [
             | inl z ↦
                 let e34 = eqb-true _ _ z.0 in
-                let i = in_name e (suc e) k (suc k) p ks ts no_members InText c o (no_led_members (suc e)) w e34 (atom_first b k InText (ap lex_start e34)) in
-                moved_to (state (in_atom AfterName k InText) (length ts ∷ ks) (ts ++ o0 ∷ []) (suc k) p) (subst (λ zs. Inv b (state (in_atom AfterName k InText) (length ts ∷ ks) zs (suc k) p)) (append-nil (ts ++ o0 ∷ [])) i) u z.1
+                let i = in_name e (suc e) k (suc k) p ks ts no_members InString c o (no_led_members (suc e)) w e34 (atom_first b k InString (ap lex_start e34)) in
+                moved_to (state (in_atom AfterName k InString) (length ts ∷ ks) (ts ++ o0 ∷ []) (suc k) p) (subst (λ zs. Inv b (state (in_atom AfterName k InString) (length ts ∷ ks) zs (suc k) p)) (append-nil (ts ++ o0 ∷ [])) i) u z.1
             | inr z ↦ none_some u z
           ]
         ]
@@ -222,7 +222,7 @@ module _ (b : List ℕ) where
       elim (split (is_white_space (byte b k)) _ _ (Some u) h) [
         | inl z ↦ moved_to _ (next_name e j (suc k) p ks ts us c o l (white_more b j k w z.0)) u z.1
         | inr q ↦ elim (split (nat_eq (byte b k) 34) _ _ (Some u) q) [
-          | inl z ↦ let e34 = eqb-true _ _ z.0 in moved_to _ (in_name e j k (suc k) p ks ts us InText c o l w e34 (atom_first b k InText (ap lex_start e34))) u z.1
+          | inl z ↦ let e34 = eqb-true _ _ z.0 in moved_to _ (in_name e j k (suc k) p ks ts us InString c o l w e34 (atom_first b k InString (ap lex_start e34))) u z.1
           | inr z ↦ none_some u z
         ]
       ]

@@ -9,7 +9,7 @@ use Rattle.std.proofs.lemmas.Bool.Decides.{nat_tests}
 use Rattle.cj_spans.specs.declared.token.Kind.{Kind}
 use Rattle.cj_spans.specs.declared.token.Kind.TheVariants.{Null, Truth, Number, Text, Array, Object}
 use Rattle.cj_spans.specs.declared.lex.Lex.{Lex}
-use Rattle.cj_spans.specs.declared.lex.Lex.TheVariants.{AfterN, AfterNu, AfterNul, NullDone, AfterT, AfterTr, AfterTru, AfterF, AfterFa, AfterFal, AfterFals, TruthDone, Minus, Zero, Whole, Point, Fraction, Mark, MarkSign, Exponent, InText, Escape, Hex4, Hex3, Hex2, Hex1, TextDone}
+use Rattle.cj_spans.specs.declared.lex.Lex.TheVariants.{AfterN, AfterNu, AfterNul, NullDone, AfterT, AfterTr, AfterTru, AfterF, AfterFa, AfterFal, AfterFals, TruthDone, Minus, Zero, Whole, Point, Fraction, Mark, MarkSign, Exponent, InString, Escape, Hex4, Hex3, Hex2, Hex1, StringDone}
 use Rattle.cj_spans.specs.Spelling.{IsScalar, is_plain, is_escape, is_hex, IsDigit, AllDigits, IsDigits, IsMinus, IsInt, IsFrac, IsExp, IsExpSign, IsExpRest, IsNumber, IsBody, nothing, plain, escape, unicode, null_text, true_text, false_text}
 use Rattle.cj_spans.specs.Machine.{is_digit, lex_start, lex_step, lex_kind, hex, one, digit_or, mark, point_or_mark, sign_mark}
 
@@ -257,15 +257,15 @@ is_plain_from c p q r = three (nat_le 32 c) (nat_eq c 34) (nat_eq c 92) p q r
     three false v w p q r = cc
 
 mutual
-  s_plain : (r : List ℕ) (y : Lex) (k : Kind) → lex_run r InText ≡ Some y → Done y k → BodyTail r k
-  s_plain [] y k h d = not_done InText y k refl h d
+  s_plain : (r : List ℕ) (y : Lex) (k : Kind) → lex_run r InString ≡ Some y → Done y k → BodyTail r k
+  s_plain [] y k h d = not_done InString y k refl h d
   s_plain (c ∷ r) y k h d =
-      elim (test_two (lex_run r) (nat_eq c 34) TextDone (cond (nat_eq c 92) (Some Escape) (cond (nat_le 32 c) (Some InText) None)) y h) [
-        | inl p ↦ let e = last_word TextDone Text r y k refl (λ c. refl) p.1 d in (([], nothing, ap (λ z. z ∷ r) (eqb-true c 34 p.0) ∙ ap (λ z. 34 ∷ z) e.0), e.1)
-        | inr p ↦ elim (test_two (lex_run r) (nat_eq c 92) Escape (cond (nat_le 32 c) (Some InText) None) y p.1) [
+      elim (test_two (lex_run r) (nat_eq c 34) StringDone (cond (nat_eq c 92) (Some Escape) (cond (nat_le 32 c) (Some InString) None)) y h) [
+        | inl p ↦ let e = last_word StringDone Text r y k refl (λ c. refl) p.1 d in (([], nothing, ap (λ z. z ∷ r) (eqb-true c 34 p.0) ∙ ap (λ z. 34 ∷ z) e.0), e.1)
+        | inr p ↦ elim (test_two (lex_run r) (nat_eq c 92) Escape (cond (nat_le 32 c) (Some InString) None) y p.1) [
           | inl q ↦ s_escape c r y k (eqb-true c 92 q.0) q.1 d
           | inr q ↦
-              let u = test_one (lex_run r) (nat_le 32 c) InText y q.1 in let t = s_plain r y k u.1 d in
+              let u = test_one (lex_run r) (nat_le 32 c) InString y q.1 in let t = s_plain r y k u.1 d in
               ((c ∷ t.0.0, plain c t.0.0 (is_plain_from c p.0 q.0 u.0) t.0.1, ap (λ z. c ∷ z) t.0.2), t.1)
         ]
       ]
@@ -273,7 +273,7 @@ mutual
   s_escape : (b : ℕ) (r : List ℕ) (y : Lex) (k : Kind) → b ≡ 92 → lex_run r Escape ≡ Some y → Done y k → BodyTail (b ∷ r) k
   s_escape b [] y k e h d = not_done Escape y k refl h d
   s_escape b (c ∷ r) y k e h d =
-      elim (test_two (lex_run r) (is_escape c) InText (cond (nat_eq c 117) (Some Hex4) None) y h) [
+      elim (test_two (lex_run r) (is_escape c) InString (cond (nat_eq c 117) (Some Hex4) None) y h) [
         | inl p ↦ let t = s_plain r y k p.1 d in ((92 ∷ c ∷ t.0.0, escape c t.0.0 p.0 t.0.1, ap (λ z. z ∷ c ∷ r) e ∙ ap (λ z. 92 ∷ c ∷ z) t.0.2), t.1)
         | inr p ↦ let u = test_one (lex_run r) (nat_eq c 117) Hex4 y p.1 in s_hex b c r y k e (eqb-true c 117 u.0) u.1 d
       ]
@@ -287,7 +287,7 @@ mutual
       let p = test_one (lex_run (n ∷ o ∷ [])) (is_hex m) Hex3 y h in let q = test_one (lex_run (o ∷ [])) (is_hex n) Hex2 y p.1 in let v = test_one (lex_run []) (is_hex o) Hex1 y q.1 in not_done Hex1 y k refl v.1 d
   s_hex b u (m ∷ n ∷ o ∷ g ∷ r) y k e f h d =
       let p = test_one (lex_run (n ∷ o ∷ g ∷ r)) (is_hex m) Hex3 y h in let q = test_one (lex_run (o ∷ g ∷ r)) (is_hex n) Hex2 y p.1 in
-      let v = test_one (lex_run (g ∷ r)) (is_hex o) Hex1 y q.1 in let w = test_one (lex_run r) (is_hex g) InText y v.1 in
+      let v = test_one (lex_run (g ∷ r)) (is_hex o) Hex1 y q.1 in let w = test_one (lex_run r) (is_hex g) InString y v.1 in
       let t = s_plain r y k w.1 d in
       let a = both_true (both_true (both_true p.0 q.0) v.0) w.0 in
       ((92 ∷ 117 ∷ m ∷ n ∷ o ∷ g ∷ t.0.0, unicode m n o g t.0.0 a t.0.1, ap (λ z. z ∷ u ∷ m ∷ n ∷ o ∷ g ∷ r) e ∙ ap (λ z. 92 ∷ z ∷ m ∷ n ∷ o ∷ g ∷ r) f ∙ ap (λ z. 92 ∷ 117 ∷ m ∷ n ∷ o ∷ g ∷ z) t.0.2), t.1)
@@ -313,7 +313,7 @@ reading_sound (c ∷ r) x k h d =
               | inr h5 ↦ elim (test_two (lex_run r) (nat_le 49 c && nat_le c 57) Whole _ x h5.1) [
                 | inl p ↦ unsigned c r k (u_whole c r x k p.0 p.1 d)
                 | inr h6 ↦
-                    let p = test_one (lex_run r) (nat_eq c 34) InText x h6.1 in let q = s_plain r x k p.1 d in
+                    let p = test_one (lex_run r) (nat_eq c 34) InString x h6.1 in let q = s_plain r x k p.1 d in
                     scalar_is Text k (c ∷ r) q.1 (record { body = q.0.0; body_is = q.0.1; joined = ap (λ z. z ∷ r) (eqb-true c 34 p.0) ∙ ap (λ z. 34 ∷ z) q.0.2 })
               ]
             ]
@@ -325,18 +325,18 @@ reading_sound (c ∷ r) x k h d =
     unsigned : (c : ℕ) (r : List ℕ) (k : Kind) → Unsigned (c ∷ r) × (k ≡ Number) → IsScalar k (c ∷ r)
     unsigned c r k q = scalar_is Number k (c ∷ r) q.1 (number [] (c ∷ r) (inl refl) q.0)
 
--- ---- a string's body is read at InText
+-- ---- a string's body is read at InString
 
-pub plain_goes : (c : ℕ) → is_plain c ≡ true → lex_step InText c ≡ Some InText
+pub plain_goes : (c : ℕ) → is_plain c ≡ true → lex_step InString c ≡ Some InString
 plain_goes c h = grind (arith)
 
-escape_goes : (c : ℕ) → is_escape c ≡ true → lex_step Escape c ≡ Some InText
-escape_goes c h = ap (λ v. cond v (Some InText) (cond (nat_eq c 117) (Some Hex4) None)) h
+escape_goes : (c : ℕ) → is_escape c ≡ true → lex_step Escape c ≡ Some InString
+escape_goes c h = ap (λ v. cond v (Some InString) (cond (nat_eq c 117) (Some Hex4) None)) h
 
 hex_goes : (c : ℕ) (x : Lex) → is_hex c ≡ true → hex c x ≡ Some x
 hex_goes c x h = ap (λ v. cond v (Some x) None) h
 
-body_runs : {s : List ℕ} → IsBody s → lex_run (s ++ 34 ∷ []) InText ≡ Some TextDone
+body_runs : {s : List ℕ} → IsBody s → lex_run (s ++ 34 ∷ []) InString ≡ Some StringDone
 body_runs nothing = refl
 body_runs (plain c s p r) = ap (option_and_then (lex_run (s ++ 34 ∷ []))) (plain_goes c p) ∙ body_runs r
 body_runs (escape c s p r) = ap (option_and_then (lex_run (s ++ 34 ∷ []))) (escape_goes c p) ∙ body_runs r
@@ -347,7 +347,7 @@ body_runs (unicode h i j k s p r) =
     ap (option_and_then (lex_run (i ∷ j ∷ k ∷ t))) (hex_goes h Hex3 (first_so (is_hex h) (is_hex i) a2))
     ∙ ap (option_and_then (lex_run (j ∷ k ∷ t))) (hex_goes i Hex2 (second_so (is_hex h) (is_hex i) a2))
     ∙ ap (option_and_then (lex_run (k ∷ t))) (hex_goes j Hex1 (second_so (is_hex h && is_hex i) (is_hex j) a))
-    ∙ ap (option_and_then (lex_run t)) (hex_goes k InText (second_so (is_hex h && is_hex i && is_hex j) (is_hex k) p))
+    ∙ ap (option_and_then (lex_run t)) (hex_goes k InString (second_so (is_hex h && is_hex i && is_hex j) (is_hex k) p))
     ∙ body_runs r
 
 -- digits that a reading passes over
@@ -448,20 +448,20 @@ reading_whole Number s h =
     let r = int_part h.int h.frac h.exp h.int_is h.frac_is h.exp_is in
     let t = h.int ++ (h.frac ++ h.exp) in
     record { last = r.last; run = ap reading h.joined ∙ elim h.minus_is [ inl e ↦ ap (λ z. reading (z ++ t)) e ∙ r.plain_run | inr e ↦ ap (λ z. reading (z ++ t)) e ∙ r.minus_run ]; kind = r.kind }
-reading_whole Text s h = record { last = TextDone; run = ap reading h.joined ∙ body_runs h.body_is; kind = refl }
+reading_whole Text s h = record { last = StringDone; run = ap reading h.joined ∙ body_runs h.body_is; kind = refl }
 reading_whole Array s h = absurd h
 reading_whole Object s h = absurd h
 
 -- ---- the states of a string
 
 abbrev pub IsOfText : Lex → Type 0
-IsOfText InText = Unit {0}
+IsOfText InString = Unit {0}
 IsOfText Escape = Unit {0}
 IsOfText Hex1 = Unit {0}
 IsOfText Hex2 = Unit {0}
 IsOfText Hex3 = Unit {0}
 IsOfText Hex4 = Unit {0}
-IsOfText TextDone = Unit {0}
+IsOfText StringDone = Unit {0}
 IsOfText _ = ⊥
 
 abbrev pub TextOption : Option Lex → Type 0
@@ -473,18 +473,18 @@ text_cond true x y p q = p
 text_cond false x y p q = q
 
 pub of_text_step : (x : Lex) (c : ℕ) → IsOfText x → TextOption (lex_step x c)
-of_text_step InText c h = text_cond (nat_eq c 34) _ _ tt (text_cond (nat_eq c 92) _ _ tt (text_cond (nat_le 32 c) (Some InText) None tt tt))
+of_text_step InString c h = text_cond (nat_eq c 34) _ _ tt (text_cond (nat_eq c 92) _ _ tt (text_cond (nat_le 32 c) (Some InString) None tt tt))
 of_text_step Escape c h = text_cond (is_escape c) _ _ tt (text_cond (nat_eq c 117) (Some Hex4) None tt tt)
-of_text_step Hex1 c h = text_cond (is_hex c) (Some InText) None tt tt
+of_text_step Hex1 c h = text_cond (is_hex c) (Some InString) None tt tt
 of_text_step Hex2 c h = text_cond (is_hex c) (Some Hex1) None tt tt
 of_text_step Hex3 c h = text_cond (is_hex c) (Some Hex2) None tt tt
 of_text_step Hex4 c h = text_cond (is_hex c) (Some Hex3) None tt tt
-of_text_step TextDone c h = tt
+of_text_step StringDone c h = tt
 of_text_step _ c h = absurd h
 
 pub text_kind : (x : Lex) (k : Kind) → IsOfText x → lex_kind x ≡ Some k → k ≡ Text
-text_kind TextDone k h e = cc
-text_kind InText k h e = cc
+text_kind StringDone k h e = cc
+text_kind InString k h e = cc
 text_kind Escape k h e = cc
 text_kind Hex1 k h e = cc
 text_kind Hex2 k h e = cc
@@ -495,16 +495,16 @@ text_kind _ k h e = absurd h
 -- bytes after which a string that was read up to x ends
 pub record TextEnding (x : Lex) : Type 0 where
   pub rest : List ℕ
-  pub run : lex_run rest x ≡ Some TextDone
+  pub run : lex_run rest x ≡ Some StringDone
 
 pub text_end : (x : Lex) → IsOfText x → TextEnding x
-text_end InText h = record { rest = 34 ∷ []; run = refl }
+text_end InString h = record { rest = 34 ∷ []; run = refl }
 text_end Escape h = record { rest = 110 ∷ 34 ∷ []; run = refl }
 text_end Hex1 h = record { rest = 48 ∷ 34 ∷ []; run = refl }
 text_end Hex2 h = record { rest = 48 ∷ 48 ∷ 34 ∷ []; run = refl }
 text_end Hex3 h = record { rest = 48 ∷ 48 ∷ 48 ∷ 34 ∷ []; run = refl }
 text_end Hex4 h = record { rest = 48 ∷ 48 ∷ 48 ∷ 48 ∷ 34 ∷ []; run = refl }
-text_end TextDone h = record { rest = []; run = refl }
+text_end StringDone h = record { rest = []; run = refl }
 text_end _ h = absurd h
 
 -- ---- every reading can still come to an end
@@ -521,7 +521,7 @@ ending : {x : Lex} (r : List ℕ) (y : Lex) (k : Kind) → lex_run r x ≡ Some 
 ending r y k h d = record { rest = r; last = y; kind = k; run = h; done = d }
 
 as_text : {x : Lex} → TextEnding x → Ending x
-as_text e = ending e.rest TextDone Text e.run refl
+as_text e = ending e.rest StringDone Text e.run refl
 
 pub can_end : (x : Lex) → Ending x
 can_end AfterN = ending (117 ∷ 108 ∷ 108 ∷ []) NullDone Null refl refl
@@ -544,13 +544,13 @@ can_end Fraction = ending ([]) Fraction Number refl refl
 can_end Mark = ending (48 ∷ []) Exponent Number refl refl
 can_end MarkSign = ending (48 ∷ []) Exponent Number refl refl
 can_end Exponent = ending ([]) Exponent Number refl refl
-can_end InText = as_text (text_end InText tt)
+can_end InString = as_text (text_end InString tt)
 can_end Escape = as_text (text_end Escape tt)
 can_end Hex1 = as_text (text_end Hex1 tt)
 can_end Hex2 = as_text (text_end Hex2 tt)
 can_end Hex3 = as_text (text_end Hex3 tt)
 can_end Hex4 = as_text (text_end Hex4 tt)
-can_end TextDone = as_text (text_end TextDone tt)
+can_end StringDone = as_text (text_end StringDone tt)
 
 -- ---- a spelling and what follows it
 

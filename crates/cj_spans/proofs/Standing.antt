@@ -1,7 +1,7 @@
 -- Where the pass over a line stands in the machine.
-use Rattle.std.proofs.Common.{◌≡◌, ℕ, suc, ◌+◌, ◌*◌, ◌/◌, ◌^◌, ◌<◌, ◌≤◌, List, [], length, max, Bool, true, false, IsTrue, rules, Option, Some, None, Err, refl, sym, ap, subst, arith, ◌∙◌, inl, inr}
+use Rattle.std.proofs.Common.{◌≡◌, ℕ, suc, ◌+◌, ◌*◌, ◌/◌, ◌^◌, ◌<◌, ◌≤◌, List, [], ◌∷◌, ◌++◌, length, length-append, max, Bool, true, false, IsTrue, rules, Option, Some, None, Err, refl, sym, ap, subst, arith, ◌∙◌, inl, inr}
 use Rattle.std.specs.Prelude.{IsSomeAnd}
-use Rattle.cj_budget.specs.Bounded.{BoundedList, IsWithin}
+use Rattle.cj_budget.specs.Bounded.{BoundedList, IsWithin, Becomes}
 use Rattle.cj_spans.specs.declared.fault.ScanFault.{ScanFault}
 use Rattle.cj_spans.specs.declared.fault.ScanFault.TheVariants.{NotUtf8, Syntax, TooDeep, Memory}
 use Rattle.cj_spans.specs.declared.token.Token.{Token}
@@ -221,6 +221,14 @@ kept_same x w = let g = w.below_peak in record { limit = refl; peak = omega arit
 
 pub grown_same : (x : BoundedList Token) → IsWithin x → Grown x x
 grown_same x w = let g = w.below_peak in record { kept = record { limit = refl; peak = omega arith; room = λ r. r; within = w }; longer = omega arith }
+
+-- one token more
+pub grown_more : (x z : BoundedList Token) (t : Token) → IsWithin x → Becomes x (x.elements ++ t ∷ []) z → Grown x z
+grown_more x z t w e =
+    let g = w.below_peak in let c = e.peak in
+    let n : length z.elements ≡ length x.elements + 1 = ap length e.elements ∙ length-append x.elements (t ∷ []) in
+    let f = length-append x.elements (t ∷ []) in
+    record { kept = record { limit = e.limit; peak = omega arith; room = e.room; within = e.within }; longer = omega arith }
 
 pub ended_law : (b : List ℕ) (tokens0 : BoundedList Token) (stack0 : BoundedList ℕ) (tokens : BoundedList Token) (stack : BoundedList ℕ) (m : Mode) (i : ℕ) → Standing b tokens0 stack0 tokens stack m i → KeepsLaw b tokens0 tokens stack0 stack
 ended_law b tokens0 stack0 tokens stack m i s = standing_law b tokens0 stack0 tokens tokens stack stack m i s (grown_same tokens s.kept.within) (kept_same stack s.stack_within) refl (omega arith)

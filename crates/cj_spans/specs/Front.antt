@@ -13,9 +13,9 @@ pub record Begun (b : List ℕ) (k : Kind) (i j : ℕ) : Type 0 where
   pub rest : List ℕ
   pub spelled : IsScalar k (slice_range b i j ++ rest)
 
--- the bytes i to j of b are an unfinished or whole text with n containers open
+-- the bytes i to j of b are an unfinished or whole JSON text with n containers open
 pub data Front (b : List ℕ) : ℕ → ℕ → ℕ → Type 0 where
-  blank : (i j : ℕ) → White b i j → Front b i j 0
+  white : (i j : ℕ) → White b i j → Front b i j 0
   begun : (i j l : ℕ) (k : Kind) → White b i j → Begun b k j l → Front b i l 0
   whole : (i j : ℕ) (t : Tree) → Padded b i j t → Front b i j 0
   in_array : (i j k l n : ℕ) (ts : Items) → White b i j → byte b j ≡ 91 → LedItems b (suc j) k ts → Front b k l n → Front b i l (suc n)
@@ -24,7 +24,7 @@ pub data Front (b : List ℕ) : ℕ → ℕ → ℕ → Type 0 where
   after_name : (i j k l m n : ℕ) (ms : Members) → White b i j → byte b j ≡ 123 → LedMembers b (suc j) k ms → White b k l → IsAtom b Text l m → White b m n → Front b i n 1
   in_member : (i j k l m n : ℕ) (ms : Members) (a : Atom) → White b i j → byte b j ≡ 123 → LedMembers b (suc j) k ms → Named b k l a → Front b l m n → Front b i m (suc n)
 
--- the first i bytes are the front of a text
+-- the first i bytes are a prefix of a JSON text
 pub record IsFront (b : List ℕ) (i : ℕ) : Type 0 where
   pub open_count : ℕ
   pub front : Front b 0 i open_count

@@ -7,7 +7,7 @@ use Rattle.cj_spans.specs.declared.token.Kind.{Kind}
 use Rattle.cj_spans.specs.declared.token.Kind.TheVariants.{Null, Truth, Number, Text, Array, Object}
 use Rattle.cj_spans.specs.declared.token.Token.{Token}
 use Rattle.cj_spans.specs.declared.lex.Lex.{Lex}
-use Rattle.cj_spans.specs.declared.lex.Lex.TheVariants.{AfterN, AfterNu, AfterNul, NullDone, AfterT, AfterTr, AfterTru, AfterF, AfterFa, AfterFal, AfterFals, TruthDone, Minus, Zero, Whole, Point, Fraction, Mark, MarkSign, Exponent, InText, Escape, Hex4, Hex3, Hex2, Hex1, TextDone}
+use Rattle.cj_spans.specs.declared.lex.Lex.TheVariants.{AfterN, AfterNu, AfterNul, NullDone, AfterT, AfterTr, AfterTru, AfterF, AfterFa, AfterFal, AfterFals, TruthDone, Minus, Zero, Whole, Point, Fraction, Mark, MarkSign, Exponent, InString, Escape, Hex4, Hex3, Hex2, Hex1, StringDone}
 use Rattle.cj_spans.specs.declared.step.Mode.{Mode}
 use Rattle.cj_spans.specs.declared.step.Mode.TheVariants.{Ready, FirstItem, After, FirstName, NextName, AfterName}
 use Rattle.cj_spans.specs.declared.step.Move.{Move}
@@ -27,7 +27,7 @@ is_digit b = nat_le 48 b && nat_le b 57
 abbrev pub lex_start : ℕ → Option Lex
 lex_start b =
     cond (nat_eq b 110) (Some AfterN) (cond (nat_eq b 116) (Some AfterT) (cond (nat_eq b 102) (Some AfterF) (cond (nat_eq b 45) (Some Minus) (cond (nat_eq b 48) (Some Zero)
-    (cond (nat_le 49 b && nat_le b 57) (Some Whole) (cond (nat_eq b 34) (Some InText) None))))))
+    (cond (nat_le 49 b && nat_le b 57) (Some Whole) (cond (nat_eq b 34) (Some InString) None))))))
 
 -- the reading x after the byte d alone
 abbrev pub one : ℕ → ℕ → Lex → Option Lex
@@ -58,12 +58,12 @@ abbrev pub sign_mark : ℕ → Option Lex
 sign_mark b = cond (nat_eq b 43 || nat_eq b 45) (Some MarkSign) None
 
 -- a byte in a string
-abbrev pub text_step : ℕ → Option Lex
-text_step b = cond (nat_eq b 34) (Some TextDone) (cond (nat_eq b 92) (Some Escape) (cond (nat_le 32 b) (Some InText) None))
+abbrev pub string_step : ℕ → Option Lex
+string_step b = cond (nat_eq b 34) (Some StringDone) (cond (nat_eq b 92) (Some Escape) (cond (nat_le 32 b) (Some InString) None))
 
 -- a byte after a backslash
 abbrev pub escape_step : ℕ → Option Lex
-escape_step b = cond (is_escape b) (Some InText) (cond (nat_eq b 117) (Some Hex4) None)
+escape_step b = cond (is_escape b) (Some InString) (cond (nat_eq b 117) (Some Hex4) None)
 
 -- how far the spelling is after one byte more
 abbrev pub lex_step : Lex → ℕ → Option Lex
@@ -87,13 +87,13 @@ lex_step Fraction b = digit_or b Fraction (mark b)
 lex_step Mark b = digit_or b Exponent (sign_mark b)
 lex_step MarkSign b = digit_or b Exponent None
 lex_step Exponent b = digit_or b Exponent None
-lex_step InText b = text_step b
+lex_step InString b = string_step b
 lex_step Escape b = escape_step b
 lex_step Hex4 b = hex b Hex3
 lex_step Hex3 b = hex b Hex2
 lex_step Hex2 b = hex b Hex1
-lex_step Hex1 b = hex b InText
-lex_step TextDone b = None
+lex_step Hex1 b = hex b InString
+lex_step StringDone b = None
 
 -- the kind of the scalar that may end here
 abbrev pub lex_kind : Lex → Option Kind
@@ -117,13 +117,13 @@ lex_kind Fraction = Some Number
 lex_kind Mark = None
 lex_kind MarkSign = None
 lex_kind Exponent = Some Number
-lex_kind InText = None
+lex_kind InString = None
 lex_kind Escape = None
 lex_kind Hex4 = None
 lex_kind Hex3 = None
 lex_kind Hex2 = None
 lex_kind Hex1 = None
-lex_kind TextDone = Some Text
+lex_kind StringDone = Some Text
 
 -- from the place i and the reading x on, the bytes up to k give the reading y
 pub data Continues (b : List ℕ) (i : ℕ) (x : Lex) : ℕ → Lex → Type 0 where
@@ -188,7 +188,7 @@ begin_value c s =
 
 -- a byte where a name may begin
 abbrev pub begin_name : ℕ → State → Option State
-begin_name c s = cond (nat_eq c 34) (Some (moved (in_atom AfterName s.place InText) s)) None
+begin_name c s = cond (nat_eq c 34) (Some (moved (in_atom AfterName s.place InString) s)) None
 
 -- the container k with the token t is closed by the bracket d
 abbrev pub close_by : ℕ → ℕ → ℕ → Token → State → Option State
@@ -360,21 +360,21 @@ BeginsValue Ready = Unit {0}
 BeginsValue FirstItem = Unit {0}
 BeginsValue _ = ⊥
 
--- the innermost open container is an array
-pub record InArray (ks : List ℕ) (ts : List Token) : Type 0 where
+-- the innermost open container is of this kind
+pub record IsInnermost (d : Kind) (ks : List ℕ) (ts : List Token) : Type 0 where
   pub top : ℕ
   pub token : Token
   pub innermost : slice_get ks 0 ≡ Some top
   pub there : slice_get ts top ≡ Some token
-  pub array : open_kind token ≡ Array
+  pub kind : open_kind token ≡ d
 
--- the innermost open container is an object
-pub record InObject (ks : List ℕ) (ts : List Token) : Type 0 where
-  pub top : ℕ
-  pub token : Token
-  pub innermost : slice_get ks 0 ≡ Some top
-  pub there : slice_get ts top ≡ Some token
-  pub object : open_kind token ≡ Object
+-- it is an array
+abbrev pub InArray : List ℕ → List Token → Type 0
+InArray ks ts = IsInnermost Array ks ts
+
+-- it is an object
+abbrev pub InObject : List ℕ → List Token → Type 0
+InObject ks ts = IsInnermost Object ks ts
 
 -- a name may begin in the mode
 abbrev pub BeginsName : Mode → Type 0
@@ -383,16 +383,16 @@ BeginsName NextName = Unit {0}
 BeginsName _ = ⊥
 
 -- a string in the first mode is followed by the second
-abbrev pub TextLeads : Mode → Mode → Type 0
-TextLeads Ready After = Unit {0}
-TextLeads FirstName AfterName = Unit {0}
-TextLeads NextName AfterName = Unit {0}
-TextLeads _ _ = ⊥
+abbrev pub StringLeads : Mode → Mode → Type 0
+StringLeads Ready After = Unit {0}
+StringLeads FirstName AfterName = Unit {0}
+StringLeads NextName AfterName = Unit {0}
+StringLeads _ _ = ⊥
 
 -- the bytes from i to k are a string with its quotes
 pub record IsQuoted (b : List ℕ) (i k : ℕ) : Type 0 where
   pub opens : byte b i ≡ 34
-  pub goes : Continues b (suc i) InText k TextDone
+  pub goes : Continues b (suc i) InString k StringDone
   pub order : i < k
   pub within : k ≤ length b
 

@@ -3,14 +3,14 @@ ghost use Rattle.std.specs.Prelude.{◌≡◌};
 ghost use Rattle.cj_spans.specs.Spelling.{is_white_space as is_white_space_of, is_hex as is_hex_of, is_plain as is_plain_of, is_escape as is_escape_of};
 ghost use Rattle.cj_spans.specs.Machine.{is_digit as is_digit_of};
 
-/// White space.
+/// One of the four bytes that may stand round values, names and signs.
 pub fn is_white_space(byte: u8) -> bool
     ensures { result ≡ is_white_space_of byte }
 {
     byte == b' ' || byte == b'\t' || byte == b'\n' || byte == b'\r'
 }
 
-/// A digit.
+/// `0` to `9`.
 pub fn is_digit(byte: u8) -> bool
     ensures { result ≡ is_digit_of byte }
 {

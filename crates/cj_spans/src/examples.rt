@@ -32,7 +32,7 @@ pub fn cut_literal()
     ensures { SyntaxAt (codes "tru}") 3 }
 {}
 
-/// A letter after the text.
+/// A letter after a JSON text.
 pub fn second_value()
     ensures { SyntaxAt (codes "{} x") 3 }
 {}
@@ -47,7 +47,7 @@ pub fn empty_line()
     ensures { SyntaxAt [] 0 }
 {}
 
-/// A text has no first fault, neither in it nor past its end.
+/// A JSON text has no first fault, neither in it nor past its end.
 pub fn whole_text()
     ensures { (i : ℕ) → IsFirstFault (codes "{}") i → ⊥ }
 {}
@@ -57,7 +57,7 @@ pub fn too_deep()
     ensures { DeepAt (codes "[[}") 1 1 }
 {}
 
-/// An array of one number, as a text.
+/// An array of one number, as a JSON text.
 pub fn one_number()
     ensures { let b = codes "[0]" in Json b (array 0 3 (item (scalar Number (atom_at b 1 2)) no_items)) }
 {}

@@ -6,6 +6,9 @@ ghost use Rattle.cj_spans.specs.Machine.{is_digit as is_digit_of};
 
 use std::simd::prelude::*;
 
+/// How many bytes are looked at in one go: those of a vector of the baseline x86-64.
+pub const LANES: usize = 16;
+
 /// The first byte that is no digit, of the 16 from `place` on.
 #[inline(always)]
 pub fn find_other(line: &[u8], place: usize) -> Option<usize>

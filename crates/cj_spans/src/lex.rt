@@ -1,12 +1,12 @@
 //! How far the spelling of a scalar or a name has been read.
 ghost use Rattle.std.specs.Prelude.{◌≡◌, ◌≤◌, ◌<◌, ℕ, length, suc, IfSome, IsTrue, Some, true};
 ghost use Rattle.cj_spans.specs.declared.lex.Lex.{Lex as LexOf};
-ghost use Rattle.cj_spans.specs.declared.lex.Lex.TheVariants.{InText, TextDone};
+ghost use Rattle.cj_spans.specs.declared.lex.Lex.TheVariants.{InString, StringDone};
 ghost use Rattle.cj_spans.specs.Json.{byte as byte_of};
-ghost use Rattle.cj_spans.specs.Machine.{is_digit as is_digit_of, lex_start as lex_start_of, lex_step as lex_step_of, lex_kind as lex_kind_of, one as one_of, hex as hex_of, mark as mark_of, point_or_mark as point_or_mark_of, zero_or_whole as zero_or_whole_of, sign_mark as sign_mark_of, text_step as text_step_of, escape_step as escape_step_of, digit_or as digit_or_of, Continues, Halts, IsQuoted};
+ghost use Rattle.cj_spans.specs.Machine.{is_digit as is_digit_of, lex_start as lex_start_of, lex_step as lex_step_of, lex_kind as lex_kind_of, one as one_of, hex as hex_of, mark as mark_of, point_or_mark as point_or_mark_of, zero_or_whole as zero_or_whole_of, sign_mark as sign_mark_of, string_step as string_step_of, escape_step as escape_step_of, digit_or as digit_or_of, Continues, Halts, IsQuoted};
 
 use crate::bytes::{is_digit, is_escape, is_hex, is_plain};
-use crate::lanes::{find_other, find_special};
+use crate::lanes::{LANES, find_other, find_special};
 use crate::token::Kind;
 
 /// What has been read of a scalar: letters of a literal, a part of a number, or a part of a string.
@@ -32,13 +32,13 @@ pub enum Lex {
     Mark,
     MarkSign,
     Exponent,
-    InText,
+    InString,
     Escape,
     Hex4,
     Hex3,
     Hex2,
     Hex1,
-    TextDone,
+    StringDone,
 }
 
 /// What the first byte of a scalar begins.
@@ -53,7 +53,7 @@ pub fn lex_start(byte: u8) -> Option<Lex>
         b'-' => Some(Lex::Minus),
         b'0' => Some(Lex::Zero),
         b'1'..=b'9' => Some(Lex::Whole),
-        b'"' => Some(Lex::InText),
+        b'"' => Some(Lex::InString),
         _ => None,
     }
 }
@@ -70,23 +70,26 @@ pub fn lex_kind(read: Lex) -> Option<Kind>
         Lex::Whole => Some(Kind::Number),
         Lex::Fraction => Some(Kind::Number),
         Lex::Exponent => Some(Kind::Number),
-        Lex::TextDone => Some(Kind::Text),
+        Lex::StringDone => Some(Kind::Text),
         _ => None,
     }
 }
 
+/// Takes a letter of a literal.
 fn one(byte: u8, wanted: u8, next: Lex) -> Option<Lex>
     ensures { result ≡ one_of byte wanted next }
 {
     if byte == wanted { Some(next) } else { None }
 }
 
+/// Takes a digit of an escape with `u`.
 fn hex(byte: u8, next: Lex) -> Option<Lex>
     ensures { result ≡ hex_of byte next }
 {
     if is_hex(byte) { Some(next) } else { None }
 }
 
+/// Takes a digit of a number; `other` is what comes of any other byte.
 #[inline(always)]
 fn digit_or(byte: u8, next: Lex, other: Option<Lex>) -> Option<Lex>
     ensures { result ≡ digit_or_of byte next other }
@@ -94,6 +97,7 @@ fn digit_or(byte: u8, next: Lex, other: Option<Lex>) -> Option<Lex>
     if is_digit(byte) { Some(next) } else { other }
 }
 
+/// Takes the letter that an exponent begins with.
 fn mark(byte: u8) -> Option<Lex>
     ensures { result ≡ mark_of byte }
 {
@@ -104,6 +108,7 @@ fn mark(byte: u8) -> Option<Lex>
     }
 }
 
+/// Takes what may follow the digits before the point.
 fn point_or_mark(byte: u8) -> Option<Lex>
     ensures { result ≡ point_or_mark_of byte }
 {
@@ -114,6 +119,7 @@ fn point_or_mark(byte: u8) -> Option<Lex>
     }
 }
 
+/// Takes the first digit of a number: no other may follow a 0.
 fn zero_or_whole(byte: u8) -> Option<Lex>
     ensures { result ≡ zero_or_whole_of byte }
 {
@@ -124,6 +130,7 @@ fn zero_or_whole(byte: u8) -> Option<Lex>
     }
 }
 
+/// Takes the sign of an exponent.
 fn sign_mark(byte: u8) -> Option<Lex>
     ensures { result ≡ sign_mark_of byte }
 {
@@ -134,26 +141,28 @@ fn sign_mark(byte: u8) -> Option<Lex>
     }
 }
 
+/// Takes a byte of a string.
 #[inline(always)]
-fn text_step(byte: u8) -> Option<Lex>
-    ensures { result ≡ text_step_of byte }
+fn string_step(byte: u8) -> Option<Lex>
+    ensures { result ≡ string_step_of byte }
 {
     if byte == b'"' {
-        Some(Lex::TextDone)
+        Some(Lex::StringDone)
     } else if byte == b'\\' {
         Some(Lex::Escape)
     } else if byte >= b' ' {
-        Some(Lex::InText)
+        Some(Lex::InString)
     } else {
         None
     }
 }
 
+/// Takes what follows a backslash.
 fn escape_step(byte: u8) -> Option<Lex>
     ensures { result ≡ escape_step_of byte }
 {
     if is_escape(byte) {
-        Some(Lex::InText)
+        Some(Lex::InString)
     } else if byte == b'u' {
         Some(Lex::Hex4)
     } else {
@@ -167,10 +176,10 @@ pub fn lex_step(read: Lex, byte: u8) -> Option<Lex>
     ensures { result ≡ lex_step_of read byte }
 {
     match read {
-        Lex::InText => text_step(byte),
+        Lex::InString => string_step(byte),
         Lex::Whole => digit_or(byte, Lex::Whole, point_or_mark(byte)),
         Lex::Fraction => digit_or(byte, Lex::Fraction, mark(byte)),
-        Lex::TextDone => None,
+        Lex::StringDone => None,
         Lex::AfterN => one(byte, b'u', Lex::AfterNu),
         Lex::AfterNu => one(byte, b'l', Lex::AfterNul),
         Lex::AfterNul => one(byte, b'l', Lex::NullDone),
@@ -193,7 +202,7 @@ pub fn lex_step(read: Lex, byte: u8) -> Option<Lex>
         Lex::Hex4 => hex(byte, Lex::Hex3),
         Lex::Hex3 => hex(byte, Lex::Hex2),
         Lex::Hex2 => hex(byte, Lex::Hex1),
-        Lex::Hex1 => hex(byte, Lex::InText),
+        Lex::Hex1 => hex(byte, Lex::InString),
     }
 }
 
@@ -201,7 +210,7 @@ pub fn lex_step(read: Lex, byte: u8) -> Option<Lex>
 #[inline(always)]
 fn skip_plain_singly(line: &[u8], place: usize) -> usize
     requires { place ≤ length line.now }
-    ensures same { (i : ℕ) (x : LexOf) → Continues line.now i x place InText → Continues line.now i x result InText }
+    ensures same { (i : ℕ) (x : LexOf) → Continues line.now i x place InString → Continues line.now i x result InString }
     ensures order { place ≤ result }
     ensures end { result ≤ length line.now }
 {
@@ -216,15 +225,15 @@ fn skip_plain_singly(line: &[u8], place: usize) -> usize
 #[inline(always)]
 fn skip_plain(line: &[u8], place: usize) -> usize
     requires { place ≤ length line.now }
-    ensures same { (i : ℕ) (x : LexOf) → Continues line.now i x place InText → Continues line.now i x result InText }
+    ensures same { (i : ℕ) (x : LexOf) → Continues line.now i x place InString → Continues line.now i x result InString }
     ensures order { place ≤ result }
     ensures end { result ≤ length line.now }
 {
     let mut stop = place;
-    while line.len() - stop >= 16 {
+    while line.len() - stop >= LANES {
         match find_special(line, stop) {
             Some(place) => return place,
-            None => stop += 16,
+            None => stop += LANES,
         }
     }
     skip_plain_singly(line, stop)
@@ -256,12 +265,12 @@ pub fn skip_digits(line: &[u8], read: Lex, place: usize) -> usize
     ensures order { place ≤ result }
     ensures end { result ≤ length line.now }
 {
-    if line.len() - place < 16 {
+    if line.len() - place < LANES {
         return skip_digits_singly(line, read, place);
     }
     match find_other(line, place) {
         Some(stop) => stop,
-        None => skip_digits_singly(line, read, place + 16),
+        None => skip_digits_singly(line, read, place + LANES),
     }
 }
 
@@ -274,7 +283,7 @@ fn skip(line: &[u8], read: Lex, place: usize) -> usize
     ensures end { result ≤ length line.now }
 {
     match read {
-        Lex::InText => skip_plain(line, place),
+        Lex::InString => skip_plain(line, place),
         Lex::Whole => skip_digits(line, Lex::Whole, place),
         Lex::Fraction => skip_digits(line, Lex::Fraction, place),
         Lex::Exponent => skip_digits(line, Lex::Exponent, place),
@@ -291,11 +300,11 @@ pub struct Reach {
 
 /// Whether the quote stands here that ends a string, of which what stands before it has been read.
 #[inline(always)]
-fn ends_text(line: &[u8], place: usize, read: Lex) -> bool
-    ensures { IsTrue result → (place < length line.now) × (lex_step_of read (byte_of line.now place) ≡ Some TextDone) }
+fn ends_string(line: &[u8], place: usize, read: Lex) -> bool
+    ensures { IsTrue result → (place < length line.now) × (lex_step_of read (byte_of line.now place) ≡ Some StringDone) }
 {
     match read {
-        Lex::InText => place < line.len() && line[place] == b'"',
+        Lex::InString => place < line.len() && line[place] == b'"',
         _ => false,
     }
 }
@@ -303,7 +312,7 @@ fn ends_text(line: &[u8], place: usize, read: Lex) -> bool
 /// Where the string that begins at `place` ends, if the first of its bytes that does not stand for itself is the
 /// closing quote. None where no string begins there, or another one.
 #[inline(always)]
-pub fn plain_text_stop(line: &[u8], place: usize) -> Option<usize>
+pub fn plain_string_stop(line: &[u8], place: usize) -> Option<usize>
     requires { place < length line.now }
     ensures { IfSome result (λ k. IsQuoted line.now place k) }
 {
@@ -311,7 +320,7 @@ pub fn plain_text_stop(line: &[u8], place: usize) -> Option<usize>
         return None;
     }
     let stop = skip_plain(line, place + 1);
-    if ends_text(line, stop, Lex::InText) {
+    if ends_string(line, stop, Lex::InString) {
         Some(stop + 1)
     } else {
         None
@@ -329,10 +338,10 @@ pub fn read_atom(line: &[u8], start: usize, first: Lex) -> Reach
     ensures end { result.stop ≤ length line.now }
 {
     let mut stop = skip(line, first, start + 1);
-    if ends_text(line, stop, first) {
+    if ends_string(line, stop, first) {
         return Reach {
             stop: stop + 1,
-            read: Lex::TextDone,
+            read: Lex::StringDone,
         };
     }
     let mut read = first;

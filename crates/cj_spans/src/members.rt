@@ -10,10 +10,10 @@ ghost use Rattle.cj_spans.specs.Preorder.{token_at};
 ghost use Rattle.cj_spans.specs.Machine.{IsQuoted, BeginsName, StaysInObjectNext};
 ghost use Rattle.cj_spans.specs.Pass.{StandsInObject, Leads};
 
-use crate::lex::plain_text_stop;
+use crate::lex::plain_string_stop;
 use crate::step::{Mode, Move, Next};
-use crate::token::Token;
-use cj_budget::Bounded;
+use crate::token::{Token, keep_atom};
+use cj_budget::{Bounded, NoMemory};
 
 /// Whether this byte stands at the place.
 #[inline(always)]
@@ -26,31 +26,26 @@ fn stands_at(line: &[u8], place: usize, byte: u8) -> bool
 /// Reads the string that begins at `place` and keeps its token; where it ends. None where no string begins there
 /// whose bytes all stand for themselves, or no memory is granted.
 #[inline(always)]
-fn read_text(line: &[u8], place: usize, tokens: &mut Bounded<Token>) -> Option<usize>
+fn read_string(line: &[u8], place: usize, tokens: &mut Bounded<Token>) -> Option<usize>
     requires short { length line.now < 2 ^ 31 }
     requires small { length tokens.old.elements < 2 ^ 31 }
     requires within { place < length line.now }
     requires room { length tokens.old.elements < tokens.old.limit }
-    ensures text { IfSome result (λ k. IsQuoted line.now place k
+    ensures string { IfSome result (λ k. IsQuoted line.now place k
         × Becomes tokens.old
         (tokens.old.elements ++ token_at place k (length tokens.old.elements + 1) ∷ []) tokens.new) }
     ensures none { IfNone result (tokens.new ≡ tokens.old) }
 {
-    let stop = plain_text_stop(line, place)?;
-    let token = Token {
-        start: place as u32,
-        stop: stop as u32,
-        link: tokens.len() as u32 + 1,
-    };
-    match tokens.put(token) {
+    let stop = plain_string_stop(line, place)?;
+    match keep_atom(place, stop, tokens) {
         Ok(()) => Some(stop),
-        Err(_) => None,
+        Err(NoMemory) => None,
     }
 }
 
 /// Goes on from where a name may begin: past it and its colon, or past what of them stands there.
 #[inline(always)]
-fn read_name(line: &[u8], from: Next, tokens: &mut Bounded<Token>) -> Next
+fn pass_name(line: &[u8], from: Next, tokens: &mut Bounded<Token>) -> Next
     requires stands { StandsInObject line.now tokens.old from.mode from.place }
     requires within { from.place < length line.now }
     requires begins { BeginsName from.mode }
@@ -58,7 +53,7 @@ fn read_name(line: &[u8], from: Next, tokens: &mut Bounded<Token>) -> Next
     ensures further { result.mode ≡ Ready → from.place < result.place }
     ensures order { from.place ≤ result.place }
 {
-    let Some(stop) = read_text(line, from.place, tokens) else {
+    let Some(stop) = read_string(line, from.place, tokens) else {
         return from;
     };
     if stands_at(line, stop, b':') {
@@ -76,7 +71,7 @@ fn read_name(line: &[u8], from: Next, tokens: &mut Bounded<Token>) -> Next
 /// Goes on from where the value of a member may begin: past a string and the comma behind it, or past what of them
 /// stands there.
 #[inline(always)]
-fn read_string(line: &[u8], place: usize, tokens: &mut Bounded<Token>) -> Next
+fn pass_value(line: &[u8], place: usize, tokens: &mut Bounded<Token>) -> Next
     requires stands { StandsInObject line.now tokens.old Ready place }
     ensures leads { Leads line.now tokens.old Ready place tokens.new result.mode result.place }
     ensures order { place ≤ result.place }
@@ -88,7 +83,7 @@ fn read_string(line: &[u8], place: usize, tokens: &mut Bounded<Token>) -> Next
     if place >= line.len() {
         return ready;
     }
-    let Some(stop) = read_text(line, place, tokens) else {
+    let Some(stop) = read_string(line, place, tokens) else {
         return ready;
     };
     if stands_at(line, stop, b',') {
@@ -124,12 +119,12 @@ pub fn read_members(line: &[u8], from: Next, tokens: &mut Bounded<Token>) -> Nex
 {
     let mut next = from;
     while next.place < line.len() && begins_name(next.mode) {
-        let named = read_name(line, next, tokens);
+        let named = pass_name(line, next, tokens);
         match named.mode {
             Mode::Ready => {}
             _ => return named,
         }
-        next = read_string(line, named.place, tokens);
+        next = pass_value(line, named.place, tokens);
     }
     next
 }

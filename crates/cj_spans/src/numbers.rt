@@ -7,8 +7,8 @@ ghost use Rattle.cj_spans.specs.Machine.{IsNumberItem};
 
 use crate::bytes::is_digit;
 use crate::lex::{Lex, skip_digits};
-use crate::token::Token;
-use cj_budget::Bounded;
+use crate::token::{Token, keep_atom};
+use cj_budget::{Bounded, NoMemory};
 
 /// A comma, or the bracket that closes an array.
 #[inline(always)]
@@ -69,13 +69,8 @@ pub fn read_number(line: &[u8], place: usize, tokens: &mut Bounded<Token>) -> Op
     ensures none { IfNone result (tokens.new ≡ tokens.old) }
 {
     let stop = number_stop(line, place)?;
-    let token = Token {
-        start: place as u32,
-        stop: stop as u32,
-        link: tokens.len() as u32 + 1,
-    };
-    match tokens.put(token) {
+    match keep_atom(place, stop, tokens) {
         Ok(()) => Some(stop),
-        Err(_) => None,
+        Err(NoMemory) => None,
     }
 }

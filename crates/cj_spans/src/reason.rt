@@ -66,6 +66,7 @@ struct Entry {
     text: &'static str,
 }
 
+/// A row of the table: its code and its text in one line.
 fn make_entry(code: u8, text: &'static str) -> Entry
     ensures code { result.code ≡ code }
     ensures text { result.text.now ≡ text.now }

@@ -1,4 +1,16 @@
 //! The pass over a line.
+//!
+//! The *machine* (`specs/Machine.antt`) reads one byte a step. It is what proofs go by, and private clauses
+//! alone cite it: promises speak of the grammar (`Json`), of prefixes and of trees. So a change of the
+//! grammar is a change in `Spelling`, `Json`, `Front` and `Machine`, and a faster body is none of these.
+//!
+//! Places of faults are told twice, by prefixes (what a proof can follow) and by the JSON texts that a line
+//! begins (what a reader expects). Both stand on `scan`, and both have to hold at the edges: the empty line,
+//! a line that is cut, a number that is whole at the end of the line but not before a letter. UTF-8 is judged
+//! first and of the whole line, so the grammar speaks of bytes.
+//!
+//! Each token but the last has two bytes of its own or a container that is open. A token for anything else
+//! breaks `2 * tokens ≤ bytes + open + 1`, by which the lists are long enough.
 ghost use Rattle.std.specs.Prelude.{◌≡◌, ◌+◌, ◌*◌, ◌/◌, ◌^◌, ◌≤◌, ◌<◌, ◌↔◌, ◌⊎◌, [], length, List, ℕ, suc, OnOk, OnErr, IfOk, IsOk, IsErrOf, IsTrue, IsUtf8};
 ghost use Rattle.std.specs.Str.{IsValidUpTo};
 ghost use Rattle.cj_budget.specs.Bounded.{BoundedList, IsWithin};
@@ -19,8 +31,8 @@ use crate::fault::ScanFault;
 use crate::lex::{Lex, lex_kind, read_atom};
 use crate::members::{enters_object, read_members};
 use crate::step::{Mode, Move, Next, read_byte};
-use crate::token::Token;
-use cj_budget::{Bounded, Stack};
+use crate::token::{Token, keep_atom};
+use cj_budget::{Bounded, NoMemory, Stack};
 use simdutf8::compat::from_utf8;
 
 /// Reads the rest of the scalar or the name that the byte at `place` began, and keeps its token.
@@ -46,17 +58,12 @@ fn end_atom(
     let Some(_) = lex_kind(reach.read) else {
         return Err(ScanFault::Syntax(reach.stop as u64));
     };
-    let token = Token {
-        start: place as u32,
-        stop: reach.stop as u32,
-        link: tokens.len() as u32 + 1,
-    };
-    match tokens.put(token) {
+    match keep_atom(place, reach.stop, tokens) {
         Ok(()) => Ok(Next {
             mode: next,
             place: reach.stop,
         }),
-        Err(_) => Err(ScanFault::Memory),
+        Err(NoMemory) => Err(ScanFault::Memory),
     }
 }
 
@@ -156,7 +163,7 @@ fn pass_parts(
     Ok(next)
 }
 
-/// Whether a text may end here.
+/// Whether the line is a JSON text if it ends here.
 #[inline(always)]
 fn is_end(mode: Mode, stack: &Stack) -> bool
     ensures { IsTrue result ↔ ((mode ≡ After) × (stack.now.elements ≡ [])) }
@@ -230,7 +237,7 @@ pub fn scan(line: &[u8], tokens: &mut Bounded<Token>, stack: &mut Stack) -> Resu
     ensures memory { IsTrue tokens.old.reserved → IsTrue stack.old.reserved
         → IsErrOf result ScanFault.Memory → ⊥ }
 
-    // The same places, told by the texts that the line begins.
+    // The same places, told by the JSON texts that the line begins.
     ensures first_too_deep { (i : ℕ) → IsErrOf result (ScanFault.TooDeep i)
         → IsFirstTooDeep line.now stack.old.limit i }
     ensures first_fault { (i : ℕ) → IsErrOf result (ScanFault.Syntax i) → IsFirstFault line.now i }

@@ -72,7 +72,7 @@ fn open_kind(token: Token) -> Kind
     }
 }
 
-/// Opens a container.
+/// Opens a container. Its token is kept at once, before those of its parts; stop and link come when it closes.
 #[inline(always)]
 pub fn open(
     kind: Kind,
@@ -102,7 +102,7 @@ pub fn open(
     }
 }
 
-/// Begins a value.
+/// Reads the first byte of a value.
 #[inline(always)]
 fn begin_value(
     byte: u8,
@@ -116,7 +116,7 @@ fn begin_value(
     ensures { ReadsByte (begin_value_of byte) place result tokens.old tokens.new stack.old stack.new }
 {
     if byte == b'"' {
-        return Ok(Move::Atom(Mode::After, Lex::InText));
+        return Ok(Move::Atom(Mode::After, Lex::InString));
     }
     if byte == b'[' {
         return open(Kind::Array, Mode::FirstItem, place, tokens, stack);
@@ -234,14 +234,14 @@ fn after_value(
     }
 }
 
-/// Begins a name.
+/// Reads the quote that begins a name.
 #[inline(always)]
 fn begin_name(byte: u8, place: usize) -> Result<Move, ScanFault>
     ensures { (m : ModeOf) (ks : List ℕ) (ts : List TokenOf) (p d : ℕ) → Answers
         (begin_name_of byte (state (between m) ks ts place p)) m place p d (Unit {0}) result ks ts }
 {
     if byte == b'"' {
-        Ok(Move::Atom(Mode::AfterName, Lex::InText))
+        Ok(Move::Atom(Mode::AfterName, Lex::InString))
     } else {
         Err(ScanFault::Syntax(place as u64))
     }

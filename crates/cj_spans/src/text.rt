@@ -162,18 +162,27 @@ fn escaped(letter: u32) -> u32
     }
 }
 
+/// The least first unit of a surrogate pair.
+const HIGH_SURROGATES: u32 = 0xD800;
+
+/// The least second unit of a surrogate pair.
+const LOW_SURROGATES: u32 = 0xDC00;
+
+/// The least unit past those of pairs.
+const PAST_SURROGATES: u32 = 0xE000;
+
 /// Whether a unit is the first one of a surrogate pair.
 fn is_high(unit: u32) -> bool
     ensures { result ≡ is_high_of unit }
 {
-    unit >= 0xD800 && unit < 0xDC00
+    unit >= HIGH_SURROGATES && unit < LOW_SURROGATES
 }
 
 /// Whether a unit is the second one of a surrogate pair.
 fn is_low(unit: u32) -> bool
     ensures { result ≡ is_low_of unit }
 {
-    unit >= 0xDC00 && unit < 0xE000
+    unit >= LOW_SURROGATES && unit < PAST_SURROGATES
 }
 
 /// The code point of a unit, and of the one that is escaped behind it where the two are a pair.
@@ -189,7 +198,9 @@ fn join(bytes: &[u8], high: CodePoint) -> CodePoint
         Some(low) => {
             if is_low(low.code) {
                 CodePoint {
-                    code: 0x1_0000 + (high.code - 0xD800) * 0x400 + (low.code - 0xDC00),
+                    code: 0x1_0000
+                        + (high.code - HIGH_SURROGATES) * 0x400
+                        + (low.code - LOW_SURROGATES),
                     stop: low.stop,
                 }
             } else {
@@ -273,7 +284,7 @@ impl<'a> Iterator for CodePoints<'a> {
     }
 }
 
-/// The characters of a text of UTF-8, from a place on.
+/// The characters of a `str`, from a place on.
 #[derive(Clone, Copy)]
 pub(crate) struct Characters<'a> {
     bytes: &'a [u8],
@@ -281,7 +292,7 @@ pub(crate) struct Characters<'a> {
 }
 
 impl<'a> Characters<'a> {
-    /// The characters of a text.
+    /// The characters of a `str`, from its start on.
     pub(crate) fn of(text: &'a str) -> Characters<'a>
         ensures { characters_left result ≡ chars text.now }
     {
@@ -333,7 +344,7 @@ fn plain_at(bytes: &[u8], place: usize) -> Option<u8>
     }
 }
 
-/// Whether a byte that stands for itself is at a place of the text: one that [`plain_at`] answers elsewhere.
+/// Whether a byte that stands for itself is at a place inside the bytes: one that [`plain_at`] answers elsewhere.
 #[tactic(auto, using(crate::proofs::Texts::plain_character, crate::proofs::Texts::plain_code, std::proofs::lemmas::Bool::Decides::nat_tests))]
 #[inline(always)]
 fn is_here(bytes: &[u8], place: usize, byte: u8) -> bool
@@ -514,13 +525,16 @@ pub(crate) fn spell_one_text(spelling: &[u8], other: &[u8]) -> bool
 /// What the hash of a text begins with.
 const HASH_START: u64 = 14_695_981_039_346_656_037;
 
+/// What each code point is multiplied by in the hash.
+const HASH_FACTOR: u64 = 11_400_714_819_323_198_485;
+
 /// The state of the hash after one code point more. No part of it is linear in the code points before, so texts
 /// that are to have one hash have to be searched for.
 #[inline(always)]
 fn hash_code_point(state: u64, point: u32) -> u64
     ensures { result ≡ hash_step state point }
 {
-    let product = (state ^ point as u64).wrapping_mul(11_400_714_819_323_198_485);
+    let product = (state ^ point as u64).wrapping_mul(HASH_FACTOR);
     product ^ (product >> 32)
 }
 

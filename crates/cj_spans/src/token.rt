@@ -1,4 +1,18 @@
 //! Tokens: where each value and each member name of a line stands.
+//!
+//! They are one flat list in the order of their starts, so nothing is built and a copy is a copy of
+//! numbers. A token has no kind: that of a value is told by the byte at its start.
+//!
+//! A *link* is the index of the first token after a token and its parts. It is set when a container closes;
+//! while that is open, stop is 0 and link tells the scan which kind of container it is (`open_link`,
+//! `open_kind`). Its top bit is free for a *mark*, as no line has 2^31 tokens: `link_of` of the definitions
+//! and `Source::after` alone read links, and leave it out. What else is put into a token must leave starts
+//! and stops as they are, since trees are told by these.
+ghost use Rattle.std.specs.Prelude.{◌≡◌, ◌+◌, ◌^◌, ◌<◌, ◌++◌, ◌∷◌, [], length, OnOk, OnErr, IsOk, IsTrue};
+ghost use Rattle.cj_budget.specs.Bounded.{Becomes};
+ghost use Rattle.cj_spans.specs.Preorder.{token_at};
+
+use cj_budget::{Bounded, NoMemory};
 
 /// The kinds of JSON values.
 #[derive(Clone, Copy, Debug, PartialEq, Eq)]
@@ -17,9 +31,7 @@ pub enum Kind {
     Object,
 }
 
-/// One value or member name of a line: the places where it starts and stops, and the index of the first
-/// token after it and its parts. Of a container that is still open the link tells the kind: 0 of an
-/// array, 1 of an object.
+/// One value or member name of a line: the places where it starts and stops, and its link.
 #[derive(Clone, Copy, Debug, PartialEq, Eq)]
 pub struct Token {
     pub(crate) start: u32,
@@ -28,3 +40,26 @@ pub struct Token {
 }
 
 const _: () = prove!(size_of::<Token>() == 12);
+
+/// Keeps the token of a scalar or a name. It has no parts, so it links to the token behind it.
+#[inline(always)]
+pub(crate) fn keep_atom(
+    place: usize,
+    stop: usize,
+    tokens: &mut Bounded<Token>,
+) -> Result<(), NoMemory>
+    requires short { (place < 2 ^ 31) × (stop < 2 ^ 31) }
+    requires small { length tokens.old.elements < 2 ^ 31 }
+    requires room { length tokens.old.elements < tokens.old.limit }
+    ensures ok { OnOk result (Becomes tokens.old
+        (tokens.old.elements ++ token_at place stop (length tokens.old.elements + 1) ∷ []) tokens.new) }
+    ensures err { OnErr result (tokens.new ≡ tokens.old) }
+    ensures granted { IsTrue tokens.old.reserved → IsOk result }
+{
+    let token = Token {
+        start: place as u32,
+        stop: stop as u32,
+        link: tokens.len() as u32 + 1,
+    };
+    tokens.put(token)
+}

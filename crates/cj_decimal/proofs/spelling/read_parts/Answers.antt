@@ -49,7 +49,7 @@ returns-clause-reads c =
       spells = passed s int frac exp;
       sign = sym c.has_byte-negative.ensures;
       digits = both_digits _ _ _ _ _ _ _ (c.in_ok-frac.ensures.reads.3 _ c.in_ok-int.ensures.reads.2) (ap digits_front from) (ap frac_digits at);
-      places_are = sym (ap (λ r. length (frac_digits r)) at) ∙ c.in_ok-frac.ensures.reads.2;
+      after_point_is = sym (ap (λ r. length (frac_digits r)) at) ∙ c.in_ok-frac.ensures.reads.2;
       exponent_is = saturates_at _ _ c.in_ok-exponent.exponent _ c.in_ok-exponent.ensures.reads.1 (ap exp_value end) (omega (arith, ints, c.in_ok-exponent.ensures.bound));
     }
 

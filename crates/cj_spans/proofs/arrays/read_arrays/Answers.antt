@@ -5,7 +5,7 @@ use Rattle.cj_spans.specs.declared.token.Token.{Token}
 use Rattle.cj_spans.specs.declared.step.Mode.TheVariants.{Ready, FirstItem, After}
 use Rattle.cj_spans.specs.Pass.{Standing}
 use Rattle.cj_spans.proofs.Nested.{stands_on, stands_small, stands_room, standing_number, standing_comma, standing_opened, opened_in, standing_refused}
-use Rattle.cj_spans.proofs.WholeNumbers.{in_array_more}
+use Rattle.cj_spans.proofs.Signs.{innermost_more}
 use Rattle.cj_spans.proofs.arrays.read_arrays.Goals as goal
 
 pub open-requires-clause-small : goal.open-requires-clause-small
@@ -47,7 +47,7 @@ end_number-behind-requires-clause-stands c =
     (λ ts ks s. standing_number c.args.line.now ts ks l.tokens c.read_number.new.tokens l.stack l.next.mode l.next.place c.in-Some.stop s l.invariant.begins n.0 n.1)
 
 pub end_number-behind-requires-clause-array : goal.end_number-behind-requires-clause-array
-end_number-behind-requires-clause-array c = in_array_more _ _ _ _ c.loop-next.invariant.array c.in-Some.ensures.number.1.elements
+end_number-behind-requires-clause-array c = innermost_more _ _ _ _ _ c.loop-next.invariant.array c.in-Some.ensures.number.1.elements
 
 pub returns-then-not-behind-clause-answer : goal.returns-then-not-behind-clause-answer
 returns-then-not-behind-clause-answer c = λ ts ks s.

@@ -10,7 +10,7 @@ loop-stop-preserved c =
     let o = c.skip-stop-in-Some.ensures.order in
     (c.skip-stop-in-Some.ensures.same _ _ (read_more _ _ _ _ _ _ _ c.loop-stop.invariant.0 c.in-Some.is c.lex_step.ensures), omega arith, c.skip-stop-in-Some.ensures.end)
 
-pub returns-then-ends_text-clause-read : goal.returns-then-ends_text-clause-read
-returns-then-ends_text-clause-read c =
+pub returns-then-ends_string-clause-read : goal.returns-then-ends_string-clause-read
+returns-then-ends_string-clause-read c =
     let same = c.skip-stop.ensures.same _ _ (read_first c.args.line.now c.args.start c.args.first) in
-    read_more _ _ _ _ _ _ _ same (c.ends_text.ensures c.if-ends_text.true).1 refl
+    read_more _ _ _ _ _ _ _ same (c.ends_string.ensures c.if-ends_string.true).1 refl

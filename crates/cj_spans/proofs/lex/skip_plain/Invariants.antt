@@ -1,11 +1,11 @@
 use Rattle.std.proofs.Common.{ℕ, ◌-◌, ◌≤◌, length}
 use Rattle.cj_spans.specs.declared.lex.Lex.{Lex}
-use Rattle.cj_spans.specs.declared.lex.Lex.TheVariants.{InText}
+use Rattle.cj_spans.specs.declared.lex.Lex.TheVariants.{InString}
 use Rattle.cj_spans.specs.Machine.{Continues}
 use Rattle.cj_spans.proofs.lex.skip_plain.Given as goal
 
 abbrev pub invariant-loop-stop : goal.invariant-loop-stop
-invariant-loop-stop l = ((i : ℕ) (x : Lex) → Continues l.line i x l.place InText → Continues l.line i x l.stop InText) × (l.place ≤ l.stop) × (l.stop ≤ length l.line)
+invariant-loop-stop l = ((i : ℕ) (x : Lex) → Continues l.line i x l.place InString → Continues l.line i x l.stop InString) × (l.place ≤ l.stop) × (l.stop ≤ length l.line)
 
 abbrev pub decreases-loop-stop : goal.decreases-loop-stop
 decreases-loop-stop l = length l.line - l.stop

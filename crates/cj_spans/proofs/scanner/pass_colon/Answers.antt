@@ -1,6 +1,6 @@
 use Rattle.std.proofs.Common.{subst}
 use Rattle.cj_spans.specs.Machine.{state, between, ComesTo}
-use Rattle.cj_spans.proofs.Colons.{colon_read}
+use Rattle.cj_spans.proofs.Signs.{colon_read}
 use Rattle.cj_spans.proofs.scanner.pass_colon.Goals as goal
 
 pub returns-then-line-from-eq58-clause-answer : goal.returns-then-line-from-eq58-clause-answer

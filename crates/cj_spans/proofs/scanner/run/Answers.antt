@@ -1,8 +1,7 @@
 use Rattle.std.proofs.Common.{arith, suc, subst, sym}
 use Rattle.cj_spans.specs.Machine.{InArray, InObject}
 use Rattle.cj_spans.proofs.Standing.{standing_first, standing_small, standing_room, standing_step, standing_law, standing_fault, stepped_small, stepped_room, followed, stepped_law, stepped_fault, ended_law, ended_fault, not_so}
-use Rattle.cj_spans.proofs.WholeNumbers.{array_next, stays_next}
-use Rattle.cj_spans.proofs.Named.{object_next, names_next}
+use Rattle.cj_spans.proofs.Signs.{array_next, object_next, values_next, names_next}
 use Rattle.cj_spans.proofs.scanner.run.Goals as goal
 
 pub loop-place-init : goal.loop-place-init
@@ -53,7 +52,7 @@ pass_parts-requires-clause-stands c = record {
 
 pub pass_parts-requires-clause-array : goal.pass_parts-requires-clause-array
 pass_parts-requires-clause-array c = λ e.
-    let q = c.in-Ok-follow.ensures.signs (stays_next _ _ e) in
+    let q = c.in-Ok-follow.ensures.signs (values_next _ _ e) in
     let a = array_next c.loop-place.stack.elements c.read_byte.new.stack.elements c.loop-place.tokens.elements c.read_byte.new.tokens.elements c.loop-place.place 0 (suc c.loop-place.place) _ c.loop-place.mode _ c.in-Ok.taken e (c.in-Ok.ensures.answer 0) in
     (subst (λ t. InArray c.read_byte.new.stack.elements t.elements) (sym q.0) a, q.1)
 

@@ -1,9 +1,8 @@
-use Rattle.std.proofs.Common.{◌≡◌, ℕ, ◌<◌, ◌≤◌, ◌-◌, ◌^◌, List, take, drop, length, true, false, Some, Ok, pos, neg_ℤ, ◌-ℤ◌, w64, to_z, of_z, refl, sym, ap, ◌∙◌, subst, arith}
+use Rattle.std.proofs.Common.{◌≡◌, ℕ, ◌-◌, List, take, drop, length, true, false, Some, Ok, pos, neg_ℤ, ◌-ℤ◌, w64, to_z, of_z, refl, sym, ap, ◌∙◌, subst, arith}
 use Rattle.std.proofs.lemmas.Bool.{false≢true}
 use Rattle.std.proofs.lemmas.Int.{ints}
 use Rattle.std.proofs.lemmas.Grind.{common_steps}
-use Rattle.cj_decimal.specs.Number.{signed}
-use Rattle.cj_decimal.specs.Reading.{body, begins, IsShort}
+use Rattle.cj_decimal.specs.Reading.{body, IsShort}
 use Rattle.cj_decimal.specs.Spelling.{IsFewDigits}
 use Rattle.cj_decimal.proofs.Wholes.{signed_answer, signed_from_body, body_of_signed}
 use Rattle.cj_decimal.proofs.decimal.Decimal.read_few_signed.Goals as goal

@@ -1,0 +1,16 @@
+use Rattle.std.proofs.Common.{arith, refl}
+use Rattle.cj_spans.specs.declared.lex.Lex.TheVariants.{InString}
+use Rattle.cj_spans.proofs.Atoms.{read_first, read_more}
+use Rattle.cj_spans.proofs.lex.plain_string_stop.Goals as goal
+
+pub returns-then-ends_string : goal.returns-then-ends_string
+returns-then-ends_string c =
+    let o = c.skip_plain-stop.ensures.order in
+    let q = c.ends_string.ensures c.if-ends_string.true in
+    let within = q.0 in
+    record {
+      opens = c.if-line-place-ne34.false;
+      goes = read_more _ _ _ _ _ _ _ (c.skip_plain-stop.ensures.same _ _ (read_first c.args.line.now c.args.place InString)) q.1 refl;
+      order = omega arith;
+      within = omega arith;
+    }
