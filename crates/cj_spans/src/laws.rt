@@ -3,6 +3,9 @@ ghost use Rattle.std.specs.Prelude.{◌≡◌, ◌≢◌, ◌≤◌, ◌↔◌, 
 ghost use Rattle.std.specs.Char.{digit_value};
 ghost use Rattle.std.specs.List.{list_any};
 ghost use Rattle.std.specs.Str.{chars, IsUtf8};
+ghost use Rattle.std.specs.Cmp.{IsTotalOrder};
+ghost use Rattle.std.specs.declared.cmp.Ordering.TheVariants.{Equal};
+ghost use Rattle.cj_spans.specs.Order.{compare, compare_texts};
 ghost use Rattle.cj_spans.specs.Spelling.{IsString, is_hex, is_plain, is_escape};
 ghost use Rattle.cj_spans.specs.Text.{text, body_of, StandFor};
 ghost use Rattle.cj_spans.specs.Judgement.{Judgement, SaySame};
@@ -30,4 +33,11 @@ pub fn bytes_of_strings()
     ensures hex { (b : ℕ) → is_hex b ≡ nat_lt (digit_value b) 16 }
     ensures plain { (b : ℕ) → IsTrue (is_plain b) ↔ ((32 ≤ b) × (b ≢ 34) × (b ≢ 92)) }
     ensures escape { (b : ℕ) → is_escape b ≡ list_any (nat_eq b) (codes "\"\\/bfnrt") }
+{}
+
+/// Texts have one order, by code points in turn, in which what is no text comes first; two texts are equal in it
+/// exactly where they are the same.
+pub fn texts_are_ordered()
+    ensures total { IsTotalOrder compare_texts }
+    ensures same { (s t : List ℕ) → (compare s t ≡ Equal) ↔ (s ≡ t) }
 {}

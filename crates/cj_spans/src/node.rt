@@ -26,8 +26,11 @@ mod examples;
 #[cfg(test)]
 mod tests;
 
-use crate::text::{CodePoints, hash, spell_one_text, spells};
+use crate::text::{
+    CodePoints, compare_spelling_with, compare_spellings, hash, spell_one_text, spells,
+};
 use crate::token::{Kind, Token};
+use std::cmp::Ordering;
 
 /// A line with the tokens that show its tree.
 #[derive(Clone, Copy)]
@@ -237,6 +240,7 @@ impl<'a> Node<'a> {
     ghost use Rattle.cj_spans.specs.Decoding.{code_points_left};
     ghost use Rattle.cj_spans.specs.Text.{text};
     ghost use Rattle.cj_spans.specs.Hash.{hash_of};
+    ghost use Rattle.cj_spans.specs.Order.{compare_texts};
     ghost use Rattle.cj_spans.specs.View.{tree, line_of};
 
     /// A string or a name as it is spelled, with its quotes; None for any other value.
@@ -300,6 +304,30 @@ impl<'a> Node<'a> {
                 None => false,
             },
             None => false,
+        }
+    }
+
+    /// How two strings or names are ordered by their texts: by code points in turn, where a text comes before
+    /// those that go on from it, however they are spelled. Any other value comes before all texts. Two texts are
+    /// equal in this order exactly where they are the same.
+    pub fn compare_text(self, other: Node) -> Ordering
+        ensures { result ≡ compare_texts (text_of (tree self.entry)) (text_of (tree other.entry)) }
+    {
+        match (self.spelling(), other.spelling()) {
+            (Some(spelling), Some(others)) => compare_spellings(spelling, others),
+            (Some(_), None) => Ordering::Greater,
+            (None, Some(_)) => Ordering::Less,
+            (None, None) => Ordering::Equal,
+        }
+    }
+
+    /// How a string or a name is ordered beside this text, as [`Node::compare_text`] orders texts.
+    pub fn compare_with(self, text: &str) -> Ordering
+        ensures { result ≡ compare_texts (text_of (tree self.entry)) (Some (chars text.now)) }
+    {
+        match self.spelling() {
+            Some(spelling) => compare_spelling_with(spelling, text),
+            None => Ordering::Less,
         }
     }
 

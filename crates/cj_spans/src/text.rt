@@ -5,10 +5,13 @@ ghost use Rattle.std.specs.Char.{digit_value as digit_value_of};
 ghost use Rattle.std.specs.Char.Utf16.{is_high_surrogate as is_high_of, is_low_surrogate as is_low_of};
 ghost use Rattle.cj_spans.specs.Decoding.{left, after_read, ReadsCodePoint, plain_front, code_points_from, code_points_left, characters_left};
 ghost use Rattle.cj_spans.specs.Hash.{hash_step, hash_on};
+ghost use Rattle.cj_spans.specs.Order.{compare};
 ghost use Rattle.cj_spans.specs.Text.{char_of, four_digits, escaped as escaped_of, is_escaped, is_unicode, unit, first_code_point, first_width, text, are_same};
 
 #[cfg(test)]
 mod examples;
+
+use std::cmp::Ordering;
 
 /// A code point, and the place after it.
 #[derive(Clone, Copy)]
@@ -520,6 +523,120 @@ pub(crate) fn spell_one_text(spelling: &[u8], other: &[u8]) -> bool
         return false;
     }
     is_same_text(CodePoints::of(spelling), CodePoints::of(other))
+}
+
+/// How the texts of two strings are ordered, by code points: for what is spelled by escapes or is not ASCII.
+#[cold]
+#[inline(never)]
+fn compare_slowly(points: CodePoints, others: CodePoints) -> Ordering
+    ensures { result ≡ compare (code_points_left points.entry) (code_points_left others.entry) }
+{
+    let mut later = others;
+    for point in points {
+        match later.next() {
+            Some(other) => {
+                if point != other {
+                    return point.cmp(&other);
+                }
+            }
+            None => return Ordering::Greater,
+        }
+    }
+    if later.next().is_none() {
+        Ordering::Equal
+    } else {
+        Ordering::Less
+    }
+}
+
+/// How the texts of two strings are ordered.
+#[tactic(auto, using(crate::proofs::Texts::order_ends))]
+#[inline]
+fn compare_points(points: CodePoints, others: CodePoints) -> Ordering
+    ensures { result ≡ compare (code_points_left points.entry) (code_points_left others.entry) }
+{
+    let mut left = points;
+    let mut right = others;
+    while let Some(byte) = plain_at(left.bytes, left.place) {
+        if !is_at(right.bytes, right.place, byte) {
+            return match plain_at(right.bytes, right.place) {
+                Some(other) if other != byte => byte.cmp(&other),
+                _ => compare_slowly(left, right),
+            };
+        }
+        left.place += 1;
+        right.place += 1;
+    }
+    if left.place >= left.bytes.len() && right.place >= right.bytes.len() {
+        return Ordering::Equal;
+    }
+    compare_slowly(left, right)
+}
+
+/// How the text of a string is ordered beside these characters, by code points: for what is spelled by escapes or is not
+/// ASCII.
+#[cold]
+#[inline(never)]
+fn compare_slowly_with(points: CodePoints, characters: Characters) -> Ordering
+    ensures { result ≡ compare (code_points_left points.entry) (characters_left characters.entry) }
+{
+    let mut rest = characters;
+    for point in points {
+        match rest.next() {
+            Some(character) => {
+                if point != character {
+                    return point.cmp(&character);
+                }
+            }
+            None => return Ordering::Greater,
+        }
+    }
+    if rest.next().is_none() {
+        Ordering::Equal
+    } else {
+        Ordering::Less
+    }
+}
+
+/// How the text of a string is ordered beside these characters.
+#[tactic(auto, using(crate::proofs::Texts::order_ends_with))]
+#[inline]
+fn compare_points_with(points: CodePoints, characters: Characters) -> Ordering
+    ensures { result ≡ compare (code_points_left points.entry) (characters_left characters.entry) }
+{
+    let mut left = points;
+    let mut wanted = characters;
+    while let Some(byte) = plain_at(left.bytes, left.place) {
+        if !is_at(wanted.bytes, wanted.place, byte) {
+            return match plain_at(wanted.bytes, wanted.place) {
+                Some(other) if other != byte => byte.cmp(&other),
+                _ => compare_slowly_with(left, wanted),
+            };
+        }
+        left.place += 1;
+        wanted.place += 1;
+    }
+    if left.place >= left.bytes.len() && wanted.place >= wanted.bytes.len() {
+        return Ordering::Equal;
+    }
+    compare_slowly_with(left, wanted)
+}
+
+/// How the texts of two strings, given with their quotes, are ordered.
+pub(crate) fn compare_spellings(spelling: &[u8], other: &[u8]) -> Ordering
+    requires first { 0 < length spelling.now }
+    requires second { 0 < length other.now }
+    ensures { result ≡ compare (text spelling.now) (text other.now) }
+{
+    compare_points(CodePoints::of(spelling), CodePoints::of(other))
+}
+
+/// How the text of a string, given with its quotes, is ordered beside this text.
+pub(crate) fn compare_spelling_with(spelling: &[u8], wanted: &str) -> Ordering
+    requires { 0 < length spelling.now }
+    ensures { result ≡ compare (text spelling.now) (chars wanted.now) }
+{
+    compare_points_with(CodePoints::of(spelling), Characters::of(wanted))
 }
 
 /// What the hash of a text begins with.

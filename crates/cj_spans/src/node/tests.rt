@@ -1,7 +1,8 @@
 //! Rows of views. Expected values are read off the lines by hand.
-use crate::{Doc, Kind, Node, Token, scan};
+use crate::{Doc, Items, Kind, Node, Token, scan};
 use cj_budget::{Bounded, Stack};
 use std::alloc::Global;
+use std::cmp::Ordering;
 use std::process::Abort;
 use std::test::Fail;
 
@@ -254,6 +255,50 @@ fn texts_are_compared_by_code_points(rt: HostRuntime) -> Result<(), Fail> {
             }
         }
     }
+    Ok(())
+}
+
+/// Whether an item is ordered beside others as its rank is beside theirs, where those of one rank are equal.
+fn is_ordered(item: Node, rank: u8, items: Items, ranks: &[u8]) -> bool {
+    let mut all = true;
+    for (other, other_rank) in items.zip(ranks.iter()) {
+        all = all && item.compare_text(other) == rank.cmp(other_rank);
+    }
+    all
+}
+
+#[test]
+fn texts_are_ordered_by_code_points(rt: HostRuntime) -> Result<(), Fail> {
+    let line =
+        b"[12,\"\",\"12\",\"b\",\"b1\",\"\\u00621\",\"e\\u0301\",\"\\u00e9\",\"\xC3\xA9\",\"\\ud83d\",\"\\uFFFD\",\"\xF0\x9F\x98\x80\",\"\\ud83d\\ude00\"]";
+    let ranks = [0u8, 1, 2, 3, 4, 4, 5, 6, 6, 7, 8, 9, 9];
+    let mut tokens: Bounded<Token> = Bounded::new(rt.alloc(), 1_000);
+    let items = view(&rt, rt.alloc(), line, &mut tokens).root().items();
+    for (item, rank) in items.zip(ranks.iter()) {
+        assert!(&rt; is_ordered(item, *rank, items, ranks.as_slice()), "{rank}");
+    }
+    Ok(())
+}
+
+/// How the items of a line are ordered beside a text.
+fn are_ordered_beside(items: Items, text: &str, wanted: &[Ordering]) -> bool {
+    let mut all = true;
+    for (item, order) in items.zip(wanted.iter()) {
+        all = all && item.compare_with(text) == *order;
+    }
+    all
+}
+
+#[test]
+fn texts_are_ordered_beside_a_text(rt: HostRuntime) -> Result<(), Fail> {
+    let line = b"[12,\"\",\"12\",\"b\",\"\\u00621\",\"b2\",\"\\u00e9\",\"\\ud83d\\ude00\"]";
+    let mut tokens: Bounded<Token> = Bounded::new(rt.alloc(), 1_000);
+    let items = view(&rt, rt.alloc(), line, &mut tokens).root().items();
+    let (less, equal, greater) = (Ordering::Less, Ordering::Equal, Ordering::Greater);
+    let beside_b1 = [less, less, less, less, equal, greater, greater, greater];
+    let beside_e = [less, less, less, less, less, less, equal, greater];
+    assert!(&rt; are_ordered_beside(items, "b1", beside_b1.as_slice()));
+    assert!(&rt; are_ordered_beside(items, "\u{E9}", beside_e.as_slice()));
     Ok(())
 }
 
