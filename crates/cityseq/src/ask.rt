@@ -13,8 +13,7 @@ ghost use Rattle.cityseq.specs.Report.{Reports, status_of};
 
 use crate::report::{Shown, show, status};
 use crate::summary::{write_check, write_report};
-use cj_budget::Limits;
-use cj_stream::{End, Output, Query, WriteFault, copy_out, count_stream, tally_stream};
+use cj_stream::{End, IgnoreSink, Limits, Output, Query, TallySink, WriteFault, laws, run};
 use std::alloc::Global;
 use std::io::{Read, Write};
 
@@ -53,7 +52,8 @@ fn check<R: Read, W: Write + Drop>(
         × (result ≡ End.WriteFault → HasRisen (output_failures out.old) (output_failures out.new)) }
 {
     let query = Query::all(alloc);
-    let (_, outcome) = count_stream(alloc, reader, limits, &query);
+    let outcome = run(alloc, reader, &mut IgnoreSink, limits, &query);
+    laws::good_lines_are_kept();
     match outcome.ended {
         End::Complete => end_of_writing(write_check(out, outcome.lines, outcome.kept)),
         ended => ended,
@@ -74,7 +74,9 @@ fn info<R: Read, W: Write + Drop>(
         × (result ≡ End.WriteFault → HasRisen (output_failures out.old) (output_failures out.new)) }
 {
     let query = Query::all(alloc);
-    let (tally, outcome) = tally_stream(alloc, reader, limits, &query);
+    let mut tally = TallySink::new();
+    let outcome = run(alloc, reader, &mut tally, limits, &query);
+    laws::puts_are_tallied();
     match outcome.ended {
         End::Complete => end_of_writing(write_report(out, outcome.lines, &tally, outcome.peaks)),
         ended => ended,
@@ -97,7 +99,10 @@ fn answer<R: Read, W: Write + Drop>(
 {
     match ask {
         Ask::Check(limits) => check(alloc, *limits, reader, out),
-        Ask::Filter(limits, query) => copy_out(alloc, reader, out, *limits, query).ended,
+        Ask::Filter(limits, query) => {
+            laws::puts_are_written::<W>();
+            run(alloc, reader, out, *limits, query).ended
+        }
         Ask::Info(limits) => info(alloc, *limits, reader, out),
     }
 }
