@@ -2,14 +2,11 @@
 ghost use Rattle.std.specs.Prelude.{◌≡◌, ℕ, List};
 ghost use Rattle.std.specs.Io.KnownBytes.{Consumes, IsAtEnd};
 ghost use Rattle.cj_budget.specs.declared.limits.Peaks.{Peaks};
-ghost use Rattle.cj_stream.specs.Criteria.{everything};
 ghost use Rattle.cj_stream.specs.Run.{Account};
-ghost use Rattle.cj_stream.specs.Verdict.{Rules};
 ghost use Rattle.cj_stream.specs.declared.ending.End.{End};
 ghost use Rattle.cj_stream.specs.Output.{output_failures, channel};
 ghost use Rattle.cj_stream.specs.Sink.{HasRisen};
 ghost use Rattle.cityseq.specs.Performed.{all_under, end_of_writing as told_after, rules_of_ask, Answers, Performs, SaysCheck, SaysReport};
-ghost use Rattle.cityseq.specs.Report.{Reports, status_of};
 
 use crate::report::{Shown, show, status};
 use crate::summary::{write_check, write_report};

@@ -1,5 +1,5 @@
 -- The bytes that a writer gets in a run.
-use Rattle.std.proofs.Common.{◌≡◌, ℕ, List, [], ◌∷◌, ◌++◌, length, take, drop, Option, Some, None, refl, sym, ap, ◌∙◌, append_assoc}
+use Rattle.std.proofs.Common.{◌≡◌, ℕ, List, [], ◌∷◌, ◌++◌, length, take, drop, Option, Some, None, refl, sym, ap, ◌∙◌}
 use Rattle.std.specs.List.{flat_map}
 use Rattle.std.proofs.lemmas.List.{append-nil}
 use Rattle.std.specs.Io.KnownBytes.{Appends}
@@ -9,7 +9,7 @@ use Rattle.cj_stream.specs.declared.ending.End.TheVariants.{Complete, Refused, R
 use Rattle.cj_stream.specs.Lines.{lines, whole, closed}
 use Rattle.cj_stream.specs.Item.{Item, raw_item}
 use Rattle.cj_stream.specs.Verdict.{Rules, refusal_in, good, good_from, kept_from, kept, kept_first, item_after}
-use Rattle.cj_stream.specs.Engine.{Delivers, Faults}
+use Rattle.cj_stream.specs.Engine.{Delivers}
 use Rattle.cj_stream.specs.Cut.{AppendsMore}
 use Rattle.cj_stream.specs.Run.{Account, Puts, Runs, Writes}
 use Rattle.cj_stream.specs.Sink.{Took, TookFront, LeavesNext, AppendsPart}
