@@ -1,7 +1,7 @@
 -- What is told of texts that the program writes.
-use Rattle.std.proofs.Common.{◌≡◌, ℕ, List, Option, Some, None, Result, Ok, Err, length, refl, ap, sym, subst, ◌∙◌}
+use Rattle.std.proofs.Common.{◌≡◌, inl, inr, arith, ℕ, List, Option, Some, None, Result, Ok, Err, length, refl, ap, sym, subst, ◌∙◌}
 use Rattle.std.specs.List.{filter}
-use Rattle.std.specs.Io.KnownBytes.{Keeps}
+use Rattle.std.specs.Io.KnownBytes.{Appends, Keeps}
 use Rattle.cj_budget.specs.declared.limits.Peaks.{Peaks}
 use Rattle.cj_stream.specs.declared.ending.End.{End}
 use Rattle.cj_stream.specs.declared.ending.End.TheVariants.{Complete, Refused, ReadFault, ReadLimit, WriteFault, Memory}
@@ -9,17 +9,12 @@ use Rattle.cj_stream.specs.declared.output.WriteFault.{WriteFault as Unwritten}
 use Rattle.cj_stream.specs.Headline.{Headline}
 use Rattle.cj_stream.specs.Item.{is_feature}
 use Rattle.cj_stream.specs.Output.{Channel}
-use Rattle.cj_stream.specs.Run.{Account}
-use Rattle.cj_stream.specs.Sink.{HasRisen, RisesOnErr}
-use Rattle.cj_stream.specs.Verdict.{Rules, good, kept}
-use Rattle.cj_stream.proofs.GoodLemmas.{kept_first-good}
-use Rattle.cj_stream.proofs.KnownLemmas.{Appends-kept, AppendsPart-kept}
+use Rattle.cj_stream.specs.Run.{Account, Writes}
+use Rattle.cj_stream.specs.Sink.{HasRisen, RisesOnErr, AppendsPart}
+use Rattle.cj_stream.specs.Verdict.{Rules, good, kept, kept_first}
 use Rattle.cj_stream.specs.Bound.{exact_peaks}
-use Rattle.cj_stream.specs.TallySink.{Tally, IsTallyOf, TalliesRun, no_tally}
-use Rattle.cj_stream.specs.CountSink.{CountsRun}
-use Rattle.cj_stream.specs.declared.count.CountSink.{CountSink}
+use Rattle.cj_stream.specs.TallySink.{Tally, IsTallyOf, no_tally}
 use Rattle.cj_stream.specs.Query.{rules_for}
-use Rattle.cj_stream.proofs.OutputLemmas.{Writes-kept}
 use Rattle.cityseq.specs.Performed.{end_of_writing, Says, SaysCheck, SaysReport, Answers}
 use Rattle.cityseq.specs.Report.{Wrote}
 use Rattle.cityseq.specs.declared.ask.Ask.{Ask}
@@ -36,7 +31,24 @@ Keeps-then (Some xs) None c p q = elim p [ ]
 Keeps-then (Some xs) (Some ys) None p q = elim q [ ]
 Keeps-then (Some xs) (Some ys) (Some zs) p q = q ∙ p
 
--- a text that was written stays where the writer keeps its bytes
+-- what was written stays where the writer keeps its bytes
+Appends-kept : (a b c : Option (List ℕ)) (x : List ℕ) → Appends a b x → Keeps b c → Appends a c x
+Appends-kept None b c x p q = tt
+Appends-kept (Some a) None c x p q = absurd p
+Appends-kept (Some a) (Some b) None x p q = absurd q
+Appends-kept (Some a) (Some b) (Some c) x p q = q ∙ p
+
+AppendsPart-kept : (a b c : Option (List ℕ)) (x : List ℕ) → AppendsPart a b x → Keeps b c → AppendsPart a c x
+AppendsPart-kept a b c x p q = record { front = p.front; rest = p.rest; whole = p.whole; grows = Appends-kept a b c p.front p.grows q }
+
+Writes-kept : (rules : Rules) (r : List ℕ) (e : End) (a b c : Option (List ℕ)) → Writes rules r e a b → Keeps b c → Writes rules r e a c
+Writes-kept rules r Complete a b c h k = Appends-kept a b c _ h k
+Writes-kept rules r (Refused line place reason) a b c h k = Appends-kept a b c _ h k
+Writes-kept rules r ReadFault a b c h k = Appends-kept a b c _ h k
+Writes-kept rules r ReadLimit a b c h k = Appends-kept a b c _ h k
+Writes-kept rules r WriteFault a b c h k = AppendsPart-kept a b c _ h k
+Writes-kept rules r Memory a b c h k = AppendsPart-kept a b c _ h k
+
 Wrote-kept : (text : List ℕ) (answer : Result (Unit {0}) Unwritten) (a b c : Channel) → Wrote text answer a b → Keeps b.bytes c.bytes → c.failures ≡ b.failures → Wrote text answer a c
 Wrote-kept text (Ok x) a b c w k f = record { whole = Appends-kept a.bytes b.bytes c.bytes text w.whole k; front = tt; failures = f ∙ w.failures }
 Wrote-kept text (Err e) a b c w k f = record {
@@ -50,12 +62,13 @@ pub cause-text : (written : Result (Unit {0}) Unwritten) (told : End) (a b : ℕ
 cause-text (Ok x) told a b tells rises is = let other : Complete ≡ WriteFault = sym tells ∙ is in cc
 cause-text (Err e) told a b tells rises is = rises
 
--- what counts and tallies never makes a write fault
-pub count-no_fault : (rules : Rules) (r : List ℕ) (e : End) (c : CountSink) → CountsRun rules r e c → e ≡ WriteFault → ⊥
-count-no_fault rules r e c h is = subst (λ x. CountsRun rules r x c) is h
+-- a sink without a device never makes a write fault
+unrisen : HasRisen 0 0 → ⊥
+unrisen (inl h) = omega (arith, h)
+unrisen (inr h) = omega (arith, h.0)
 
-pub tally-no_fault : (rules : Rules) (r : List ℕ) (e : End) (t : Tally) → TalliesRun rules r e t → e ≡ WriteFault → ⊥
-tally-no_fault rules r e t h is = subst (λ x. TalliesRun rules r x t) is h
+pub no_fault : (e : End) → (e ≡ WriteFault → HasRisen 0 0) → e ≡ WriteFault → ⊥
+no_fault e cause is = unrisen (cause is)
 
 -- nothing was written after a run that is not complete
 pub Says-nothing : (text : List ℕ) (e : End) (a : Channel) → (e ≡ Complete → ⊥) → (e ≡ WriteFault → ⊥) → Says text e e a a
@@ -76,10 +89,9 @@ Says-kept text WriteFault told a b c p k f = p
 Says-kept text Memory told a b c p k f = (p.0, Keeps-then a.bytes b.bytes c.bytes p.1 k)
 
 -- the features that a complete run kept are those among what is kept
-pub features-kept : (rules : Rules) (r : List ℕ) (at_end : Type 0) (n features : ℕ) (peaks : Peaks) → Account rules r at_end n features peaks Complete
-    → features ≡ length (filter is_feature (kept rules r))
-features-kept rules r at_end n features peaks account =
-    account.counts.kept ∙ ap (λ is. length (filter is_feature is)) (kept_first-good rules n r account.ends.1)
+pub features-kept : (rules : Rules) (r : List ℕ) (at_end : Type 0) (n features : ℕ) (peaks : Peaks) → (n ≡ length (good rules r) → kept_first rules n r ≡ kept rules r)
+    → Account rules r at_end n features peaks Complete → features ≡ length (filter is_feature (kept rules r))
+features-kept rules r at_end n features peaks all account = account.counts.kept ∙ ap (λ is. length (filter is_feature is)) (all account.ends.1)
 
 -- a check or a report after a complete run, of what that counted
 pub Says-check : (rules : Rules) (r : List ℕ) (n m : ℕ) (written : Result (Unit {0}) Unwritten) (told : End) (old new : Channel)

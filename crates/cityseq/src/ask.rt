@@ -2,19 +2,15 @@
 ghost use Rattle.std.specs.Prelude.{◌≡◌, ℕ, List};
 ghost use Rattle.std.specs.Io.KnownBytes.{Consumes, IsAtEnd};
 ghost use Rattle.cj_budget.specs.declared.limits.Peaks.{Peaks};
-ghost use Rattle.cj_stream.specs.Criteria.{everything};
 ghost use Rattle.cj_stream.specs.Run.{Account};
-ghost use Rattle.cj_stream.specs.Verdict.{Rules};
 ghost use Rattle.cj_stream.specs.declared.ending.End.{End};
 ghost use Rattle.cj_stream.specs.Output.{output_failures, channel};
 ghost use Rattle.cj_stream.specs.Sink.{HasRisen};
 ghost use Rattle.cityseq.specs.Performed.{all_under, end_of_writing as told_after, rules_of_ask, Answers, Performs, SaysCheck, SaysReport};
-ghost use Rattle.cityseq.specs.Report.{Reports, status_of};
 
 use crate::report::{Shown, show, status};
 use crate::summary::{write_check, write_report};
-use cj_budget::Limits;
-use cj_stream::{End, Output, Query, WriteFault, copy_out, count_stream, tally_stream};
+use cj_stream::{End, IgnoreSink, Limits, Output, Query, TallySink, WriteFault, laws, run};
 use std::alloc::Global;
 use std::io::{Read, Write};
 
@@ -53,7 +49,8 @@ fn check<R: Read, W: Write + Drop>(
         × (result ≡ End.WriteFault → HasRisen (output_failures out.old) (output_failures out.new)) }
 {
     let query = Query::all(alloc);
-    let (_, outcome) = count_stream(alloc, reader, limits, &query);
+    let outcome = run(alloc, reader, &mut IgnoreSink, limits, &query);
+    laws::good_lines_are_kept();
     match outcome.ended {
         End::Complete => end_of_writing(write_check(out, outcome.lines, outcome.kept)),
         ended => ended,
@@ -74,7 +71,9 @@ fn info<R: Read, W: Write + Drop>(
         × (result ≡ End.WriteFault → HasRisen (output_failures out.old) (output_failures out.new)) }
 {
     let query = Query::all(alloc);
-    let (tally, outcome) = tally_stream(alloc, reader, limits, &query);
+    let mut tally = TallySink::new();
+    let outcome = run(alloc, reader, &mut tally, limits, &query);
+    laws::puts_are_tallied();
     match outcome.ended {
         End::Complete => end_of_writing(write_report(out, outcome.lines, &tally, outcome.peaks)),
         ended => ended,
@@ -97,7 +96,10 @@ fn answer<R: Read, W: Write + Drop>(
 {
     match ask {
         Ask::Check(limits) => check(alloc, *limits, reader, out),
-        Ask::Filter(limits, query) => copy_out(alloc, reader, out, *limits, query).ended,
+        Ask::Filter(limits, query) => {
+            laws::puts_are_written::<W>();
+            run(alloc, reader, out, *limits, query).ended
+        }
         Ask::Info(limits) => info(alloc, *limits, reader, out),
     }
 }

@@ -1,15 +1,13 @@
 -- A text that comes in pieces.
 use Rattle.std.proofs.Common.{◌≡◌, ℕ, ◌+◌, ◌<◌, ◌≤◌, ◌⊎◌, inl, inr, List, [], ◌∷◌, ◌++◌, Bool, true, false, cond, ltb, length, take, drop, map, Option, Some, None, refl, sym, ap, ◌∙◌, subst, arith, append_assoc}
 use Rattle.std.specs.Prelude.{is_some}
-use Rattle.std.specs.List.{flat_map}
 use Rattle.std.proofs.lemmas.List.{append-nil}
 use Rattle.std.proofs.lemmas.Bool.{ltb-true}
-use Rattle.std.specs.Io.KnownBytes.{Appends}
 use Rattle.cj_budget.specs.declared.limits.Peaks.{Peaks}
 use Rattle.cj_spans.specs.declared.reason.Reason.TheVariants.{LineTooLong}
 use Rattle.cj_stream.specs.declared.ending.End.{End}
 use Rattle.cj_stream.specs.declared.ending.End.TheVariants.{Complete, Refused, ReadFault, ReadLimit, WriteFault, Memory}
-use Rattle.cj_stream.specs.Item.{Item, raw_item}
+use Rattle.cj_stream.specs.Item.{Item}
 use Rattle.cj_stream.specs.Lines.{Line, NoLf, closed, begun, first_of, ended_line, last_line, lines, whole}
 use Rattle.cj_stream.specs.Verdict.{Rules, verdict, header_of, item_after, refusal_of, refusal_in, refusal_from, good_from, kept_from, kept_first, kept, ending, judged, long_line}
 use Rattle.cj_stream.specs.Cut.{joined, PutsPieces, EndsAt, Copies, TookWhole, IsUnread}
@@ -20,8 +18,7 @@ use Rattle.cj_stream.specs.Sink.{Took, LeavesNext}
 use Rattle.cj_stream.proofs.JoinedLemmas.{joined-cut, joined-next}
 use Rattle.cj_stream.proofs.LineLemmas.{closed-then, begun-then, NoLf-begun, first_content-long}
 use Rattle.cj_stream.proofs.VerdictLemmas.{refusal-append, verdict-long}
-use Rattle.cj_stream.proofs.IsLinesLemmas.{lines-whole, joined-append}
-use Rattle.cj_stream.proofs.KnownLemmas.{Appends-then, Appends-nothing, AppendsPart-after, AppendsPart-front}
+use Rattle.cj_stream.proofs.IsLinesLemmas.{lines-whole}
 use Rattle.cj_stream.proofs.ReadingLemmas.{map_lines-append, length-map_lines}
 use Rattle.cj_stream.proofs.GoodLemmas.{good-append, good-all, kept-next_line, kept-split}
 use Rattle.cj_stream.proofs.PieceLemmas.{Took-append}
@@ -222,14 +219,6 @@ unread-at rules pieces k ReadFault c = c
 unread-at rules pieces k ReadLimit c = c
 unread-at rules pieces k WriteFault c = tt
 unread-at rules pieces k Memory c = tt
-
--- of nothing at all nothing is refused before its end
-pub judged-nothing : (rules : Rules) → refusal_in rules (judged rules.limits []) ≡ None
-judged-nothing rules = go (ltb rules.limits.line 0)
-  where
-    go : (b : Bool) → refusal_in rules (cond b [] []) ≡ None
-    go true = refl
-    go false = refl
 
 pub unread-told : (rules : Rules) (q : List ℕ) (n : ℕ) (e : End) → Tells rules q n e → IsUnread e
 unread-told rules q n Complete h = tt

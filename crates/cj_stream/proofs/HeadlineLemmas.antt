@@ -1,5 +1,5 @@
 -- What the headline says, by what a run tells, and by what pieces tell.
-use Rattle.std.proofs.Common.{◌≡◌, ◌⊎◌, inl, inr, ℕ, List, [], ◌++◌, Option, Some, sym}
+use Rattle.std.proofs.Common.{◌≡◌, ◌⊎◌, inl, inr, ℕ, List, ◌++◌, Option, Some, sym}
 use Rattle.std.proofs.lemmas.List.{append-nil}
 use Rattle.std.specs.Io.KnownBytes.{Appends}
 use Rattle.cj_budget.specs.declared.limits.Peaks.{Peaks}
@@ -7,7 +7,7 @@ use Rattle.cj_spans.specs.declared.reason.Reason.{Reason}
 use Rattle.cj_stream.specs.declared.ending.End.{End}
 use Rattle.cj_stream.specs.declared.ending.End.TheVariants.{Complete, Refused, ReadFault, ReadLimit, WriteFault, Memory}
 use Rattle.cj_stream.specs.Bound.{exact_peaks}
-use Rattle.cj_stream.specs.Cut.{Copies, joined, IsUnread}
+use Rattle.cj_stream.specs.Cut.{Copies, joined}
 use Rattle.cj_stream.specs.Headline.{Headline, HeadlineOfRun, IsUnhindered}
 use Rattle.cj_stream.specs.Output.{Channel}
 use Rattle.cj_stream.specs.Run.{Account, Writes}

@@ -3,7 +3,7 @@ use Rattle.std.proofs.Common.{◌≡◌, ℕ, Result, Ok, Err, Bool, true, false
 use Rattle.std.specs.Prelude.{OnErr, OnOk}
 use Rattle.cj_stream.specs.Lines.{raw}
 use Rattle.std.proofs.lemmas.List.{append-nil, take-append-drop, take_all}
-use Rattle.std.specs.Io.KnownBytes.{Appends, Keeps}
+use Rattle.std.specs.Io.KnownBytes.{Appends}
 use Rattle.cj_stream.specs.Sink.{AppendsPart}
 
 pub Appends-then : (a b c : Option (List ℕ)) (x y : List ℕ) → Appends a b x → Appends b c y → Appends a c (x ++ y)
@@ -15,12 +15,6 @@ Appends-then (Some a) (Some b) (Some c) x y p q = q ∙ (ap (λ z. z ++ y) p ∙
 pub Appends-nothing : (a : Option (List ℕ)) → Appends a a []
 Appends-nothing None = tt
 Appends-nothing (Some a) = sym (append-nil a)
-
-pub Appends-kept : (a b c : Option (List ℕ)) (x : List ℕ) → Appends a b x → Keeps b c → Appends a c x
-Appends-kept None b c x p q = tt
-Appends-kept (Some a) None c x p q = absurd p
-Appends-kept (Some a) (Some b) None x p q = absurd q
-Appends-kept (Some a) (Some b) (Some c) x p q = q ∙ p
 
 -- what is left of a slice after its first n bytes were taken
 pub taken_more : (all done rest : List ℕ) (n : ℕ) → n ≤ length rest → all ≡ done ++ rest → all ≡ (done ++ take n rest) ++ take (length rest - n) (drop n rest)
@@ -64,7 +58,3 @@ AppendsPart-raw a b content false q = q
 pub AppendsPart-either : {T E : Type 0} (r : Result T E) (a b : Option (List ℕ)) (x : List ℕ) → OnOk r (Appends a b x) → OnErr r (AppendsPart a b x) → AppendsPart a b x
 AppendsPart-either (Ok y) a b x p q = record { front = x; rest = []; whole = sym (append-nil x); grows = p }
 AppendsPart-either (Err y) a b x p q = q
-
--- what is kept afterwards
-pub AppendsPart-kept : (a b c : Option (List ℕ)) (x : List ℕ) → AppendsPart a b x → Keeps b c → AppendsPart a c x
-AppendsPart-kept a b c x p q = record { front = p.front; rest = p.rest; whole = p.whole; grows = Appends-kept a b c p.front p.grows q }

@@ -1,15 +1,15 @@
 -- The bytes that a writer gets in a run.
-use Rattle.std.proofs.Common.{◌≡◌, ℕ, List, [], ◌∷◌, ◌++◌, length, take, drop, Option, Some, None, refl, sym, ap, ◌∙◌, append_assoc}
+use Rattle.std.proofs.Common.{◌≡◌, ℕ, List, [], ◌∷◌, ◌++◌, length, take, drop, Option, Some, None, refl, sym, ap, ◌∙◌}
 use Rattle.std.specs.List.{flat_map}
 use Rattle.std.proofs.lemmas.List.{append-nil}
-use Rattle.std.specs.Io.KnownBytes.{Appends, Keeps}
+use Rattle.std.specs.Io.KnownBytes.{Appends}
 use Rattle.cj_budget.specs.declared.limits.Peaks.{Peaks}
 use Rattle.cj_stream.specs.declared.ending.End.{End}
 use Rattle.cj_stream.specs.declared.ending.End.TheVariants.{Complete, Refused, ReadFault, ReadLimit, WriteFault, Memory}
 use Rattle.cj_stream.specs.Lines.{lines, whole, closed}
 use Rattle.cj_stream.specs.Item.{Item, raw_item}
 use Rattle.cj_stream.specs.Verdict.{Rules, refusal_in, good, good_from, kept_from, kept, kept_first, item_after}
-use Rattle.cj_stream.specs.Engine.{Delivers, Faults}
+use Rattle.cj_stream.specs.Engine.{Delivers}
 use Rattle.cj_stream.specs.Cut.{AppendsMore}
 use Rattle.cj_stream.specs.Run.{Account, Puts, Runs, Writes}
 use Rattle.cj_stream.specs.Sink.{Took, TookFront, LeavesNext, AppendsPart}
@@ -17,7 +17,7 @@ use Rattle.cj_stream.proofs.IsLinesLemmas.{joined-append, lines-whole}
 use Rattle.cj_stream.proofs.ReadingLemmas.{length-map_lines}
 use Rattle.cj_stream.proofs.EngineLemmas.{kept_first-front}
 use Rattle.cj_stream.proofs.GoodLemmas.{kept_first-good, kept-split, kept-next_line, good-all}
-use Rattle.cj_stream.proofs.KnownLemmas.{Appends-then, Appends-nothing, Appends-kept, AppendsPart-after, AppendsPart-front, AppendsPart-kept}
+use Rattle.cj_stream.proofs.KnownLemmas.{Appends-then, Appends-nothing, AppendsPart-after, AppendsPart-front}
 
 -- lines that a writer took, one after another
 pub Took-appends : {S : Type 0} (contents : S → Option (List ℕ)) (s t : S) (ls : List Item)
@@ -44,16 +44,6 @@ pub Took-all : {S : Type 0} (takes leaves : S → Item → S → Type 0) (rules 
 Took-all takes leaves rules r n s t e h still all =
     let k : h.added ≡ kept rules r = sym h.kept ∙ kept_first-good rules n r all in
     rw (← k, still) h.took
-
--- steps that say less
-Took-less : {S : Type 0} (step less : S → Item → S → Type 0) → ((a : S) (l : Item) (b : S) → step a l b → less a l b) → (s t : S) (ls : List Item) → Took step s ls t → Took less s ls t
-Took-less step less weaken s t [] h = h
-Took-less step less weaken s t (l ∷ ls) h = (h.0, weaken s l h.0 h.1, Took-less step less weaken h.0 t ls h.2)
-
--- what each step keeps, all of them keep
-Took-keeps : {S N : Type 0} (step : S → Item → S → Type 0) (name : S → N) → ((a : S) (l : Item) (b : S) → step a l b → name b ≡ name a) → (s t : S) (ls : List Item) → Took step s ls t → name t ≡ name s
-Took-keeps step name keeps s t [] h = ap name h
-Took-keeps step name keeps s t (l ∷ ls) h = Took-keeps step name keeps h.0 t ls h.2 ∙ keeps s l h.0 h.1
 
 module _ {S : Type 0} (takes leaves : S → Item → S → Type 0) (rules : Rules) (r : List ℕ) (at_end : Type 0) (s t : S) (n features : ℕ) (peaks : Peaks) where
   -- what a sink took, by the end of the run
@@ -90,45 +80,6 @@ module _ {S : Type 0} (takes leaves : S → Item → S → Type 0) (rules : Rule
 
   pub Runs-told : (e : End) → Account rules r at_end n features peaks e → Delivers takes leaves rules r 0 n s t (Some e) → Runs takes leaves rules r at_end s t n features peaks e
   Runs-told e a d = record { account = a; sink = d; puts = puts-told e a d }
-
-module _ {S N : Type 0} (name : S → N) (takes leaves : S → Item → S → Type 0) where
-  abbrev pub named_takes : S → Item → S → Type 0
-  named_takes a l b = (name b ≡ name a) × takes a l b
-
-  abbrev pub named_leaves : S → Item → S → Type 0
-  named_leaves a l b = (name b ≡ name a) × leaves a l b
-
-  less : (s t : S) (ls : List Item) → Took named_takes s ls t → Took takes s ls t
-  less s t ls h = Took-less named_takes takes (λ a l b x. x.1) s t ls h
-
-  keeps : (s t : S) (ls : List Item) → Took named_takes s ls t → name t ≡ name s
-  keeps s t ls h = Took-keeps named_takes name (λ a l b x. x.0) s t ls h
-
-  next-less : (others : List Item) (s t : S) → LeavesNext named_leaves others s t → LeavesNext leaves others s t
-  next-less [] s t h = h
-  next-less (i ∷ is) s t h = h.1
-
-  next-keeps : (others : List Item) (s t : S) → LeavesNext named_leaves others s t → name t ≡ name s
-  next-keeps [] s t h = absurd h
-  next-keeps (i ∷ is) s t h = h.0
-
-  module _ (rules : Rules) (r : List ℕ) (s t : S) where
-    -- what a sink took whose steps keep a name, without it, and that all of them keep it
-    pub Puts-less : (e : End) → Puts named_takes named_leaves rules r e s t → Puts takes leaves rules r e s t
-    Puts-less Complete h = less s t (kept rules r) h
-    Puts-less (Refused number place reason) h = less s t (kept rules r) h
-    Puts-less ReadFault h = less s t (kept rules (whole r)) h
-    Puts-less ReadLimit h = less s t (kept rules (whole r)) h
-    Puts-less WriteFault h = record { more = h.more; others = h.others; middle = h.middle; front = h.front; took = less s h.middle h.more h.took; left = next-less h.others h.middle t h.left }
-    Puts-less Memory h = record { more = h.more; others = h.others; middle = h.middle; front = h.front; took = less s h.middle h.more h.took; left = h.left }
-
-    pub Puts-keeps : (e : End) → Puts named_takes named_leaves rules r e s t → name t ≡ name s
-    Puts-keeps Complete h = keeps s t (kept rules r) h
-    Puts-keeps (Refused number place reason) h = keeps s t (kept rules r) h
-    Puts-keeps ReadFault h = keeps s t (kept rules (whole r)) h
-    Puts-keeps ReadLimit h = keeps s t (kept rules (whole r)) h
-    Puts-keeps WriteFault h = next-keeps h.others h.middle t h.left ∙ keeps s h.middle h.more h.took
-    Puts-keeps Memory h = ap name h.left ∙ keeps s h.middle h.more h.took
 
 module _ {S : Type 0} (contents : S → Option (List ℕ)) where
   abbrev pub writes : S → Item → S → Type 0
@@ -168,12 +119,3 @@ module _ {S : Type 0} (contents : S → Option (List ℕ)) where
   Writes-puts rules r s t ReadLimit h = Took-appends contents s t (kept rules (whole r)) h
   Writes-puts rules r s t WriteFault h = (front-bytes (LeavesNext writes_part) next-bytes (kept rules r) [] s t h).0
   Writes-puts rules r s t Memory h = (front-bytes (λ others a b. b ≡ a) no-bytes (kept rules r) [] s t h).0
-
--- a writer that was flushed afterwards
-pub Writes-kept : (rules : Rules) (r : List ℕ) (e : End) (a b c : Option (List ℕ)) → Writes rules r e a b → Keeps b c → Writes rules r e a c
-Writes-kept rules r Complete a b c h k = Appends-kept a b c _ h k
-Writes-kept rules r (Refused number place reason) a b c h k = Appends-kept a b c _ h k
-Writes-kept rules r ReadFault a b c h k = Appends-kept a b c _ h k
-Writes-kept rules r ReadLimit a b c h k = Appends-kept a b c _ h k
-Writes-kept rules r WriteFault a b c h k = AppendsPart-kept a b c _ h k
-Writes-kept rules r Memory a b c h k = AppendsPart-kept a b c _ h k

@@ -1,9 +1,9 @@
 -- Counts of what a sink took.
-use Rattle.std.proofs.Common.{◌≡◌, ℕ, ◌+◌, ◌-◌, ◌^◌, ◌≤◌, List, [], ◌∷◌, ◌++◌, length, min, take, drop, Option, Some, None, sym, ap, ◌∙◌, cond, arith}
+use Rattle.std.proofs.Common.{◌≡◌, ℕ, ◌+◌, ◌-◌, ◌^◌, ◌≤◌, List, [], ◌∷◌, ◌++◌, length, min, take, Option, Some, None, ap, ◌∙◌, cond, arith}
 use Rattle.std.specs.Prelude.{is_some, not}
 use Rattle.std.specs.List.{filter}
 use Rattle.cj_spans.specs.Tree.{Tree}
-use Rattle.cj_stream.specs.declared.count.CountSink.{CountSink}
+use Rattle.cj_stream.specs.declared.sink.CountSink.{CountSink}
 use Rattle.cj_stream.specs.declared.ending.End.{End}
 use Rattle.cj_stream.specs.declared.ending.End.TheVariants.{Complete, Refused, ReadFault, ReadLimit, WriteFault, Memory}
 use Rattle.cj_stream.specs.Cut.{joined, PutsPieces}
@@ -11,7 +11,7 @@ use Rattle.cj_stream.specs.Item.{Item, is_feature}
 use Rattle.cj_stream.specs.Lines.{whole}
 use Rattle.cj_stream.specs.Run.{Puts}
 use Rattle.cj_stream.specs.Sink.{Took, LeavesNext}
-use Rattle.cj_stream.specs.CountSink.{Counts, CountsBy, is_header, counts_of, CountsRun, CountsPieces}
+use Rattle.cj_stream.specs.CountSink.{Counts, CountsBy, is_header, no_counts, counts_of, CountsRun, CountsPieces}
 use Rattle.cj_stream.specs.Verdict.{Rules, kept}
 
 -- both counts are those of another sink
@@ -40,9 +40,9 @@ counts-more a b (i ∷ is) h k took = step i.header (λ p q. counts-more took.0 
         (omega (arith, later.0, c.1), omega (arith, later.1, c.0))
 
 -- a new sink that counted some items has their counts
-counts-all : (b : CountSink) (is : List Item) → Took Counts (record { headers = 0; features = 0 }) is b → b ≡ counts_of is
+counts-all : (b : CountSink) (is : List Item) → Took Counts (no_counts) is b → b ≡ counts_of is
 counts-all b is took =
-    let all = counts-more (record { headers = 0; features = 0 }) b is (omega arith) (omega arith) took in
+    let all = counts-more (no_counts) b is (omega arith) (omega arith) took in
     both b (counts_of is) (omega (arith, all.0)) (omega (arith, all.1))
 
 never : (others : List Item) (m c : CountSink) → LeavesNext (λ a i b. ⊥) others m c → ⊥
@@ -50,7 +50,7 @@ never [] m c k = k
 never (i ∷ is) m c k = k
 
 -- what a run has counted, by its end
-pub CountsRun-puts : (rules : Rules) (r : List ℕ) (c : CountSink) (e : End) → Puts Counts (λ a i b. ⊥) rules r e (record { headers = 0; features = 0 }) c → CountsRun rules r e c
+pub CountsRun-puts : (rules : Rules) (r : List ℕ) (c : CountSink) (e : End) → Puts Counts (λ a i b. ⊥) rules r e (no_counts) c → CountsRun rules r e c
 CountsRun-puts rules r c Complete h = counts-all c (kept rules r) h
 CountsRun-puts rules r c (Refused number place reason) h = counts-all c (kept rules r) h
 CountsRun-puts rules r c ReadFault h = counts-all c (kept rules (whole r)) h
@@ -60,7 +60,7 @@ CountsRun-puts rules r c Memory h = record { more = h.more; others = h.others; f
 
 -- what was counted of pieces
 pub CountsPieces-puts : (rules : Rules) (pieces : List (List ℕ)) (n : ℕ) (c : CountSink) (e : End)
-    → PutsPieces Counts (λ a i b. ⊥) rules pieces n e (record { headers = 0; features = 0 }) c → CountsPieces rules pieces n e c
+    → PutsPieces Counts (λ a i b. ⊥) rules pieces n e (no_counts) c → CountsPieces rules pieces n e c
 CountsPieces-puts rules pieces n c Complete h = (h.0, counts-all c (kept rules (joined pieces)) h.1)
 CountsPieces-puts rules pieces n c (Refused number place reason) h = (h.0, counts-all c (kept rules (joined pieces)) h.1)
 CountsPieces-puts rules pieces n c ReadFault h = h

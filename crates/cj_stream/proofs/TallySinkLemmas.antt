@@ -1,10 +1,9 @@
 -- Tallies of what a sink took.
-use Rattle.std.proofs.Common.{◌≡◌, ℕ, ◌+◌, ◌-◌, ◌^◌, ◌<◌, ◌≤◌, List, [], ◌∷◌, ◌++◌, length, take, drop, get_or, map, Option, Some, None, ℤ, sym, ap, subst, refl, ◌∙◌, cond, zero, suc, arith, length-append}
+use Rattle.std.proofs.Common.{◌≡◌, ℕ, ◌+◌, ◌-◌, ◌^◌, ◌<◌, ◌≤◌, List, [], ◌∷◌, ◌++◌, length, take, get_or, map, Option, Some, None, ℤ, sym, ap, subst, refl, ◌∙◌, cond, zero, suc, arith, length-append}
 use Rattle.std.specs.Prelude.{is_some, not, nat_eq, option_map, codes, replicate}
 use Rattle.std.specs.List.{filter, last_or}
 use Rattle.std.specs.Str.{chars}
 use Rattle.std.proofs.lemmas.List.Elements.{filter-append}
-use Rattle.cj_budget.specs.declared.limits.Peaks.{Peaks}
 use Rattle.cj_spans.specs.Tree.{Tree}
 use Rattle.cj_decimal.specs.Number.{Number}
 use Rattle.cj_feature.specs.Shown.{transform_values}
@@ -12,15 +11,13 @@ use Rattle.cj_stream.specs.declared.ending.End.{End}
 use Rattle.cj_stream.specs.declared.ending.End.TheVariants.{Complete, Refused, ReadFault, ReadLimit, WriteFault, Memory}
 use Rattle.cj_stream.specs.Cut.{joined, PutsPieces}
 use Rattle.cj_stream.specs.Item.{Item, is_feature}
-use Rattle.cj_stream.specs.Lines.{lines, whole}
+use Rattle.cj_stream.specs.Lines.{whole}
 use Rattle.cj_stream.specs.Run.{Puts}
 use Rattle.cj_stream.specs.Sink.{Took, LeavesNext}
 use Rattle.cj_stream.specs.CountSink.{is_header}
 use Rattle.cj_stream.specs.Tallied.{capped, how_often, type_numbers, lod_classes, numbers_on, beside, over_features}
 use Rattle.cj_stream.specs.TallySink.{Tally, no_tally, Widens, Shows, TalliesBy, Tallies, IsTallyOf, TalliesRun, TalliesPieces}
-use Rattle.cj_stream.specs.Verdict.{Rules, good_from, kept_from, kept}
-use Rattle.cj_stream.proofs.GoodLemmas.{kept-split}
-use Rattle.cj_stream.proofs.OutputLemmas.{Took-all, kept-whole}
+use Rattle.cj_stream.specs.Verdict.{Rules, kept}
 use Rattle.cj_stream.proofs.Ranges.{Widens-no, Widens-two}
 
 -- ---- counts

@@ -2,13 +2,17 @@
 use Rattle.std.specs.Prelude.{◌≡◌, ℕ, ◌+◌, ◌-◌, ◌^◌, List, [], ◌++◌, Bool, not, length, min, take, Option, Some, None}
 use Rattle.std.specs.List.{filter}
 use Rattle.cj_spans.specs.Tree.{Tree}
-use Rattle.cj_stream.specs.declared.count.CountSink.{CountSink}
+use Rattle.cj_stream.specs.declared.sink.CountSink.{CountSink}
 use Rattle.cj_stream.specs.declared.ending.End.{End}
 use Rattle.cj_stream.specs.declared.ending.End.TheVariants.{Complete, Refused, ReadFault, ReadLimit, WriteFault, Memory}
 use Rattle.cj_stream.specs.Lines.{whole}
 use Rattle.cj_stream.specs.Item.{Item, is_feature}
 use Rattle.cj_stream.specs.Verdict.{Rules, kept, ending}
 use Rattle.cj_stream.specs.Cut.{joined}
+
+-- the count of nothing
+abbrev pub no_counts : CountSink
+no_counts = record { headers = 0; features = 0 }
 
 -- ---- one item
 

@@ -1,7 +1,7 @@
 -- Streams that come in pieces.
 use Rattle.std.specs.Prelude.{◌≡◌, ◌⊎◌, ℕ, ◌+◌, ◌≤◌, List, [], ◌∷◌, ◌++◌, Option, Some, None, length, take}
 use Rattle.std.specs.Io.KnownBytes.{Appends}
-use Rattle.cj_stream.specs.declared.copying.Copied.{Copied}
+use Rattle.cj_stream.specs.declared.pieces.PiecesOutcome.{PiecesOutcome}
 use Rattle.cj_stream.specs.declared.ending.End.{End}
 use Rattle.cj_stream.specs.declared.ending.End.TheVariants.{Complete, Refused, ReadFault, ReadLimit, WriteFault, Memory}
 use Rattle.cj_stream.specs.Lines.{closed, lines, whole}
@@ -79,16 +79,16 @@ EndsAt rules pieces n Memory = Unit {0}
 -- An engine that had been given nothing was given these pieces and then the end, until it ended. So many of them were
 -- wholly taken, of which nothing that could be judged was refused. What it is said to have held at most is what its lists
 -- have held at most, within the bound for the pieces that were given, and exact where the end is complete.
-pub record Fed (rules : Rules) (pieces : List (List ℕ)) (copied : Copied) (engine : EngineState) : Type 0 where
+pub record Fed (rules : Rules) (pieces : List (List ℕ)) (outcome : PiecesOutcome) (engine : EngineState) : Type 0 where
   pub under : rules_of engine ≡ rules
-  pub ended : engine.ended ≡ Some copied.ended
-  pub few : copied.taken ≤ length pieces
-  pub good : refusal_in rules (judged rules.limits (joined (take copied.taken pieces))) ≡ None
-  pub at : EndsAt rules pieces copied.taken copied.ended
-  pub peaks : copied.peaks ≡ peaks_of engine
-  pub held : IsBelow (held_by engine) copied.peaks
-  pub bounded : IsBounded rules.limits (joined (take (copied.taken + 1) pieces)) copied.peaks
-  pub exact : copied.ended ≡ Complete → copied.peaks ≡ exact_peaks rules.limits (joined pieces)
+  pub ended : engine.ended ≡ Some outcome.ended
+  pub few : outcome.taken ≤ length pieces
+  pub good : refusal_in rules (judged rules.limits (joined (take outcome.taken pieces))) ≡ None
+  pub at : EndsAt rules pieces outcome.taken outcome.ended
+  pub peaks : outcome.peaks ≡ peaks_of engine
+  pub held : IsBelow (held_by engine) outcome.peaks
+  pub bounded : IsBounded rules.limits (joined (take (outcome.taken + 1) pieces)) outcome.peaks
+  pub exact : outcome.ended ≡ Complete → outcome.peaks ≡ exact_peaks rules.limits (joined pieces)
 
 -- a sink took what is kept of the first n pieces, of whose whole lines none was refused, and then came to an end by the
 -- next piece, or after the last

@@ -1,7 +1,7 @@
 -- What the answers of reads, writes and flushes say.
 use Rattle.std.specs.Prelude.{ℕ, zero, suc, Result, Ok, Err}
 use Rattle.cj_stream.specs.declared.output.WriteFault.{WriteFault}
-use Rattle.cj_stream.specs.declared.source.ReadFault.{ReadFault}
+use Rattle.cj_stream.specs.declared.running.source.ReadFault.{ReadFault}
 
 -- how many bytes a read gave, or that it failed, whatever the error
 abbrev pub given_by : {E : Type 0} → Result ℕ E → Result ℕ ReadFault

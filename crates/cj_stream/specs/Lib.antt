@@ -16,7 +16,6 @@ pub mod IsGood
 pub mod IsLines
 pub mod Item
 pub mod Judging
-pub mod LentSink
 pub mod LineRows
 pub mod Lines
 pub mod Output
@@ -31,4 +30,3 @@ pub mod Source
 pub mod Tallied
 pub mod TallySink
 pub mod Verdict
-pub mod WriteSink

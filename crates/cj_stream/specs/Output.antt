@@ -1,7 +1,10 @@
 -- What contracts see of a writer and of what its calls have answered.
 use Rattle.std.specs.Prelude.{ℕ, List, Option, Result}
+use Rattle.std.specs.Io.KnownBytes.{Appends}
 use Rattle.cj_stream.specs.declared.output.Output.{Output}
 use Rattle.cj_stream.specs.declared.output.WriteFault.{WriteFault}
+use Rattle.cj_stream.specs.Item.{Item, raw_item}
+use Rattle.cj_stream.specs.Sink.{AppendsPart}
 
 -- the writer
 abbrev pub output_writer : {W : Type 0} → Output W → W
@@ -23,3 +26,11 @@ pub record Channel : Type 0 where
 
 abbrev pub channel : {W : Type 0} → (W → Option (List ℕ)) → Output W → Channel
 channel contents o = record { bytes = contents (output_writer o); failures = output_failures o; flushed = flush_answer o }
+
+-- what an item makes of an output: the bytes that its writer holds grow by the bytes of the item
+abbrev pub WritesItem : {W : Type 0} → (W → Option (List ℕ)) → Output W → Item → Output W → Type 0
+WritesItem contents a i b = Appends (contents (output_writer a)) (contents (output_writer b)) (raw_item i)
+
+-- what a fault may leave of it: they grow by a prefix of those
+abbrev pub WritesPart : {W : Type 0} → (W → Option (List ℕ)) → Output W → Item → Output W → Type 0
+WritesPart contents a i b = AppendsPart (contents (output_writer a)) (contents (output_writer b)) (raw_item i)

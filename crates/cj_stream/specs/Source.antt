@@ -1,6 +1,6 @@
 -- What contracts see of a reader that is read until a read fails.
 use Rattle.std.specs.Prelude.{ℕ, Bool}
-use Rattle.cj_stream.specs.declared.source.Source.{Source}
+use Rattle.cj_stream.specs.declared.running.source.Source.{Source}
 
 -- the reader that is lent to it
 abbrev pub source_reader : {R : Type 0} → Source R → R

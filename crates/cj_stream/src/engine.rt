@@ -1,4 +1,9 @@
 //! The engine: it takes a stream in pieces, and puts each kept line to a sink.
+//!
+//! It keeps one line and counts, and promises something of all bytes so far. What ties the two is `StandsFor engine p`: true
+//! of a new engine for no bytes, and carried on by each call, for every p. A new count is a new part of it; a new clause on all
+//! bytes stands under `(p : List ℕ) → StandsFor self.old p →`. The end is looked at first in `feed` and `finish`, since nothing
+//! may change after it.
 ghost use Rattle.std.specs.Prelude.{◌≡◌, ◌≢◌, ◌+◌, ◌^◌, ◌≤◌, ℕ, List, [], ◌∷◌, ◌++◌, length, OnOk, OnErr, IfOk, IfErr, IsErrOf, IsOk, Some, None, Err};
 ghost use Rattle.cj_stream.specs.Bound.{IsBelow, exact_peaks};
 ghost use Rattle.cj_stream.specs.Lines.{begun};
@@ -35,13 +40,11 @@ impl<'q> Model for Engine<'q> {
 
     ghost Value = { EngineState };
 
-    ghost view =
-    { λ e. record { reading = reading e.framer; scanning = scanning e.framer; taken = e.taken; ended = e.ended } };
+    ghost view = { λ e. record { reading = reading e.framer; scanning = scanning e.framer; taken = e.taken; ended = e.ended } };
 
-    ghost invariant =
-    { λ e. IsSound (reading e.framer) × HasRoom e.framer.limits (scanning e.framer)
-    × KeepsFirst (reading e.framer) (scanning e.framer) e.framer.parts × (e.ended ≡ None → e.framer.lines ≤ e.taken)
-    × (e.taken ≤ 2 ^ 60) };
+    ghost invariant = { λ e. IsSound (reading e.framer) × HasRoom e.framer.limits (scanning e.framer)
+        × KeepsFirst (reading e.framer) (scanning e.framer) e.framer.parts × (e.ended ≡ None → e.framer.lines ≤ e.taken)
+        × (e.taken ≤ 2 ^ 60) };
 }
 
 impl<'q> Engine<'q> {

@@ -1,4 +1,12 @@
 //! Cuts pieces into lines, and deals with each.
+//!
+//! The header has lists of its own, since it stays while lines come and go; so its peak and that of the line add up, and
+//! exactly. `pass` empties the lists of the line and never those of the header. Those of the header are kept with its parts, and
+//! that they belong together (`KeepsFirst`) is a part of the engine's invariant, which the functions here carry (`keeps`): what
+//! changes one of them has to show it again. The tree of a header is judged once. A view borrows the lists, so what changes
+//! them comes after the sink, and a line is counted only where the sink has taken it. A line's number is one more than the lines
+//! that were dealt with, so the header's is 1. LF is no content: it is told to the sink apart. A line that is too long is refused
+//! by the list, when the byte past the limit comes, before memory is asked for.
 ghost use Rattle.std.specs.Prelude.{◌≡◌, ◌+◌, ◌^◌, ◌<◌, ◌≤◌, ◌⊎◌, ℕ, List, [], ◌∷◌, ◌++◌, length, OnOk, OnErr, IfOk, IfErr, IsErrOf};
 ghost use Rattle.cj_stream.specs.Bound.{contents};
 ghost use Rattle.cj_stream.specs.Lines.{newline, NoLf, closed, first_of, first_content};

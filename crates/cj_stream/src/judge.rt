@@ -1,4 +1,6 @@
 //! What a line is as a text.
+//!
+//! `judge` knows the line's number and nothing of the header: what it tells holds beside any.
 ghost use Rattle.std.specs.Prelude.{◌≡◌, ◌≤◌, ◌+◌, ◌/◌, length, IfOk, OnErr};
 ghost use Rattle.std.specs.List.{list_all};
 ghost use Rattle.cj_stream.specs.Verdict.{is_blank_byte, is_blank_line, WantsTokens};

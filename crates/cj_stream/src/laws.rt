@@ -1,10 +1,32 @@
 //! Laws of the definitions, proved once and for all.
-ghost use Rattle.std.specs.Prelude.{◌≡◌, ◌++◌, List};
-ghost use Rattle.cj_stream.specs.Lines.{Line, lines, whole};
+//!
+//! A law is a function that does nothing: a call of it makes its clauses known to the proof of the caller. [`crate::run`] and
+//! [`crate::put_pieces`] say of every sink what it took. What is written, counted and tallied then follows by a law:
+//!
+//! ```text
+//! let mut tally = TallySink::new();
+//! let outcome = run(alloc, &mut reader, &mut tally, limits, &query);
+//! laws::puts_are_tallied();                     // so the tally is that of what is kept
+//! ```
+ghost use Rattle.std.specs.Prelude.{◌≡◌, ◌++◌, ℕ, List, Option, length};
+ghost use Rattle.std.specs.Io.KnownBytes.{IsAtEnd};
+ghost use Rattle.cj_budget.specs.declared.limits.Peaks.{Peaks};
+ghost use Rattle.cj_stream.specs.CountSink.{no_counts, Counts, CountsRun, CountsPieces};
+ghost use Rattle.cj_stream.specs.Cut.{Copies, PutsPieces};
+ghost use Rattle.cj_stream.specs.Headline.{HeadlineOfRun};
 ghost use Rattle.cj_stream.specs.IsGood.{AreGood, EndsAfter};
 ghost use Rattle.cj_stream.specs.IsLines.{IsLines, IsWhole};
-ghost use Rattle.cj_stream.specs.Verdict.{Rules, good, ending};
-ghost use Rattle.cj_stream.specs.Rows.{EmptyRow, WholeRow, BlankRow, OrderRow, BadRow, LongRow, TextRow, SyntaxRow, DeepRow};
+ghost use Rattle.cj_stream.specs.Lines.{Line, lines, whole};
+ghost use Rattle.cj_stream.specs.Output.{output_writer, output_failures, channel, WritesItem, WritesPart};
+ghost use Rattle.cj_stream.specs.Run.{Puts, Runs, Writes};
+ghost use Rattle.cj_stream.specs.Sink.{HasRisen};
+ghost use Rattle.cj_stream.specs.TallySink.{Tally, no_tally, Tallies, TalliesRun, TalliesPieces};
+ghost use Rattle.cj_stream.specs.Verdict.{Rules, good, kept, kept_first, ending};
+ghost use Rattle.cj_stream.specs.declared.ending.End.{End};
+ghost use Rattle.cj_stream.specs.declared.output.Output.{Output};
+ghost use Rattle.cj_stream.specs.declared.sink.CountSink.{CountSink};
+
+use std::io::Write;
 
 /// The lines of a text are the one list of contents without LF that gives the text when each is
 /// followed by the LF that ended it; LF ends each but perhaps the last, which is then not empty. A
@@ -28,15 +50,40 @@ pub fn good_lines_are_the_longest(text: &[u8])
     let _ = text;
 }
 
-/// The definitions of a text's ending and output, on small texts whose answers are known.
-pub fn rows_compute()
-    ensures empty { EmptyRow }
-    ensures whole { WholeRow }
-    ensures blank { BlankRow }
-    ensures order { OrderRow }
-    ensures bad { BadRow }
-    ensures long { LongRow }
-    ensures text { TextRow }
-    ensures syntax { SyntaxRow }
-    ensures deep { DeepRow }
+/// After as many lines as are good, what is kept of these is what is kept of all.
+pub fn good_lines_are_kept()
+    ensures { (rules : Rules) (r : List ℕ) (n : ℕ) → n ≡ length (good rules r)
+        → kept_first rules n r ≡ kept rules r }
+{}
+
+/// What a `CountSink` that has counted nothing takes is counted: in a run, by its end, and of pieces.
+pub fn puts_are_counted()
+    ensures runs { (rules : Rules) (r : List ℕ) (e : End) (c : CountSink)
+        → Puts Counts (λ a i b. ⊥) rules r e no_counts c → CountsRun rules r e c }
+    ensures pieces { (rules : Rules) (pieces : List (List ℕ)) (n : ℕ) (e : End) (c : CountSink)
+        → PutsPieces Counts (λ a i b. ⊥) rules pieces n e no_counts c → CountsPieces rules pieces n e c }
+{}
+
+/// What a `TallySink` that has tallied nothing takes is tallied: in a run, by its end, and of pieces.
+pub fn puts_are_tallied()
+    ensures runs { (rules : Rules) (r : List ℕ) (e : End) (start t : Tally) → start ≡ no_tally
+        → Puts Tallies (λ a i b. ⊥) rules r e start t → TalliesRun rules r e t }
+    ensures pieces { (rules : Rules) (pieces : List (List ℕ)) (n : ℕ) (e : End) (start t : Tally) → start ≡ no_tally
+        → PutsPieces Tallies (λ a i b. ⊥) rules pieces n e start t → TalliesPieces rules pieces n e t }
+{}
+
+/// What an `Output` takes is written: in a run, by its end, and of pieces; and of a run the headline holds, the cause of a
+/// write fault with it.
+pub fn puts_are_written<W: Write + Drop>()
+    ensures runs { (rules : Rules) (r : List ℕ) (e : End) (a b : Output W)
+        → Puts (WritesItem W.contents) (WritesPart W.contents) rules r e a b
+        → Writes rules r e (W.contents (output_writer a)) (W.contents (output_writer b)) }
+    ensures headline { (rules : Rules) (r : List ℕ) (left : Option (List ℕ)) (n features : ℕ) (peaks : Peaks) (e : End)
+        (a b : Output W)
+        → Runs (WritesItem W.contents) (WritesPart W.contents) rules r (IsAtEnd left) a b n features peaks e
+        → (e ≡ End.WriteFault → HasRisen (output_failures a) (output_failures b))
+        → HeadlineOfRun rules r (IsAtEnd left) e peaks (channel W.contents a) (channel W.contents b) }
+    ensures pieces { (rules : Rules) (pieces : List (List ℕ)) (n : ℕ) (e : End) (a b : Output W)
+        → PutsPieces (WritesItem W.contents) (WritesPart W.contents) rules pieces n e a b
+        → Copies rules pieces n e (W.contents (output_writer a)) (W.contents (output_writer b)) }
 {}

@@ -9,49 +9,55 @@
 //! grows past the bound, whatever comes.
 //!
 //! ```text
-//! let mut sink = WriteSink::new(writer);
+//! let mut out = Output::new(writer);
 //! let query = Query::all(alloc);
-//! let outcome = run(alloc, &mut reader, &mut sink, Limits::new(8_388_608, 64)?, &query);
+//! let outcome = run(alloc, &mut reader, &mut out, Limits::new(8_388_608, 64)?, &query);
 //! match outcome.ended {
 //!     End::Complete => {}                           // all lines were read, and none was refused
 //!     End::Refused { line, place, reason } => {}    // the first bad line: number, byte and reason
 //!     End::ReadFault | End::ReadLimit | End::WriteFault | End::Memory => {}
 //! }
 //! ```
+//!
+//! The modules, from the caller down:
+//!
+//! - `running`: a whole run, from a reader to a sink ([`run`]), with the reader's faults in `source`;
+//! - `pieces`: the same of a stream that comes in pieces ([`put_pieces`]), and the promise of the whole ([`headline`]);
+//! - `sink`: what a sink is ([`LineSink`]), one that ignores and one that counts; `output`: the one that writes
+//!   ([`Output`]); `tally`: the one that tallies ([`TallySink`]);
+//! - `query`: what is asked of features ([`Query`]);
+//! - `engine`: the stream so far ([`Engine`]), and `ending`: how it ended ([`End`]);
+//! - `framer`: the lists, and each line cut and dealt with; `judge`: what a line is as a text;
+//! - [`laws`]: what follows of what a sink took, and of the definitions; [`row_laws`]: these on worked rows.
+//!
+//! What a caller needs of the crates below is here too, so that one `use` names it all.
 #![tactic(auto)]
 
-pub mod box_laws;
-mod copying;
-mod count;
-mod counting;
 mod ending;
 mod engine;
 mod framer;
 mod judge;
 pub mod laws;
-mod lent;
 mod output;
-mod promise;
+mod pieces;
 mod query;
 pub mod row_laws;
 mod running;
 mod sink;
-mod source;
 mod tally;
-mod tallying;
 #[cfg(test)]
 mod tests;
 
-pub use copying::{Copied, copy, copy_out, put_pieces};
-pub use count::CountSink;
-pub use counting::{count_pieces, count_stream};
+pub use cj_budget::{LimitFault, Limits, NoMemory, Peaks};
+pub use cj_decimal::Decimal;
+pub use cj_feature::{Feature, Header};
+pub use cj_geometry::ObjectType;
+pub use cj_spans::{Node, Reason};
 pub use ending::End;
 pub use engine::Engine;
-pub use lent::LentSink;
-pub use output::{Output, WriteFault};
-pub use promise::headline;
+pub use output::{Output, WriteFault, WriteSink};
+pub use pieces::{PiecesOutcome, headline, put_pieces};
 pub use query::{Query, QueryFault};
 pub use running::{Outcome, run};
-pub use sink::{LineSink, WriteSink};
+pub use sink::{CountSink, IgnoreSink, LineSink};
 pub use tally::TallySink;
-pub use tallying::{tally_pieces, tally_stream};

@@ -1,10 +1,18 @@
-//! A writer, and what its calls have answered.
+//! A writer, and what its calls have answered: the sink that writes.
+//!
+//! What is easy to get wrong. `write_whole` has its own loop: std's `write_all` tries again after `Interrupted`, and here any
+//! error is a failure, which counts once. What a device answered is read by a small function with an exact clause, as no
+//! clause of its caller can see the answer. The count and the note are private, since they are worth something only while
+//! nobody else can make them; each write drops the note of a flush.
 ghost use Rattle.std.specs.Prelude.{◌≡◌, ◌<◌, ◌≤◌, None, Some, OnOk, OnErr, IfOk, length, take};
 ghost use Rattle.std.specs.Io.KnownBytes.{Appends, Keeps};
 ghost use Rattle.cj_stream.specs.Device.{taken_by, flushed_by};
+ghost use Rattle.cj_stream.specs.Item.{raw_item, header_item, feature_item};
 ghost use Rattle.cj_stream.specs.Lines.{raw};
 ghost use Rattle.cj_stream.specs.Sink.{HasRisen, RisesOnErr, AppendsPart, counted};
 
+use crate::sink::LineSink;
+use cj_feature::{Feature, Header};
 use std::io;
 use std::io::Write;
 use thiserror::Error;
@@ -38,6 +46,9 @@ fn flushed(answer: io::Result<()>) -> Result<(), WriteFault>
 /// A writer that counts how often a write to it has failed, and notes what its last flush answered,
 /// until more is written. Clauses cannot see a call of the system: they see the count and the note,
 /// which nobody else can make. At 2^64 - 1 the count stays.
+///
+/// As a sink it writes each line as it came, with LF exactly if it came with one. A run borrows it, so
+/// the lender goes on with what the run has left of it.
 #[derive(Drop)]
 pub struct Output<W: Write + Drop> {
     writer: W,
@@ -147,5 +158,46 @@ impl<W: Write + Drop> Output<W> {
         let answer = flushed(self.writer.flush());
         self.noted = Some(answer);
         answer
+    }
+}
+
+/// An output, by the name that it has as a sink.
+pub type WriteSink<W> = Output<W>;
+
+impl<W: Write + Drop> LineSink for Output<W> {
+    ghost use Rattle.cj_stream.specs.Output.{output_writer, output_failures, WritesItem, WritesPart};
+
+    ghost takes = { WritesItem W.contents };
+
+    ghost leaves = { WritesPart W.contents };
+
+    ghost failures = { output_failures };
+
+    fn header(&mut self, header: &Header<'_>, lf: bool) -> Result<(), WriteFault>
+        ensures ok { OnOk result
+            (Appends (W.contents (output_writer self.old)) (W.contents (output_writer self.new))
+            (raw_item (header_item header.now lf))) }
+        ensures fault { OnErr result
+            (AppendsPart (W.contents (output_writer self.old)) (W.contents (output_writer self.new))
+            (raw_item (header_item header.now lf))) }
+        ensures cause { OnErr result (HasRisen (output_failures self.old) (output_failures self.new)) }
+        ensures counts { output_failures self.old ≤ output_failures self.new }
+        ensures counted { output_failures self.new ≡ counted (output_failures self.old) result }
+    {
+        self.write_line(header.bytes(), lf)
+    }
+
+    fn put(&mut self, feature: &Feature<'_>, lf: bool) -> Result<(), WriteFault>
+        ensures ok { OnOk result
+            (Appends (W.contents (output_writer self.old)) (W.contents (output_writer self.new))
+            (raw_item (feature_item feature.now lf))) }
+        ensures fault { OnErr result
+            (AppendsPart (W.contents (output_writer self.old)) (W.contents (output_writer self.new))
+            (raw_item (feature_item feature.now lf))) }
+        ensures cause { OnErr result (HasRisen (output_failures self.old) (output_failures self.new)) }
+        ensures counts { output_failures self.old ≤ output_failures self.new }
+        ensures counted { output_failures self.new ≡ counted (output_failures self.old) result }
+    {
+        self.write_line(feature.bytes(), lf)
     }
 }

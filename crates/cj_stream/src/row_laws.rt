@@ -1,10 +1,25 @@
-//! Laws of the definitions that promises end in, proved once and for all: small cases whose answers are known, with
-//! those that are refuted beside them.
+//! The definitions that promises end in, on small cases whose answers are known, with cases that are refuted beside them.
+//! Each row is a theorem, proved once and for all.
 ghost use Rattle.cj_stream.specs.BoundRows.{EmptyRow as BoundOfNothing, HeaderRow as BoundOfHeader, CutRow as BoundOfLongLine, EdgeRow, ExactRow};
+ghost use Rattle.cj_stream.specs.BoxRows.{BoxRow, FieldRows, RangeRows, EmptyRow as BoxOfNothing, OrderRows};
 ghost use Rattle.cj_stream.specs.CountRows.{RiseRows, ClassRows, LodRows as LodCounts};
 ghost use Rattle.cj_stream.specs.EndRows.{UnhinderedRow, UnreadRow};
 ghost use Rattle.cj_stream.specs.LineRows.{TabRow, HeaderRow};
 ghost use Rattle.cj_stream.specs.QueryRows.{IdRows, TypeRows, LodRows, InstanceRows, InBoxRows, OutOfBoxRows, EachPartRows};
+ghost use Rattle.cj_stream.specs.Rows.{EmptyRow, WholeRow, BlankRow, OrderRow, BadRow, LongRow, TextRow, SyntaxRow, DeepRow};
+
+/// How a stream ends, and what is written of it.
+pub fn rows_compute()
+    ensures empty { EmptyRow }
+    ensures whole { WholeRow }
+    ensures blank { BlankRow }
+    ensures order { OrderRow }
+    ensures bad { BadRow }
+    ensures long { LongRow }
+    ensures text { TextRow }
+    ensures syntax { SyntaxRow }
+    ensures deep { DeepRow }
+{}
 
 /// The bound on what is held, and what is held at most.
 pub fn bounds_compute()
@@ -43,4 +58,13 @@ pub fn queries_compute()
     ensures in_box { InBoxRows }
     ensures out_of_box { OutOfBoxRows }
     ensures each { EachPartRows }
+{}
+
+/// The box that a text spells.
+pub fn boxes_compute()
+    ensures a_box { BoxRow }
+    ensures fields { FieldRows }
+    ensures range { RangeRows }
+    ensures empty { BoxOfNothing }
+    ensures order { OrderRows }
 {}

@@ -7,12 +7,14 @@ ghost use Rattle.cj_stream.specs.Query.{rules_for};
 ghost use Rattle.cj_stream.specs.Run.{Runs};
 ghost use Rattle.cj_stream.specs.Source.{source_reader, source_name, reads_of, has_failed};
 
+mod source;
+
 use crate::ending::End;
 use crate::engine::Engine;
 use crate::query::Query;
 use crate::sink::LineSink;
-use crate::source::{ReadFault, Source};
 use cj_budget::{Limits, NoMemory, Peaks};
+use source::{ReadFault, Source};
 use std::alloc::Global;
 use std::io::Read;
 

@@ -1,12 +1,13 @@
-//! Where the kept lines go.
+//! Where the kept lines go: what a sink is, one that ignores, and one that counts.
+//!
+//! A sink is lent views of the engine's own lists, so it takes what it wants to keep. Contracts speak of any sink by the
+//! three ghost members of [`LineSink`]. [`crate::Output`] is the sink that writes, [`crate::TallySink`] one that tallies.
 ghost use Rattle.std.specs.Prelude.{◌≡◌, ◌≤◌, ℕ, OnOk, OnErr};
-ghost use Rattle.std.specs.Io.KnownBytes.{Appends};
-ghost use Rattle.cj_stream.specs.Item.{Item, raw_item, header_item, feature_item};
-ghost use Rattle.cj_stream.specs.Sink.{HasRisen, AppendsPart, counted};
+ghost use Rattle.cj_stream.specs.Item.{Item, header_item, feature_item};
+ghost use Rattle.cj_stream.specs.Sink.{HasRisen};
 
-use crate::output::{Output, WriteFault};
+use crate::output::WriteFault;
 use cj_feature::{Feature, Header};
-use std::io::Write;
 
 /// What takes a header and then features, one after another.
 ///
@@ -36,68 +37,51 @@ pub trait LineSink {
         ensures counts { failures self.old ≤ failures self.new };
 }
 
-/// Writes each line to a writer as it came, with LF exactly if it came with one.
-#[derive(Drop)]
-pub struct WriteSink<W: Write + Drop> {
-    output: Output<W>,
-}
+/// Takes everything, keeps nothing and never fails: for a run of which the outcome alone is wanted.
+#[derive(Clone, Copy, Debug, PartialEq, Eq)]
+pub struct IgnoreSink;
 
-impl<W: Write + Drop> WriteSink<W> {
-    ghost use Rattle.cj_stream.specs.WriteSink.{writer_of, failures_of};
+impl LineSink for IgnoreSink {
+    ghost takes = { λ a i b. b ≡ a };
 
-    /// A sink over a writer that has not failed.
-    pub fn new(writer: W) -> Self
-        ensures writer { writer_of result ≡ writer }
-        ensures failures { failures_of result ≡ 0 }
-    {
-        WriteSink {
-            output: Output::new(writer),
-        }
+    ghost leaves = { λ a i b. ⊥ };
+
+    ghost failures = { λ s. 0 };
+
+    fn header(&mut self, _header: &Header<'_>, _lf: bool) -> Result<(), WriteFault> {
+        Ok(())
     }
 
-    /// The writer, as it is now.
-    pub fn into_inner(self) -> W
-        ensures { result ≡ writer_of self }
-    {
-        let WriteSink { output } = self;
-        output.into_inner()
+    fn put(&mut self, _feature: &Feature<'_>, _lf: bool) -> Result<(), WriteFault> {
+        Ok(())
     }
 }
 
-impl<W: Write + Drop> LineSink for WriteSink<W> {
-    ghost use Rattle.cj_stream.specs.WriteSink.{writer_of, failures_of};
+/// Counts headers and features. At 2^64 - 1 a count stays.
+#[derive(Clone, Copy, Debug, PartialEq, Eq)]
+pub struct CountSink {
+    /// The headers that it took.
+    pub headers: u64,
+    /// The features that it took.
+    pub features: u64,
+}
 
-    ghost takes = { λ a i b. Appends (W.contents (writer_of a)) (W.contents (writer_of b)) (raw_item i) };
+impl LineSink for CountSink {
+    ghost use Rattle.cj_stream.specs.CountSink.{Counts};
 
-    ghost leaves = { λ a i b. AppendsPart (W.contents (writer_of a)) (W.contents (writer_of b)) (raw_item i) };
+    ghost takes = { Counts };
 
-    ghost failures = { failures_of };
+    ghost leaves = { λ a i b. ⊥ };
 
-    fn header(&mut self, header: &Header<'_>, lf: bool) -> Result<(), WriteFault>
-        ensures ok { OnOk result
-            (Appends (W.contents (writer_of self.old)) (W.contents (writer_of self.new))
-            (raw_item (header_item header.now lf))) }
-        ensures fault { OnErr result
-            (AppendsPart (W.contents (writer_of self.old)) (W.contents (writer_of self.new))
-            (raw_item (header_item header.now lf))) }
-        ensures cause { OnErr result (HasRisen (failures_of self.old) (failures_of self.new)) }
-        ensures counts { failures_of self.old ≤ failures_of self.new }
-        ensures counted { failures_of self.new ≡ counted (failures_of self.old) result }
-    {
-        self.output.write_line(header.bytes(), lf)
+    ghost failures = { λ s. 0 };
+
+    fn header(&mut self, _header: &Header<'_>, _lf: bool) -> Result<(), WriteFault> {
+        self.headers = self.headers.saturating_add(1);
+        Ok(())
     }
 
-    fn put(&mut self, feature: &Feature<'_>, lf: bool) -> Result<(), WriteFault>
-        ensures ok { OnOk result
-            (Appends (W.contents (writer_of self.old)) (W.contents (writer_of self.new))
-            (raw_item (feature_item feature.now lf))) }
-        ensures fault { OnErr result
-            (AppendsPart (W.contents (writer_of self.old)) (W.contents (writer_of self.new))
-            (raw_item (feature_item feature.now lf))) }
-        ensures cause { OnErr result (HasRisen (failures_of self.old) (failures_of self.new)) }
-        ensures counts { failures_of self.old ≤ failures_of self.new }
-        ensures counted { failures_of self.new ≡ counted (failures_of self.old) result }
-    {
-        self.output.write_line(feature.bytes(), lf)
+    fn put(&mut self, _feature: &Feature<'_>, _lf: bool) -> Result<(), WriteFault> {
+        self.features = self.features.saturating_add(1);
+        Ok(())
     }
 }

@@ -33,15 +33,23 @@ impl Model for TallySink {
 
     ghost Value = { Tally };
 
-    ghost view =
-    { λ s. record
-    { features = s.features; types = s.types; lods = s.lods; ranges = s.ranges; scale = s.scale; translate =
-    s.translate } };
+    ghost view = { λ s. record {
+      features = s.features;
+      types = s.types;
+      lods = s.lods;
+      ranges = s.ranges;
+      scale = s.scale;
+      translate = s.translate;
+    } };
 
-    ghost inverse =
-    { λ t. record
-    { features = t.features; types = t.types; lods = t.lods; ranges = t.ranges; scale = t.scale; translate =
-    t.translate } };
+    ghost inverse = { λ t. record {
+      features = t.features;
+      types = t.types;
+      lods = t.lods;
+      ranges = t.ranges;
+      scale = t.scale;
+      translate = t.translate;
+    } };
 }
 
 impl TallySink {

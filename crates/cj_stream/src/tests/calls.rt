@@ -1,7 +1,7 @@
 //! What the tests share: comparisons, and the calls that are tested without what their contracts
 //! say. A test compares values when it runs, and its proof grows with each fact that a call leaves.
 use super::devices::{SlowReader, SlowWriter};
-use crate::{End, Engine, LineSink, Outcome, Output, Query, WriteSink, copy, copy_out};
+use crate::{End, Engine, LineSink, Outcome, Output, Query, WriteSink, run};
 use cj_budget::{Limits, Peaks};
 use cj_spans::Reason;
 use std::alloc::Global;
@@ -65,7 +65,7 @@ pub fn joined(alloc: Global, parts: &[&[u8]]) -> Result<Vec<u8>, Fail> {
 /// Runs over what a reader gives: the outcome, and what was written.
 pub fn copied(alloc: Global, reader: &mut SlowReader, limits: Limits) -> (Outcome, Vec<u8>) {
     let mut sink = WriteSink::new(Vec::new(alloc));
-    let outcome = copy(alloc, reader, &mut sink, limits, &Query::all(alloc));
+    let outcome = run(alloc, reader, &mut sink, limits, &Query::all(alloc));
     (outcome, sink.into_inner())
 }
 
@@ -77,7 +77,7 @@ pub fn copied_to(
     limits: Limits,
 ) -> Outcome {
     let mut out = Output::new(writer);
-    copy_out(alloc, reader, &mut out, limits, &Query::all(alloc))
+    run(alloc, reader, &mut out, limits, &Query::all(alloc))
 }
 
 /// Gives a piece to an engine, which has to answer so.

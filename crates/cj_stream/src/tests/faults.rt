@@ -5,7 +5,7 @@ use super::calls::{
 };
 use super::devices::{SlowReader, SlowWriter};
 use super::rows::{FEATURE, HEADER, with_last_index};
-use crate::{End, Engine, LentSink, LineSink, Outcome, Output, Query, WriteSink, copy, run};
+use crate::{End, Engine, LineSink, Outcome, Output, Query, WriteSink, run};
 use cj_budget::Limits;
 use cj_spans::Reason;
 use std::alloc::Global;
@@ -21,7 +21,7 @@ fn a_writer_that_takes_five_bytes_and_fails(rt: HostRuntime) -> Result<(), Fail>
     let mut sink = WriteSink::new(writer);
     let limits = Limits::new(8_388_608, 64)?;
     let query = Query::all(rt.alloc());
-    let outcome = copy(rt.alloc(), &mut text.as_slice(), &mut sink, limits, &query);
+    let outcome = run(rt.alloc(), &mut text.as_slice(), &mut sink, limits, &query);
     check_ended(&rt, outcome.ended, End::WriteFault, "five bytes", 0);
     check_number(&rt, outcome.lines, 0, "lines", 0);
     check_bytes(&rt, &sink.into_inner().bytes, b"{\"typ", "five bytes", 0);
@@ -172,17 +172,9 @@ fn a_write_fault_stays_the_end(rt: HostRuntime) -> Result<(), Fail> {
     let mut writer = SlowWriter::new(Vec::new(rt.alloc()), 0);
     let query = Query::all(rt.alloc());
     let mut engine = Engine::open(rt.alloc(), Limits::new(8_388_608, 64)?, &query)?;
-    check_fault_stays(
-        &rt,
-        &mut engine,
-        &mut LentSink::new(&mut Output::new(&mut writer)),
-    );
+    check_fault_stays(&rt, &mut engine, &mut Output::new(&mut writer));
     check_number(&rt, writer.writes, 1, "writes", 0);
-    let ended = run_to(
-        rt.alloc(),
-        HEADER,
-        &mut LentSink::new(&mut Output::new(&mut writer)),
-    )?;
+    let ended = run_to(rt.alloc(), HEADER, &mut Output::new(&mut writer))?;
     check_ended(&rt, ended, End::WriteFault, "another run", 0);
     check_number(&rt, writer.writes, 2, "writes", 1);
     Ok(())
@@ -212,12 +204,7 @@ fn check_sinks(
     let wanted = joined(alloc, &[front, text])?;
     let mut writer = SlowWriter::new(Vec::new(alloc), 1_000);
     writer.fails_at = fails_at;
-    check_one_failure(
-        rt,
-        alloc,
-        text,
-        &mut LentSink::new(&mut Output::new(&mut writer)),
-    )?;
+    check_one_failure(rt, alloc, text, &mut Output::new(&mut writer))?;
     check_bytes(rt, &writer.bytes, &wanted, "lent", fails_at);
     let mut writer = SlowWriter::new(Vec::new(alloc), 1_000);
     writer.fails_at = fails_at;
@@ -244,11 +231,7 @@ fn a_refused_line_is_not_put(rt: HostRuntime) -> Result<(), Fail> {
     let text = joined(rt.alloc(), &[&header, &line, b"\n"])?;
     let mut writer = SlowWriter::new(Vec::new(rt.alloc()), 1_000);
     writer.fails_at = 3;
-    let ended = run_to(
-        rt.alloc(),
-        &text,
-        &mut LentSink::new(&mut Output::new(&mut writer)),
-    )?;
+    let ended = run_to(rt.alloc(), &text, &mut Output::new(&mut writer))?;
     let wanted = refused(2, 144, Reason::VertexIndex);
     check_ended(&rt, ended, wanted, "refused", 0);
     check_number(&rt, writer.writes, 2, "writes", 0);

@@ -2,7 +2,7 @@
 use super::calls::{check_bytes, check_outcome, held, joined, outcome};
 use super::devices::SlowReader;
 use super::rows::{FEATURE, HEADER};
-use crate::{CountSink, End, LineSink, Outcome, Query, WriteFault, run};
+use crate::{CountSink, End, IgnoreSink, LineSink, Outcome, Query, WriteFault, run};
 use cj_budget::Limits;
 use cj_feature::{Feature, Header};
 use std::alloc::{AllocError, Global};
@@ -177,5 +177,14 @@ fn a_sink_counts_headers_and_features(rt: HostRuntime) -> Result<(), Fail> {
             features: 2
         }
     );
+    Ok(())
+}
+
+#[test]
+fn a_sink_ignores_what_it_is_lent(rt: HostRuntime) -> Result<(), Fail> {
+    let text = joined(rt.alloc(), &[HEADER, b"\n", FEATURE])?;
+    let told = run_by(rt.alloc(), &text, 100, &mut IgnoreSink)?;
+    let wanted = outcome(2, 1, held(350, 65, 8), End::Complete);
+    check_outcome(&rt, told, wanted, "ignored", 0);
     Ok(())
 }

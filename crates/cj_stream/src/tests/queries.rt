@@ -2,7 +2,7 @@
 use super::calls::{check_bytes, check_ended, check_number, joined, refused};
 use super::devices::SlowReader;
 use super::rows::{FEATURE, HEADER};
-use crate::{End, Outcome, Query, QueryFault, WriteSink, copy};
+use crate::{End, Outcome, Query, QueryFault, WriteSink, run};
 use cj_budget::Limits;
 use cj_spans::Reason;
 use std::alloc::Global;
@@ -101,7 +101,7 @@ fn query_of(alloc: Global, parts: &Parts) -> Result<Query, QueryFault> {
 fn kept_of(alloc: Global, text: &[u8], limits: Limits, query: &Query) -> (Outcome, Vec<u8>) {
     let mut reader = SlowReader::new(text, 8_192);
     let mut sink = WriteSink::new(Vec::new(alloc));
-    let outcome = copy(alloc, &mut reader, &mut sink, limits, query);
+    let outcome = run(alloc, &mut reader, &mut sink, limits, query);
     (outcome, sink.into_inner())
 }
 

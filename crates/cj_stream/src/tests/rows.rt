@@ -3,7 +3,7 @@ use super::calls::{
     check_bytes, check_ended, check_outcome, copied, held, joined, outcome, refused,
 };
 use super::devices::SlowReader;
-use crate::{End, Engine, Outcome, Query, WriteSink, box_laws, headline, laws, row_laws};
+use crate::{End, Engine, Outcome, Query, WriteSink, headline, laws, row_laws};
 use cj_budget::{Limits, Peaks};
 use cj_spans::Reason;
 use std::alloc::Global;
@@ -102,8 +102,12 @@ fn no_line_at_all(rt: HostRuntime) -> Result<(), Fail> {
     check_every_cut(&rt, rt.alloc(), b"", limits, &wanted);
     laws::lines_are_the_lines(b"");
     laws::good_lines_are_the_longest(b"");
-    laws::rows_compute();
-    box_laws::boxes_compute();
+    laws::good_lines_are_kept();
+    laws::puts_are_counted();
+    laws::puts_are_tallied();
+    laws::puts_are_written::<Vec<u8>>();
+    row_laws::rows_compute();
+    row_laws::boxes_compute();
     row_laws::bounds_compute();
     row_laws::counts_compute();
     row_laws::ends_compute();

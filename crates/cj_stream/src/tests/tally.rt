@@ -2,7 +2,7 @@
 use super::calls::{check_bytes, joined};
 use super::devices::SlowReader;
 use super::rows::FEATURE;
-use crate::{Engine, LineSink, Query, TallySink, WriteFault, run, tally_pieces, tally_stream};
+use crate::{Engine, LineSink, Query, TallySink, WriteFault, put_pieces, run};
 use cj_budget::Limits;
 use cj_feature::{Feature, Header};
 use std::alloc::{AllocError, Global};
@@ -150,7 +150,8 @@ fn check_cut(rt: &impl Abort, alloc: Global, text: &[u8], at: usize) -> Result<(
     let query = Query::all(alloc);
     let pieces = [&text[..at], &text[at..]];
     let mut engine = Engine::open(alloc, limits, &query)?;
-    let (tally, _) = tally_pieces(&mut engine, &pieces);
+    let mut tally = TallySink::new();
+    let _ = put_pieces(&mut engine, &pieces, &mut tally);
     let told = report(alloc, &tally)?;
     check_bytes(rt, told.as_bytes(), TALLY.as_bytes(), "pieces", at as u64);
     Ok(())
@@ -162,7 +163,8 @@ fn a_stream_is_tallied(rt: HostRuntime) -> Result<(), Fail> {
     let limits = Limits::new(8_388_608, 64)?;
     let query = Query::all(rt.alloc());
     let mut reader = SlowReader::new(&text, 100);
-    let (tally, _) = tally_stream(rt.alloc(), &mut reader, limits, &query);
+    let mut tally = TallySink::new();
+    let _ = run(rt.alloc(), &mut reader, &mut tally, limits, &query);
     let told = report(rt.alloc(), &tally)?;
     check_bytes(&rt, told.as_bytes(), TALLY.as_bytes(), "stream", 0);
     Ok(())

@@ -25,7 +25,7 @@ returns-in-Err-clause-deals g c =
     let shown : t ≡ document c.of-doc.result = sym (c.of-doc.ensures.only t json) in
     let first : eqb (c.args.self.now.lines + 1) 1 ≡ true = let z = c.requires.first in grind (arith, nat_tests) in
     let found : IsLeast (header_findings (needs_box rules.criteria) (document c.of-doc.result)) (Some c.in-Err.finding) =
-    subst (λ b. IsLeast (header_findings b (document c.of-doc.result)) (Some c.in-Err.finding)) c.needs_box.ensures c.in-Err.ensures.verdict in
+    subst (λ b. IsLeast (header_findings b (document c.of-doc.result)) (Some c.in-Err.finding)) c.wants_box.ensures c.in-Err.ensures.verdict in
     let least : IsLeast (findings rules n (held_header f) t) (Some c.in-Err.finding) =
     rw first (subst (λ u. IsLeast (header_findings (needs_box rules.criteria) u) (Some c.in-Err.finding)) (sym shown) found) in
     rw (tree-refused rules n (held_header f) t c.in-Err.finding least)

@@ -1,6 +1,6 @@
 use Rattle.std.proofs.Common.{◌≡◌, map, string_bytes}
 use Rattle.std.specs.List.{list_any}
-use Rattle.cj_geometry.specs.Lods.{asked_of}
+use Rattle.cj_geometry.specs.Lods.{given_to}
 use Rattle.cj_geometry.specs.Lod.{lod}
 use Rattle.cj_feature.specs.Feature.{templates_of}
 use Rattle.cj_feature.specs.Walks.{geometries_left}
@@ -11,6 +11,6 @@ use Rattle.cj_stream.proofs.query.holding.has_lod_together.Given as goal
 
 abbrev pub invariant-loop-geometry : goal.invariant-loop-geometry
 invariant-loop-geometry l = record {
-  templates : asked_of l.known ≡ templates_of (header_tree l.header);
+  templates : given_to l.known ≡ templates_of (header_tree l.header);
   left : list_any (λ g. there_is (is_one_of (map string_bytes l.lods)) (lod (templates_of (header_tree l.header)) g)) (geometries_left l.geometry-iterator) ≡ has_lod (map string_bytes l.lods) (header_tree l.header) (feature_tree l.feature);
 }

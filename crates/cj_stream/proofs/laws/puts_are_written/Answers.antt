@@ -1,0 +1,17 @@
+use Rattle.std.specs.Io.KnownBytes.{IsAtEnd}
+use Rattle.cj_stream.specs.Output.{output_writer, channel}
+use Rattle.cj_stream.proofs.CutLemmas.{Copies-puts}
+use Rattle.cj_stream.proofs.HeadlineLemmas.{Headline-run}
+use Rattle.cj_stream.proofs.OutputLemmas.{Writes-puts}
+use Rattle.cj_stream.proofs.laws.puts_are_written.Goals as goal
+
+pub returns-clause-runs : goal.returns-clause-runs
+returns-clause-runs g c = λ rules r e a b puts. Writes-puts (λ o. g.W.Write.contents (output_writer o)) rules r a b e puts
+
+pub returns-clause-headline : goal.returns-clause-headline
+returns-clause-headline g c = λ rules r left n features peaks e a b runs cause.
+    Headline-run rules r (IsAtEnd left) n features peaks e (channel g.W.Write.contents a) (channel g.W.Write.contents b) runs.account
+    (Writes-puts (λ o. g.W.Write.contents (output_writer o)) rules r a b e runs.puts) cause
+
+pub returns-clause-pieces : goal.returns-clause-pieces
+returns-clause-pieces g c = λ rules pieces n e a b puts. Copies-puts (λ o. g.W.Write.contents (output_writer o)) rules pieces n a b e puts

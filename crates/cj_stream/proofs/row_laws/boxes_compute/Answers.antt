@@ -1,0 +1,5 @@
+use Rattle.cj_stream.proofs.BoxRowLemmas.{a_box, fields, range, empty, order}
+use Rattle.cj_stream.proofs.row_laws.boxes_compute.Goals as goal
+
+pub returns : goal.returns
+returns c = record { a_box = a_box; fields = fields; range = range; empty = empty; order = order }
