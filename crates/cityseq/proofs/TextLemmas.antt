@@ -1,14 +1,51 @@
 -- Texts that are written one part after another.
-use Rattle.std.proofs.Common.{◌≡◌, ℕ, ◌+◌, ◌<◌, ◌≤◌, List, [], ◌∷◌, ◌++◌, length, take, drop, get_or, Option, Result, Ok, Err, sym, ap, ◌∙◌}
+use Rattle.std.proofs.Common.{◌≡◌, ℕ, ◌+◌, ◌<◌, ◌≤◌, List, [], ◌∷◌, ◌++◌, length, take, drop, get_or, map, append_assoc, Option, None, Some, Result, Ok, Err, refl, sym, ap, ◌∙◌}
 use Rattle.std.specs.Prelude.{OnErr, OnOk}
 use Rattle.std.specs.List.{flat_map}
 use Rattle.std.specs.Io.KnownBytes.{Appends}
 use Rattle.std.proofs.lemmas.Grind.{flat_map-append}
 use Rattle.std.proofs.lemmas.List.{append-nil, take-append-drop, take_all, take_more}
+use Rattle.cj_stream.specs.Cut.{joined}
 use Rattle.cj_stream.specs.Sink.{AppendsPart}
-use Rattle.cj_stream.proofs.KnownLemmas.{Appends-then, AppendsPart-after, AppendsPart-front, on_err_any}
+
+-- ---- known bytes that grow twice
+
+-- some bytes, and then others
+pub Appends-then : (a b c : Option (List ℕ)) (x y : List ℕ) → Appends a b x → Appends b c y → Appends a c (x ++ y)
+Appends-then None b c x y p q = tt
+Appends-then (Some a) None c x y p q = absurd p
+Appends-then (Some a) (Some b) None x y p q = absurd q
+Appends-then (Some a) (Some b) (Some c) x y p q = q ∙ (ap (λ z. z ++ y) p ∙ append_assoc a x y)
+
+-- some bytes, and then a prefix of others
+pub AppendsPart-after : (a b c : Option (List ℕ)) (x y : List ℕ) → Appends a b x → AppendsPart b c y → AppendsPart a c (x ++ y)
+AppendsPart-after a b c x y p q = record {
+  front = x ++ q.front;
+  rest = q.rest;
+  whole = ap (λ z. x ++ z) q.whole ∙ sym (append_assoc x q.front q.rest);
+  grows = Appends-then a b c x q.front p q.grows;
+}
+
+-- a prefix of some bytes, of which others follow
+pub AppendsPart-front : (a b : Option (List ℕ)) (x y : List ℕ) → AppendsPart a b x → AppendsPart a b (x ++ y)
+AppendsPart-front a b x y q = record {
+  front = q.front;
+  rest = q.rest ++ y;
+  whole = ap (λ z. z ++ y) q.whole ∙ append_assoc q.front q.rest y;
+  grows = q.grows;
+}
+
+-- a fact, whatever the result
+pub on_err_any : {T E P : Type 0} (r : Result T E) → P → OnErr r P
+on_err_any (Ok x) p = tt
+on_err_any (Err x) p = p
 
 -- ---- parts of a list
+
+-- parts that are joined stand one behind the other
+pub joined-map : {A : Type 0} (f : A → List ℕ) (xs : List A) → joined (map f xs) ≡ flat_map f xs
+joined-map f [] = refl
+joined-map f (x ∷ xs) = ap (λ z. f x ++ z) (joined-map f xs)
 
 module _ {A : Type 0} (f : A → List ℕ) (xs : List A) (i : ℕ) where
   -- one part more

@@ -1,8 +1,7 @@
 use Rattle.std.proofs.Common.{◌++◌, ◌∷◌, [], map, sym, append-nil, arith}
 use Rattle.std.proofs.lemmas.List.Folds.{flat_map-map}
 use Rattle.std.specs.List.{flat_map}
-use Rattle.cj_stream.proofs.KnownLemmas.{Appends-then, AppendsPart-after, AppendsPart-front, on_err_any}
-use Rattle.cityseq.proofs.TextLemmas.{part-fault, parts-written, written-after, fault-after}
+use Rattle.cityseq.proofs.TextLemmas.{Appends-then, AppendsPart-after, AppendsPart-front, on_err_any, part-fault, parts-written, written-after, fault-after}
 use Rattle.cityseq.proofs.summary.write_line.Goals as goal
 
 pub returns-in_err-write_whole-clause-fault : goal.returns-in_err-write_whole-clause-fault

@@ -3,9 +3,8 @@ use Rattle.std.proofs.lemmas.List.FromFn.{get_or-range_with_len}
 use Rattle.std.specs.Io.KnownBytes.{Appends}
 use Rattle.cj_stream.specs.Output.{output_writer}
 use Rattle.cj_stream.specs.Sink.{AppendsPart}
-use Rattle.cj_stream.proofs.KnownLemmas.{on_err_any}
 use Rattle.cityseq.specs.Summary.{class_text}
-use Rattle.cityseq.proofs.TextLemmas.{part-written, part-fault}
+use Rattle.cityseq.proofs.TextLemmas.{on_err_any, part-written, part-fault}
 use Rattle.cityseq.proofs.summary.write_lods.Goals as goal
 
 classes : List ℕ

@@ -1,9 +1,8 @@
 use Rattle.std.proofs.Common.{◌++◌, ◌∷◌, [], map, sym, arith}
 use Rattle.std.proofs.lemmas.List.Folds.{flat_map-map}
 use Rattle.std.specs.List.{flat_map}
-use Rattle.cj_stream.proofs.KnownLemmas.{Appends-then, AppendsPart-after, AppendsPart-front, on_err_any}
 use Rattle.cityseq.specs.Summary.{power_text}
-use Rattle.cityseq.proofs.TextLemmas.{part-fault, parts-written, fault-after}
+use Rattle.cityseq.proofs.TextLemmas.{Appends-then, AppendsPart-after, AppendsPart-front, on_err_any, part-fault, parts-written, fault-after}
 use Rattle.cityseq.proofs.summary.write_numbers.Goals as goal
 
 pub returns-in_err-write_whole-clause-fault : goal.returns-in_err-write_whole-clause-fault

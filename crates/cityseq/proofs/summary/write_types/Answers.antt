@@ -2,9 +2,8 @@ use Rattle.std.proofs.Common.{◌∙◌, sym, ap, arith}
 use Rattle.std.proofs.lemmas.List.Folds.{flat_map-map}
 use Rattle.std.specs.List.{flat_map}
 use Rattle.cj_geometry.specs.ObjectTypes.{row_at}
-use Rattle.cj_stream.proofs.KnownLemmas.{on_err_any}
 use Rattle.cityseq.specs.Summary.{type_text}
-use Rattle.cityseq.proofs.TextLemmas.{part-fault, parts-written}
+use Rattle.cityseq.proofs.TextLemmas.{on_err_any, part-fault, parts-written}
 use Rattle.cityseq.proofs.summary.write_types.Goals as goal
 
 pub returns-in_err-write_counted-clause-fault : goal.returns-in_err-write_counted-clause-fault
