@@ -1,4 +1,4 @@
-use Rattle.cityseq.proofs.command.out_of_memory.Goals as goal
+use Rattle.cityseq.proofs.decline.tell_no_memory.Goals as goal
 
 pub returns : goal.returns
 returns g c = record {

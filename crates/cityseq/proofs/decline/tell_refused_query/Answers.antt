@@ -1,4 +1,4 @@
-use Rattle.cityseq.proofs.command.refused_query.Goals as goal
+use Rattle.cityseq.proofs.decline.tell_refused_query.Goals as goal
 
 pub returns : goal.returns
 returns g c = record {

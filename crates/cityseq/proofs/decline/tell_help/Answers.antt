@@ -2,7 +2,7 @@ use Rattle.cj_stream.specs.declared.ending.End.{End}
 use Rattle.cj_stream.specs.declared.ending.End.TheVariants.{Complete}
 use Rattle.cj_stream.specs.Output.{channel}
 use Rattle.cityseq.proofs.PerformLemmas.{Says-kept}
-use Rattle.cityseq.proofs.command.help.Goals as goal
+use Rattle.cityseq.proofs.decline.tell_help.Goals as goal
 
 pub returns : goal.returns
 returns g c =

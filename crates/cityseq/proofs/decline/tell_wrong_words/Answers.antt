@@ -1,5 +1,5 @@
 use Rattle.std.proofs.Common.{refl}
-use Rattle.cityseq.proofs.command.wrong_words.Goals as goal
+use Rattle.cityseq.proofs.decline.tell_wrong_words.Goals as goal
 
 pub returns : goal.returns
 returns g c = record {
