@@ -7,7 +7,9 @@ ghost use Rattle.cityseq.specs.Report.{query_line, status_of_query};
 
 use crate::ask::end_of_writing;
 use crate::asking::NoAsk;
-use crate::report::{WRONG_WORDS, query_status, show, status, write_fault_line, write_query_fault};
+use crate::report::{
+    WRONG_WORDS, query_status, show, status, write_fault_line, write_query_fault, write_text,
+};
 use cj_budget::LimitFault;
 use cj_stream::{End, Output, QueryFault};
 use clap::Error;
@@ -65,7 +67,7 @@ fn tell_help<W: Write + Drop, E: Write + Drop>(
     ensures { TellsHelp result (channel W.contents out.old) (channel W.contents out.new)
         (channel E.contents err.old) (channel E.contents err.new) }
 {
-    let told = end_of_writing(out.write_whole(text.as_bytes()));
+    let told = end_of_writing(write_text(out, text));
     status(show(out.flush(), told, err).end)
 }
 
@@ -73,7 +75,7 @@ fn tell_help<W: Write + Drop, E: Write + Drop>(
 fn tell_wrong_words<E: Write + Drop>(text: &str, err: &mut Output<E>) -> u8
     ensures { TellsFault text.now 2 result (channel E.contents err.old) (channel E.contents err.new) }
 {
-    let _ = err.write_whole(text.as_bytes());
+    let _ = write_text(err, text);
     WRONG_WORDS
 }
 
