@@ -71,14 +71,14 @@ vertices on each axis, and the most bytes, tokens and open containers that were 
 
 /// The line limit where none is given, as the text that `clap` reads and shows.
 fn usual_line() -> &'static str
-    ensures { result.now ≡ decimal 8388608 }
+    ensures { result.now ≡ decimal USUAL_LINE }
 {
     "8388608"
 }
 
 /// The depth limit where none is given, as the text that `clap` reads and shows.
 fn usual_depth() -> &'static str
-    ensures { result.now ≡ decimal 64 }
+    ensures { result.now ≡ decimal USUAL_DEPTH }
 {
     "64"
 }
