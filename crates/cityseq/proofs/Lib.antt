@@ -1,3 +1,4 @@
 pub mod FieldLemmas
 pub mod PerformLemmas
 pub mod TextLemmas
+pub mod WroteLemmas

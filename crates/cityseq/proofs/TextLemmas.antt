@@ -1,42 +1,70 @@
 -- Texts that are written one part after another.
-use Rattle.std.proofs.Common.{◌≡◌, ℕ, ◌+◌, ◌<◌, ◌≤◌, List, [], ◌∷◌, ◌++◌, length, take, drop, get_or, Option, Result, Ok, Err, sym, ap, ◌∙◌}
+use Rattle.std.proofs.Common.{◌≡◌, ℕ, ◌+◌, ◌<◌, List, [], ◌∷◌, ◌++◌, length, take, drop, get_or, map, append_assoc, Option, None, Some, Result, Ok, Err, refl, sym, ap, ◌∙◌}
 use Rattle.std.specs.Prelude.{OnErr, OnOk}
 use Rattle.std.specs.List.{flat_map}
 use Rattle.std.specs.Io.KnownBytes.{Appends}
 use Rattle.std.proofs.lemmas.Grind.{flat_map-append}
-use Rattle.std.proofs.lemmas.List.{append-nil, take-append-drop, take_all, take_more}
+use Rattle.std.proofs.lemmas.List.{append-nil, take-append-drop, take_more}
+use Rattle.cj_stream.specs.Cut.{joined}
 use Rattle.cj_stream.specs.Sink.{AppendsPart}
-use Rattle.cj_stream.proofs.KnownLemmas.{Appends-then, AppendsPart-after, AppendsPart-front, on_err_any}
+
+-- ---- known bytes that grow twice
+
+pub Appends-nothing : (a : Option (List ℕ)) → Appends a a []
+Appends-nothing None = tt
+Appends-nothing (Some a) = sym (append-nil a)
+
+-- some bytes, and then others
+pub Appends-then : (a b c : Option (List ℕ)) (x y : List ℕ) → Appends a b x → Appends b c y → Appends a c (x ++ y)
+Appends-then None b c x y p q = tt
+Appends-then (Some a) None c x y p q = absurd p
+Appends-then (Some a) (Some b) None x y p q = absurd q
+Appends-then (Some a) (Some b) (Some c) x y p q = q ∙ (ap (λ z. z ++ y) p ∙ append_assoc a x y)
+
+-- some bytes, and then a prefix of others
+pub AppendsPart-after : (a b c : Option (List ℕ)) (x y : List ℕ) → Appends a b x → AppendsPart b c y → AppendsPart a c (x ++ y)
+AppendsPart-after a b c x y p q = record {
+  front = x ++ q.front;
+  rest = q.rest;
+  whole = ap (λ z. x ++ z) q.whole ∙ sym (append_assoc x q.front q.rest);
+  grows = Appends-then a b c x q.front p q.grows;
+}
+
+-- a prefix of some bytes, of which others follow
+pub AppendsPart-front : (a b : Option (List ℕ)) (x y : List ℕ) → AppendsPart a b x → AppendsPart a b (x ++ y)
+AppendsPart-front a b x y q = record {
+  front = q.front;
+  rest = q.rest ++ y;
+  whole = ap (λ z. z ++ y) q.whole ∙ append_assoc q.front q.rest y;
+  grows = q.grows;
+}
+
+-- a fact, whatever the result
+pub on_err_any : {T E P : Type 0} (r : Result T E) → P → OnErr r P
+on_err_any (Ok x) p = tt
+on_err_any (Err x) p = p
 
 -- ---- parts of a list
 
+-- parts that are joined stand one behind the other
+pub joined-map : {A : Type 0} (f : A → List ℕ) (xs : List A) → joined (map f xs) ≡ flat_map f xs
+joined-map f [] = refl
+joined-map f (x ∷ xs) = ap (λ z. f x ++ z) (joined-map f xs)
+
 module _ {A : Type 0} (f : A → List ℕ) (xs : List A) (i : ℕ) where
   -- one part more
-  parts_more : (d : A) → i < length xs → flat_map f (take (i + 1) xs) ≡ flat_map f (take i xs) ++ f (get_or xs i d)
+  pub parts_more : (d : A) → i < length xs → flat_map f (take (i + 1) xs) ≡ flat_map f (take i xs) ++ f (get_or xs i d)
   parts_more d small =
       ap (flat_map f) (take_more xs i d small)
       ∙ flat_map-append f (take i xs) (get_or xs i d ∷ [])
       ∙ ap (λ z. flat_map f (take i xs) ++ z) (append-nil (f (get_or xs i d)))
 
   -- all parts: those before one, that one, and those after it
-  parts_at : (d : A) → i < length xs → flat_map f xs ≡ (flat_map f (take i xs) ++ f (get_or xs i d)) ++ flat_map f (drop (i + 1) xs)
+  pub parts_at : (d : A) → i < length xs → flat_map f xs ≡ (flat_map f (take i xs) ++ f (get_or xs i d)) ++ flat_map f (drop (i + 1) xs)
   parts_at d small =
       ap (flat_map f) (sym (take-append-drop (i + 1) xs))
       ∙ flat_map-append f (take (i + 1) xs) (drop (i + 1) xs)
       ∙ ap (λ z. z ++ flat_map f (drop (i + 1) xs)) (parts_more d small)
-
-  module _ (a b : Option (List ℕ)) (before : Appends a b (flat_map f (take i xs))) where
-    -- one part more is written
-    pub part-written : (c : Option (List ℕ)) (d : A) → i < length xs → Appends b c (f (get_or xs i d)) → Appends a c (flat_map f (take (i + 1) xs))
-    part-written c d small now = rw (parts_more d small) (Appends-then a b c _ _ before now)
-
-    -- a fault in one part
-    pub part-fault : (c : Option (List ℕ)) (d : A) → i < length xs → AppendsPart b c (f (get_or xs i d)) → AppendsPart a c (flat_map f xs)
-    part-fault c d small now = rw (parts_at d small) (AppendsPart-front a c _ _ (AppendsPart-after a b c _ _ before now))
-
-    -- all parts are written
-    pub parts-written : length xs ≤ i → Appends a b (flat_map f xs)
-    parts-written all = rw (take_all i xs all) at before
 
 -- ---- one text after another
 

@@ -1,4 +1,4 @@
--- What small texts of options ask for.
+-- The criteria that small texts of options make.
 use Rattle.std.specs.Prelude.{◌≡◌, List, [], ◌∷◌, Bool, true, None, Some, Ok, Err, codes, slice_set}
 use Rattle.cj_stream.specs.Criteria.{everything}
 use Rattle.cj_stream.specs.Adding.{no_types}
@@ -14,7 +14,7 @@ no_texts = record { ids = None; types = None; lods = None; box = None }
 abbrev pub buildings : List Bool
 buildings = slice_set no_types 1 true
 
--- without an option every feature is asked for
+-- without an option every feature is wanted
 abbrev pub NothingRow : Type 0
 NothingRow = criteria_by no_texts ≡ Ok everything
 

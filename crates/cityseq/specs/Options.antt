@@ -1,4 +1,4 @@
--- What the options of `filter` ask for.
+-- The criteria that the options of `filter` make.
 use Rattle.std.specs.Prelude.{◌≡◌, ◌⊎◌, ℕ, List, [], ◌∷◌, Bool, true, Option, Some, None, Result, Ok, Err, IsSome, IsOk, slice_set, option_copied, option_map, option_and_then}
 use Rattle.cj_geometry.specs.ObjectTypes.{ObjectRow, row_named}
 use Rattle.cj_stream.specs.Criteria.{Criteria, Box}
@@ -6,16 +6,16 @@ use Rattle.cj_stream.specs.Adding.{no_types}
 use Rattle.cj_stream.specs.BoxText.{fields, box_text}
 use Rattle.cj_stream.specs.declared.query.fault.QueryFault.{QueryFault}
 use Rattle.cj_stream.specs.declared.query.fault.QueryFault.TheVariants.{Memory, UnknownTypeName, BadBox, BoxRange, EmptyBox}
-use Rattle.cityseq.specs.declared.query_texts.QueryTexts.{QueryTexts}
+use Rattle.cityseq.specs.declared.words.QueryTexts.{QueryTexts}
 
--- the texts of the options that were given
+-- the texts of the options of a query that were given
 pub record Texts : Type 0 where
   pub ids : Option (List ℕ)
   pub types : Option (List ℕ)
   pub lods : Option (List ℕ)
   pub box : Option (List ℕ)
 
--- the texts of the options that were given
+-- the same, as the program has them
 abbrev pub texts_of : QueryTexts → Texts
 texts_of t = record {
   ids = option_copied t.ids;
@@ -29,7 +29,7 @@ abbrev pub flags_with : List (List ℕ) → List Bool → Option (List Bool)
 flags_with [] flags = Some flags
 flags_with (name ∷ names) flags = option_and_then (λ (row : ObjectRow). flags_with names (slice_set flags row.number true)) (row_named name)
 
--- the types that an option asks for: their names stand between its commas
+-- the types that an option names, between its commas; or its refusal
 abbrev pub types_or_fault : Option (List Bool) → Result (Option (List Bool)) QueryFault
 types_or_fault None = Err UnknownTypeName
 types_or_fault (Some flags) = Ok (Some flags)
@@ -38,7 +38,7 @@ abbrev pub types_wanted : Option (List ℕ) → Result (Option (List Bool)) Quer
 types_wanted None = Ok None
 types_wanted (Some text) = types_or_fault (flags_with (fields text) no_types)
 
--- the box that an option asks for
+-- the box that an option gives, or its refusal
 abbrev pub box_or_fault : Result Box QueryFault → Result (Option Box) QueryFault
 box_or_fault (Ok box) = Ok (Some box)
 box_or_fault (Err fault) = Err fault
@@ -47,13 +47,13 @@ abbrev pub box_wanted : Option (List ℕ) → Result (Option Box) QueryFault
 box_wanted None = Ok None
 box_wanted (Some text) = box_or_fault (box_text text)
 
--- what is asked with these ids and LoDs, types and a box; the first refusal of the last two, if there is one
+-- the criteria of these ids and LoDs, types and a box; the first refusal of the last two, if there is one
 abbrev pub criteria_with : Option (List (List ℕ)) → Option (List (List ℕ)) → Result (Option (List Bool)) QueryFault → Result (Option Box) QueryFault → Result Criteria QueryFault
 criteria_with ids lods (Err fault) box = Err fault
 criteria_with ids lods (Ok types) (Err fault) = Err fault
 criteria_with ids lods (Ok types) (Ok box) = Ok (record { ids = ids; types = types; lods = lods; box = box })
 
--- what the texts ask for: ids, types and LoDs are what stands between the commas, be it nothing
+-- the criteria that texts make: ids, types and LoDs are what stands between the commas, be it nothing
 abbrev pub criteria_by : Texts → Result Criteria QueryFault
 criteria_by t = criteria_with (option_map fields t.ids) (option_map fields t.lods) (types_wanted t.types) (box_wanted t.box)
 

@@ -26,8 +26,8 @@ use Rattle.cityseq.specs.Summary.{check_text, report}
 use Rattle.cityseq.specs.Words.{CannotAsk}
 use Rattle.cityseq.specs.declared.ask.Ask.{Ask}
 use Rattle.cityseq.specs.declared.ask.Ask.TheVariants.{Check, Filter, Info}
-use Rattle.cityseq.specs.declared.command.NoAsk.{NoAsk}
-use Rattle.cityseq.specs.declared.command.NoAsk.TheVariants.{Words, NoCommand, Limits, Query}
+use Rattle.cityseq.specs.declared.asking.NoAsk.{NoAsk}
+use Rattle.cityseq.specs.declared.asking.NoAsk.TheVariants.{Words, NoCommand, Limits, Query}
 use Rattle.cityseq.specs.declared.report.Shown.{Shown}
 
 -- ---- texts of our own

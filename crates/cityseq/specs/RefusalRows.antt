@@ -19,7 +19,7 @@ MemoryRows =
     × RefusesBy (record no_texts { types = Some (codes "Road"); lods = Some (codes "1") }) Memory
     × RefusesBy (record no_box { lods = Some (codes "1") }) Memory
 
--- it cannot be where nothing is asked, of types, of a box, or to LoDs behind types that are refused
+-- it cannot be where no option is given, to types, to a box, or to LoDs behind types that are refused
 abbrev pub NoMemoryRows : Type 0
 NoMemoryRows =
     ¬ RefusesBy no_texts Memory

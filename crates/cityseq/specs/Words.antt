@@ -9,7 +9,7 @@ use Rattle.cityseq.specs.Options.{Texts, criteria_by, RefusesBy}
 use Rattle.cityseq.specs.declared.ask.Ask.{Ask}
 use Rattle.cityseq.specs.declared.ask.Ask.TheVariants.{Check, Filter, Info}
 
--- the texts that `filter` was given
+-- the texts of the options of a query that a command was given
 abbrev pub texts_in : ArgMatches → Texts
 texts_in m = record {
   ids = first_value (found_of m) (codes "id");
@@ -34,6 +34,6 @@ AsksBy name m (Check limits) = (name ≡ codes "check") × HasLimits m limits
 AsksBy name m (Filter limits query) = (name ≡ codes "filter") × HasLimits m limits × (criteria_by (texts_in m) ≡ Ok (criteria query))
 AsksBy name m (Info limits) = (name ≡ codes "info") × HasLimits m limits
 
--- it cannot be asked: it is `filter`, and this is the first refusal of its options
+-- a command of this name with these options cannot be asked: it is `filter`, and this is the first refusal of its texts
 abbrev pub CannotAsk : List ℕ → ArgMatches → QueryFault → Type 0
 CannotAsk name m fault = (name ≡ codes "filter") × RefusesBy (texts_in m) fault

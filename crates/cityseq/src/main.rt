@@ -2,33 +2,42 @@
 //! says whether it is valid (`check`), copies the header and the features that are wanted, byte for byte
 //! (`filter`), or reports what is in it (`info`).
 //!
-//! `words` reads the command line by `clap`, `asking` makes a query of its options, and `command` tells what
-//! is asked for; `ask` does it by the engine of `cj_stream`, over standard input and output. `summary` writes
-//! what `check` and `info` say, and `report` how a run ended.
-//! `option_laws`, `end_laws` and `text_laws` are worked rows of their definitions, as theorems.
+//! A command line goes one way down, and each file calls those below it:
+//!
+//! - `command` does what the words ask for, or declines it;
+//! - `asking` makes an `Ask` of the words, with its limits and its query;
+//! - `words` has `clap` read the words, and shows the limits and the texts among them;
+//! - `ask` does what is asked, by the engine of `cj_stream`, over standard input and output;
+//! - `summary` writes what `check` and `info` say of a stream;
+//! - `decline` tells why nothing is done: help, wrong words, or a query that cannot be asked;
+//! - `report` has the lines that standard error is told, and the statuses.
+//!
+//! `option_laws`, `summary_laws` and `end_laws` are worked rows of the definitions, as theorems.
 #![tactic(auto)]
 
 mod ask;
-mod query_texts;
+mod asking;
 mod command;
+mod decline;
 mod end_laws;
 mod option_laws;
 mod report;
 mod summary;
+mod summary_laws;
 #[cfg(test)]
 mod tests;
-mod text_laws;
 mod words;
 
 use crate::command::command;
-use crate::report::{WRONG_WORDS, status, write_fault_line};
-use cj_stream::{End, Output};
+use crate::decline::tell_no_memory;
+use crate::report::WRONG_WORDS;
+use cj_stream::Output;
 use std::alloc::{AllocError, Global};
 use std::env;
 use std::io::{BufWriter, ErrorKind};
 use std::process::ExitCode;
 
-/// The bytes that are gathered before standard output is written to.
+/// How many bytes are gathered before standard output is written to: 64 KiB.
 const OUTPUT_BUFFER: usize = 65_536;
 
 /// Why the words of the command line are not to be had.
@@ -39,8 +48,8 @@ enum WordsFault {
     Memory,
 }
 
-/// The arguments, the program's name first.
-fn read_words(rt: &HostRuntime) -> Result<Vec<String>, WordsFault> {
+/// The words of the command line, the program's name first.
+fn take_words(rt: &HostRuntime) -> Result<Vec<String>, WordsFault> {
     let arguments = match env::args(rt) {
         Ok(arguments) => arguments,
         Err(fault) if fault.kind() == ErrorKind::OutOfMemory => return Err(WordsFault::Memory),
@@ -51,23 +60,18 @@ fn read_words(rt: &HostRuntime) -> Result<Vec<String>, WordsFault> {
         .map_err(|_: AllocError| WordsFault::Memory)
 }
 
-/// Says that memory was refused.
-fn tell_no_memory(rt: &HostRuntime) -> u8 {
-    let _ = write_fault_line(&mut Output::new(rt.stderr()), End::Memory);
-    status(End::Memory)
-}
-
+/// Runs the command over the words and the devices of the process, and answers the status.
 fn run_program(rt: &HostRuntime, alloc: Global) -> u8 {
-    let words = match read_words(rt) {
+    let mut err = Output::new(rt.stderr());
+    let words = match take_words(rt) {
         Ok(words) => words,
         Err(WordsFault::NoWords) => return WRONG_WORDS,
-        Err(WordsFault::Memory) => return tell_no_memory(rt),
+        Err(WordsFault::Memory) => return tell_no_memory(&mut err),
     };
     let Ok(buffer) = BufWriter::with_capacity(alloc, OUTPUT_BUFFER, rt.stdout()) else {
-        return tell_no_memory(rt);
+        return tell_no_memory(&mut err);
     };
     let mut out = Output::new(buffer);
-    let mut err = Output::new(rt.stderr());
     command(alloc, &words, &mut rt.stdin(), &mut out, &mut err)
 }
 

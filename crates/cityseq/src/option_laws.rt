@@ -1,7 +1,9 @@
-//! Laws of the definition of what options ask for, proved once and for all.
+//! Laws of the definition of the criteria that options make, proved once and for all.
 ghost use Rattle.cityseq.specs.OptionRows.{NothingRow, IdRows, LodRow, TypeRows, BoxRow, OrderRows, AllRow};
 
-/// The definition, on small texts whose answers are known.
+use cj_stream::box_laws::boxes_compute;
+
+/// The definition, on small texts whose criteria or refusals are known.
 pub fn options_compute()
     ensures nothing { NothingRow }
     ensures ids { IdRows }
@@ -10,4 +12,6 @@ pub fn options_compute()
     ensures a_box { BoxRow }
     ensures order { OrderRows }
     ensures all { AllRow }
-{}
+{
+    boxes_compute();
+}

@@ -3,8 +3,8 @@ ghost use Rattle.std.specs.Prelude.{◌≡◌, OnOk, OnErr, map, ◌∷◌, [], 
 ghost use Rattle.std.specs.Io.KnownBytes.{Appends};
 ghost use Rattle.cj_stream.specs.Cut.{joined};
 ghost use Rattle.cj_stream.specs.Sink.{AppendsPart, RisesOnErr};
-ghost use Rattle.cj_stream.specs.Output.{output_writer, output_failures};
-ghost use Rattle.cityseq.specs.Report.{fault_line, query_line, shown_end, status_of, status_of_query};
+ghost use Rattle.cj_stream.specs.Output.{channel, output_writer, output_failures};
+ghost use Rattle.cityseq.specs.Report.{Wrote, fault_line, query_line, shown_end, status_of, status_of_query};
 
 use cj_spans::Reason;
 use cj_stream::{End, Output, QueryFault, WriteFault};
@@ -23,7 +23,7 @@ pub struct Shown {
     pub line: Result<(), WriteFault>,
 }
 
-/// The status of the program.
+/// The status of the program, by how it ended.
 pub fn status(end: End) -> u8
     ensures { result ≡ status_of end }
 {
@@ -59,60 +59,54 @@ fn end_after(flushed: Result<(), WriteFault>, ended: End) -> End
     }
 }
 
-/// Writes these parts, one after another.
-pub fn write_parts<W: Write + Drop>(out: &mut Output<W>, parts: &[&[u8]]) -> Result<(), WriteFault>
-    ensures ok { OnOk result
-        (Appends (W.contents (output_writer out.old)) (W.contents (output_writer out.new))
-        (joined (map (λ part. part.now) parts.now))) }
-    ensures fault { OnErr result
-        (AppendsPart (W.contents (output_writer out.old)) (W.contents (output_writer out.new))
-        (joined (map (λ part. part.now) parts.now))) }
-    ensures failures { RisesOnErr result (output_failures out.old) (output_failures out.new) }
+/// Writes a text.
+pub fn write_text<W: Write + Drop>(out: &mut Output<W>, text: &str) -> Result<(), WriteFault>
+    ensures { Wrote text.now result (channel W.contents out.old) (channel W.contents out.new) }
+{
+    out.write_whole(text.as_bytes())
+}
+
+/// Writes a text that is given in parts.
+pub fn write_parts<W: Write + Drop>(out: &mut Output<W>, parts: &[&str]) -> Result<(), WriteFault>
+    ensures { Wrote (joined (map (λ part. part.now) parts.now)) result
+        (channel W.contents out.old) (channel W.contents out.new) }
 {
     for part in parts {
-        out.write_whole(part)?;
+        write_text(out, part)?;
     }
     Ok(())
 }
 
+/// Writes what is told of a line that is refused.
 fn write_refusal<E: Write + Drop>(
     err: &mut Output<E>,
     line: u64,
     place: u64,
     reason: Reason,
 ) -> Result<(), WriteFault>
-    ensures ok { OnOk result
-        (Appends (E.contents (output_writer err.old)) (E.contents (output_writer err.new))
-        (fault_line (End.Refused line place reason))) }
-    ensures fault { OnErr result
-        (AppendsPart (E.contents (output_writer err.old)) (E.contents (output_writer err.new))
-        (fault_line (End.Refused line place reason))) }
-    ensures failures { RisesOnErr result (output_failures err.old) (output_failures err.new) }
+    ensures { Wrote (fault_line (End.Refused line place reason)) result
+        (channel E.contents err.old) (channel E.contents err.new) }
 {
     let mut line_digits = Buffer::new();
     let mut place_digits = Buffer::new();
     let mut code_digits = Buffer::new();
     let parts = [
-        "line ".as_bytes(),
-        line_digits.format(line).as_bytes(),
-        ", byte ".as_bytes(),
-        place_digits.format(place).as_bytes(),
-        ": ".as_bytes(),
-        code_digits.format(reason.code()).as_bytes(),
-        " ".as_bytes(),
-        reason.text().as_bytes(),
-        "\n".as_bytes(),
+        "line ",
+        line_digits.format(line),
+        ", byte ",
+        place_digits.format(place),
+        ": ",
+        code_digits.format(reason.code()),
+        " ",
+        reason.text(),
+        "\n",
     ];
     write_parts(err, &parts)
 }
 
 /// Writes the line that an end has on standard error; a complete run has none.
 pub fn write_fault_line<E: Write + Drop>(err: &mut Output<E>, end: End) -> Result<(), WriteFault>
-    ensures ok { OnOk result
-        (Appends (E.contents (output_writer err.old)) (E.contents (output_writer err.new)) (fault_line end)) }
-    ensures fault { OnErr result
-        (AppendsPart (E.contents (output_writer err.old)) (E.contents (output_writer err.new)) (fault_line end)) }
-    ensures failures { RisesOnErr result (output_failures err.old) (output_failures err.new) }
+    ensures { Wrote (fault_line end) result (channel E.contents err.old) (channel E.contents err.new) }
 {
     match end {
         End::Complete => Ok(()),
@@ -121,30 +115,26 @@ pub fn write_fault_line<E: Write + Drop>(err: &mut Output<E>, end: End) -> Resul
             place,
             reason,
         } => write_refusal(err, line, place, reason),
-        End::ReadFault => err.write_whole(b"read fault\n"),
-        End::ReadLimit => err.write_whole(b"read limit\n"),
-        End::WriteFault => err.write_whole(b"write fault\n"),
-        End::Memory => err.write_whole(b"out of memory\n"),
+        End::ReadFault => write_text(err, "read fault\n"),
+        End::ReadLimit => write_text(err, "read limit\n"),
+        End::WriteFault => write_text(err, "write fault\n"),
+        End::Memory => write_text(err, "out of memory\n"),
     }
 }
 
-/// Writes the line that a query has on standard error that cannot be asked.
+/// Writes the line that a query which cannot be asked has on standard error.
 pub fn write_query_fault<E: Write + Drop>(
     err: &mut Output<E>,
     fault: QueryFault,
 ) -> Result<(), WriteFault>
-    ensures ok { OnOk result
-        (Appends (E.contents (output_writer err.old)) (E.contents (output_writer err.new)) (query_line fault)) }
-    ensures fault { OnErr result
-        (AppendsPart (E.contents (output_writer err.old)) (E.contents (output_writer err.new)) (query_line fault)) }
-    ensures failures { RisesOnErr result (output_failures err.old) (output_failures err.new) }
+    ensures { Wrote (query_line fault) result (channel E.contents err.old) (channel E.contents err.new) }
 {
     match fault {
         QueryFault::Memory => write_fault_line(err, End::Memory),
-        QueryFault::UnknownTypeName => err.write_whole(b"unknown object type\n"),
-        QueryFault::BadBox => err.write_whole(b"bad box\n"),
-        QueryFault::BoxRange => err.write_whole(b"box number out of range\n"),
-        QueryFault::EmptyBox => err.write_whole(b"empty box\n"),
+        QueryFault::UnknownTypeName => write_text(err, "unknown object type\n"),
+        QueryFault::BadBox => write_text(err, "bad box\n"),
+        QueryFault::BoxRange => write_text(err, "box number out of range\n"),
+        QueryFault::EmptyBox => write_text(err, "empty box\n"),
     }
 }
 

@@ -2,11 +2,12 @@
 ghost use Rattle.std.specs.Prelude.{◌≡◌, ◌≤◌, OnOk, OnErr, get_or, map, ◌∷◌, []};
 ghost use Rattle.std.specs.Io.KnownBytes.{Appends};
 ghost use Rattle.cj_stream.specs.Sink.{AppendsPart, RisesOnErr};
-ghost use Rattle.cj_stream.specs.Output.{output_writer, output_failures};
+ghost use Rattle.cj_stream.specs.Output.{channel, output_writer, output_failures};
+ghost use Rattle.cityseq.specs.Report.{Wrote};
 ghost use Rattle.cityseq.specs.Summary.{check_text, numbers_line, power_text, types_text, class_names, lods_text, range_line, ranges_text, tally_text, peaks_text, report};
 ghost use Rattle.cityseq.specs.Text.{text_line, count_line, counted};
 
-use crate::report::write_parts;
+use crate::report::{write_parts, write_text};
 use cj_budget::Peaks;
 use cj_decimal::Decimal;
 use cj_geometry::ObjectType;
@@ -14,7 +15,7 @@ use cj_stream::{Output, TallySink, WriteFault};
 use itoa::Buffer;
 use std::io::Write;
 
-/// How many classes of levels of detail tallies number.
+/// How many classes of LoDs a tally has.
 const CLASSES: u8 = 6;
 
 /// Writes what `check` says: how many lines were dealt with, and how many features are among them.
@@ -38,11 +39,11 @@ pub fn write_check<W: Write + Drop>(
     let mut line_digits = Buffer::new();
     let mut feature_digits = Buffer::new();
     let parts = [
-        "valid lines=".as_bytes(),
-        line_digits.format(lines).as_bytes(),
-        " features=".as_bytes(),
-        feature_digits.format(features).as_bytes(),
-        "\n".as_bytes(),
+        "valid lines=",
+        line_digits.format(lines),
+        " features=",
+        feature_digits.format(features),
+        "\n",
     ];
     write_parts(out, &parts)
 }
@@ -53,19 +54,14 @@ fn write_line<W: Write + Drop>(
     name: &str,
     words: &[&str],
 ) -> Result<(), WriteFault>
-    ensures ok { OnOk result
-        (Appends (W.contents (output_writer out.old)) (W.contents (output_writer out.new))
-        (text_line name.now (map (λ word. word.now) words.now))) }
-    ensures fault { OnErr result
-        (AppendsPart (W.contents (output_writer out.old)) (W.contents (output_writer out.new))
-        (text_line name.now (map (λ word. word.now) words.now))) }
-    ensures failures { RisesOnErr result (output_failures out.old) (output_failures out.new) }
+    ensures { Wrote (text_line name.now (map (λ word. word.now) words.now)) result
+        (channel W.contents out.old) (channel W.contents out.new) }
 {
-    out.write_whole(name.as_bytes())?;
+    write_text(out, name)?;
     for word in words {
-        write_parts(out, &[b" ", word.as_bytes()])?;
+        write_parts(out, &[" ", *word])?;
     }
-    out.write_whole(b"\n")
+    write_text(out, "\n")
 }
 
 /// Writes a line with a count.
@@ -74,13 +70,7 @@ fn write_count<W: Write + Drop>(
     name: &str,
     count: u64,
 ) -> Result<(), WriteFault>
-    ensures ok { OnOk result
-        (Appends (W.contents (output_writer out.old)) (W.contents (output_writer out.new))
-        (count_line name.now count)) }
-    ensures fault { OnErr result
-        (AppendsPart (W.contents (output_writer out.old)) (W.contents (output_writer out.new))
-        (count_line name.now count)) }
-    ensures failures { RisesOnErr result (output_failures out.old) (output_failures out.new) }
+    ensures { Wrote (count_line name.now count) result (channel W.contents out.old) (channel W.contents out.new) }
 {
     let mut digits = Buffer::new();
     write_line(out, name, &[digits.format(count)])
@@ -93,13 +83,7 @@ fn write_counted<W: Write + Drop>(
     name: &str,
     count: u64,
 ) -> Result<(), WriteFault>
-    ensures ok { OnOk result
-        (Appends (W.contents (output_writer out.old)) (W.contents (output_writer out.new))
-        (counted kind.now name.now count)) }
-    ensures fault { OnErr result
-        (AppendsPart (W.contents (output_writer out.old)) (W.contents (output_writer out.new))
-        (counted kind.now name.now count)) }
-    ensures failures { RisesOnErr result (output_failures out.old) (output_failures out.new) }
+    ensures { Wrote (counted kind.now name.now count) result (channel W.contents out.old) (channel W.contents out.new) }
 {
     if count == 0 {
         return Ok(());
@@ -110,20 +94,15 @@ fn write_counted<W: Write + Drop>(
 
 /// Writes a number, behind a space, as its coefficient, `e`, and its power of ten.
 fn write_power<W: Write + Drop>(out: &mut Output<W>, number: Decimal) -> Result<(), WriteFault>
-    ensures ok { OnOk result
-        (Appends (W.contents (output_writer out.old)) (W.contents (output_writer out.new)) (32 ∷ power_text number)) }
-    ensures fault { OnErr result
-        (AppendsPart (W.contents (output_writer out.old)) (W.contents (output_writer out.new))
-        (32 ∷ power_text number)) }
-    ensures failures { RisesOnErr result (output_failures out.old) (output_failures out.new) }
+    ensures { Wrote (32 ∷ power_text number) result (channel W.contents out.old) (channel W.contents out.new) }
 {
     let mut coefficient = Buffer::new();
     let mut power = Buffer::new();
     let parts = [
-        " ".as_bytes(),
-        coefficient.format(number.coefficient()).as_bytes(),
-        "e".as_bytes(),
-        power.format(number.power()).as_bytes(),
+        " ",
+        coefficient.format(number.coefficient()),
+        "e",
+        power.format(number.power()),
     ];
     write_parts(out, &parts)
 }
@@ -134,31 +113,21 @@ fn write_numbers<W: Write + Drop>(
     name: &str,
     numbers: Option<[Decimal; 3]>,
 ) -> Result<(), WriteFault>
-    ensures ok { OnOk result
-        (Appends (W.contents (output_writer out.old)) (W.contents (output_writer out.new))
-        (numbers_line name.now numbers)) }
-    ensures fault { OnErr result
-        (AppendsPart (W.contents (output_writer out.old)) (W.contents (output_writer out.new))
-        (numbers_line name.now numbers)) }
-    ensures failures { RisesOnErr result (output_failures out.old) (output_failures out.new) }
+    ensures { Wrote (numbers_line name.now numbers) result (channel W.contents out.old) (channel W.contents out.new) }
 {
     let Some(numbers) = numbers else {
         return Ok(());
     };
-    out.write_whole(name.as_bytes())?;
+    write_text(out, name)?;
     for number in numbers {
         write_power(out, number)?;
     }
-    out.write_whole(b"\n")
+    write_text(out, "\n")
 }
 
 /// Writes how many city objects there are of each type of which there are some.
 fn write_types<W: Write + Drop>(out: &mut Output<W>, tally: &TallySink) -> Result<(), WriteFault>
-    ensures ok { OnOk result
-        (Appends (W.contents (output_writer out.old)) (W.contents (output_writer out.new)) (types_text tally.now)) }
-    ensures fault { OnErr result
-        (AppendsPart (W.contents (output_writer out.old)) (W.contents (output_writer out.new)) (types_text tally.now)) }
-    ensures failures { RisesOnErr result (output_failures out.old) (output_failures out.new) }
+    ensures { Wrote (types_text tally.now) result (channel W.contents out.old) (channel W.contents out.new) }
 {
     for object_type in ObjectType::all() {
         write_counted(out, "type", object_type.name(), tally.by_type(object_type))?;
@@ -166,7 +135,7 @@ fn write_types<W: Write + Drop>(out: &mut Output<W>, tally: &TallySink) -> Resul
     Ok(())
 }
 
-/// The name of a class of levels of detail.
+/// The name of a class of LoDs.
 fn class_name(class: u8) -> &'static str
     requires { class ≤ 5 }
     ensures { result.now ≡ get_or class_names class [] }
@@ -183,11 +152,7 @@ fn class_name(class: u8) -> &'static str
 
 /// Writes how many geometries there are of each class of LoDs of which there are some.
 fn write_lods<W: Write + Drop>(out: &mut Output<W>, tally: &TallySink) -> Result<(), WriteFault>
-    ensures ok { OnOk result
-        (Appends (W.contents (output_writer out.old)) (W.contents (output_writer out.new)) (lods_text tally.now)) }
-    ensures fault { OnErr result
-        (AppendsPart (W.contents (output_writer out.old)) (W.contents (output_writer out.new)) (lods_text tally.now)) }
-    ensures failures { RisesOnErr result (output_failures out.old) (output_failures out.new) }
+    ensures { Wrote (lods_text tally.now) result (channel W.contents out.old) (channel W.contents out.new) }
 {
     for class in 0..CLASSES {
         write_counted(out, "lod", class_name(class), tally.by_lod(class))?;
@@ -201,13 +166,7 @@ fn write_range<W: Write + Drop>(
     axis: &str,
     range: Option<(i64, i64)>,
 ) -> Result<(), WriteFault>
-    ensures ok { OnOk result
-        (Appends (W.contents (output_writer out.old)) (W.contents (output_writer out.new))
-        (range_line axis.now range)) }
-    ensures fault { OnErr result
-        (AppendsPart (W.contents (output_writer out.old)) (W.contents (output_writer out.new))
-        (range_line axis.now range)) }
-    ensures failures { RisesOnErr result (output_failures out.old) (output_failures out.new) }
+    ensures { Wrote (range_line axis.now range) result (channel W.contents out.old) (channel W.contents out.new) }
 {
     let Some((least, greatest)) = range else {
         return Ok(());
@@ -223,25 +182,16 @@ fn write_range<W: Write + Drop>(
 
 /// Writes the range of each axis.
 fn write_ranges<W: Write + Drop>(out: &mut Output<W>, tally: &TallySink) -> Result<(), WriteFault>
-    ensures ok { OnOk result
-        (Appends (W.contents (output_writer out.old)) (W.contents (output_writer out.new)) (ranges_text tally.now)) }
-    ensures fault { OnErr result
-        (AppendsPart (W.contents (output_writer out.old)) (W.contents (output_writer out.new))
-        (ranges_text tally.now)) }
-    ensures failures { RisesOnErr result (output_failures out.old) (output_failures out.new) }
+    ensures { Wrote (ranges_text tally.now) result (channel W.contents out.old) (channel W.contents out.new) }
 {
     write_range(out, "x", tally.range(0))?;
     write_range(out, "y", tally.range(1))?;
     write_range(out, "z", tally.range(2))
 }
 
-/// Writes a tally.
+/// Writes what was counted: features, the transform, types, LoDs and ranges.
 fn write_tally<W: Write + Drop>(out: &mut Output<W>, tally: &TallySink) -> Result<(), WriteFault>
-    ensures ok { OnOk result
-        (Appends (W.contents (output_writer out.old)) (W.contents (output_writer out.new)) (tally_text tally.now)) }
-    ensures fault { OnErr result
-        (AppendsPart (W.contents (output_writer out.old)) (W.contents (output_writer out.new)) (tally_text tally.now)) }
-    ensures failures { RisesOnErr result (output_failures out.old) (output_failures out.new) }
+    ensures { Wrote (tally_text tally.now) result (channel W.contents out.old) (channel W.contents out.new) }
 {
     write_count(out, "features", tally.features())?;
     write_numbers(out, "scale", tally.scale())?;
@@ -253,11 +203,7 @@ fn write_tally<W: Write + Drop>(out: &mut Output<W>, tally: &TallySink) -> Resul
 
 /// Writes how much was held at most.
 fn write_peaks<W: Write + Drop>(out: &mut Output<W>, peaks: Peaks) -> Result<(), WriteFault>
-    ensures ok { OnOk result
-        (Appends (W.contents (output_writer out.old)) (W.contents (output_writer out.new)) (peaks_text peaks)) }
-    ensures fault { OnErr result
-        (AppendsPart (W.contents (output_writer out.old)) (W.contents (output_writer out.new)) (peaks_text peaks)) }
-    ensures failures { RisesOnErr result (output_failures out.old) (output_failures out.new) }
+    ensures { Wrote (peaks_text peaks) result (channel W.contents out.old) (channel W.contents out.new) }
 {
     write_count(out, "peak bytes", peaks.bytes)?;
     write_count(out, "peak tokens", peaks.tokens)?;

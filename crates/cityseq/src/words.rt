@@ -1,14 +1,13 @@
-//! The words of the command line, read by `clap`.
+//! The words of the command line, read by `clap`: the help, and the limits and the texts that options give.
 ghost use Rattle.std.specs.Prelude.{◌≡◌, IfOk, decimal};
 ghost use Rattle.cityseq.specs.Options.{texts_of as texts_given};
 ghost use Rattle.cityseq.specs.Words.{texts_in, HasNumber, HasLimits};
 
-use crate::query_texts::QueryTexts;
 use cj_budget::{LimitFault, Limits};
 use clap::{Arg, ArgMatches, Command, Error, value_parser};
 use std::alloc::{AllocError, Global};
 
-/// The version of the program.
+/// As `--version` tells it.
 const VERSION: &str = "0.1.0";
 
 /// The line limit where none is given: 8 MiB.
@@ -17,7 +16,7 @@ pub const USUAL_LINE: u64 = 8_388_608;
 /// The depth limit where none is given.
 pub const USUAL_DEPTH: u64 = 64;
 
-/// The ids by which options are known.
+/// The options, by the names that `clap` knows them by.
 const LINE_LIMIT: &str = "line-limit";
 
 const DEPTH: &str = "depth";
@@ -30,7 +29,7 @@ const LODS: &str = "lod";
 
 const BBOX: &str = "bbox";
 
-/// What follows the help on a command.
+/// What follows the help on the program.
 const STATUSES: &str = "\
 Exit status:
   0  the stream is valid up to its end
@@ -44,7 +43,7 @@ Exit status:
 A CityJSONSeq stream is read from standard input: a CityJSON 2.0 header, then a CityJSONFeature a
 line. docs/RULES.md explains each reason, and docs/GUIDE.md shows the program at work.";
 
-/// Examples, for the help on each command.
+/// What follows the help on a command.
 const CHECK_EXAMPLE: &str = "\
 Example:
   cityseq check < town.city.jsonl
@@ -72,19 +71,19 @@ vertices on each axis, and the most bytes, tokens and open containers that were 
 
 /// The line limit where none is given, as the text that `clap` reads and shows.
 fn usual_line() -> &'static str
-    ensures { result.now ≡ decimal 8388608 }
+    ensures { result.now ≡ decimal USUAL_LINE }
 {
     "8388608"
 }
 
 /// The depth limit where none is given, as the text that `clap` reads and shows.
 fn usual_depth() -> &'static str
-    ensures { result.now ≡ decimal 64 }
+    ensures { result.now ≡ decimal USUAL_DEPTH }
 {
     "64"
 }
 
-/// The options that all commands have.
+/// A command with the options that all commands have: the limits.
 fn with_limits(command: Command<'_>, alloc: Global) -> Result<Command<'_>, AllocError> {
     let line = Arg::new(alloc, LINE_LIMIT)
         .long(LINE_LIMIT)
@@ -101,8 +100,8 @@ fn with_limits(command: Command<'_>, alloc: Global) -> Result<Command<'_>, Alloc
     command.arg(line)?.arg(depth)
 }
 
-/// An option of `filter` that takes texts.
-fn texts_option<'a>(alloc: Global, name: &'a str, value: &'a str, help: &'a str) -> Arg<'a> {
+/// An option of a query, which takes a text.
+fn query_option<'a>(alloc: Global, name: &'a str, value: &'a str, help: &'a str) -> Arg<'a> {
     Arg::new(alloc, name)
         .long(name)
         .value_name(value)
@@ -121,25 +120,25 @@ fn filter_command<'a>(alloc: Global) -> Result<Command<'a>, AllocError> {
         .about("Copy the header and the features that are wanted")
         .after_help(FILTER_EXAMPLE);
     with_limits(command, alloc)?
-        .arg(texts_option(
+        .arg(query_option(
             alloc,
             IDS,
             "IDS",
             "Keep a feature whose id is one of these, with commas between them",
         ))?
-        .arg(texts_option(
+        .arg(query_option(
             alloc,
             TYPES,
             "TYPES",
             "Keep a feature that has a city object of one of these types, with commas between them",
         ))?
-        .arg(texts_option(
+        .arg(query_option(
             alloc,
             LODS,
             "LODS",
             "Keep a feature that has a geometry with one of these as its lod, with commas between them",
         ))?
-        .arg(texts_option(
+        .arg(query_option(
             alloc,
             BBOX,
             "MINX,MINY,MAXX,MAXY",
@@ -154,7 +153,7 @@ fn info_command<'a>(alloc: Global) -> Result<Command<'a>, AllocError> {
     with_limits(command, alloc)
 }
 
-/// The command line of the program.
+/// What `clap` knows of the command line: the program with its commands, their options and all help.
 fn program<'a>(alloc: Global) -> Result<Command<'a>, AllocError> {
     Command::new(alloc, "cityseq")
         .version(VERSION)
@@ -198,7 +197,21 @@ pub fn limits_of(matches: &ArgMatches) -> Result<Limits, LimitFault>
     Limits::new(line, depth)
 }
 
-/// The texts that `filter` was given.
+/// The texts of the options of a query, as they were given. Where there are commas, what stands between two of
+/// them is one id, name or LoD, also where it is empty.
+#[derive(Clone, Copy, Debug)]
+pub struct QueryTexts<'a> {
+    /// Ids of features, with commas between them.
+    pub ids: Option<&'a str>,
+    /// Names of types of city objects, with commas between them.
+    pub types: Option<&'a str>,
+    /// LoDs, with commas between them.
+    pub lods: Option<&'a str>,
+    /// The edges of a box, `minx,miny,maxx,maxy`.
+    pub bbox: Option<&'a str>,
+}
+
+/// The texts of the options of a query that a command was given.
 pub fn texts_of<'a>(matches: &ArgMatches<'a>) -> QueryTexts<'a>
     ensures { texts_given result ≡ texts_in matches.now }
 {

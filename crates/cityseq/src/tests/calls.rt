@@ -59,7 +59,11 @@ fn words(alloc: Global, parts: &[&str]) -> Result<Vec<String>, Fail> {
 }
 
 /// Runs the command that these words after the program's name ask for.
-pub fn commanded<R: Read>(alloc: Global, arguments: &[&str], reader: &mut R) -> Result<Written, Fail> {
+pub fn commanded<R: Read>(
+    alloc: Global,
+    arguments: &[&str],
+    reader: &mut R,
+) -> Result<Written, Fail> {
     let arguments = words(alloc, arguments)?;
     let mut out = Vec::new(alloc);
     let mut err = Vec::new(alloc);

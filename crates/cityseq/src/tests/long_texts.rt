@@ -2,7 +2,9 @@
 use super::calls::{check_bytes, check_number, check_written, commanded, joined};
 use super::devices::{SlowReader, SlowWriter};
 use super::texts::{FEATURE, HEADER};
+use crate::OUTPUT_BUFFER;
 use crate::ask::{Ask, perform};
+use crate::words::{USUAL_DEPTH, USUAL_LINE};
 use cj_budget::Limits;
 use cj_stream::{Output, Query};
 use std::alloc::Global;
@@ -27,9 +29,9 @@ fn filter_through(
     writer: &mut SlowWriter,
     err: &mut Vec<u8>,
 ) -> Result<u8, Fail> {
-    let ask = Ask::Filter(Limits::new(8_388_608, 64)?, Query::all(alloc));
+    let ask = Ask::Filter(Limits::new(USUAL_LINE, USUAL_DEPTH)?, Query::all(alloc));
     let mut reader = SlowReader::new(text, 10_000);
-    let buffer = BufWriter::with_capacity(alloc, 65_536, writer)?;
+    let buffer = BufWriter::with_capacity(alloc, OUTPUT_BUFFER, writer)?;
     Ok(perform(
         alloc,
         &ask,
@@ -141,7 +143,7 @@ fn check_last(
 }
 
 #[test]
-fn many_texts_are_asked_for(rt: HostRuntime) -> Result<(), Fail> {
+fn a_query_of_many_texts(rt: HostRuntime) -> Result<(), Fail> {
     check_last(&rt, rt.alloc(), "--id", "b2", "b1")?;
     check_last(&rt, rt.alloc(), "--type", "Road", "Building")?;
     check_last(&rt, rt.alloc(), "--lod", "2", "2.2")?;
@@ -156,7 +158,7 @@ fn many_texts_are_asked_for(rt: HostRuntime) -> Result<(), Fail> {
 
 /// A number with so many digits behind its point is no multiple of 10^-18 where the last is no 0.
 #[test]
-fn long_boxes_are_asked_for(rt: HostRuntime) -> Result<(), Fail> {
+fn a_query_by_a_long_box(rt: HostRuntime) -> Result<(), Fail> {
     let zeros = listed(rt.alloc(), "", 0, "0,0,1001,2001.")?;
     let mut bounds = zeros;
     for _i in 0..10_000 {

@@ -38,7 +38,12 @@ fn check_command(
 
 /// The same, over a header and a feature; where the feature is kept, both are written, and else the
 /// header.
-fn check_kept(rt: &impl Abort, alloc: Global, arguments: &[&str], is_kept: bool) -> Result<(), Fail> {
+fn check_kept(
+    rt: &impl Abort,
+    alloc: Global,
+    arguments: &[&str],
+    is_kept: bool,
+) -> Result<(), Fail> {
     let header = joined(alloc, &[HEADER, b"\n"])?;
     let input = joined(alloc, &[HEADER, b"\n", FEATURE, b"\n"])?;
     let out = if is_kept { &input } else { &header };
@@ -96,7 +101,7 @@ fn each_command_refuses_a_stream(rt: HostRuntime) -> Result<(), Fail> {
 }
 
 #[test]
-fn ids_are_asked_for(rt: HostRuntime) -> Result<(), Fail> {
+fn a_query_by_ids(rt: HostRuntime) -> Result<(), Fail> {
     check_kept(&rt, rt.alloc(), &["filter", "--id", "b2,b1"], true)?;
     check_kept(&rt, rt.alloc(), &["filter", "--id", "b2"], false)?;
     check_kept(&rt, rt.alloc(), &["filter", "--id", ""], false)?;
@@ -120,7 +125,7 @@ fn ids_are_asked_for(rt: HostRuntime) -> Result<(), Fail> {
 }
 
 #[test]
-fn types_and_levels_of_detail_are_asked_for(rt: HostRuntime) -> Result<(), Fail> {
+fn a_query_by_types_and_lods(rt: HostRuntime) -> Result<(), Fail> {
     check_kept(
         &rt,
         rt.alloc(),
@@ -145,7 +150,7 @@ fn types_and_levels_of_detail_are_asked_for(rt: HostRuntime) -> Result<(), Fail>
 }
 
 #[test]
-fn a_box_is_asked_for(rt: HostRuntime) -> Result<(), Fail> {
+fn a_query_by_a_box(rt: HostRuntime) -> Result<(), Fail> {
     check_kept(&rt, rt.alloc(), &["filter", "--bbox=-5,0,5000,5000"], true)?;
     check_kept(
         &rt,
@@ -179,7 +184,7 @@ fn check_several(
 }
 
 #[test]
-fn one_among_several_is_asked_for(rt: HostRuntime) -> Result<(), Fail> {
+fn a_query_that_one_of_several_meets(rt: HostRuntime) -> Result<(), Fail> {
     check_several(&rt, rt.alloc(), &["filter", "--type", "Road"], true)?;
     check_several(&rt, rt.alloc(), &["filter", "--type", "Tunnel,Road"], true)?;
     check_several(&rt, rt.alloc(), &["filter", "--type", "Tunnel"], false)?;

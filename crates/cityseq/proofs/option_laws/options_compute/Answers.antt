@@ -1,6 +1,5 @@
 use Rattle.std.proofs.Common.{refl}
 use Rattle.cj_geometry.specs.ObjectTypes.{object_types}
-use Rattle.cj_stream.proofs.BoxRowLemmas.{a_box, empty}
 use Rattle.cityseq.proofs.option_laws.options_compute.Goals as goal
 
 pub returns : goal.returns
@@ -10,7 +9,7 @@ returns c = record {
   ids = (refl, refl);
   lods = refl;
   types = (refl, refl, refl);
-  a_box = rw empty refl;
+  a_box = rw c.boxes_compute.ensures.empty refl;
   order = (refl, refl);
-  all = rw a_box refl;
+  all = rw c.boxes_compute.ensures.a_box refl;
 }

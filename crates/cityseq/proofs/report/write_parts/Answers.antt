@@ -1,21 +1,22 @@
-use Rattle.std.proofs.Common.{[], ◌+◌, ◌++◌, take, drop, map, get_or, arith, ◌∙◌}
-use Rattle.cj_stream.specs.Cut.{joined}
-use Rattle.cj_stream.proofs.JoinedLemmas.{joined-more, joined-at}
-use Rattle.cj_stream.proofs.KnownLemmas.{Appends-then, AppendsPart-after, AppendsPart-front, on_err_any}
+use Rattle.std.proofs.Common.{[], arith}
+use Rattle.cityseq.proofs.TextLemmas.{joined-map}
+use Rattle.cityseq.proofs.WroteLemmas.{Wrote-nothing, part-wrote, part-stops, parts-wrote}
 use Rattle.cityseq.proofs.report.write_parts.Goals as goal
 
-pub returns-in_err-write_whole-clause-fault : goal.returns-in_err-write_whole-clause-fault
-returns-in_err-write_whole-clause-fault g c =
-    let i = c.loop-part.part-index in
-    let part = get_or c.args.parts.now i (record { ref_ptr = (0, 0); now = [] }) in
-    let front = joined (take i (map (λ part. part.now) c.args.parts.now)) in
-    let rest = joined (drop (i + 1) (map (λ part. part.now) c.args.parts.now)) in
-    rw (joined-at (λ part. part.now) c.args.parts.now i (record { ref_ptr = (0, 0); now = [] }) (omega arith))
-    (on_err_any _ (AppendsPart-front _ _ (front ++ part.now) rest (AppendsPart-after _ _ _ front part.now c.loop-part.invariant.0 c.in_err-write_whole.ensures.fault)))
+pub loop-part-init : goal.loop-part-init
+loop-part-init g c = Wrote-nothing tt _
 
 pub loop-part-preserved : goal.loop-part-preserved
 loop-part-preserved g c =
-    let i = c.loop-part.part-index in
-    let part = get_or c.args.parts.now i (record { ref_ptr = (0, 0); now = [] }) in
-    rw (joined-more (λ part. part.now) c.args.parts.now i (record { ref_ptr = (0, 0); now = [] }) (omega arith))
-    (Appends-then _ _ _ (joined (take i (map (λ part. part.now) c.args.parts.now))) part.now c.loop-part.invariant.0 c.in_ok-write_whole.ensures.ok, c.in_ok-write_whole.ensures.failures ∙ c.loop-part.invariant.1)
+    part-wrote (λ part. part.now) c.args.parts.now c.loop-part.part-index _ _ c.loop-part.invariant _ (record { ref_ptr = (0, 0); now = [] }) _ (omega arith) c.in_ok-write_text.ensures
+
+pub returns-in_err-write_text : goal.returns-in_err-write_text
+returns-in_err-write_text g c =
+    let parts = c.args.parts.now in
+    rw (joined-map (λ part. part.now) parts)
+    (part-stops (λ part. part.now) parts c.loop-part.part-index _ _ c.loop-part.invariant _ _ c.from_residual.ensures.0 (record { ref_ptr = (0, 0); now = [] }) _ (omega arith) c.in_err-write_text.ensures)
+
+pub returns : goal.returns
+returns g c =
+    let parts = c.args.parts.now in
+    rw (joined-map (λ part. part.now) parts) (parts-wrote (λ part. part.now) parts c.loop-part.part-index _ _ c.loop-part.invariant (omega arith))

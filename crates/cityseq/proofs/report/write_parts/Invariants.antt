@@ -1,10 +1,9 @@
-use Rattle.std.proofs.Common.{◌≡◌, take, map}
-use Rattle.std.specs.Io.KnownBytes.{Appends}
-use Rattle.cj_stream.specs.Output.{output_writer, output_failures}
-use Rattle.cj_stream.specs.Cut.{joined}
+use Rattle.std.proofs.Common.{Ok, take}
+use Rattle.std.specs.List.{flat_map}
+use Rattle.cj_stream.specs.Output.{channel}
+use Rattle.cityseq.specs.Report.{Wrote}
 use Rattle.cityseq.proofs.report.write_parts.Given as goal
 
 abbrev pub invariant-loop-part : goal.invariant-loop-part
 invariant-loop-part g l =
-    Appends (g.W.Write.contents (output_writer l.initial.out)) (g.W.Write.contents (output_writer l.out)) (joined (take l.part-index (map (λ part. part.now) l.parts)))
-    × (output_failures l.out ≡ output_failures l.initial.out)
+    Wrote (flat_map (λ part. part.now) (take l.part-index l.parts)) (Ok tt) (channel g.W.Write.contents l.initial.out) (channel g.W.Write.contents l.out)

@@ -1,39 +1,33 @@
-use Rattle.std.proofs.Common.{◌++◌, ◌∷◌, [], map, sym, append-nil, arith}
+use Rattle.std.proofs.Common.{◌++◌, ◌∷◌, [], Ok, map, sym, append-nil, arith}
 use Rattle.std.proofs.lemmas.List.Folds.{flat_map-map}
 use Rattle.std.specs.List.{flat_map}
-use Rattle.cj_stream.proofs.KnownLemmas.{Appends-then, AppendsPart-after, AppendsPart-front, on_err_any}
-use Rattle.cityseq.proofs.TextLemmas.{part-fault, parts-written, written-after, fault-after}
+use Rattle.cityseq.proofs.WroteLemmas.{Wrote-nothing, Wrote-then, Wrote-front, Wrote-stops, part-wrote, part-stops, parts-wrote}
 use Rattle.cityseq.proofs.summary.write_line.Goals as goal
 
-pub returns-in_err-write_whole-clause-fault : goal.returns-in_err-write_whole-clause-fault
-returns-in_err-write_whole-clause-fault g c =
-    let words = flat_map (λ word. 32 ∷ word) (map (λ word. word.now) c.args.words.now) in
-    let fault = rw c.as_bytes.ensures.value at c.in_err-write_whole.ensures.fault in
-    on_err_any _ (AppendsPart-front _ _ (c.args.name.now ++ words) (10 ∷ []) (AppendsPart-front _ _ c.args.name.now words fault))
+pub loop-word-init : goal.loop-word-init
+loop-word-init g c = Wrote-nothing tt _
 
-pub returns-in_err-write_parts-clause-fault : goal.returns-in_err-write_parts-clause-fault
-returns-in_err-write_parts-clause-fault g c =
+pub loop-word-preserved : goal.loop-word-preserved
+loop-word-preserved g c =
+    part-wrote (λ word. 32 ∷ word.now) c.args.words.now c.loop-word.word-index _ _ c.loop-word.invariant _ (record { ref_ptr = (0, 0); now = [] }) _ (omega arith) (rw append-nil at c.in_ok-write_parts.ensures)
+
+pub returns-in_err-write_text : goal.returns-in_err-write_text
+returns-in_err-write_text g c =
+    let words = flat_map (λ word. 32 ∷ word) (map (λ word. word.now) c.args.words.now) in
+    Wrote-front _ c.from_residual.ensures.0 (c.args.name.now ++ words) (10 ∷ []) _ _ (Wrote-stops _ c.from_residual.ensures.0 _ c.args.name.now words _ _ c.in_err-write_text.ensures)
+
+pub returns-in_err-write_parts : goal.returns-in_err-write_parts
+returns-in_err-write_parts g c =
+    let is = c.from_residual-in_err-write_parts.ensures.0 in
     let words = flat_map (λ word. 32 ∷ word) (map (λ word. word.now) c.args.words.now) in
     let each = flat_map-map (λ word. 32 ∷ word) (λ word. word.now) c.args.words.now in
-    let name = rw c.as_bytes.ensures.value at c.in_ok-write_whole.ensures.ok in
-    let one = rw (c.as_bytes-in-loop-word.ensures.value, append-nil) at c.in_err-write_parts.ensures.fault in
-    let fault = part-fault (λ word. 32 ∷ word.now) c.args.words.now c.loop-word.word-index _ _ c.loop-word.invariant.0 _ (record { ref_ptr = (0, 0); now = [] }) (omega arith) one in
-    on_err_any _ (AppendsPart-front _ _ (c.args.name.now ++ words) (10 ∷ []) (AppendsPart-after _ _ _ c.args.name.now words name (rw (sym each) at fault)))
+    let one = rw append-nil at c.in_err-write_parts.ensures in
+    let part = part-stops (λ word. 32 ∷ word.now) c.args.words.now c.loop-word.word-index _ _ c.loop-word.invariant _ _ is (record { ref_ptr = (0, 0); now = [] }) _ (omega arith) one in
+    Wrote-front _ is (c.args.name.now ++ words) (10 ∷ []) _ _ (Wrote-then _ _ c.args.name.now words _ _ _ c.in_ok-write_text.ensures (rw (sym each) at part))
 
-pub returns-clause-ok : goal.returns-clause-ok
-returns-clause-ok g c =
+pub returns : goal.returns
+returns g c =
     let words = flat_map (λ word. 32 ∷ word) (map (λ word. word.now) c.args.words.now) in
     let each = flat_map-map (λ word. 32 ∷ word) (λ word. word.now) c.args.words.now in
-    let name = rw c.as_bytes.ensures.value at c.in_ok-write_whole.ensures.ok in
-    let all = parts-written (λ word. 32 ∷ word.now) c.args.words.now c.loop-word.word-index _ _ c.loop-word.invariant.0 (omega arith) in
-    let before = Appends-then _ _ _ c.args.name.now words name (rw (sym each) at all) in
-    written-after _ _ _ (c.args.name.now ++ words) _ (10 ∷ []) before c.write_whole-2.ensures.ok
-
-pub returns-clause-fault : goal.returns-clause-fault
-returns-clause-fault g c =
-    let words = flat_map (λ word. 32 ∷ word) (map (λ word. word.now) c.args.words.now) in
-    let each = flat_map-map (λ word. 32 ∷ word) (λ word. word.now) c.args.words.now in
-    let name = rw c.as_bytes.ensures.value at c.in_ok-write_whole.ensures.ok in
-    let all = parts-written (λ word. 32 ∷ word.now) c.args.words.now c.loop-word.word-index _ _ c.loop-word.invariant.0 (omega arith) in
-    let before = Appends-then _ _ _ c.args.name.now words name (rw (sym each) at all) in
-    fault-after _ _ _ (c.args.name.now ++ words) _ (10 ∷ []) before c.write_whole-2.ensures.fault
+    let all = parts-wrote (λ word. 32 ∷ word.now) c.args.words.now c.loop-word.word-index _ _ c.loop-word.invariant (omega arith) in
+    Wrote-then _ tt (c.args.name.now ++ words) (10 ∷ []) _ _ _ (Wrote-then (Ok tt) _ c.args.name.now words _ _ _ c.in_ok-write_text.ensures (rw (sym each) at all)) c.write_text-2.ensures

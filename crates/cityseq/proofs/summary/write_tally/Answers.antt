@@ -1,60 +1,50 @@
 use Rattle.std.proofs.Common.{codes}
 use Rattle.cityseq.specs.Text.{count_line}
 use Rattle.cityseq.specs.Summary.{numbers_line, types_text, lods_text, ranges_text}
-use Rattle.cityseq.proofs.TextLemmas.{fault-before, fault-after, last-fault, written-after, last-written}
+use Rattle.cityseq.proofs.WroteLemmas.{Wrote-then, Wrote-last, Wrote-stops}
 use Rattle.cityseq.proofs.summary.write_tally.Goals as goal
 
-pub returns-in_err-write_count-clause-fault : goal.returns-in_err-write_count-clause-fault
-returns-in_err-write_count-clause-fault g c =
+pub returns-in_err-write_count : goal.returns-in_err-write_count
+returns-in_err-write_count g c =
     let t = c.args.tally.now in
-    fault-before _ _ _ (count_line (codes "features") t.features) _ (rw c.features.ensures at c.in_err-write_count.ensures.fault)
+    Wrote-stops _ c.from_residual.ensures.0 _ (count_line (codes "features") t.features) _ _ _ (rw c.features.ensures at c.in_err-write_count.ensures)
 
-pub returns-in_err-write_numbers-clause-fault : goal.returns-in_err-write_numbers-clause-fault
-returns-in_err-write_numbers-clause-fault g c =
+pub returns-in_err-write_numbers : goal.returns-in_err-write_numbers
+returns-in_err-write_numbers g c =
     let t = c.args.tally.now in
-    fault-after _ _ _ (count_line (codes "features") t.features) _ _ (rw c.features.ensures at c.in_ok-write_count.ensures.ok)
-    (fault-before _ _ _ (numbers_line (codes "scale") t.scale) _ (rw c.scale.ensures at c.in_err-write_numbers.ensures.fault))
+    Wrote-then _ _ (count_line (codes "features") t.features) _ _ _ _ (rw c.features.ensures at c.in_ok-write_count.ensures)
+    (Wrote-stops _ c.from_residual-in_err-write_numbers.ensures.0 _ (numbers_line (codes "scale") t.scale) _ _ _ (rw c.scale.ensures at c.in_err-write_numbers.ensures))
 
-pub returns-in_err-write_numbers-2-clause-fault : goal.returns-in_err-write_numbers-2-clause-fault
-returns-in_err-write_numbers-2-clause-fault g c =
+pub returns-in_err-write_numbers-2 : goal.returns-in_err-write_numbers-2
+returns-in_err-write_numbers-2 g c =
     let t = c.args.tally.now in
-    fault-after _ _ _ (count_line (codes "features") t.features) _ _ (rw c.features.ensures at c.in_ok-write_count.ensures.ok)
-    (fault-after _ _ _ (numbers_line (codes "scale") t.scale) _ _ (rw c.scale.ensures at c.in_ok-write_numbers.ensures.ok)
-    (fault-before _ _ _ (numbers_line (codes "translate") t.translate) _ (rw c.translate.ensures at c.in_err-write_numbers-2.ensures.fault)))
+    Wrote-then _ _ (count_line (codes "features") t.features) _ _ _ _ (rw c.features.ensures at c.in_ok-write_count.ensures)
+    (Wrote-then _ _ (numbers_line (codes "scale") t.scale) _ _ _ _ (rw c.scale.ensures at c.in_ok-write_numbers.ensures)
+    (Wrote-stops _ c.from_residual-in_err-write_numbers-2.ensures.0 _ (numbers_line (codes "translate") t.translate) _ _ _ (rw c.translate.ensures at c.in_err-write_numbers-2.ensures)))
 
-pub returns-in_err-write_types-clause-fault : goal.returns-in_err-write_types-clause-fault
-returns-in_err-write_types-clause-fault g c =
+pub returns-in_err-write_types : goal.returns-in_err-write_types
+returns-in_err-write_types g c =
     let t = c.args.tally.now in
-    fault-after _ _ _ (count_line (codes "features") t.features) _ _ (rw c.features.ensures at c.in_ok-write_count.ensures.ok)
-    (fault-after _ _ _ (numbers_line (codes "scale") t.scale) _ _ (rw c.scale.ensures at c.in_ok-write_numbers.ensures.ok)
-    (fault-after _ _ _ (numbers_line (codes "translate") t.translate) _ _ (rw c.translate.ensures at c.in_ok-write_numbers-2.ensures.ok)
-    (fault-before _ _ _ (types_text t) _ c.in_err-write_types.ensures.fault)))
+    Wrote-then _ _ (count_line (codes "features") t.features) _ _ _ _ (rw c.features.ensures at c.in_ok-write_count.ensures)
+    (Wrote-then _ _ (numbers_line (codes "scale") t.scale) _ _ _ _ (rw c.scale.ensures at c.in_ok-write_numbers.ensures)
+    (Wrote-then _ _ (numbers_line (codes "translate") t.translate) _ _ _ _ (rw c.translate.ensures at c.in_ok-write_numbers-2.ensures)
+    (Wrote-stops _ c.from_residual-in_err-write_types.ensures.0 _ (types_text t) _ _ _ c.in_err-write_types.ensures)))
 
-pub returns-in_err-write_lods-clause-fault : goal.returns-in_err-write_lods-clause-fault
-returns-in_err-write_lods-clause-fault g c =
+pub returns-in_err-write_lods : goal.returns-in_err-write_lods
+returns-in_err-write_lods g c =
     let t = c.args.tally.now in
-    fault-after _ _ _ (count_line (codes "features") t.features) _ _ (rw c.features.ensures at c.in_ok-write_count.ensures.ok)
-    (fault-after _ _ _ (numbers_line (codes "scale") t.scale) _ _ (rw c.scale.ensures at c.in_ok-write_numbers.ensures.ok)
-    (fault-after _ _ _ (numbers_line (codes "translate") t.translate) _ _ (rw c.translate.ensures at c.in_ok-write_numbers-2.ensures.ok)
-    (fault-after _ _ _ (types_text t) _ _ c.in_ok-write_types.ensures.ok
-    (fault-before _ _ _ (lods_text t) _ c.in_err-write_lods.ensures.fault))))
+    Wrote-then _ _ (count_line (codes "features") t.features) _ _ _ _ (rw c.features.ensures at c.in_ok-write_count.ensures)
+    (Wrote-then _ _ (numbers_line (codes "scale") t.scale) _ _ _ _ (rw c.scale.ensures at c.in_ok-write_numbers.ensures)
+    (Wrote-then _ _ (numbers_line (codes "translate") t.translate) _ _ _ _ (rw c.translate.ensures at c.in_ok-write_numbers-2.ensures)
+    (Wrote-then _ _ (types_text t) _ _ _ _ c.in_ok-write_types.ensures
+    (Wrote-stops _ c.from_residual-in_err-write_lods.ensures.0 _ (lods_text t) _ _ _ c.in_err-write_lods.ensures))))
 
-pub returns-clause-ok : goal.returns-clause-ok
-returns-clause-ok g c =
+pub returns : goal.returns
+returns g c =
     let t = c.args.tally.now in
-    written-after _ _ _ (count_line (codes "features") t.features) _ _ (rw c.features.ensures at c.in_ok-write_count.ensures.ok)
-    (written-after _ _ _ (numbers_line (codes "scale") t.scale) _ _ (rw c.scale.ensures at c.in_ok-write_numbers.ensures.ok)
-    (written-after _ _ _ (numbers_line (codes "translate") t.translate) _ _ (rw c.translate.ensures at c.in_ok-write_numbers-2.ensures.ok)
-    (written-after _ _ _ (types_text t) _ _ c.in_ok-write_types.ensures.ok
-    (written-after _ _ _ (lods_text t) _ _ c.in_ok-write_lods.ensures.ok
-    (last-written _ _ _ (ranges_text t) c.write_ranges.ensures.ok)))))
-
-pub returns-clause-fault : goal.returns-clause-fault
-returns-clause-fault g c =
-    let t = c.args.tally.now in
-    fault-after _ _ _ (count_line (codes "features") t.features) _ _ (rw c.features.ensures at c.in_ok-write_count.ensures.ok)
-    (fault-after _ _ _ (numbers_line (codes "scale") t.scale) _ _ (rw c.scale.ensures at c.in_ok-write_numbers.ensures.ok)
-    (fault-after _ _ _ (numbers_line (codes "translate") t.translate) _ _ (rw c.translate.ensures at c.in_ok-write_numbers-2.ensures.ok)
-    (fault-after _ _ _ (types_text t) _ _ c.in_ok-write_types.ensures.ok
-    (fault-after _ _ _ (lods_text t) _ _ c.in_ok-write_lods.ensures.ok
-    (last-fault _ _ _ (ranges_text t) c.write_ranges.ensures.fault)))))
+    Wrote-then _ _ (count_line (codes "features") t.features) _ _ _ _ (rw c.features.ensures at c.in_ok-write_count.ensures)
+    (Wrote-then _ _ (numbers_line (codes "scale") t.scale) _ _ _ _ (rw c.scale.ensures at c.in_ok-write_numbers.ensures)
+    (Wrote-then _ _ (numbers_line (codes "translate") t.translate) _ _ _ _ (rw c.translate.ensures at c.in_ok-write_numbers-2.ensures)
+    (Wrote-then _ _ (types_text t) _ _ _ _ c.in_ok-write_types.ensures
+    (Wrote-then _ _ (lods_text t) _ _ _ _ c.in_ok-write_lods.ensures
+    (Wrote-last _ (ranges_text t) _ _ c.write_ranges.ensures)))))

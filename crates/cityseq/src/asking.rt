@@ -1,29 +1,75 @@
-//! What the options of `filter` ask for.
-ghost use Rattle.std.specs.Prelude.{◌≡◌, Some, Ok, Err, IfOk, IfErr, OnOk, MatchOption};
+//! What the words ask for: an `Ask`, with its limits and its query, or why there is none.
+ghost use Rattle.std.specs.Prelude.{◌≡◌, ℕ, List, Some, Ok, Err, IfOk, IfErr, IsErrOf, OnOk, MatchOption};
+ghost use Rattle.clap.specs.declared.parser.matches.ArgMatches.{ArgMatches};
 ghost use Rattle.cj_stream.specs.Adding.{no_types};
 ghost use Rattle.cj_stream.specs.BoxText.{fields};
 ghost use Rattle.cj_stream.specs.Query.{criteria};
+ghost use Rattle.cj_stream.specs.declared.query.fault.QueryFault.{QueryFault};
 ghost use Rattle.cj_stream.specs.declared.query.fault.QueryFault.TheVariants.{Memory, UnknownTypeName};
 ghost use Rattle.cityseq.specs.Options.{criteria_by, flags_with, texts_of, RefusesBy};
+ghost use Rattle.cityseq.specs.Performed.{MayDecline};
+ghost use Rattle.cityseq.specs.Words.{AsksBy, CannotAsk};
 
+use crate::ask::Ask;
+use crate::words::{QueryTexts, limits_of, read_words, texts_of};
+use cj_budget::LimitFault;
 use cj_stream::{Query, QueryFault};
+use clap::{ArgMatches, Error};
 use std::alloc::Global;
 
-/// The texts of the options that say what is asked, as they were given. Where there are commas, what stands
-/// between two of them is one id, name or level, also where it is empty.
-#[derive(Clone, Copy, Debug)]
-pub struct QueryTexts<'a> {
-    /// Ids of features, with commas between them.
-    pub ids: Option<&'a str>,
-    /// Names of types of city objects, with commas between them.
-    pub types: Option<&'a str>,
-    /// Levels of detail, with commas between them.
-    pub lods: Option<&'a str>,
-    /// The edges of a box, `minx,miny,maxx,maxy`.
-    pub bbox: Option<&'a str>,
+/// Why nothing is done with the stream.
+#[derive(Drop)]
+pub enum NoAsk {
+    /// The words are wrong, or they ask for help.
+    Words(Error),
+    /// The words name no command of the program; `clap` refuses such words before.
+    NoCommand,
+    /// A limit is out of its range; `clap` refuses such a number before.
+    Limits(LimitFault),
+    /// The query cannot be asked.
+    Query(QueryFault),
 }
 
-/// The query that these texts ask for. Ids are set first, then types, LoDs and the box.
+/// What the words ask for, the program's name first.
+///
+/// # Errors
+///
+/// Why nothing is to be done with the stream.
+pub fn read_ask(alloc: Global, words: &[String]) -> Result<Ask, NoAsk>
+    ensures ok { IfOk result (λ ask. (name : List ℕ) × (options : ArgMatches) × AsksBy name options ask) }
+    ensures err { IfErr result MayDecline }
+{
+    let matches = match read_words(alloc, words) {
+        Ok(matches) => matches,
+        Err(error) => return Err(NoAsk::Words(error)),
+    };
+    match matches.subcommand() {
+        Some((name, options)) => ask_of(alloc, name, options),
+        None => Err(NoAsk::NoCommand),
+    }
+}
+
+/// What a command with these options asks for.
+fn ask_of(alloc: Global, name: &str, options: &ArgMatches) -> Result<Ask, NoAsk>
+    ensures ok { IfOk result (λ ask. AsksBy name.now options.now ask) }
+    ensures err { (fault : QueryFault) → IsErrOf result (NoAsk.Query fault) → CannotAsk name.now options.now fault }
+{
+    let limits = match limits_of(options) {
+        Ok(limits) => limits,
+        Err(fault) => return Err(NoAsk::Limits(fault)),
+    };
+    match name {
+        "check" => Ok(Ask::Check(limits)),
+        "filter" => match query_of(alloc, &texts_of(options)) {
+            Ok(query) => Ok(Ask::Filter(limits, query)),
+            Err(fault) => Err(NoAsk::Query(fault)),
+        },
+        "info" => Ok(Ask::Info(limits)),
+        _ => Err(NoAsk::NoCommand),
+    }
+}
+
+/// The query that these texts make. Ids are set first, then types, LoDs and the box.
 ///
 /// # Errors
 ///

@@ -1,6 +1,6 @@
 use Rattle.std.proofs.lemmas.Iterator.Consumers.{YieldsList-end}
 use Rattle.cityseq.proofs.FieldLemmas.{fields-split}
-use Rattle.cityseq.proofs.query_texts.add_ids.Goals as goal
+use Rattle.cityseq.proofs.asking.add_ids.Goals as goal
 
 pub returns-clause-ok : goal.returns-clause-ok
 returns-clause-ok c =

@@ -1,8 +1,8 @@
-//! Laws of the definitions, proved once and for all.
+//! Laws of the definitions of what `check` and `info` say, proved once and for all.
 ghost use Rattle.cityseq.specs.SummaryRows.{BuildingsRow, NothingRow, UndergroundRow, CheckRow};
 
-/// The definitions of what `check` and `info` say, on small streams whose texts are known.
-pub fn texts_compute()
+/// The definitions, on small streams of which it is known what is said.
+pub fn summaries_compute()
     ensures buildings { BuildingsRow }
     ensures nothing { NothingRow }
     ensures underground { UndergroundRow }

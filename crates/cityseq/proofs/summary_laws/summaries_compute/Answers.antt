@@ -1,7 +1,7 @@
 use Rattle.std.proofs.Common.{refl}
 use Rattle.std.specs.Fmt.{digits}
 use Rattle.cj_geometry.specs.ObjectTypes.{object_types}
-use Rattle.cityseq.proofs.text_laws.texts_compute.Goals as goal
+use Rattle.cityseq.proofs.summary_laws.summaries_compute.Goals as goal
 
 pub returns : goal.returns
 unfolding object_types digits

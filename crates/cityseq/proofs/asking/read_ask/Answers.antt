@@ -5,11 +5,11 @@ use Rattle.cj_stream.specs.declared.query.fault.QueryFault.{QueryFault}
 use Rattle.cityseq.specs.Performed.{MayDecline}
 use Rattle.cityseq.specs.Words.{CannotAsk}
 use Rattle.cityseq.specs.declared.ask.Ask.{Ask}
-use Rattle.cityseq.specs.declared.command.NoAsk.{NoAsk}
-use Rattle.cityseq.specs.declared.command.NoAsk.TheVariants.{Words, NoCommand, Limits, Query}
-use Rattle.cityseq.proofs.command.read_ask.Goals as goal
+use Rattle.cityseq.specs.declared.asking.NoAsk.{NoAsk}
+use Rattle.cityseq.specs.declared.asking.NoAsk.TheVariants.{Words, NoCommand, Limits, Query}
+use Rattle.cityseq.proofs.asking.read_ask.Goals as goal
 
--- a command of this name and options declines for what it says of queries
+-- that nothing is done with a command may be for what is known of its query
 may-decline : (name : List ℕ) (options : ArgMatches) (r : Result Ask NoAsk) → ((fault : QueryFault) → IsErrOf r (Query fault) → CannotAsk name options fault) → IfErr r MayDecline
 may-decline name options (Ok ask) says = tt
 may-decline name options (Err (Words error)) says = tt

@@ -12,7 +12,7 @@ use Rattle.cj_stream.specs.declared.query.fault.QueryFault.{QueryFault}
 use Rattle.cj_stream.specs.declared.query.fault.QueryFault.TheVariants.{UnknownTypeName}
 use Rattle.cityseq.specs.Options.{flags_with}
 use Rattle.cityseq.proofs.FieldLemmas.{fields-split}
-use Rattle.cityseq.proofs.query_texts.add_types.Goals as goal
+use Rattle.cityseq.proofs.asking.add_types.Goals as goal
 
 -- the flags that are set
 abbrev flags_of : Criteria → List Bool

@@ -8,10 +8,10 @@ use Rattle.cj_stream.specs.Query.{criteria}
 use Rattle.cj_stream.specs.declared.query.fault.QueryFault.{QueryFault}
 use Rattle.cj_stream.specs.declared.query.fault.QueryFault.TheVariants.{Memory, UnknownTypeName, BadBox, BoxRange, EmptyBox}
 use Rattle.cityseq.specs.Options.{Texts, types_or_fault, types_wanted, box_or_fault, box_wanted, criteria_by, texts_of, RefusesBy}
-use Rattle.cityseq.proofs.query_texts.query_of.Goals.{in-Some+in_ok-add_ids, in_default, in-Some-types+in_ok-add_types, in_default-types, in-Some-lods+in_ok-add_lods, in_default-lods, in-Some-bbox+in_ok-bbox, in_default-bbox}
-use Rattle.cityseq.proofs.query_texts.query_of.Goals as goal
+use Rattle.cityseq.proofs.asking.query_of.Goals.{in-Some+in_ok-add_ids, in_default, in-Some-types+in_ok-add_types, in_default-types, in-Some-lods+in_ok-add_lods, in_default-lods, in-Some-bbox+in_ok-bbox, in_default-bbox}
+use Rattle.cityseq.proofs.asking.query_of.Goals as goal
 
--- what `add_types` and `bbox` answer, with what was asked before and after
+-- what `add_types` and `bbox` answer, with the criteria before and after
 module _ (r : Result (Unit {0}) QueryFault) (old new : Criteria) where
   abbrev SetsTypes : Option (List Bool) → Type 0
   SetsTypes flags = MatchOption flags (r ≡ Err UnknownTypeName) (λ flags. (r ≡ Ok tt) × (new ≡ record old { types = Some flags }))
@@ -74,7 +74,7 @@ returns-clause-ok c =
     ] in
     rw (types.0, box.0, box.1, lods, types.1, ids) refl
 
--- a refusal that is no want of memory is what the texts ask for
+-- a refusal that is no want of memory is that of the texts
 refused : (t : Texts) (fault : QueryFault) → criteria_by t ≡ Err fault → (fault ≡ Memory → ⊥) → RefusesBy t fault
 refused t Memory asks other = absurd (other refl)
 refused t UnknownTypeName asks other = asks

@@ -4,7 +4,7 @@ use Rattle.cj_stream.specs.Adding.{no_types}
 use Rattle.cj_stream.specs.BoxText.{fields}
 use Rattle.cj_stream.specs.Query.{criteria}
 use Rattle.cityseq.specs.Options.{flags_with}
-use Rattle.cityseq.proofs.query_texts.add_types.Given as goal
+use Rattle.cityseq.proofs.asking.add_types.Given as goal
 
 abbrev pub invariant-loop-name : goal.invariant-loop-name
 invariant-loop-name l =

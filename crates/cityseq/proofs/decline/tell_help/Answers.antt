@@ -2,19 +2,18 @@ use Rattle.cj_stream.specs.declared.ending.End.{End}
 use Rattle.cj_stream.specs.declared.ending.End.TheVariants.{Complete}
 use Rattle.cj_stream.specs.Output.{channel}
 use Rattle.cityseq.proofs.PerformLemmas.{Says-kept}
-use Rattle.cityseq.proofs.command.help.Goals as goal
+use Rattle.cityseq.proofs.decline.tell_help.Goals as goal
 
 pub returns : goal.returns
 returns g c =
-    let text = c.as_bytes.result.now in
+    let text = c.args.text.now in
     let told : End = c.end_of_writing-told.result in
-    let w = c.write_whole.ensures in
     record {
       text = text;
       told = told;
       shown = c.show.result;
-      says = Says-kept text Complete told (channel g.W.Write.contents c.args.out.now) (channel g.W.Write.contents c.write_whole.new.self) (channel g.W.Write.contents c.flush.new.self)
-          (c.write_whole.result, c.end_of_writing-told.ensures, record { whole = w.ok; front = w.fault; failures = w.failures }) c.flush.ensures.bytes c.flush.ensures.failures;
+      says = Says-kept text Complete told (channel g.W.Write.contents c.args.out.now) (channel g.W.Write.contents c.write_text.new.out) (channel g.W.Write.contents c.flush.new.self)
+          (c.write_text.result, c.end_of_writing-told.ensures, c.write_text.ensures) c.flush.ensures.bytes c.flush.ensures.failures;
       reports = record {
         flushed = c.flush.result;
         told = c.flush.ensures.noted;

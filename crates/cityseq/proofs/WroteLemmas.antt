@@ -1,0 +1,66 @@
+-- What came of writing texts, one after another.
+use Rattle.std.proofs.Common.{◌≡◌, ℕ, ◌+◌, ◌<◌, ◌≤◌, List, [], ◌++◌, length, take, get_or, Result, Ok, Err, refl, sym, subst, ◌∙◌}
+use Rattle.std.specs.Prelude.{IsErr}
+use Rattle.std.specs.List.{flat_map}
+use Rattle.std.proofs.lemmas.List.{append-nil, take_all}
+use Rattle.cj_stream.specs.Output.{Channel}
+use Rattle.cj_stream.specs.Sink.{HasRisen}
+use Rattle.cj_stream.specs.declared.output.WriteFault.{WriteFault}
+use Rattle.cityseq.specs.Report.{Wrote}
+use Rattle.cityseq.proofs.TextLemmas.{Appends-nothing, Appends-then, AppendsPart-after, AppendsPart-front, parts_more, parts_at}
+
+-- the empty text is written by nothing
+pub Wrote-nothing : (v : Unit {0}) (a : Channel) → Wrote [] (Ok v) a a
+Wrote-nothing v a = record { whole = Appends-nothing a.bytes; front = tt; failures = refl }
+
+-- one text, and what came of the one after it
+pub Wrote-then : (r : Result (Unit {0}) WriteFault) (v : Unit {0}) (x y : List ℕ) (a b c : Channel) → Wrote x (Ok v) a b → Wrote y r b c → Wrote (x ++ y) r a c
+Wrote-then (Ok w) v x y a b c p q = record {
+  whole = Appends-then a.bytes b.bytes c.bytes x y p.whole q.whole;
+  front = tt;
+  failures = q.failures ∙ p.failures;
+}
+Wrote-then (Err e) v x y a b c p q = record {
+  whole = tt;
+  front = AppendsPart-after a.bytes b.bytes c.bytes x y p.whole q.front;
+  failures = subst (λ n. HasRisen n c.failures) p.failures q.failures;
+}
+
+-- the last text
+pub Wrote-last : (r : Result (Unit {0}) WriteFault) (x : List ℕ) (a b : Channel) → Wrote x r a b → Wrote (x ++ []) r a b
+Wrote-last r x a b p = rw (append-nil x) p
+
+module _ (r : Result (Unit {0}) WriteFault) (is : IsErr r) where
+  -- a text that failed, before another that was to follow
+  pub Wrote-front : (x y : List ℕ) (a b : Channel) → Wrote x r a b → Wrote (x ++ y) r a b
+  Wrote-front = elim r as (λ r. IsErr r → (x y : List ℕ) (a b : Channel) → Wrote x r a b → Wrote (x ++ y) r a b) [
+    | Ok v ↦ λ is x y a b p. absurd (cc is)
+    | Err e ↦ λ is x y a b p. record { whole = tt; front = AppendsPart-front a.bytes b.bytes x y p.front; failures = p.failures }
+  ] is
+
+  -- any answer that tells a failure does
+  pub Wrote-told : (e : WriteFault) (x : List ℕ) (a b : Channel) → Wrote x (Err e) a b → Wrote x r a b
+  Wrote-told = elim r as (λ r. IsErr r → (e : WriteFault) (x : List ℕ) (a b : Channel) → Wrote x (Err e) a b → Wrote x r a b) [
+    | Ok v ↦ λ is e x a b p. absurd (cc is)
+    | Err f ↦ λ is e x a b p. record { whole = tt; front = p.front; failures = p.failures }
+  ] is
+
+  pub Wrote-stops : (e : WriteFault) (x y : List ℕ) (a b : Channel) → Wrote x (Err e) a b → Wrote (x ++ y) r a b
+  Wrote-stops e x y a b p = Wrote-front x y a b (Wrote-told e x a b p)
+
+-- ---- parts of a list
+
+module _ {A : Type 0} (f : A → List ℕ) (xs : List A) (i : ℕ) (a b : Channel) (before : Wrote (flat_map f (take i xs)) (Ok tt) a b) where
+  -- one part more
+  pub part-wrote : (c : Channel) (d : A) (v : Unit {0}) → i < length xs → Wrote (f (get_or xs i d)) (Ok v) b c → Wrote (flat_map f (take (i + 1) xs)) (Ok tt) a c
+  part-wrote c d v small now =
+      rw (parts_more f xs i d small) (Wrote-then (Ok tt) tt (flat_map f (take i xs)) (f (get_or xs i d)) a b c before (record { whole = now.whole; front = tt; failures = now.failures }))
+
+  -- one part that failed
+  pub part-stops : (c : Channel) (r : Result (Unit {0}) WriteFault) → IsErr r → (d : A) (e : WriteFault) → i < length xs → Wrote (f (get_or xs i d)) (Err e) b c → Wrote (flat_map f xs) r a c
+  part-stops c r is d e small now =
+      rw (parts_at f xs i d small) (Wrote-stops r is e _ _ a c (Wrote-then (Err e) tt (flat_map f (take i xs)) (f (get_or xs i d)) a b c before now))
+
+  -- all parts
+  pub parts-wrote : length xs ≤ i → Wrote (flat_map f xs) (Ok tt) a b
+  parts-wrote all = rw (take_all i xs all) at before

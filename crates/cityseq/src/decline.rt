@@ -1,0 +1,108 @@
+//! What is told where nothing is done with the stream: the help, wrong words, or a query that cannot be asked.
+ghost use Rattle.std.specs.Prelude.{◌⊎◌};
+ghost use Rattle.clap.specs.Words.{kind_of};
+ghost use Rattle.cj_stream.specs.Output.{channel};
+ghost use Rattle.cityseq.specs.Performed.{Declines, TellsError, TellsFault, TellsHelp, TellsMemory, TellsWrongWords};
+ghost use Rattle.cityseq.specs.Report.{query_line, status_of_query};
+
+use crate::ask::end_of_writing;
+use crate::asking::NoAsk;
+use crate::report::{
+    WRONG_WORDS, query_status, show, status, write_fault_line, write_query_fault, write_text,
+};
+use cj_budget::LimitFault;
+use cj_stream::{End, Output, QueryFault};
+use clap::Error;
+use clap::error::ErrorKind;
+use std::alloc::Global;
+use std::io::Write;
+
+/// Says why nothing is done with the stream, and answers the status of that.
+pub fn decline<W: Write + Drop, E: Write + Drop>(
+    alloc: Global,
+    why: &NoAsk,
+    out: &mut Output<W>,
+    err: &mut Output<E>,
+) -> u8
+    ensures { Declines why.now result (channel W.contents out.old) (channel W.contents out.new)
+        (channel E.contents err.old) (channel E.contents err.new) }
+{
+    match why {
+        NoAsk::Words(error) => tell_error(alloc, error, out, err),
+        NoAsk::NoCommand => tell_wrong_words("", err),
+        NoAsk::Limits(fault) => tell_refused_limit(alloc, *fault, err),
+        NoAsk::Query(fault) => tell_refused_query(*fault, err),
+    }
+}
+
+/// Writes the help that was asked for to `out`, or what is wrong with the words to `err`.
+fn tell_error<W: Write + Drop, E: Write + Drop>(
+    alloc: Global,
+    error: &Error,
+    out: &mut Output<W>,
+    err: &mut Output<E>,
+) -> u8
+    ensures { TellsError (kind_of error.now) result (channel W.contents out.old) (channel W.contents out.new)
+        (channel E.contents err.old) (channel E.contents err.new) }
+{
+    if error.kind() == ErrorKind::OutOfMemory {
+        return tell_no_memory(err);
+    }
+    let Ok(text) = format!(in alloc; "{error}") else {
+        return tell_no_memory(err);
+    };
+    if error.use_stderr() {
+        tell_wrong_words(&text, err)
+    } else {
+        tell_help(&text, out, err)
+    }
+}
+
+/// Writes the help that was asked for to `out`, flushes it, and says on `err` how that ended.
+fn tell_help<W: Write + Drop, E: Write + Drop>(
+    text: &str,
+    out: &mut Output<W>,
+    err: &mut Output<E>,
+) -> u8
+    ensures { TellsHelp result (channel W.contents out.old) (channel W.contents out.new)
+        (channel E.contents err.old) (channel E.contents err.new) }
+{
+    let told = end_of_writing(write_text(out, text));
+    status(show(out.flush(), told, err).end)
+}
+
+/// Says what is wrong with the words, and answers the status of that.
+fn tell_wrong_words<E: Write + Drop>(text: &str, err: &mut Output<E>) -> u8
+    ensures { TellsFault text.now 2 result (channel E.contents err.old) (channel E.contents err.new) }
+{
+    let _ = write_text(err, text);
+    WRONG_WORDS
+}
+
+/// Says that a limit is out of its range.
+fn tell_refused_limit<E: Write + Drop>(alloc: Global, fault: LimitFault, err: &mut Output<E>) -> u8
+    ensures { TellsMemory result (channel E.contents err.old) (channel E.contents err.new)
+        ⊎ TellsWrongWords result (channel E.contents err.old) (channel E.contents err.new) }
+{
+    match format!(in alloc; "{fault}\n") {
+        Ok(text) => tell_wrong_words(&text, err),
+        Err(_) => tell_no_memory(err),
+    }
+}
+
+/// Says that a query cannot be asked, and answers the status of that.
+fn tell_refused_query<E: Write + Drop>(fault: QueryFault, err: &mut Output<E>) -> u8
+    ensures { TellsFault (query_line fault) (status_of_query fault) result (channel E.contents err.old)
+        (channel E.contents err.new) }
+{
+    let _ = write_query_fault(err, fault);
+    query_status(fault)
+}
+
+/// Says that memory was refused, and answers the status of that.
+pub fn tell_no_memory<E: Write + Drop>(err: &mut Output<E>) -> u8
+    ensures { TellsMemory result (channel E.contents err.old) (channel E.contents err.new) }
+{
+    let _ = write_fault_line(err, End::Memory);
+    status(End::Memory)
+}
