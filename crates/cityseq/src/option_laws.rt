@@ -1,7 +1,7 @@
 //! Laws of the definition of the criteria that options make, proved once and for all.
 ghost use Rattle.cityseq.specs.OptionRows.{NothingRow, IdRows, LodRow, TypeRows, BoxRow, OrderRows, AllRow};
 
-use cj_stream::box_laws::boxes_compute;
+use cj_stream::row_laws::boxes_compute;
 
 /// The definition, on small texts whose criteria or refusals are known.
 pub fn options_compute()

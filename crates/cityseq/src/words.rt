@@ -3,18 +3,12 @@ ghost use Rattle.std.specs.Prelude.{◌≡◌, IfOk, decimal};
 ghost use Rattle.cityseq.specs.Options.{texts_of as texts_given};
 ghost use Rattle.cityseq.specs.Words.{texts_in, HasNumber, HasLimits};
 
-use cj_budget::{LimitFault, Limits};
+use cj_budget::{LimitFault, Limits, USUAL_DEPTH, USUAL_LINE};
 use clap::{Arg, ArgMatches, Command, Error, value_parser};
 use std::alloc::{AllocError, Global};
 
 /// As `--version` tells it.
 const VERSION: &str = "0.1.0";
-
-/// The line limit where none is given: 8 MiB.
-pub const USUAL_LINE: u64 = 8_388_608;
-
-/// The depth limit where none is given.
-pub const USUAL_DEPTH: u64 = 64;
 
 /// The options, by the names that `clap` knows them by.
 const LINE_LIMIT: &str = "line-limit";

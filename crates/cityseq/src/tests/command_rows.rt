@@ -4,7 +4,6 @@ use super::devices::{SlowReader, SlowWriter};
 use super::texts::{FEATURE, HEADER};
 use crate::ask::{Ask, perform};
 use crate::report::{status, write_fault_line};
-use crate::words::{USUAL_DEPTH, USUAL_LINE};
 use cj_budget::Limits;
 use cj_spans::Reason;
 use cj_stream::{End, Output, Query};
@@ -85,7 +84,7 @@ fn a_long_line_and_bytes_that_are_no_text(rt: HostRuntime) -> Result<(), Fail> {
 
 #[test]
 fn a_line_that_is_no_feature(rt: HostRuntime) -> Result<(), Fail> {
-    let limits = Limits::new(USUAL_LINE, USUAL_DEPTH)?;
+    let limits = Limits::usual();
     let told = b"line 3, byte 0: 10 member missing\n";
     check_refused_line(&rt, rt.alloc(), limits, b"\n{}\n", told)?;
     let told = b"line 2, byte 0: 12 wrong kind\n";
@@ -94,7 +93,7 @@ fn a_line_that_is_no_feature(rt: HostRuntime) -> Result<(), Fail> {
 
 #[test]
 fn a_read_fault(rt: HostRuntime) -> Result<(), Fail> {
-    let limits = Limits::new(USUAL_LINE, USUAL_DEPTH)?;
+    let limits = Limits::usual();
     let text = joined(rt.alloc(), &[HEADER, b"\n", FEATURE, b"\n"])?;
     let header = joined(rt.alloc(), &[HEADER, b"\n"])?;
     let mut reader = SlowReader::new(&text, 200);
@@ -112,7 +111,7 @@ fn check_write_fault(
     mut out: SlowWriter,
     wanted: &[u8],
 ) -> Result<(), Fail> {
-    let limits = Limits::new(USUAL_LINE, USUAL_DEPTH)?;
+    let limits = Limits::usual();
     let mut err = Vec::new(alloc);
     let mut reader = SlowReader::new(text, 100);
     let status = filter_to(alloc, limits, &mut reader, &mut out, &mut err);
@@ -165,7 +164,7 @@ fn a_failed_read_before_a_failed_flush(rt: HostRuntime) -> Result<(), Fail> {
     let mut out = SlowWriter::new(Vec::new(rt.alloc()), 1_000);
     out.flush_fails = true;
     let mut err = Vec::new(rt.alloc());
-    let limits = Limits::new(USUAL_LINE, USUAL_DEPTH)?;
+    let limits = Limits::usual();
     let status = filter_to(rt.alloc(), limits, &mut reader, &mut out, &mut err);
     let out = out.bytes;
     check_written(
@@ -188,7 +187,7 @@ fn a_refused_line_before_a_failed_flush(rt: HostRuntime) -> Result<(), Fail> {
 
 /// Filters nothing, with a standard error that fails at this write.
 fn check_failing_error(rt: &impl Abort, alloc: Global, fails_at: u64) -> Result<(), Fail> {
-    let limits = Limits::new(USUAL_LINE, USUAL_DEPTH)?;
+    let limits = Limits::usual();
     let mut out = Vec::new(alloc);
     let mut err = SlowWriter::new(Vec::new(alloc), 100);
     err.fails_at = fails_at;

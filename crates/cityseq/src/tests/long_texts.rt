@@ -4,7 +4,6 @@ use super::devices::{SlowReader, SlowWriter};
 use super::texts::{FEATURE, HEADER};
 use crate::OUTPUT_BUFFER;
 use crate::ask::{Ask, perform};
-use crate::words::{USUAL_DEPTH, USUAL_LINE};
 use cj_budget::Limits;
 use cj_stream::{Output, Query};
 use std::alloc::Global;
@@ -29,7 +28,7 @@ fn filter_through(
     writer: &mut SlowWriter,
     err: &mut Vec<u8>,
 ) -> Result<u8, Fail> {
-    let ask = Ask::Filter(Limits::new(USUAL_LINE, USUAL_DEPTH)?, Query::all(alloc));
+    let ask = Ask::Filter(Limits::usual(), Query::all(alloc));
     let mut reader = SlowReader::new(text, 10_000);
     let buffer = BufWriter::with_capacity(alloc, OUTPUT_BUFFER, writer)?;
     Ok(perform(
