@@ -7,7 +7,7 @@ use Rattle.cj_spans.specs.Judgement.{judged_size, judged_nest}
 use Rattle.cj_spans.proofs.Judgements.{judgement}
 use Rattle.cj_stream.specs.Lines.{lines, later_of, first_content}
 
--- the bytes of a text's first line, cut at the line limit
+-- the bytes of a stream's first line, cut at the line limit
 abbrev pub first_bytes : LimitPair → List ℕ → ℕ
 first_bytes limits s = min (length (first_content s)) limits.line
 
@@ -53,11 +53,11 @@ abbrev pub greatest : (List ℕ → ℕ) → List (List ℕ) → ℕ
 greatest measure [] = 0
 greatest measure (c ∷ cs) = max (measure c) (greatest measure cs)
 
--- the contents of the lines of a text
+-- the contents of the lines of a stream
 abbrev pub contents : List ℕ → List (List ℕ)
 contents s = map (λ l. l.content) (lines s)
 
--- what is held at most of a text without a refused line: the bytes and tokens of the first line with those of the
+-- what is held at most of a stream without a refused line: the bytes and tokens of the first line with those of the
 -- later line that has the most, and the most open containers of all lines
 abbrev pub exact_peaks : LimitPair → List ℕ → Peaks
 exact_peaks limits s = record {

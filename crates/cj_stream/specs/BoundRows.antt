@@ -1,4 +1,4 @@
--- What small texts may hold at most under some limits, and what they hold.
+-- What small streams may hold at most under some limits, and what they hold.
 use Rattle.std.specs.Prelude.{◌≡◌, ℕ, List, [], ◌∷◌, ◌++◌}
 use Rattle.cj_budget.specs.Limits.{LimitPair}
 use Rattle.cj_budget.specs.declared.limits.Peaks.{Peaks}
@@ -15,7 +15,7 @@ short = record { line = 100; depth = 64 }
 abbrev pub odd : LimitPair
 odd = record { line = 116; depth = 1 }
 
--- at most so many bytes and tokens are held of a text
+-- at most so many bytes and tokens are held of a stream
 abbrev pub HasBounds : LimitPair → List ℕ → ℕ → ℕ → Type 0
 HasBounds limits s bytes tokens = (bytes_bound limits s ≡ bytes) × (tokens_bound limits s ≡ tokens)
 

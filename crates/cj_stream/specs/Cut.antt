@@ -11,7 +11,7 @@ use Rattle.cj_stream.specs.Bound.{IsBounded, IsBelow, exact_peaks}
 use Rattle.cj_stream.specs.Engine.{EngineState, Delivers, rules_of, held_by, peaks_of}
 use Rattle.cj_stream.specs.Sink.{Took, TookFront, LeavesNext, AppendsPart}
 
--- the text that pieces are a cut of; pieces may be empty
+-- the stream that pieces are a cut of; pieces may be empty
 abbrev pub joined : List (List ℕ) → List ℕ
 joined [] = []
 joined (piece ∷ pieces) = piece ++ joined pieces
@@ -21,7 +21,7 @@ joined (piece ∷ pieces) = piece ++ joined pieces
 abbrev pub PutsFront : {S : Type 0} → (S → Item → S → Type 0) → (List Item → S → S → Type 0) → Rules → List (List ℕ) → ℕ → S → S → Type 0
 PutsFront takes then rules pieces n s t = TookFront takes then (kept rules (joined (take (n + 1) pieces))) (kept rules (whole (joined (take n pieces)))) s t
 
--- a sink that was given a cut text: it took what is kept of the whole text, whose ending is the answer; or, after a
+-- a sink that was given a cut stream: it took what is kept of the whole stream, whose ending is the answer; or, after a
 -- fault, a prefix of it, by the pieces that were given, of which n were wholly taken: a write fault leaves of the sink
 -- what the next step may, and refused memory all
 abbrev pub PutsPieces : {S : Type 0} → (S → Item → S → Type 0) → (S → Item → S → Type 0) → Rules → List (List ℕ) → ℕ → End → S → S → Type 0
@@ -46,7 +46,7 @@ abbrev pub AppendsFront : Rules → List (List ℕ) → ℕ → Option (List ℕ
 AppendsFront rules pieces n old new =
     AppendsPart old new (output rules (joined (take (n + 1) pieces))) × AppendsMore old new (output rules (whole (joined (take n pieces))))
 
--- a writer that was given a cut text: it has the output of the whole text, whose ending is the answer; or, after a
+-- a writer that was given a cut stream: it has the output of the whole stream, whose ending is the answer; or, after a
 -- fault, a prefix of the output of the pieces that were given, of which n were wholly taken
 abbrev pub Copies : Rules → List (List ℕ) → ℕ → End → Option (List ℕ) → Option (List ℕ) → Type 0
 Copies rules pieces n Complete old new = (ending rules (joined pieces) ≡ Complete) × Appends old new (output rules (joined pieces))

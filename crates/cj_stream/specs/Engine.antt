@@ -108,7 +108,7 @@ Tells rules q n ReadLimit = ⊥
 Tells rules q n WriteFault = Unit {0}
 Tells rules q n Memory = Unit {0}
 
--- what the end of a text tells of it, after n of its lines: its ending, after all good lines
+-- what the end of a stream tells of it, after n of its lines: its ending, after all good lines
 abbrev pub Concludes : Rules → List ℕ → ℕ → End → Type 0
 Concludes rules p n Complete = (ending rules p ≡ Complete) × (n ≡ length (good rules p))
 Concludes rules p n (Refused number place reason) = (ending rules p ≡ Refused number place reason) × (n ≡ length (good rules p))

@@ -19,7 +19,7 @@ IsUnhindered ReadLimit = Unit {0}
 IsUnhindered WriteFault = ⊥
 IsUnhindered Memory = ⊥
 
--- A text, under rules of two limits and of what is asked, was given to an engine as far as a prefix of it, until this end.
+-- A stream, under rules of two limits and of what is asked, was given to an engine as far as a prefix of it, until this end.
 -- Where no growth was refused and no write failed, the writer has got exactly the header and the valid features that
 -- satisfy what is asked, byte for byte, in order, up to the first invalid line; and that line is refused with its number,
 -- place and reason, or the end is complete. A write fault is told only where a write to it has failed. Whatever came, no
@@ -32,7 +32,7 @@ pub record Headline (rules : Rules) (text given : List ℕ) (end : End) (peaks :
   pub held : IsBounded rules.limits given peaks
   pub exact : end ≡ Complete → peaks ≡ exact_peaks rules.limits text
 
--- the same of a run over the bytes r that a reader gave: unless a read failed or the reads ran out, of each text that
+-- the same of a run over the bytes r that a reader gave: unless a read failed or the reads ran out, of each stream that
 -- begins with them, and of which they are all where the reader was at its end
 abbrev pub HeadlineOfRun : Rules → List ℕ → Type 0 → End → Peaks → Channel → Channel → Type 0
 HeadlineOfRun rules r at_end end peaks old new =

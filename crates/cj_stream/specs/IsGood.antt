@@ -1,4 +1,4 @@
--- Which lines of a text are good, in other words.
+-- Which lines of a stream are good, in other words.
 use Rattle.std.specs.Prelude.{◌≡◌, ◌+◌, ◌≤◌, ℕ, List, [], ◌∷◌, ◌++◌, Some, None, length}
 use Rattle.cj_spans.specs.declared.reason.Reason.TheVariants.{NoHeader}
 use Rattle.cj_stream.specs.declared.ending.End.{End}
@@ -15,18 +15,18 @@ pub record IsFront (ls all : List Line) : Type 0 where
 abbrev pub NoneRefused : Rules → List Line → Type 0
 NoneRefused rules ls = (before : List Line) (l : Line) (after : List Line) → ls ≡ before ++ l ∷ after → refusal_of (length before + 1) (verdict rules before l.content) ≡ None
 
--- the longest prefix of the lines of a text of which none is refused
+-- the longest prefix of the lines of a stream of which none is refused
 pub record AreGood (rules : Rules) (s : List ℕ) (ls : List Line) : Type 0 where
   pub front : IsFront ls (lines s)
   pub unrefused : NoneRefused rules ls
   pub longest : (others : List Line) → IsFront others (lines s) → NoneRefused rules others → length others ≤ length ls
 
--- the end of a text of which all lines are good: it is complete, but for a text without a line
+-- the end of a stream of which all lines are good: it is complete, but for a stream without a line
 abbrev pub EndsWell : List Line → End → Type 0
 EndsWell [] e = e ≡ Refused 1 0 NoHeader
 EndsWell (l ∷ ls) e = e ≡ Complete
 
--- the end of a text by its good lines and those after them: the first of these is refused
+-- the end of a stream by its good lines and those after them: the first of these is refused
 abbrev pub EndsAfter : Rules → List Line → List Line → End → Type 0
 EndsAfter rules ls [] e = EndsWell ls e
 EndsAfter rules ls (next ∷ rest) e = refusal_of (length ls + 1) (verdict rules ls next.content) ≡ Some e

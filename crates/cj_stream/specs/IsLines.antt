@@ -1,4 +1,4 @@
--- What it means to be the lines of a text.
+-- What it means to be the lines of a stream.
 use Rattle.std.specs.Prelude.{◌≡◌, ◌⊎◌, ℕ, List, [], ◌∷◌, ◌++◌, true, false}
 use Rattle.std.specs.List.{flat_map}
 use Rattle.cj_stream.specs.Lines.{newline, Line, raw, NoLf}
@@ -14,13 +14,13 @@ abbrev pub HaveNoLf : List Line → Type 0
 HaveNoLf [] = Unit {0}
 HaveNoLf (l ∷ ls) = NoLf l.content × HaveNoLf ls
 
--- the lines of a text: contents without LF that give the text, joined with the LFs that ended them
+-- the lines of a stream: contents without LF that give the stream, joined with the LFs that ended them
 pub record IsLines (s : List ℕ) (ls : List Line) : Type 0 where
   pub contents : HaveNoLf ls
   pub joined : flat_map raw ls ≡ s
   pub ended : AreEnded ls
 
--- a text is its whole lines, and then bytes without LF
+-- a stream is its whole lines, and then bytes without LF
 pub record IsWhole (s w : List ℕ) : Type 0 where
   pub rest : List ℕ
   pub cut : s ≡ w ++ rest

@@ -1,4 +1,4 @@
--- Small texts with a blank line that is not empty, and with a header alone.
+-- Small streams with a blank line that is not empty, and with a header alone.
 use Rattle.std.specs.Prelude.{[], ◌∷◌, ◌++◌}
 use Rattle.cj_spans.specs.declared.reason.Reason.TheVariants.{Syntax}
 use Rattle.cj_stream.specs.declared.ending.End.TheVariants.{Complete, Refused}

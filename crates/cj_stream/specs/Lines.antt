@@ -1,4 +1,4 @@
--- The lines of a text of bytes.
+-- The lines of a stream.
 use Rattle.std.specs.Prelude.{◌≡◌, ℕ, List, [], ◌∷◌, ◌++◌, Bool, true, false, ◌==◌, if◌then◌else◌, map}
 use Rattle.std.specs.List.{flat_map}
 
@@ -49,11 +49,11 @@ abbrev pub last_line : List ℕ → List Line
 last_line [] = []
 last_line (b ∷ s) = record { content = b ∷ s; lf = false } ∷ []
 
--- the lines of a text, in order
+-- the lines of a stream, in order
 abbrev pub lines : List ℕ → List Line
 lines s = map ended_line (closed s) ++ last_line (begun s)
 
--- a text up to and with its last LF
+-- a stream up to and with its last LF
 abbrev pub whole : List ℕ → List ℕ
 whole s = flat_map raw (map ended_line (closed s))
 

@@ -91,7 +91,7 @@ pub record Reads (f : Reading) (p : List ℕ) : Type 0 where
   pub header_within : IsWithin f.header
   pub line_within : IsWithin f.line
 
--- the kept ones of the lines that LF ended, of a text without a refused line
+-- the kept ones of the lines that LF ended, of a stream without a refused line
 abbrev pub kept_closed : Rules → List ℕ → List Item
 kept_closed rules s = kept_from rules [] (map ended_line (closed s))
 
@@ -145,7 +145,7 @@ pub record Stays (f g : Reading) : Type 0 where
   pub header_rises : f.header.peak ≤ g.header.peak
   pub line_rises : f.line.peak ≤ g.line.peak
 
--- what comes of the end of a text, where this is the begun line: of a last line, and of a text without one
+-- what comes of the end of a stream, where this is the begun line: of a last line, and of a stream without one
 abbrev pub FinishesWith : {S : Type 0} → (S → Item → S → Type 0) → (S → Item → S → Type 0) → List ℕ → Reading → S → Result (Unit {0}) End → Reading → S → Type 0
 FinishesWith takes leaves [] f s r g t = (r ≡ (if f.lines == 0 then Err (Refused 1 0 NoHeader) else Ok tt)) × (g ≡ f) × (t ≡ s)
 FinishesWith takes leaves (b ∷ c) f s r g t =

@@ -27,7 +27,7 @@ wide_rules = record { limits = record { line = 8388608; depth = 64 }; criteria =
 abbrev pub tight_rules : Rules
 tight_rules = record { limits = record { line = 116; depth = 64 }; criteria = everything }
 
--- a text ends so, and this is written of it
+-- a stream ends so, and this is written of it
 abbrev pub Gives : Rules → List ℕ → End → List ℕ → Type 0
 Gives rules text e written = (ending rules text ≡ e) × (output rules text ≡ written)
 

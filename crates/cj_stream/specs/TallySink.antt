@@ -102,7 +102,7 @@ TalliesRun rules r ReadLimit t = IsTallyOf (kept rules (whole r)) t
 TalliesRun rules r WriteFault t = ⊥
 TalliesRun rules r Memory t = TalliesFront (kept rules r) [] t
 
--- the tally of what is kept of a cut text, whose ending is the answer; or, where memory was refused, of a prefix of the
+-- the tally of what is kept of a cut stream, whose ending is the answer; or, where memory was refused, of a prefix of the
 -- pieces that were given, of which n were wholly taken
 abbrev pub TalliesPieces : Rules → List (List ℕ) → ℕ → End → Tally → Type 0
 TalliesPieces rules pieces n Complete t = (ending rules (joined pieces) ≡ Complete) × IsTallyOf (kept rules (joined pieces)) t

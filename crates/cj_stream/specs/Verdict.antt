@@ -1,4 +1,4 @@
--- Which lines are refused, which are blank, and what is kept of a text.
+-- Which lines are refused, which are blank, and what is kept of a stream.
 use Rattle.std.specs.Prelude.{◌≡◌, IsUtf8, ℕ, ◌+◌, List, [], ◌∷◌, ◌++◌, Bool, true, false, not, ◌&&◌, ◌||◌, ◌==◌, nat_lt, if◌then◌else◌, Option, Some, None, length, take, map, unwrap_or, is_some}
 use Rattle.std.specs.List.{filter, flat_map, list_all}
 use Rattle.std.specs.Str.{is_utf8}
@@ -129,7 +129,7 @@ kept_from rules before (l ∷ ls) =
     if is_kept (verdict rules before l.content) then item_after rules before l ∷ kept_from rules (before ++ l ∷ []) ls
     else kept_from rules (before ++ l ∷ []) ls
 
--- the first refusal among the lines of a text, or of a prefix of them
+-- the first refusal among the lines of a stream, or of a prefix of them
 abbrev pub refusal_in : Rules → List Line → Option End
 refusal_in rules ls = refusal_from rules [] ls
 
@@ -141,16 +141,16 @@ good rules s = good_from rules [] (lines s)
 abbrev pub kept : Rules → List ℕ → List Item
 kept rules s = kept_from rules [] (good rules s)
 
--- what is written of a text
+-- what is written of a stream
 abbrev pub output : Rules → List ℕ → List ℕ
 output rules s = flat_map raw_item (kept rules s)
 
--- the end of these lines: a text without a line is refused, and else the first refused line is
+-- the end of these lines: a stream without a line is refused, and else the first refused line is
 abbrev pub ending_of : Rules → List Line → End
 ending_of rules [] = Refused 1 0 NoHeader
 ending_of rules (l ∷ ls) = unwrap_or (refusal_in rules (l ∷ ls)) Complete
 
--- how a text ends
+-- how a stream ends
 abbrev pub ending : Rules → List ℕ → End
 ending rules s = ending_of rules (lines s)
 
@@ -158,7 +158,7 @@ ending rules s = ending_of rules (lines s)
 abbrev pub long_line : LimitPair → List ℕ → List Line
 long_line limits c = if nat_lt limits.line (length c) then last_line c else []
 
--- the lines that can be judged before the end of a text: those that LF ended, and a begun one that is too long
+-- the lines that can be judged before the end of a stream: those that LF ended, and a begun one that is too long
 abbrev pub judged : LimitPair → List ℕ → List Line
 judged limits s = map ended_line (closed s) ++ long_line limits (begun s)
 

@@ -28,26 +28,26 @@ ghost use Rattle.cj_stream.specs.declared.sink.CountSink.{CountSink};
 
 use std::io::Write;
 
-/// The lines of a text are the one list of contents without LF that gives the text when each is
+/// The lines of a stream are the one list of contents without LF that gives the stream when each is
 /// followed by the LF that ended it; LF ends each but perhaps the last, which is then not empty. A
-/// text up to its last LF is its whole lines.
-pub fn lines_are_the_lines(text: &[u8])
-    ensures are { IsLines text.now (lines text.now) }
-    ensures only { (ls : List Line) → IsLines text.now ls → ls ≡ lines text.now }
-    ensures whole { IsWhole text.now (whole text.now) }
+/// stream up to its last LF is its whole lines.
+pub fn lines_are_the_lines(stream: &[u8])
+    ensures are { IsLines stream.now (lines stream.now) }
+    ensures only { (ls : List Line) → IsLines stream.now ls → ls ≡ lines stream.now }
+    ensures whole { IsWhole stream.now (whole stream.now) }
 {
-    let _ = text;
+    let _ = stream;
 }
 
-/// The good lines of a text are the longest prefix of its lines of which none is refused, and its ending
+/// The good lines of a stream are the longest prefix of its lines of which none is refused, and its ending
 /// is that of the line after them: under all rules.
-pub fn good_lines_are_the_longest(text: &[u8])
-    ensures are { (rules : Rules) → AreGood rules text.now (good rules text.now) }
-    ensures only { (rules : Rules) (ls : List Line) → AreGood rules text.now ls → ls ≡ good rules text.now }
-    ensures ending { (rules : Rules) (rest : List Line) → lines text.now ≡ good rules text.now ++ rest
-        → EndsAfter rules (good rules text.now) rest (ending rules text.now) }
+pub fn good_lines_are_the_longest(stream: &[u8])
+    ensures are { (rules : Rules) → AreGood rules stream.now (good rules stream.now) }
+    ensures only { (rules : Rules) (ls : List Line) → AreGood rules stream.now ls → ls ≡ good rules stream.now }
+    ensures ending { (rules : Rules) (rest : List Line) → lines stream.now ≡ good rules stream.now ++ rest
+        → EndsAfter rules (good rules stream.now) rest (ending rules stream.now) }
 {
-    let _ = text;
+    let _ = stream;
 }
 
 /// After as many lines as are good, what is kept of these is what is kept of all.

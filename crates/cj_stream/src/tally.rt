@@ -15,6 +15,9 @@ use cj_feature::{Feature, Header};
 use cj_geometry::ObjectType;
 use std::marker::Model;
 
+/// How many classes of LoDs there are: 0 to 4, and other.
+const CLASSES: usize = 6;
+
 /// Tallies what is kept of a stream: its features, their city objects by type, their geometries by LoD
 /// class, and the least and the greatest number of their vertices on each axis; and keeps the numbers of
 /// the header's transform. At 2^64 - 1 a count stays. It takes no memory.
@@ -22,7 +25,7 @@ use std::marker::Model;
 pub struct TallySink {
     features: u64,
     types: [u64; 33],
-    lods: [u64; 6],
+    lods: [u64; CLASSES],
     ranges: [Option<(i64, i64)>; 3],
     scale: Option<[Decimal; 3]>,
     translate: Option<[Decimal; 3]>,
@@ -60,7 +63,7 @@ impl TallySink {
         TallySink {
             features: 0,
             types: [0; 33],
-            lods: [0; 6],
+            lods: [0; CLASSES],
             ranges: [None; 3],
             scale: None,
             translate: None,

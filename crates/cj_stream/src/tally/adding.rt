@@ -5,6 +5,7 @@ ghost use Rattle.cj_feature.specs.View.{feature_tree, feature_header};
 ghost use Rattle.cj_stream.specs.Tallied.{class_of as lod_class, type_numbers, lod_classes, numbers_on};
 ghost use Rattle.cj_stream.specs.TallySink.{RisesBy, Widens};
 
+use super::CLASSES;
 use cj_feature::Feature;
 use cj_geometry::{Lods, lod_of};
 use cj_spans::Node;
@@ -20,7 +21,7 @@ const LAST: u32 = 52;
 /// The class of an LoD, if there is one.
 fn class_of(lod: Option<Node>) -> usize
     ensures class { result ≡ lod_class (option_map tree lod.entry) }
-    ensures below { result < 6 }
+    ensures below { result < CLASSES }
 {
     match lod {
         Some(node) => match node.first_code() {
@@ -42,8 +43,8 @@ pub fn count_types(counts: &mut [u64; 33], feature: &Feature)
 }
 
 /// Counts the geometries of a feature by the classes of their LoDs, each looked up alone.
-fn count_alone(counts: &mut [u64; 6], feature: &Feature)
-    ensures { RisesBy 6 counts.old (lod_classes (feature_header feature.now) (feature_tree feature.now)) counts.new }
+fn count_alone(counts: &mut [u64; CLASSES], feature: &Feature)
+    ensures { RisesBy CLASSES counts.old (lod_classes (feature_header feature.now) (feature_tree feature.now)) counts.new }
 {
     let templates = feature.templates();
     for geometry in feature.geometries() {
@@ -54,8 +55,8 @@ fn count_alone(counts: &mut [u64; 6], feature: &Feature)
 
 /// The same, with what is kept of earlier look-ups. It takes 12 KiB of the stack, and some time for that.
 #[inline(never)]
-fn count_together(counts: &mut [u64; 6], feature: &Feature)
-    ensures { RisesBy 6 counts.old (lod_classes (feature_header feature.now) (feature_tree feature.now)) counts.new }
+fn count_together(counts: &mut [u64; CLASSES], feature: &Feature)
+    ensures { RisesBy CLASSES counts.old (lod_classes (feature_header feature.now) (feature_tree feature.now)) counts.new }
 {
     let mut lods = Lods::beside(feature.templates());
     for geometry in feature.geometries() {
@@ -65,8 +66,8 @@ fn count_together(counts: &mut [u64; 6], feature: &Feature)
 }
 
 /// Counts the geometries of a feature by the classes of their LoDs.
-pub fn count_lods(counts: &mut [u64; 6], feature: &Feature)
-    ensures { RisesBy 6 counts.old (lod_classes (feature_header feature.now) (feature_tree feature.now)) counts.new }
+pub fn count_lods(counts: &mut [u64; CLASSES], feature: &Feature)
+    ensures { RisesBy CLASSES counts.old (lod_classes (feature_header feature.now) (feature_tree feature.now)) counts.new }
 {
     if feature.templates().is_empty() {
         count_alone(counts, feature);

@@ -18,7 +18,7 @@ fn check_held(rt: &impl Abort, engine: &Engine, held: Peaks, peaks: Peaks) {
     assert_eq!(rt; engine.peaks(), peaks);
 }
 
-/// Takes a text whose third line is refused so, and then what comes after an end.
+/// Takes a stream whose third line is refused so, and then what comes after an end.
 fn check_end(
     rt: &impl Abort,
     engine: &mut Engine,
@@ -65,7 +65,7 @@ fn an_end_by_a_finding_stays_the_end(rt: HostRuntime) -> Result<(), Fail> {
     Ok(())
 }
 
-/// Takes a text by single bytes, of which the one at `last` brings the end, and each later one it again.
+/// Takes a stream by single bytes, of which the one at `last` brings the end, and each later one it again.
 fn check_single_bytes(
     rt: &impl Abort,
     engine: &mut Engine,

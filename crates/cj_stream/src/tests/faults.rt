@@ -150,7 +150,7 @@ fn a_reader_that_fails_in_the_second_line(rt: HostRuntime) -> Result<(), Fail> {
     Ok(())
 }
 
-/// Runs over a text to a sink whose writer may fail.
+/// Runs over a stream to a sink whose writer may fail.
 fn run_to<S: LineSink>(alloc: Global, text: &[u8], sink: &mut S) -> Result<End, Fail> {
     let limits = Limits::new(8_388_608, 64)?;
     let query = Query::all(alloc);
@@ -180,7 +180,7 @@ fn a_write_fault_stays_the_end(rt: HostRuntime) -> Result<(), Fail> {
     Ok(())
 }
 
-/// Runs over a text to a sink whose writer fails in it, and once more. How often a sink's writer failed
+/// Runs over a stream to a sink whose writer fails in it, and once more. How often a sink's writer failed
 /// is seen by contracts alone; what can be seen here is that a failure does not stay.
 fn check_one_failure<S: LineSink>(
     rt: &impl Abort,
@@ -193,7 +193,7 @@ fn check_one_failure<S: LineSink>(
     Ok(())
 }
 
-/// A writer that fails at this write, to which `front` was written before, and then the whole text.
+/// A writer that fails at this write, to which `front` was written before, and then the whole stream.
 fn check_sinks(
     rt: &impl Abort,
     alloc: Global,

@@ -21,7 +21,7 @@ fn zeros(alloc: Global, count: usize) -> Result<Vec<u8>, Fail> {
     Ok(zeros)
 }
 
-/// Runs over a text, by whole reads: what was written, and how it ended.
+/// Runs over a stream, by whole reads: what was written, and how it ended.
 fn check_large(
     rt: &impl Abort,
     alloc: Global,

@@ -106,7 +106,7 @@ impl LineSink for NoteSink {
     }
 }
 
-/// Runs over a text to a sink, by reads of `step` bytes.
+/// Runs over a stream to a sink, by reads of `step` bytes.
 fn run_by<S: LineSink>(
     alloc: Global,
     text: &[u8],

@@ -67,7 +67,7 @@ fn check_counts(rt: &impl Abort, outcome: &Outcome, wanted: &Wanted, step: u64) 
     check_number(rt, outcome.kept, wanted.kept, wanted.row, step);
 }
 
-/// Runs over a text by reads of `step` bytes.
+/// Runs over a stream by reads of `step` bytes.
 fn check_step(
     rt: &impl Abort,
     alloc: Global,

@@ -1,4 +1,4 @@
-//! Devices that are slow or that fail, over texts longer than each buffer there is.
+//! Devices that are slow or that fail, over streams longer than each buffer there is.
 use super::calls::{check_bytes, check_ended, check_number, copied, copied_to};
 use super::devices::{SlowReader, SlowWriter};
 use super::long_lines::{long_text, many_features};
@@ -8,7 +8,7 @@ use std::alloc::Global;
 use std::process::Abort;
 use std::test::Fail;
 
-/// Copies a text to a writer that takes at most `step` bytes a write, up to the write that fails: of the text a
+/// Copies a stream to a writer that takes at most `step` bytes a write, up to the write that fails: of the stream a
 /// front is written.
 fn check_front(
     rt: &impl Abort,
@@ -65,7 +65,7 @@ fn a_writer_that_fails_far_in_one_line(rt: HostRuntime) -> Result<(), Fail> {
     Ok(())
 }
 
-/// Copies a text to a writer that takes at most `step` bytes a write, and does not fail.
+/// Copies a stream to a writer that takes at most `step` bytes a write, and does not fail.
 fn check_whole(rt: &impl Abort, alloc: Global, text: &[u8], step: usize) -> Result<(), Fail> {
     let mut writer = SlowWriter::new(Vec::new(alloc), step);
     let mut reader = SlowReader::new(text, 10_000);

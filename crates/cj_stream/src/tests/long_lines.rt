@@ -22,7 +22,7 @@ pub fn long_text(alloc: Global, length: usize) -> Result<Vec<u8>, Fail> {
     joined(alloc, &[HEADER, b"\n", &line, b"\n"])
 }
 
-/// Feeds a text by pieces of `step` bytes.
+/// Feeds a stream by pieces of `step` bytes.
 fn feed_by(
     rt: &impl Abort,
     engine: &mut Engine,
@@ -37,7 +37,7 @@ fn feed_by(
     check_finish(rt, engine, sink, End::Complete);
 }
 
-/// Gives a text to an engine by pieces of `step` bytes.
+/// Gives a stream to an engine by pieces of `step` bytes.
 fn check_pieces(
     rt: &impl Abort,
     alloc: Global,

@@ -26,7 +26,7 @@ const SPACED: &[u8] =
 const SMALL: &[u8] =
     b"{\"type\":\"CityJSONFeature\",\"id\":\"b\",\"CityObjects\":{\"b\":{\"type\":\"Building\"}},\"vertices\":[]}";
 
-/// What a run has to make of a text.
+/// What a run has to make of a stream.
 #[derive(Clone, Copy)]
 pub struct Wanted<'a> {
     pub name: &'a str,
@@ -49,7 +49,7 @@ pub fn check_run(
     check_bytes(rt, &written, wanted.written, wanted.name, step as u64);
 }
 
-/// Copies the text cut in two at this place.
+/// Copies the stream cut in two at this place.
 fn check_cut(
     rt: &impl Abort,
     alloc: Global,
@@ -78,7 +78,7 @@ fn check_cut(
     check_bytes(rt, &written, wanted.written, wanted.name, at as u64);
 }
 
-/// Copies the text cut in two at each place.
+/// Copies the stream cut in two at each place.
 fn check_cuts(rt: &impl Abort, alloc: Global, text: &[u8], limits: Limits, wanted: &Wanted) {
     for at in 0..text.len() {
         check_cut(rt, alloc, text, at, limits, wanted);

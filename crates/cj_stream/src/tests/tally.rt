@@ -142,7 +142,7 @@ impl LineSink for TypesSink {
     }
 }
 
-/// Tallies the text cut in two at this place.
+/// Tallies the stream cut in two at this place.
 fn check_cut(rt: &impl Abort, alloc: Global, text: &[u8], at: usize) -> Result<(), Fail> {
     assert!(rt; at <= text.len());
     assert!(rt; text.len() <= 10_000);
