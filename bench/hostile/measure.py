@@ -1,12 +1,13 @@
 #!/usr/bin/env python3
-"""Times `cityseq check`, and `cityseq info` where the rules alone do not cost, on lines that are made to cost, each of
-several lengths, beside a usual line of the same length: measure.py PROGRAM MEETING SECONDS [WORD]. MEETING is the program
-of meeting.c. A run that takes more than SECONDS is ended, and no longer line of its shape is tried. With a WORD only shapes
-whose names have it are measured. Times are of the processor, so that other work on the machine does not count; what the
-program takes to start is in them."""
+"""Times `cityseq check`, `cityseq info` and `cityseq filter --lod 2` on lines that are made to cost, each of several lengths,
+beside a usual line of the same length: measure.py PROGRAM MEETING SECONDS [WORD]. Of the three commands the dearest beside
+its usual line is shown. MEETING is the program of meeting.c. A run that takes more than SECONDS is ended, and no longer line
+of its shape is tried. With a WORD only shapes whose names have it are measured. Times are of the processor, so that other
+work on the machine does not count; what the program takes to start is in them."""
 import itertools
 import json
 import os
+import random
 import resource
 import subprocess
 import sys
@@ -14,6 +15,8 @@ import tempfile
 
 LENGTHS = (125_000, 1_000_000, 8_000_000)
 RUNS = 3
+COMMANDS = (("check",), ("info",), ("filter", "--lod", "2"))
+LETTERS = "-0123456789ABCDEFGHIJKLMNOPQRSTUVWXYZ_abcdefghijklmnopqrstuvwxyz"
 HEADER = ('{"type":"CityJSON","version":"2.0","transform":{"scale":[1,1,1],"translate":[0,0,0]},'
           '"CityObjects":{},"vertices":[]%s}\n')
 
@@ -50,6 +53,89 @@ def geometry(boundaries, more="", kind="MultiSurface"):
 def name(i):
     """An unread member."""
     return f'"name {i}":0'
+
+
+def short_text(i):
+    """A text of four letters, in rising order."""
+    return "".join(LETTERS[i >> 6 * place & 63] for place in (3, 2, 1, 0))
+
+
+def against_medians(count):
+    """Numbers in an order in which the median of the first, the middle and the last is always nearly the least."""
+    half, numbers = count // 2, [0] * count
+    for i in range(1, half + 1):
+        if i % 2:
+            numbers[i - 1] = i - 1
+            numbers[i] = half + i - 1
+        numbers[half + i - 1] = 2 * i - 1
+    rest = iter(sorted(set(range(count)) - set(numbers)))
+    seen = set()
+    for place, number in enumerate(numbers):
+        if number in seen:
+            numbers[place] = next(rest)
+        seen.add(number)
+    return numbers
+
+
+def in_order(order, count):
+    """The numbers below `count`, in an order that has a name."""
+    numbers = list(range(count))
+    if order == "falling":
+        numbers.reverse()
+    elif order == "none":
+        random.Random(1).shuffle(numbers)
+    elif order == "up and down":
+        numbers = numbers[::2] + numbers[1::2][::-1]
+    elif order == "medians":
+        numbers = against_medians(count)
+    return numbers
+
+
+def short_names(n, order, before="", spell=str):
+    """Unread members of the feature, as many as there is room for, in an order."""
+    count = n // len(f'"{spell(before + short_text(0))}":1,')
+    return feature(building(), more="," + ",".join(f'"{spell(before + short_text(i))}":1' for i in in_order(order, count)))
+
+
+def escaped(text):
+    """A text with each letter as an escape."""
+    return "".join(f"\\u{ord(letter):04x}" for letter in text)
+
+
+def parts_of_one(n, order, before="", spell=str):
+    """Parts that one building lists, in an order, each with that one as its parent."""
+    each = f'{{"type":"BuildingPart","parents":["b"]}}'
+    count = n // (2 * len(spell(before + short_text(0))) + len(each) + 8)
+    ids = [before + short_text(i) for i in range(count)]
+    listed = ",".join(f'"{spell(ids[i])}"' for i in in_order(order, count))
+    parts = ",".join(f'"{ids[i]}":{each}' for i in in_order("none", count))
+    return feature(building(f',"children":[{listed}]') + "," + parts)
+
+
+def parents_of_none(n, order, before=""):
+    """A part of which the last of many parents alone is in the feature, beside many city objects."""
+    count = n // 2 // (len(before) + 7)
+    listed = ",".join(f'"{before}{short_text(i)}"' for i in in_order(order, count))
+    part = f'"p":{{"type":"BuildingPart","parents":[{listed},"b"]}}'
+    others = ",".join(f'"{before}~{short_text(i)}":{{"type":"Road"}}' for i in in_order("none", n // 2 // (len(before) + 25)))
+    return feature(building(',"children":["p"]') + "," + part + "," + others)
+
+
+def links_of_one_hash(n):
+    """Parts whose names all have one hash of 64 bits, which one building lists."""
+    count = next(count for count in itertools.count(1) if 2 ** count * (16 * count + 45) > n)
+    texts = ["".join(text) for text in itertools.product(*(pair.split(" ") for pair in found("whole", count)))]
+    texts = texts[: n // (16 * count + 45)]
+    parts = ",".join(f'"{text}":{{"type":"BuildingPart","parents":["b"]}}' for text in texts)
+    return feature(building(f',"children":[{",".join(chr(34) + text + chr(34) for text in texts)}]') + "," + parts)
+
+
+def small_features(n):
+    """Features of one instance each, of templates far apart in the list."""
+    matrix, count = ",".join(["1"] * 16), n // 2 // 65
+    line = ('{{"type":"CityJSONFeature","id":"b","CityObjects":{{"b":{{"type":"Building","geometry":[{{"type":'
+            '"GeometryInstance","template":{},"boundaries":[0],"transformationMatrix":[' + matrix + ']}}]}}}},"vertices":[[0,0,0]]}}\n')
+    return "".join(line.format(count - 1 - i * 7919 % (count // 2)) for i in range(n // 2 // 230))
 
 
 def usual(n):
@@ -128,7 +214,7 @@ def instances(n, template):
 
 def many_templates(n):
     template = '{"type":"MultiSurface","lod":"2","boundaries":[[[0,0,0]]]}'
-    listed = ",".join([template] * (n // 80))
+    listed = ",".join([template] * (n // 80))  # of a stream of small features, as many as its instances name
     return f',"geometry-templates":{{"templates":[{listed}],"vertices-templates":[[0,0,0]]}}'
 
 
@@ -149,6 +235,15 @@ SHAPES = {
         building("," + many(n, lambda i: f'"{spread("ab", i, True)}{"x" * 16}":0'))),
     "names that meet in the marks": lambda n: feature(building("," + names_of_few_marks(n))),
     "names of one hash": lambda n: feature(building("," + names_of_one_hash(n))),
+    "short names in rising order": lambda n: short_names(n, "rising"),
+    "short names in falling order": lambda n: short_names(n, "falling"),
+    "short names in no order": lambda n: short_names(n, "none"),
+    "short names up and down": lambda n: short_names(n, "up and down"),
+    "short names against medians": lambda n: short_names(n, "medians"),
+    "names behind nine letters, no order": lambda n: short_names(n, "none", "a" * 9),
+    "names behind nine letters, falling": lambda n: short_names(n, "falling", "a" * 9),
+    "names behind 200 letters": lambda n: short_names(n, "none", "a" * 200),
+    "short names by escapes, falling": lambda n: short_names(n, "falling", spell=escaped),
     "names by escapes": lambda n: feature(
         building("," + many(n, lambda i: '"' + "".join(f"\\u{ord(c):04x}" for c in str(i)) + '":0'))),
     "one parent of all": one_parent,
@@ -157,9 +252,18 @@ SHAPES = {
     "a pair listed again and again": pairs_again,
     "parents that are not there": absent_parents,
     "a group's children that are not there": absent_children,
-    "info: instances of the last template": lambda n: instances(n, lambda i, count: count - 1),
-    "info: instances of templates far apart": lambda n: instances(n, lambda i, count: (i * 7919 + i % 2 * (count // 2)) % count),
-    "info: instances of a template of many members": lambda n: instances(n, lambda i, count: 0),
+    "parts of one, in no order": lambda n: parts_of_one(n, "none"),
+    "parts of one, in falling order": lambda n: parts_of_one(n, "falling"),
+    "parts of one, behind nine letters": lambda n: parts_of_one(n, "none", "a" * 9),
+    "parts of one, behind 200 letters": lambda n: parts_of_one(n, "none", "a" * 200),
+    "parts of one, by escapes": lambda n: parts_of_one(n, "none", spell=escaped),
+    "parts of one hash": links_of_one_hash,
+    "a part of unknown parents": lambda n: parents_of_none(n, "none"),
+    "a part of unknown parents, falling": lambda n: parents_of_none(n, "falling", "a" * 9),
+    "instances of the last template": lambda n: instances(n, lambda i, count: count - 1),
+    "instances of templates far apart": lambda n: instances(n, lambda i, count: (i * 7919 + i % 2 * (count // 2)) % count),
+    "instances of a template of many members": lambda n: instances(n, lambda i, count: 0),
+    "small features of far templates": small_features,
     "many surfaces": many_surfaces,
     "nests of 60": lambda n: feature(building(f',"attributes":[{many(n, lambda i: "[" * 56 + "]" * 56)}]')),
     "a string of escapes": lambda n: feature(building(f',"attributes":{{"a":"{chr(92)}u0041' + "\\n" * (n // 2) + '"}')),
@@ -172,9 +276,10 @@ SHAPES = {
 
 # What stands in the header beside lines of a shape; none where it is not told here.
 HEADERS = {
-    "info: instances of the last template": many_templates,
-    "info: instances of templates far apart": many_templates,
-    "info: instances of a template of many members": wide_template,
+    "instances of the last template": many_templates,
+    "instances of templates far apart": many_templates,
+    "instances of a template of many members": wide_template,
+    "small features of far templates": lambda n: many_templates(n // 2 * 80 // 65),
 }
 
 
@@ -191,7 +296,7 @@ def seconds_of(program, command, path, most):
         before = processor_seconds()
         with open(path, "rb") as stream:
             try:
-                ran = subprocess.run([program, command], stdin=stream, stdout=subprocess.DEVNULL,
+                ran = subprocess.run([program, *command], stdin=stream, stdout=subprocess.DEVNULL,
                                      stderr=subprocess.PIPE, timeout=4 * most)
             except subprocess.TimeoutExpired:
                 return None
@@ -203,30 +308,42 @@ def seconds_of(program, command, path, most):
     return best if best < most else None
 
 
+def dearest(program, stream, most, usual_seconds):
+    """The dearest command on a stream beside a usual one: its time and how many times as long it took; None where one took
+    more than `most`. A usual stream, of which no times are known yet, has its times noted."""
+    worst = (0, 0)
+    for command in COMMANDS:
+        took = seconds_of(program, command, stream, most)
+        if took is None:
+            return None
+        times = took / usual_seconds.setdefault(command, took)
+        worst = max(worst, (times, took))
+    return worst
+
+
 def main():
     program, most = sys.argv[1], float(sys.argv[3])
     word = sys.argv[4] if len(sys.argv) > 4 else ""
-    usual_seconds = {}
+    usual_seconds = {length: {} for length in LENGTHS}
     print(f"{'shape':<46}" + "".join(f"{length:>12,}{'of usual':>10}" for length in LENGTHS) + f"{'growth by a doubling':>24}")
     for shape, line in SHAPES.items():
         if word not in shape and shape != "usual":
             continue
-        shown, last = "", None
-        command = "info" if shape.startswith("info: ") else "check"
+        shown, last, growth = "", None, None
         for length in LENGTHS:
             templates = HEADERS[shape](length) if shape in HEADERS else ""
             with tempfile.NamedTemporaryFile(delete=False) as stream:
                 stream.write((HEADER % templates + line(length)).encode())
-            took = seconds_of(program, command, stream.name, most)
+            worst = dearest(program, stream.name, most, usual_seconds[length])
             os.unlink(stream.name)
-            usual_seconds.setdefault(length, took)
-            if took is None:
+            if worst is None:
                 shown += f"{f'over {most:.0f}':>12}{'':>10}"
                 break
+            times, took = worst
             growth = (took / last) ** (1 / 3) if last else None
             last = took
-            shown += f"{took:>12.3f}{took / usual_seconds[length]:>10.1f}"
-        print(f"{shape:<46}{shown}" + (f"{growth:>24.2f}" if growth else ""))
+            shown += f"{took:>12.3f}{times:>10.1f}"
+        print(f"{shape:<46}{shown}" + (f"{growth:>24.2f}" if growth else ""), flush=True)
 
 
 if __name__ == "__main__":

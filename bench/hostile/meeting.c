@@ -1,4 +1,5 @@
-/* Finds names that meet in the hash by which names are looked up (hash_of, in cj_spans/specs/Hash.antt).
+/* Finds names that meet in a hash of 64 bits, by which names were looked up once: a search by a hash is not to come back
+ * unseen.
  *
  *   meeting marks COUNT     so many names, one a line, whose marks all lie in one 32nd of the places for marks: a block
  *                           of them sets nearly all marks there, so that both marks of each other one are set
