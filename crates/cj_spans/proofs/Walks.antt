@@ -1,5 +1,5 @@
 -- Walks over the parts of a container, by the indices of tokens.
-use Rattle.std.proofs.Common.{◌≡◌, ℕ, zero, suc, ◌+◌, ◌-◌, ◌<◌, ◌≤◌, List, [], ◌∷◌, length, take, drop, slice_get, slice_range, true, inl, inr, Some, refl, sym, ap, subst, arith, ◌∙◌}
+use Rattle.std.proofs.Common.{◌≡◌, ℕ, zero, suc, ◌+◌, ◌-◌, ◌%◌, ◌^◌, ◌<◌, ◌≤◌, List, [], ◌∷◌, length, take, drop, slice_get, slice_range, true, inl, inr, Some, refl, sym, ap, subst, arith, ◌∙◌}
 use Rattle.std.specs.Cmp.{first_so, second_so}
 use Rattle.std.proofs.lemmas.Bool.{cases_lt}
 use Rattle.std.proofs.lemmas.List.{length-drop, drop-drop}
@@ -427,3 +427,13 @@ few_trees b ts k n =
 
 pub few_pairs : (b : List ℕ) (ts : List Token) (k n : ℕ) → length (pairs_of (shown_between b ts k n)) ≤ length ts
 few_pairs b ts k n = let l = length-pairs (shown_between b ts k n) in let m = few_trees b ts k n in omega arith
+
+-- ---- numbers
+
+-- a token's index is below its link, which is below 2^31
+pub number_linked : (tokens : List Token) (k : ℕ) → AreLinked tokens → k < length tokens → k < 2 ^ 31
+number_linked tokens k linked h =
+    let t = below [] tokens k h in
+    let e : t.0.link % 2 ^ 31 ≡ k + 1 + before t.0.stop (drop (k + 1) tokens) = linked k t.0 t.1 in
+    let b : t.0.link % 2 ^ 31 < 2 ^ 31 = omega arith in
+    omega arith

@@ -1,7 +1,8 @@
 -- What views of a line show: trees that are told by the spans of the tokens and the bytes of the line alone.
-use Rattle.std.specs.Prelude.{◌≡◌, ℕ, zero, suc, List, [], ◌∷◌, Option, IfSome}
+use Rattle.std.specs.Prelude.{◌≡◌, ℕ, zero, suc, ◌<◌, List, [], ◌∷◌, length, Option, IfSome}
 use Rattle.std.specs.Iterator.{YieldsFirstBy}
 use Rattle.cj_spans.specs.declared.token.Kind.TheVariants.{Null}
+use Rattle.cj_spans.specs.declared.node.Source.{Source}
 use Rattle.cj_spans.specs.declared.node.Doc.{Doc}
 use Rattle.cj_spans.specs.declared.node.Node.{Node}
 use Rattle.cj_spans.specs.declared.node.Items.{Items}
@@ -58,10 +59,31 @@ items_line w = w.source.line.now
 unfoldable pub members_line : Members → List ℕ
 members_line w = w.source.line.now
 
--- a step of a walk gives the next item, of the line that the walk goes over
+-- the line and the tokens that a node stands in, and those that a walk goes over
+unfoldable pub source_of : Node → Source
+source_of n = n.source
+
+unfoldable pub items_source : Items → Source
+items_source w = w.source
+
+unfoldable pub members_source : Members → Source
+members_source w = w.source
+
+-- there is a node of this number in them
+unfoldable pub HasNumber : Source → ℕ → Type 0
+HasNumber s k = k < length s.tokens.now
+
+-- the tree of the node of this number
+unfoldable pub tree_in : Source → ℕ → Tree
+tree_in s k = tree_at s.line.now (spans_of s.tokens.now) k
+
+-- a step of a walk gives the next item, of the line and the tokens that the walk goes over
 abbrev pub YieldsItem : Items → Option Node → Items → Type 0
-YieldsItem s r t = YieldsFirstBy tree items_left s r t × (items_line t ≡ items_line s) × IfSome r (λ n. line_of n ≡ items_line s)
+YieldsItem s r t =
+    YieldsFirstBy tree items_left s r t × (items_line t ≡ items_line s) × IfSome r (λ n. line_of n ≡ items_line s) × (items_source t ≡ items_source s) × IfSome r (λ n. source_of n ≡ items_source s)
 
 -- a step of a walk gives the next member
 abbrev pub YieldsMember : Members → Option (Node × Node) → Members → Type 0
-YieldsMember s r t = YieldsFirstBy trees members_left s r t × (members_line t ≡ members_line s) × IfSome r (λ p. (line_of p.0 ≡ members_line s) × (line_of p.1 ≡ members_line s))
+YieldsMember s r t =
+    YieldsFirstBy trees members_left s r t × (members_line t ≡ members_line s) × IfSome r (λ p. (line_of p.0 ≡ members_line s) × (line_of p.1 ≡ members_line s)) × (members_source t ≡ members_source s)
+    × IfSome r (λ p. (source_of p.0 ≡ members_source s) × (source_of p.1 ≡ members_source s))

@@ -176,7 +176,7 @@ impl<'a> Doc<'a> {
 impl<'a> Node<'a> {
     ghost use Rattle.cj_spans.specs.Parts.{kind_of, spelling_of, items_of, members_of};
     ghost use Rattle.cj_spans.specs.Tree.{start_of};
-    ghost use Rattle.cj_spans.specs.View.{tree, line_of, items_left, items_line, members_left, members_line};
+    ghost use Rattle.cj_spans.specs.View.{tree, line_of, source_of, items_left, items_line, items_source, members_left, members_line, members_source};
 
     /// What kind of value it is. A member name is a `Text`.
     pub fn kind(self) -> Kind
@@ -207,6 +207,7 @@ impl<'a> Node<'a> {
     pub fn items(self) -> Items<'a>
         ensures items { items_left result ≡ items_of (tree self.entry) }
         ensures line { items_line result ≡ line_of self.entry }
+        ensures source { items_source result ≡ source_of self.entry }
         ensures few { length (items_left result) < 2 ^ 63 }
     {
         let stop = items_end(self.kind(), self.source.after(self.index));
@@ -222,6 +223,7 @@ impl<'a> Node<'a> {
     pub fn members(self) -> Members<'a>
         ensures members { members_left result ≡ members_of (tree self.entry) }
         ensures line { members_line result ≡ line_of self.entry }
+        ensures source { members_source result ≡ source_of self.entry }
         ensures few { length (members_left result) < 2 ^ 63 }
     {
         let stop = members_end(self.kind(), self.source.after(self.index));
@@ -229,6 +231,31 @@ impl<'a> Node<'a> {
             source: self.source,
             next: self.index + 1,
             stop,
+        }
+    }
+}
+
+impl<'a> Node<'a> {
+    ghost use Rattle.cj_spans.specs.View.{tree, source_of, tree_in, HasNumber};
+
+    /// Its number in the line, by which [`Node::at`] finds it again: a number takes 4 bytes, and a node takes
+    /// ten times as many.
+    pub fn number(self) -> u32
+        ensures known { HasNumber (source_of self.entry) result }
+        ensures tree { tree_in (source_of self.entry) result ≡ tree self.entry }
+    {
+        self.index as u32
+    }
+
+    /// The node of this number in the same line.
+    pub fn at(self, number: u32) -> Node<'a>
+        requires { HasNumber (source_of self) number }
+        ensures tree { tree result ≡ tree_in (source_of self.entry) number }
+        ensures source { source_of result ≡ source_of self.entry }
+    {
+        Node {
+            source: self.source,
+            index: number as usize,
         }
     }
 }

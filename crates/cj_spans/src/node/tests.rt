@@ -303,6 +303,21 @@ fn texts_are_ordered_beside_a_text(rt: HostRuntime) -> Result<(), Fail> {
 }
 
 #[test]
+fn nodes_are_found_by_their_numbers(rt: HostRuntime) -> Result<(), Fail> {
+    let line = b"{\"a\":[1,[2,\"b\"]],\"c\":{\"d\":null}}";
+    let mut tokens: Bounded<Token> = Bounded::new(rt.alloc(), 1_000);
+    let root = view(&rt, rt.alloc(), line, &mut tokens).root();
+    assert_eq!(&rt; root.number(), 0);
+    let numbers = [(1, 2), (7, 8)];
+    for ((name, value), (of_name, of_value)) in root.members().zip(numbers.iter()) {
+        assert_eq!(&rt; name.number(), *of_name);
+        assert_eq!(&rt; value.number(), *of_value);
+        assert_eq!(&rt; name.at(name.number()).bytes(), name.bytes());
+    }
+    Ok(())
+}
+
+#[test]
 fn a_copy_is_viewed_as_the_line_was(rt: HostRuntime) -> Result<(), Fail> {
     let line = b"{\"a\":[1,2],\"b\":\"\\u0061\"}";
     let mut tokens: Bounded<Token> = Bounded::new(rt.alloc(), 64);

@@ -1,11 +1,11 @@
 use Rattle.std.proofs.Common.{rules, refl, ap, length, arith}
-use Rattle.cj_spans.specs.View.{tree, line_of, members_left, members_line, pairs_of}
+use Rattle.cj_spans.specs.View.{tree, line_of, source_of, members_left, members_line, members_source, pairs_of}
 use Rattle.cj_spans.proofs.Walks.{at_name, member_on, shown_none, whole_later}
 use Rattle.cj_spans.proofs.node.MembersIterator.next.Goals as goal
 
 pub returns-then-name-self-clause-steps : goal.returns-then-name-self-clause-steps
-unfolding members_left
-returns-then-name-self-clause-steps c = let s = c.args.self.now in let e = ap pairs_of (shown_none s.source.line.now s.source.tokens.now s.next s.stop (omega arith)) in ((e, e), refl, tt)
+unfolding members_left members_source
+returns-then-name-self-clause-steps c = let s = c.args.self.now in let e = ap pairs_of (shown_none s.source.line.now s.source.tokens.now s.next s.stop (omega arith)) in ((e, e), refl, tt, refl, tt)
 
 pub after-self-requires : goal.after-self-requires
 after-self-requires c =
@@ -22,11 +22,11 @@ invariant_of-self c =
     record { whole = whole_later s.source.tokens.now s.next c.after-self.result s.stop (omega arith) s.whole; named = m.named }
 
 pub returns-clause-steps : goal.returns-clause-steps
-unfolding members_left tree members_line line_of
+unfolding members_left tree members_line line_of members_source source_of
 returns-clause-steps c =
     let s = c.args.self.now in
     let m = member_on s.source.line.now s.source.tokens.now s.next s.stop c.after-self.result s.source.nested s.source.linked s.source.lone s.whole s.named (omega arith) c.after-self.ensures.link in
-    (m.shown, refl, (refl, refl))
+    (m.shown, refl, (refl, refl), refl, (refl, refl))
 
 pub returns-clause-goes : goal.returns-clause-goes
 unfolding members_left tree

@@ -1,5 +1,5 @@
 use Rattle.std.proofs.Common.{refl, arith, ◌+◌}
-use Rattle.cj_spans.specs.View.{tree, line_of, items_line, items_left}
+use Rattle.cj_spans.specs.View.{tree, line_of, source_of, items_line, items_source, items_left}
 use Rattle.cj_spans.proofs.Walks.{items_from_link, few_trees}
 use Rattle.cj_spans.proofs.node.Node.items.Goals as goal
 
@@ -19,6 +19,10 @@ returns-clause-items c =
 pub returns-clause-line : goal.returns-clause-line
 unfolding line_of items_line
 returns-clause-line c = refl
+
+pub returns-clause-source : goal.returns-clause-source
+unfolding source_of items_source
+returns-clause-source c = refl
 
 pub returns-clause-few : goal.returns-clause-few
 unfolding items_left

@@ -1,5 +1,5 @@
 use Rattle.std.proofs.Common.{refl, arith, ◌+◌}
-use Rattle.cj_spans.specs.View.{tree, line_of, members_line, members_left}
+use Rattle.cj_spans.specs.View.{tree, line_of, source_of, members_line, members_source, members_left}
 use Rattle.cj_spans.proofs.Walks.{members_from_link, few_pairs}
 use Rattle.cj_spans.proofs.node.Node.members.Goals as goal
 
@@ -19,6 +19,10 @@ returns-clause-members c =
 pub returns-clause-line : goal.returns-clause-line
 unfolding line_of members_line
 returns-clause-line c = refl
+
+pub returns-clause-source : goal.returns-clause-source
+unfolding source_of members_source
+returns-clause-source c = refl
 
 pub returns-clause-few : goal.returns-clause-few
 unfolding members_left
