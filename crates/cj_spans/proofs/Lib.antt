@@ -22,6 +22,7 @@ pub mod Endings
 pub mod WorkedLines
 pub mod Findings
 pub mod Texts
+pub mod Words
 pub mod Views
 pub mod Scanned
 pub mod Sizes

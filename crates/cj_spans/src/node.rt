@@ -27,7 +27,7 @@ mod examples;
 mod tests;
 
 use crate::text::{
-    CodePoints, compare_spelling_with, compare_spellings, hash, spell_one_text, spells,
+    CodePoints, compare_spelling_with, compare_spellings, hash, spell_one_text, spells, word,
 };
 use crate::token::{Kind, Token};
 use std::cmp::Ordering;
@@ -267,7 +267,7 @@ impl<'a> Node<'a> {
     ghost use Rattle.cj_spans.specs.Decoding.{code_points_left};
     ghost use Rattle.cj_spans.specs.Text.{text};
     ghost use Rattle.cj_spans.specs.Hash.{hash_of};
-    ghost use Rattle.cj_spans.specs.Order.{compare_texts};
+    ghost use Rattle.cj_spans.specs.Order.{compare_texts, word_of};
     ghost use Rattle.cj_spans.specs.View.{tree, line_of};
 
     /// A string or a name as it is spelled, with its quotes; None for any other value.
@@ -355,6 +355,18 @@ impl<'a> Node<'a> {
         match self.spelling() {
             Some(spelling) => compare_spelling_with(spelling, text),
             None => Ordering::Less,
+        }
+    }
+
+    /// The first eight code points of the text of a string or a name as one number; 0 for any other value. A text of
+    /// a lesser number is less, by the law [`crate::laws::words_are_ordered`]: so most texts are ordered by two
+    /// numbers, without a look at the line.
+    pub fn text_word(self) -> u64
+        ensures { result ≡ word_of (text_of (tree self.entry)) }
+    {
+        match self.points() {
+            Some(points) => word(points),
+            None => 0,
         }
     }
 
