@@ -26,5 +26,6 @@ pub mod Words
 pub mod Views
 pub mod Scanned
 pub mod Sizes
+pub mod Rising
 pub mod Walks
 pub mod Strings

@@ -174,7 +174,7 @@ impl<'a> Doc<'a> {
 }
 
 impl<'a> Node<'a> {
-    ghost use Rattle.cj_spans.specs.Parts.{kind_of, spelling_of, items_of, members_of};
+    ghost use Rattle.cj_spans.specs.Parts.{kind_of, spelling_of, items_of, members_of, AreInOrder};
     ghost use Rattle.cj_spans.specs.Tree.{start_of};
     ghost use Rattle.cj_spans.specs.View.{tree, line_of, source_of, items_left, items_line, items_source, members_left, members_line, members_source};
 
@@ -222,6 +222,7 @@ impl<'a> Node<'a> {
     /// value.
     pub fn members(self) -> Members<'a>
         ensures members { members_left result ≡ members_of (tree self.entry) }
+        ensures order { AreInOrder (members_left result) }
         ensures line { members_line result ≡ line_of self.entry }
         ensures source { members_source result ≡ source_of self.entry }
         ensures few { length (members_left result) < 2 ^ 63 }
