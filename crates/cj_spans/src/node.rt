@@ -237,26 +237,25 @@ impl<'a> Node<'a> {
 }
 
 impl<'a> Node<'a> {
-    ghost use Rattle.cj_spans.specs.View.{tree, source_of, tree_in, HasNumber};
+    ghost use Rattle.cj_spans.specs.View.{tree, source_of, tree_in};
 
     /// Its number in the line, by which [`Node::at`] finds it again: a number takes 4 bytes, and a node takes
     /// ten times as many.
     pub fn number(self) -> u32
-        ensures known { HasNumber (source_of self.entry) result }
-        ensures tree { tree_in (source_of self.entry) result ≡ tree self.entry }
+        ensures { tree_in (source_of self.entry) result ≡ tree self.entry }
     {
         self.index as u32
     }
 
-    /// The node of this number in the same line.
+    /// The node of this number in the same line, or its last one where it has none of that number: so any number may be
+    /// asked for, as in a comparison that a sort is given.
     pub fn at(self, number: u32) -> Node<'a>
-        requires { HasNumber (source_of self) number }
         ensures tree { tree result ≡ tree_in (source_of self.entry) number }
         ensures source { source_of result ≡ source_of self.entry }
     {
         Node {
             source: self.source,
-            index: number as usize,
+            index: (number as usize).min(self.source.tokens.len() - 1),
         }
     }
 }
