@@ -22,8 +22,10 @@ pub mod Endings
 pub mod WorkedLines
 pub mod Findings
 pub mod Texts
+pub mod Words
 pub mod Views
 pub mod Scanned
 pub mod Sizes
+pub mod Rising
 pub mod Walks
 pub mod Strings

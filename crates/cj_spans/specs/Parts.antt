@@ -1,8 +1,8 @@
 -- What is asked of a tree: its kind, its spelling, its items and members, its text, the member of a name.
-use Rattle.std.specs.Prelude.{ℕ, List, [], ◌∷◌, slice_range, Bool, false, cond, Option, Some, None, option_and_then}
+use Rattle.std.specs.Prelude.{ℕ, ◌<◌, List, [], ◌∷◌, slice_range, Bool, false, cond, Option, Some, None, option_and_then, All, ⊤}
 use Rattle.cj_spans.specs.declared.token.Kind.{Kind}
 use Rattle.cj_spans.specs.declared.token.Kind.TheVariants.{Null, Truth, Number, Text, Array, Object}
-use Rattle.cj_spans.specs.Tree.{Tree, scalar, array, object, Items, no_items, item, Members, no_members, member}
+use Rattle.cj_spans.specs.Tree.{Tree, scalar, array, object, Items, no_items, item, Members, no_members, member, start_of}
 use Rattle.cj_spans.specs.Text.{text, are_same}
 
 -- the kind of a value or a name
@@ -38,6 +38,11 @@ abbrev pub members_of : Tree → List (Tree × Tree)
 members_of (scalar k a) = []
 members_of (array i j ts) = []
 members_of (object i j ms) = list_members ms
+
+-- each name starts before those after it
+abbrev pub AreInOrder : List (Tree × Tree) → Type 0
+AreInOrder [] = ⊤
+AreInOrder (m ∷ ms) = All (λ (n : Tree × Tree). start_of m.0 < start_of n.0) ms × AreInOrder ms
 
 -- the text of a scalar of the kind
 abbrev pub text_if : Kind → List ℕ → Option (List ℕ)

@@ -1,5 +1,5 @@
 -- What views of a line show: trees that are told by the spans of the tokens and the bytes of the line alone.
-use Rattle.std.specs.Prelude.{◌≡◌, ℕ, zero, suc, ◌<◌, List, [], ◌∷◌, length, Option, IfSome}
+use Rattle.std.specs.Prelude.{◌≡◌, ℕ, zero, suc, ◌-◌, min, List, [], ◌∷◌, length, Option, IfSome}
 use Rattle.std.specs.Iterator.{YieldsFirstBy}
 use Rattle.cj_spans.specs.declared.token.Kind.TheVariants.{Null}
 use Rattle.cj_spans.specs.declared.node.Source.{Source}
@@ -69,13 +69,9 @@ items_source w = w.source
 unfoldable pub members_source : Members → Source
 members_source w = w.source
 
--- there is a node of this number in them
-unfoldable pub HasNumber : Source → ℕ → Type 0
-HasNumber s k = k < length s.tokens.now
-
--- the tree of the node of this number
+-- the tree of the node of this number, or of the last one where there is none of it
 unfoldable pub tree_in : Source → ℕ → Tree
-tree_in s k = tree_at s.line.now (spans_of s.tokens.now) k
+tree_in s k = tree_at s.line.now (spans_of s.tokens.now) (min k (length s.tokens.now - 1))
 
 -- a step of a walk gives the next item, of the line and the tokens that the walk goes over
 abbrev pub YieldsItem : Items → Option Node → Items → Type 0

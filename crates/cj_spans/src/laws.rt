@@ -1,11 +1,11 @@
 //! Laws of the definitions that contracts cite, proved once and for all.
-ghost use Rattle.std.specs.Prelude.{◌≡◌, ◌≢◌, ◌≤◌, ◌↔◌, List, ℕ, IsTrue, nat_eq, nat_lt, codes};
+ghost use Rattle.std.specs.Prelude.{◌≡◌, ◌≢◌, ◌<◌, ◌≤◌, ◌↔◌, List, ℕ, Option as OptionOf, IsTrue, nat_eq, nat_lt, codes};
 ghost use Rattle.std.specs.Char.{digit_value};
 ghost use Rattle.std.specs.List.{list_any};
 ghost use Rattle.std.specs.Str.{chars, IsUtf8};
 ghost use Rattle.std.specs.Cmp.{IsTotalOrder};
-ghost use Rattle.std.specs.declared.cmp.Ordering.TheVariants.{Equal};
-ghost use Rattle.cj_spans.specs.Order.{compare, compare_texts};
+ghost use Rattle.std.specs.declared.cmp.Ordering.TheVariants.{Less, Equal};
+ghost use Rattle.cj_spans.specs.Order.{compare, compare_texts, word_of};
 ghost use Rattle.cj_spans.specs.Spelling.{IsString, is_hex, is_plain, is_escape};
 ghost use Rattle.cj_spans.specs.Text.{text, body_of, StandFor};
 ghost use Rattle.cj_spans.specs.Judgement.{Judgement, SaySame};
@@ -40,4 +40,9 @@ pub fn bytes_of_strings()
 pub fn texts_are_ordered()
     ensures total { IsTotalOrder compare_texts }
     ensures same { (s t : List ℕ) → (compare s t ≡ Equal) ↔ (s ≡ t) }
+{}
+
+/// What [`crate::Node::text_word`] answers goes along with the order of texts: a text of a lesser word is less.
+pub fn words_are_ordered()
+    ensures { (s t : OptionOf (List ℕ)) → word_of s < word_of t → compare_texts s t ≡ Less }
 {}

@@ -27,7 +27,7 @@ mod examples;
 mod tests;
 
 use crate::text::{
-    CodePoints, compare_spelling_with, compare_spellings, hash, spell_one_text, spells,
+    CodePoints, compare_spelling_with, compare_spellings, hash, spell_one_text, spells, word,
 };
 use crate::token::{Kind, Token};
 use std::cmp::Ordering;
@@ -174,7 +174,7 @@ impl<'a> Doc<'a> {
 }
 
 impl<'a> Node<'a> {
-    ghost use Rattle.cj_spans.specs.Parts.{kind_of, spelling_of, items_of, members_of};
+    ghost use Rattle.cj_spans.specs.Parts.{kind_of, spelling_of, items_of, members_of, AreInOrder};
     ghost use Rattle.cj_spans.specs.Tree.{start_of};
     ghost use Rattle.cj_spans.specs.View.{tree, line_of, source_of, items_left, items_line, items_source, members_left, members_line, members_source};
 
@@ -222,6 +222,7 @@ impl<'a> Node<'a> {
     /// value.
     pub fn members(self) -> Members<'a>
         ensures members { members_left result ≡ members_of (tree self.entry) }
+        ensures order { AreInOrder (members_left result) }
         ensures line { members_line result ≡ line_of self.entry }
         ensures source { members_source result ≡ source_of self.entry }
         ensures few { length (members_left result) < 2 ^ 63 }
@@ -236,26 +237,25 @@ impl<'a> Node<'a> {
 }
 
 impl<'a> Node<'a> {
-    ghost use Rattle.cj_spans.specs.View.{tree, source_of, tree_in, HasNumber};
+    ghost use Rattle.cj_spans.specs.View.{tree, source_of, tree_in};
 
     /// Its number in the line, by which [`Node::at`] finds it again: a number takes 4 bytes, and a node takes
     /// ten times as many.
     pub fn number(self) -> u32
-        ensures known { HasNumber (source_of self.entry) result }
-        ensures tree { tree_in (source_of self.entry) result ≡ tree self.entry }
+        ensures { tree_in (source_of self.entry) result ≡ tree self.entry }
     {
         self.index as u32
     }
 
-    /// The node of this number in the same line.
+    /// The node of this number in the same line, or its last one where it has none of that number: so any number may be
+    /// asked for, as in a comparison that a sort is given.
     pub fn at(self, number: u32) -> Node<'a>
-        requires { HasNumber (source_of self) number }
         ensures tree { tree result ≡ tree_in (source_of self.entry) number }
         ensures source { source_of result ≡ source_of self.entry }
     {
         Node {
             source: self.source,
-            index: number as usize,
+            index: (number as usize).min(self.source.tokens.len() - 1),
         }
     }
 }
@@ -267,7 +267,7 @@ impl<'a> Node<'a> {
     ghost use Rattle.cj_spans.specs.Decoding.{code_points_left};
     ghost use Rattle.cj_spans.specs.Text.{text};
     ghost use Rattle.cj_spans.specs.Hash.{hash_of};
-    ghost use Rattle.cj_spans.specs.Order.{compare_texts};
+    ghost use Rattle.cj_spans.specs.Order.{compare_texts, word_of};
     ghost use Rattle.cj_spans.specs.View.{tree, line_of};
 
     /// A string or a name as it is spelled, with its quotes; None for any other value.
@@ -355,6 +355,18 @@ impl<'a> Node<'a> {
         match self.spelling() {
             Some(spelling) => compare_spelling_with(spelling, text),
             None => Ordering::Less,
+        }
+    }
+
+    /// The first eight code points of the text of a string or a name as one number; 0 for any other value. A text of
+    /// a lesser number is less, by the law [`crate::laws::words_are_ordered`]: so most texts are ordered by two
+    /// numbers, without a look at the line.
+    pub fn text_word(self) -> u64
+        ensures { result ≡ word_of (text_of (tree self.entry)) }
+    {
+        match self.points() {
+            Some(points) => word(points),
+            None => 0,
         }
     }
 

@@ -5,7 +5,7 @@ ghost use Rattle.std.specs.Char.{digit_value as digit_value_of};
 ghost use Rattle.std.specs.Char.Utf16.{is_high_surrogate as is_high_of, is_low_surrogate as is_low_of};
 ghost use Rattle.cj_spans.specs.Decoding.{left, after_read, ReadsCodePoint, plain_front, code_points_from, code_points_left, characters_left};
 ghost use Rattle.cj_spans.specs.Hash.{hash_step, hash_on};
-ghost use Rattle.cj_spans.specs.Order.{compare};
+ghost use Rattle.cj_spans.specs.Order.{compare, digits};
 ghost use Rattle.cj_spans.specs.Text.{char_of, four_digits, escaped as escaped_of, is_escaped, is_unicode, unit, first_code_point, first_width, text, are_same};
 
 #[cfg(test)]
@@ -637,6 +637,66 @@ pub(crate) fn compare_spelling_with(spelling: &[u8], wanted: &str) -> Ordering
     ensures { result ≡ compare (text spelling.now) (chars wanted.now) }
 {
     compare_points_with(CodePoints::of(spelling), Characters::of(wanted))
+}
+
+/// What the first code point of a text weighs in its word: the top eight of 64 bits.
+const FIRST_WEIGHT: u64 = 1 << 56;
+
+/// What each code point weighs beside the next one.
+const BASE: u64 = 256;
+
+/// The least code point that ends a word.
+const PAST_DIGITS: u32 = 255;
+
+/// A word and these code points, of which the first weighs so much, by code points: for what is spelled by escapes or is
+/// not ASCII.
+#[tactic(auto, using(crate::proofs::Words::digits_none, crate::proofs::Words::digits_few, crate::proofs::Words::digits_cut))]
+#[cold]
+#[inline(never)]
+fn word_slowly(front: u64, first_weight: u64, points: CodePoints) -> u64
+    requires { front + digits first_weight (code_points_left points) < 2 ^ 64 }
+    ensures { result ≡ front + digits first_weight (code_points_left points.entry) }
+{
+    let mut word = front;
+    let mut weight = first_weight;
+    for point in points {
+        if weight == 0 {
+            return word;
+        }
+        if point >= PAST_DIGITS {
+            return word + PAST_DIGITS as u64 * weight;
+        }
+        word += point as u64 * weight;
+        weight /= BASE;
+    }
+    word
+}
+
+/// The first eight code points of a string's text as one number, in which texts are ordered as far as it tells them apart.
+#[tactic(auto, using(crate::proofs::Words::digits_none, crate::proofs::Words::digits_end))]
+#[inline]
+pub(crate) fn word(points: CodePoints) -> u64
+    ensures { result ≡ digits (256 ^ 7) (code_points_left points.entry) }
+{
+    let mut word = 0;
+    let mut weight = FIRST_WEIGHT;
+    let mut left = points;
+    while weight > 0 {
+        match plain_at(left.bytes, left.place) {
+            Some(byte) => {
+                word += byte as u64 * weight;
+                weight /= BASE;
+                left.place += 1;
+            }
+            None => {
+                if left.place >= left.bytes.len() {
+                    return word;
+                }
+                return word_slowly(word, weight, left);
+            }
+        }
+    }
+    word
 }
 
 /// What the hash of a text begins with.

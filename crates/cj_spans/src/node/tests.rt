@@ -280,6 +280,29 @@ fn texts_are_ordered_by_code_points(rt: HostRuntime) -> Result<(), Fail> {
     Ok(())
 }
 
+#[test]
+fn words_are_of_the_first_eight_code_points(rt: HostRuntime) -> Result<(), Fail> {
+    let line =
+        b"[12,\"\",\"a\",\"\\u0061b\",\"abcdefgh\",\"abcdefghi\",\"a\xE2\x82\xACb\",\"\\u00e9a\",\"\xC3\xBFa\"]";
+    let words = [
+        0u64,
+        0,
+        0x6100_0000_0000_0000,
+        0x6162_0000_0000_0000,
+        0x6162_6364_6566_6768,
+        0x6162_6364_6566_6768,
+        0x61FF_0000_0000_0000,
+        0xE961_0000_0000_0000,
+        0xFF00_0000_0000_0000,
+    ];
+    let mut tokens: Bounded<Token> = Bounded::new(rt.alloc(), 1_000);
+    let items = view(&rt, rt.alloc(), line, &mut tokens).root().items();
+    for (item, word) in items.zip(words.iter()) {
+        assert_eq!(&rt; item.text_word(), *word);
+    }
+    Ok(())
+}
+
 /// How the items of a line are ordered beside a text.
 fn are_ordered_beside(items: Items, text: &str, wanted: &[Ordering]) -> bool {
     let mut all = true;

@@ -1,5 +1,6 @@
 //! The texts of worked spellings: each contract is a theorem on one spelling.
-ghost use Rattle.std.specs.Prelude.{◌≡◌, ◌∷◌, [], codes};
+ghost use Rattle.std.specs.Prelude.{◌≡◌, ◌∷◌, [], codes, None, Some};
+ghost use Rattle.cj_spans.specs.Order.{word_of};
 ghost use Rattle.cj_spans.specs.Text.{text};
 
 /// Two quotes alone.
@@ -50,4 +51,14 @@ pub fn escaped_backslash()
 /// Characters of two, three and four bytes in UTF-8 (RFC 3629).
 pub fn longer_characters()
     ensures { text (34 ∷ 195 ∷ 169 ∷ 226 ∷ 130 ∷ 172 ∷ 240 ∷ 159 ∷ 152 ∷ 128 ∷ 34 ∷ []) ≡ 233 ∷ 8364 ∷ 128512 ∷ [] }
+{}
+
+/// The first eight code points as a number: fewer count from the front too, one from 255 on ends them.
+pub fn words_of_texts()
+    ensures none { word_of None ≡ 0 }
+    ensures short { word_of (Some (codes "ab")) ≡ 0x6162_0000_0000_0000 }
+    ensures long { word_of (Some (codes "abcdefghi")) ≡ 0x6162_6364_6566_6768 }
+    ensures cut { word_of (Some (97 ∷ 8364 ∷ 98 ∷ [])) ≡ 0x61FF_0000_0000_0000 }
+    ensures edge { word_of (Some (97 ∷ 255 ∷ 98 ∷ [])) ≡ 0x61FF_0000_0000_0000 }
+    ensures below { word_of (Some (97 ∷ 254 ∷ 98 ∷ [])) ≡ 0x61FE_6200_0000_0000 }
 {}

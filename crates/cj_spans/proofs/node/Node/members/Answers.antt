@@ -1,6 +1,8 @@
 use Rattle.std.proofs.Common.{refl, arith, ◌+◌}
 use Rattle.cj_spans.specs.View.{tree, line_of, source_of, members_line, members_source, members_left}
 use Rattle.cj_spans.proofs.Walks.{members_from_link, few_pairs}
+use Rattle.cj_spans.specs.Sound.{shown_between}
+use Rattle.cj_spans.proofs.Rising.{pairs_rise, shown_rise}
 use Rattle.cj_spans.proofs.node.Node.members.Goals as goal
 
 pub invariant_of-result : goal.invariant_of-result
@@ -15,6 +17,10 @@ unfolding tree members_left
 returns-clause-members c =
     let n = c.args.self in
     (members_from_link n.source.line.now n.source.tokens.now n.index c.after.result c.members_end-stop.result c.kind.result n.source.nested n.source.linked n.source.named n.known c.after.ensures.link c.kind.ensures c.members_end-stop.ensures).shown
+
+pub returns-clause-order : goal.returns-clause-order
+unfolding members_left
+returns-clause-order c = let s = c.args.self.source in pairs_rise (shown_between s.line.now s.tokens.now (c.args.self.index + 1) c.members_end-stop.result) (shown_rise s.line.now s.tokens.now (c.args.self.index + 1) c.members_end-stop.result s.within)
 
 pub returns-clause-line : goal.returns-clause-line
 unfolding line_of members_line

@@ -1,15 +1,17 @@
-use Rattle.std.proofs.Common.{refl, arith}
-use Rattle.cj_spans.specs.View.{tree, source_of, tree_in, HasNumber}
+use Rattle.std.proofs.Common.{◌≡◌, ◌-◌, length, ap, arith}
+use Rattle.std.specs.Prelude.{min}
+use Rattle.cj_spans.specs.Preorder.{spans_of}
+use Rattle.cj_spans.specs.View.{tree, source_of, tree_in, tree_at}
 use Rattle.cj_spans.proofs.Walks.{number_linked}
 use Rattle.cj_spans.proofs.node.Node.number.Goals as goal
 
 pub overflow_cast-result : goal.overflow_cast-result
 overflow_cast-result c = let n = c.args.self in let l = number_linked n.source.tokens.now n.index n.source.linked n.known in omega arith
 
-pub returns-clause-known : goal.returns-clause-known
-unfolding source_of HasNumber
-returns-clause-known c = c.args.self.known
-
-pub returns-clause-tree : goal.returns-clause-tree
+pub returns : goal.returns
 unfolding tree source_of tree_in
-returns-clause-tree c = refl
+returns c =
+    let n = c.args.self in
+    let k = n.known in
+    let e : min n.index (length n.source.tokens.now - 1) ≡ n.index = omega arith in
+    ap (tree_at n.source.line.now (spans_of n.source.tokens.now)) e
