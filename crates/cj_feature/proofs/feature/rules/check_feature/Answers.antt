@@ -5,7 +5,7 @@ use Rattle.cj_spans.specs.View.{document}
 use Rattle.cj_feature.specs.Feature.{feature}
 use Rattle.cj_feature.specs.HeaderView.{header_tree}
 use Rattle.cj_feature.proofs.Verdict.{only-findings}
-use Rattle.cj_feature.proofs.feature.check.check_feature.Goals as goal
+use Rattle.cj_feature.proofs.feature.rules.check_feature.Goals as goal
 
 pub returns-in-Some-clause-verdict : goal.returns-in-Some-clause-verdict
 returns-in-Some-clause-verdict c =

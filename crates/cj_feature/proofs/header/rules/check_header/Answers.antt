@@ -2,7 +2,7 @@ use Rattle.std.proofs.Common.{◌∙◌, Some}
 use Rattle.cj_spans.specs.View.{document}
 use Rattle.cj_feature.specs.Header.{header}
 use Rattle.cj_feature.proofs.Verdict.{only-findings}
-use Rattle.cj_feature.proofs.header.check.check_header.Goals as goal
+use Rattle.cj_feature.proofs.header.rules.check_header.Goals as goal
 
 pub returns-in-Some-clause-verdict : goal.returns-in-Some-clause-verdict
 returns-in-Some-clause-verdict c =
