@@ -70,7 +70,7 @@ row("feature-at-its-depth", [H, F], limits=(1_000, 8))
 row("feature-past-its-depth", [H, one("[[[0,1,2,3]]]", "[[^[0,1,2,3]]]")], 5, limits=(1_000, 7))
 row("header-at-its-depth", [H], limits=(140, 3))
 row("header-past-its-depth", [header('"scale":[', '"scale":^[')], 5, limits=(140, 2))
-row("too-deep-before-syntax", [H, "[^[}"], 5, limits=(1_000, 1))
+row("too-deep-before-syntax", [H, "[[[^[}"], 5, limits=(1_000, 3))
 
 # ---- 10: member missing
 row("feature-as-the-first-line", ["^" + F], 10)
