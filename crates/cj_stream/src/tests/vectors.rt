@@ -181,8 +181,8 @@ fn check(rt: &impl Abort, alloc: Global, vector: &Vector) -> Result<(), AllocErr
 
 #[test]
 fn every_vector_comes_out_however_it_is_cut(rt: HostRuntime) -> Result<(), Fail> {
-    for entry in table::VECTORS {
-        check(&rt, rt.alloc(), &vector_of(&rt, rt.alloc(), entry)?)?;
+    for entry in &table::VECTORS {
+        check(&rt, rt.alloc(), &vector_of(&rt, rt.alloc(), *entry)?)?;
     }
     Ok(())
 }
