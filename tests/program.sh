@@ -94,6 +94,19 @@ long_line() {
 
 # ---- what is kept
 
+# The small streams of vectors/, each with what has to come of it.
+row_the_vectors() {
+  python3 vectors/try.py cityseq "$program" > "$scratch/written"
+  tail -n 1 "$scratch/written" | grep -qx '[0-9]* passed, 0 failed' || { tail -n 20 "$scratch/written"; return 1; }
+}
+
+# What says where another checker differs from them: here the program itself, which does not.
+row_the_vectors_with_a_peer() {
+  python3 vectors/try.py peer "$program" check --line-limit 1000 > "$scratch/written"
+  tail -n 1 "$scratch/written" | grep -qx '[1-9][0-9]* vectors tried, 0 told otherwise' ||
+    { tail -n 20 "$scratch/written"; return 1; }
+}
+
 row_the_sample_is_copied() {
   run filter < examples/sample.city.jsonl
   answered 0 '' < examples/sample.city.jsonl

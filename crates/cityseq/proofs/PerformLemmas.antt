@@ -6,10 +6,12 @@ use Rattle.cj_budget.specs.declared.limits.Peaks.{Peaks}
 use Rattle.cj_stream.specs.declared.ending.End.{End}
 use Rattle.cj_stream.specs.declared.ending.End.TheVariants.{Complete, Refused, ReadFault, ReadLimit, WriteFault, Memory}
 use Rattle.cj_stream.specs.declared.output.WriteFault.{WriteFault as Unwritten}
+use Rattle.cj_stream.specs.declared.running.Outcome.{Outcome}
+use Rattle.cj_stream.specs.Engine.{Counts}
 use Rattle.cj_stream.specs.Headline.{Headline}
 use Rattle.cj_stream.specs.Item.{is_feature}
 use Rattle.cj_stream.specs.Output.{Channel}
-use Rattle.cj_stream.specs.Run.{Account, Writes}
+use Rattle.cj_stream.specs.Run.{Writes}
 use Rattle.cj_stream.specs.Sink.{HasRisen, RisesOnErr, AppendsPart}
 use Rattle.cj_stream.specs.Verdict.{Rules, good, kept, kept_first}
 use Rattle.cj_stream.specs.Bound.{exact_peaks}
@@ -89,9 +91,9 @@ Says-kept text WriteFault told a b c p k f = p
 Says-kept text Memory told a b c p k f = (p.0, Keeps-then a.bytes b.bytes c.bytes p.1 k)
 
 -- the features that a complete run kept are those among what is kept
-pub features-kept : (rules : Rules) (r : List ℕ) (at_end : Type 0) (n features : ℕ) (peaks : Peaks) → (n ≡ length (good rules r) → kept_first rules n r ≡ kept rules r)
-    → Account rules r at_end n features peaks Complete → features ≡ length (filter is_feature (kept rules r))
-features-kept rules r at_end n features peaks all account = account.counts.kept ∙ ap (λ is. length (filter is_feature is)) (all account.ends.1)
+pub features-kept : (rules : Rules) (r : List ℕ) (n features : ℕ) → (n ≡ length (good rules r) → kept_first rules n r ≡ kept rules r)
+    → Counts rules r n features → n ≡ length (good rules r) → features ≡ length (filter is_feature (kept rules r))
+features-kept rules r n features all counts lines = counts.kept ∙ ap (λ is. length (filter is_feature is)) (all lines)
 
 -- a check or a report after a complete run, of what that counted
 pub Says-check : (rules : Rules) (r : List ℕ) (n m : ℕ) (written : Result (Unit {0}) Unwritten) (told : End) (old new : Channel)
@@ -137,12 +139,12 @@ Headline-kept rules text given e peaks a b c h k f = record {
 }
 
 -- an answer stays where the writer keeps its bytes
-pub Answers-kept : (ask : Ask) (r : List ℕ) (at_end : Type 0) (peaks : Peaks) (e told : End) (a b c : Channel) → Answers ask r at_end peaks e told a b → Keeps b.bytes c.bytes → c.failures ≡ b.failures
-    → Answers ask r at_end peaks e told a c
-Answers-kept (Check limits) r at_end peaks e told a b c says k f = Says-kept _ e told a b c says k f
-Answers-kept (Filter limits query) r at_end peaks e told a b c says k f = (
+pub Answers-kept : (ask : Ask) (r : List ℕ) (at_end : Type 0) (outcome : Outcome) (told : End) (a b c : Channel) → Answers ask r at_end outcome told a b → Keeps b.bytes c.bytes → c.failures ≡ b.failures
+    → Answers ask r at_end outcome told a c
+Answers-kept (Check limits) r at_end outcome told a b c says k f = Says-kept _ outcome.ended told a b c says k f
+Answers-kept (Filter limits query) r at_end outcome told a b c says k f = (
   says.0,
-  Writes-kept (rules_for limits query) r e a.bytes b.bytes c.bytes says.1 k,
-  λ rest all u. Headline-kept (rules_for limits query) _ r e peaks a b c (says.2 rest all u) k f,
+  Writes-kept (rules_for limits query) r outcome.ended a.bytes b.bytes c.bytes says.1 k,
+  λ rest all u. Headline-kept (rules_for limits query) _ r outcome.ended outcome.peaks a b c (says.2 rest all u) k f,
 )
-Answers-kept (Info limits) r at_end peaks e told a b c says k f = SaysReport-kept _ r e told a b c says k f
+Answers-kept (Info limits) r at_end outcome told a b c says k f = SaysReport-kept _ r outcome.ended told a b c says k f

@@ -7,13 +7,12 @@ use Rattle.clap.specs.declared.error.kind.ErrorKind.{ErrorKind}
 use Rattle.clap.specs.declared.error.kind.ErrorKind.TheVariants.{OutOfMemory, DisplayHelp, DisplayVersion}
 use Rattle.clap.specs.declared.parser.matches.ArgMatches.{ArgMatches}
 use Rattle.cj_budget.specs.Limits.{LimitPair}
-use Rattle.cj_budget.specs.declared.limits.Peaks.{Peaks}
 use Rattle.cj_stream.specs.Criteria.{everything}
 use Rattle.cj_stream.specs.Bound.{exact_peaks}
 use Rattle.cj_stream.specs.Headline.{HeadlineOfRun}
 use Rattle.cj_stream.specs.Item.{is_feature}
 use Rattle.cj_stream.specs.Query.{rules_for}
-use Rattle.cj_stream.specs.Run.{Account, Writes}
+use Rattle.cj_stream.specs.Run.{Run, Account, Writes}
 use Rattle.cj_stream.specs.Output.{Channel}
 use Rattle.cj_stream.specs.Sink.{HasRisen}
 use Rattle.cj_stream.specs.TallySink.{Tally, IsTallyOf}
@@ -21,6 +20,7 @@ use Rattle.cj_stream.specs.Verdict.{Rules, good, kept}
 use Rattle.cj_stream.specs.declared.ending.End.{End}
 use Rattle.cj_stream.specs.declared.ending.End.TheVariants.{Complete, Refused, ReadFault, ReadLimit, WriteFault, Memory}
 use Rattle.cj_stream.specs.declared.output.WriteFault.{WriteFault as Unwritten}
+use Rattle.cj_stream.specs.declared.running.Outcome.{Outcome}
 use Rattle.cityseq.specs.Report.{Reports, Wrote, fault_line, query_line, status_of, status_of_query}
 use Rattle.cityseq.specs.Summary.{check_text, report}
 use Rattle.cityseq.specs.Words.{CannotAsk}
@@ -60,6 +60,11 @@ pub record SaysReport (rules : Rules) (r : List ℕ) (e told : End) (old new : C
 
 -- ---- what is asked
 
+-- standard output and standard error
+pub record Channels : Type 0 where
+  pub out : Channel
+  pub err : Channel
+
 -- the rules that lines are judged by
 abbrev pub all_under : LimitPair → Rules
 all_under limits = record { limits = limits; criteria = everything }
@@ -69,39 +74,41 @@ rules_of_ask (Check limits) = all_under limits
 rules_of_ask (Filter limits query) = rules_for limits query
 rules_of_ask (Info limits) = all_under limits
 
--- What is written of the bytes r, of which a run held at most so much and ended so, and the end that is told of it. Of
--- what is copied the headline holds.
-abbrev pub Answers : Ask → List ℕ → Type 0 → Peaks → End → End → Channel → Channel → Type 0
-Answers (Check limits) r at_end peaks e told old new = SaysCheck (all_under limits) r e told old new
-Answers (Filter limits query) r at_end peaks e told old new =
-    (told ≡ e) × Writes (rules_for limits query) r e old.bytes new.bytes × HeadlineOfRun (rules_for limits query) r at_end e peaks old new
-Answers (Info limits) r at_end peaks e told old new = SaysReport (all_under limits) r e told old new
+-- the run over these bytes that what is asked comes to
+abbrev pub run_of : Ask → List ℕ → Outcome → Run
+run_of ask r outcome = record { rules = rules_of_ask ask; read = r; outcome = outcome }
+
+-- What is written of the bytes r, over which a run went so, and the end that is told of it. Of what is copied the
+-- headline holds.
+abbrev pub Answers : Ask → List ℕ → Type 0 → Outcome → End → Channel → Channel → Type 0
+Answers (Check limits) r at_end outcome told old new = SaysCheck (all_under limits) r outcome.ended told old new
+Answers (Filter limits query) r at_end outcome told old new =
+    (told ≡ outcome.ended) × Writes (rules_for limits query) r outcome.ended old.bytes new.bytes
+    × HeadlineOfRun (run_of (Filter limits query) r outcome) at_end old new
+Answers (Info limits) r at_end outcome told old new = SaysReport (all_under limits) r outcome.ended told old new
 
 -- What is asked was done with bytes r that were read: the account of the run over them; what standard output has got, and
 -- that a write to it failed where that is told; what the flush answered, and standard error has got; and the status.
-pub record Performs (ask : Ask) (r : List ℕ) (at_end : Type 0) (answer : ℕ) (old_out new_out old_err new_err : Channel) : Type 0 where
-  pub lines : ℕ
-  pub features : ℕ
-  pub peaks : Peaks
-  pub ended : End
+pub record Performs (ask : Ask) (r : List ℕ) (at_end : Type 0) (answer : ℕ) (old new : Channels) : Type 0 where
+  pub outcome : Outcome
   pub told : End
   pub shown : Shown
-  pub account : Account (rules_of_ask ask) r at_end lines features peaks ended
-  pub answers : Answers ask r at_end peaks ended told old_out new_out
-  pub cause : told ≡ WriteFault → HasRisen old_out.failures new_out.failures
-  pub reports : Reports told new_out.flushed shown old_err new_err
+  pub account : Account (run_of ask r outcome) at_end
+  pub answers : Answers ask r at_end outcome told old.out new.out
+  pub cause : told ≡ WriteFault → HasRisen old.out.failures new.out.failures
+  pub reports : Reports told new.out.flushed shown old.err new.err
   pub status : answer ≡ status_of shown.end
 
 -- ---- other words
 
 -- A text was written that the words ask for, as help: what standard output has got; what the flush answered, and
 -- standard error has got; and the status.
-pub record TellsHelp (answer : ℕ) (old_out new_out old_err new_err : Channel) : Type 0 where
+pub record TellsHelp (answer : ℕ) (old new : Channels) : Type 0 where
   pub text : List ℕ
   pub told : End
   pub shown : Shown
-  pub says : Says text Complete told old_out new_out
-  pub reports : Reports told new_out.flushed shown old_err new_err
+  pub says : Says text Complete told old.out new.out
+  pub reports : Reports told new.out.flushed shown old.err new.err
   pub status : answer ≡ status_of shown.end
 
 -- standard error has got all of this line, or a prefix of it where it failed; and the answer is the status that is due
@@ -124,11 +131,11 @@ IsNoHelp kind = (kind ≢ DisplayHelp) × (kind ≢ DisplayVersion)
 
 -- an error of the words is told by its kind; memory may be refused to its text. But for help nothing is written to
 -- standard output, and it is not flushed.
-abbrev pub TellsError : ErrorKind → ℕ → Channel → Channel → Channel → Channel → Type 0
-TellsError kind answer old_out new_out old_err new_err =
-    ((new_out ≡ old_out) × TellsMemory answer old_err new_err)
-    ⊎ ((kind ≢ OutOfMemory) × IsNoHelp kind × (new_out ≡ old_out) × TellsWrongWords answer old_err new_err)
-    ⊎ (¬ IsNoHelp kind × TellsHelp answer old_out new_out old_err new_err)
+abbrev pub TellsError : ErrorKind → ℕ → Channels → Channels → Type 0
+TellsError kind answer old new =
+    ((new.out ≡ old.out) × TellsMemory answer old.err new.err)
+    ⊎ ((kind ≢ OutOfMemory) × IsNoHelp kind × (new.out ≡ old.out) × TellsWrongWords answer old.err new.err)
+    ⊎ (¬ IsNoHelp kind × TellsHelp answer old new)
 
 -- what the words ask for cannot be done: of a query, since a command of some name and options refuses it so
 abbrev pub MayDecline : NoAsk → Type 0
@@ -140,8 +147,10 @@ MayDecline (Query fault) = (name : List ℕ) × (options : ArgMatches) × Cannot
 -- Nothing is done with the stream, for this reason: an error of the words is told by its kind; a command that is not
 -- named has no text of its own; of a limit some text is told, unless memory was refused to it; and of a query its fault.
 -- But for help nothing is written to standard output, and it is not flushed.
-abbrev pub Declines : NoAsk → ℕ → Channel → Channel → Channel → Channel → Type 0
-Declines (Words error) answer old_out new_out old_err new_err = TellsError (kind_of error) answer old_out new_out old_err new_err
-Declines NoCommand answer old_out new_out old_err new_err = (new_out ≡ old_out) × TellsFault [] 2 answer old_err new_err
-Declines (Limits fault) answer old_out new_out old_err new_err = (new_out ≡ old_out) × (TellsMemory answer old_err new_err ⊎ TellsWrongWords answer old_err new_err)
-Declines (Query fault) answer old_out new_out old_err new_err = (new_out ≡ old_out) × TellsFault (query_line fault) (status_of_query fault) answer old_err new_err
+abbrev pub Declines : NoAsk → ℕ → Channels → Channels → Type 0
+Declines (Words error) answer old new = TellsError (kind_of error) answer old new
+Declines NoCommand answer old new = (new.out ≡ old.out) × TellsFault [] 2 answer old.err new.err
+Declines (Limits fault) answer old new =
+    (new.out ≡ old.out) × (TellsMemory answer old.err new.err ⊎ TellsWrongWords answer old.err new.err)
+Declines (Query fault) answer old new =
+    (new.out ≡ old.out) × TellsFault (query_line fault) (status_of_query fault) answer old.err new.err

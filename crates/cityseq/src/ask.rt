@@ -1,12 +1,11 @@
 //! What the program can be asked to do, and how it does it.
 ghost use Rattle.std.specs.Prelude.{◌≡◌, ℕ, List};
 ghost use Rattle.std.specs.Io.KnownBytes.{Consumes, IsAtEnd};
-ghost use Rattle.cj_budget.specs.declared.limits.Peaks.{Peaks};
 ghost use Rattle.cj_stream.specs.Run.{Account};
-ghost use Rattle.cj_stream.specs.declared.ending.End.{End};
+ghost use Rattle.cj_stream.specs.declared.running.Outcome.{Outcome};
 ghost use Rattle.cj_stream.specs.Output.{output_failures, channel};
 ghost use Rattle.cj_stream.specs.Sink.{HasRisen};
-ghost use Rattle.cityseq.specs.Performed.{all_under, end_of_writing as told_after, rules_of_ask, Answers, Performs, SaysCheck, SaysReport};
+ghost use Rattle.cityseq.specs.Performed.{all_under, end_of_writing as told_after, run_of, Answers, Performs, SaysCheck, SaysReport};
 
 use crate::report::{Shown, show, status};
 use crate::summary::{write_check, write_report};
@@ -42,10 +41,9 @@ fn check<R: Read, W: Write + Drop>(
     reader: &mut R,
     out: &mut Output<W>,
 ) -> End
-    ensures { (r : List ℕ) × (n features : ℕ) × (peaks : Peaks) × (e : End)
-        × Consumes (R.remaining reader.old) (R.remaining reader.new) r
-        × Account (all_under limits) r (IsAtEnd (R.remaining reader.new)) n features peaks e
-        × SaysCheck (all_under limits) r e result (channel W.contents out.old) (channel W.contents out.new)
+    ensures { (r : List ℕ) × (outcome : Outcome) × Consumes (R.remaining reader.old) (R.remaining reader.new) r
+        × Account (run_of (Ask.Check limits) r outcome) (IsAtEnd (R.remaining reader.new))
+        × SaysCheck (all_under limits) r outcome.ended result (channel W.contents out.old) (channel W.contents out.new)
         × (result ≡ End.WriteFault → HasRisen (output_failures out.old) (output_failures out.new)) }
 {
     let query = Query::all(alloc);
@@ -64,10 +62,9 @@ fn info<R: Read, W: Write + Drop>(
     reader: &mut R,
     out: &mut Output<W>,
 ) -> End
-    ensures { (r : List ℕ) × (n features : ℕ) × (peaks : Peaks) × (e : End)
-        × Consumes (R.remaining reader.old) (R.remaining reader.new) r
-        × Account (all_under limits) r (IsAtEnd (R.remaining reader.new)) n features peaks e
-        × SaysReport (all_under limits) r e result (channel W.contents out.old) (channel W.contents out.new)
+    ensures { (r : List ℕ) × (outcome : Outcome) × Consumes (R.remaining reader.old) (R.remaining reader.new) r
+        × Account (run_of (Ask.Info limits) r outcome) (IsAtEnd (R.remaining reader.new))
+        × SaysReport (all_under limits) r outcome.ended result (channel W.contents out.old) (channel W.contents out.new)
         × (result ≡ End.WriteFault → HasRisen (output_failures out.old) (output_failures out.new)) }
 {
     let query = Query::all(alloc);
@@ -87,10 +84,9 @@ fn answer<R: Read, W: Write + Drop>(
     reader: &mut R,
     out: &mut Output<W>,
 ) -> End
-    ensures { (r : List ℕ) × (n features : ℕ) × (peaks : Peaks) × (e : End)
-        × Consumes (R.remaining reader.old) (R.remaining reader.new) r
-        × Account (rules_of_ask ask.now) r (IsAtEnd (R.remaining reader.new)) n features peaks e
-        × Answers ask.now r (IsAtEnd (R.remaining reader.new)) peaks e result (channel W.contents out.old)
+    ensures { (r : List ℕ) × (outcome : Outcome) × Consumes (R.remaining reader.old) (R.remaining reader.new) r
+        × Account (run_of ask.now r outcome) (IsAtEnd (R.remaining reader.new))
+        × Answers ask.now r (IsAtEnd (R.remaining reader.new)) outcome result (channel W.contents out.old)
         (channel W.contents out.new)
         × (result ≡ End.WriteFault → HasRisen (output_failures out.old) (output_failures out.new)) }
 {
@@ -114,9 +110,9 @@ pub fn perform<R: Read, W: Write + Drop, E: Write + Drop>(
     err: &mut Output<E>,
 ) -> u8
     ensures { (r : List ℕ) × Consumes (R.remaining reader.old) (R.remaining reader.new) r
-        × Performs ask.now r (IsAtEnd (R.remaining reader.new)) result (channel W.contents out.old)
-        (channel W.contents out.new)
-        (channel E.contents err.old) (channel E.contents err.new) }
+        × Performs ask.now r (IsAtEnd (R.remaining reader.new)) result
+        (record { out = channel W.contents out.old; err = channel E.contents err.old })
+        (record { out = channel W.contents out.new; err = channel E.contents err.new }) }
 {
     let told = answer(alloc, ask, reader, out);
     status(show(out.flush(), told, err).end)

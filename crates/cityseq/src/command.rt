@@ -26,12 +26,13 @@ pub fn command<R: Read, W: Write + Drop, E: Write + Drop>(
 ) -> u8
     ensures { ((name : List ℕ) × (options : ArgMatches) × (ask : Ask) × AsksBy name options ask × (r : List ℕ)
         × Consumes (R.remaining reader.old) (R.remaining reader.new) r
-        × Performs ask r (IsAtEnd (R.remaining reader.new)) result (channel W.contents out.old)
-        (channel W.contents out.new)
-        (channel E.contents err.old) (channel E.contents err.new))
+        × Performs ask r (IsAtEnd (R.remaining reader.new)) result
+        (record { out = channel W.contents out.old; err = channel E.contents err.old })
+        (record { out = channel W.contents out.new; err = channel E.contents err.new }))
         ⊎ ((reader.new ≡ reader.old) × (why : NoAsk) × MayDecline why
-        × Declines why result (channel W.contents out.old) (channel W.contents out.new)
-        (channel E.contents err.old) (channel E.contents err.new)) }
+        × Declines why result
+        (record { out = channel W.contents out.old; err = channel E.contents err.old })
+        (record { out = channel W.contents out.new; err = channel E.contents err.new })) }
 {
     match read_ask(alloc, words) {
         Ok(ask) => perform(alloc, &ask, reader, out, err),

@@ -24,8 +24,9 @@ pub fn decline<W: Write + Drop, E: Write + Drop>(
     out: &mut Output<W>,
     err: &mut Output<E>,
 ) -> u8
-    ensures { Declines why.now result (channel W.contents out.old) (channel W.contents out.new)
-        (channel E.contents err.old) (channel E.contents err.new) }
+    ensures { Declines why.now result
+        (record { out = channel W.contents out.old; err = channel E.contents err.old })
+        (record { out = channel W.contents out.new; err = channel E.contents err.new }) }
 {
     match why {
         NoAsk::Words(error) => tell_error(alloc, error, out, err),
@@ -42,8 +43,9 @@ fn tell_error<W: Write + Drop, E: Write + Drop>(
     out: &mut Output<W>,
     err: &mut Output<E>,
 ) -> u8
-    ensures { TellsError (kind_of error.now) result (channel W.contents out.old) (channel W.contents out.new)
-        (channel E.contents err.old) (channel E.contents err.new) }
+    ensures { TellsError (kind_of error.now) result
+        (record { out = channel W.contents out.old; err = channel E.contents err.old })
+        (record { out = channel W.contents out.new; err = channel E.contents err.new }) }
 {
     if error.kind() == ErrorKind::OutOfMemory {
         return tell_no_memory(err);
@@ -64,8 +66,9 @@ fn tell_help<W: Write + Drop, E: Write + Drop>(
     out: &mut Output<W>,
     err: &mut Output<E>,
 ) -> u8
-    ensures { TellsHelp result (channel W.contents out.old) (channel W.contents out.new)
-        (channel E.contents err.old) (channel E.contents err.new) }
+    ensures { TellsHelp result
+        (record { out = channel W.contents out.old; err = channel E.contents err.old })
+        (record { out = channel W.contents out.new; err = channel E.contents err.new }) }
 {
     let told = end_of_writing(write_text(out, text));
     status(show(out.flush(), told, err).end)

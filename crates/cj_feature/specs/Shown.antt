@@ -9,7 +9,7 @@ use Rattle.cj_decimal.specs.Class.{Class, no_number, out_of_range, not_whole, wh
 use Rattle.cj_decimal.proofs.Classes.{class}
 use Rattle.cj_geometry.specs.Rule.{spelling}
 use Rattle.cj_geometry.specs.Geometry.{list_of}
-use Rattle.cj_feature.specs.declared.header.parts.HeaderParts.{HeaderParts}
+use Rattle.cj_feature.specs.declared.header.reading.HeaderParts.{HeaderParts}
 use Rattle.cj_feature.specs.Header.{is_fixed, units_of, header}
 use Rattle.cj_feature.specs.Feature.{templates_of}
 use Rattle.cj_decimal.specs.Affine.{AffineMap}

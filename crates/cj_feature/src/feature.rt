@@ -7,7 +7,6 @@ ghost use Rattle.cj_geometry.specs.Given.{given};
 ghost use Rattle.cj_feature.specs.Feature.{feature, templates_of};
 ghost use Rattle.cj_geometry.specs.TreeSet.{tree_if-set, given-set};
 
-mod check;
 mod city_object;
 mod coordinates;
 mod geometries;
@@ -19,12 +18,12 @@ mod questions;
 mod rules;
 mod vertices;
 
-pub use check::check_feature;
 pub use city_object::{CityObject, Objects};
 use cj_geometry::Templates;
 use cj_spans::{Doc, Node};
 pub use coordinates::Coordinates;
 pub use geometries::Geometries;
+pub use rules::check_feature;
 pub use vertices::Vertices;
 
 /// A valid feature, beside its header. What its walks begin at is looked up once, when it is judged.

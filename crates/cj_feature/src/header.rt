@@ -6,18 +6,15 @@ ghost use Rattle.cj_geometry.specs.Given.{given};
 ghost use Rattle.cj_feature.specs.Feature.{templates_of};
 ghost use Rattle.cj_feature.specs.Shown.{ArePartsOf};
 
-mod check;
-mod parts;
 mod reading;
 mod rules;
-mod templates;
 
-pub use check::check_header;
 use cj_decimal::{Affine, Decimal};
 use cj_geometry::Templates;
 use cj_spans::Doc;
-pub use parts::HeaderParts;
-use templates::template_list;
+pub use reading::HeaderParts;
+use reading::template_list;
+pub use rules::check_header;
 
 /// A valid header.
 #[derive(Clone, Copy)]

@@ -1,15 +1,15 @@
 -- The table of types, row by row.
-use Rattle.std.proofs.Common.{◌≡◌, ℕ, ◌+◌, ◌<◌, List, [], ◌∷◌, length, drop, get_or, map, Bool, true, false, ◌&&◌, nat_eq, nat_le, cond, Option, Some, None, refl, sym, ap, ◌∙◌, arith, add-one, drop-cons}
+use Rattle.std.proofs.Common.{◌≡◌, ℕ, ◌<◌, List, [], ◌∷◌, length, get_or, Bool, true, false, ◌&&◌, nat_eq, nat_le, cond, Option, Some, None, refl, sym, ap, ◌∙◌, lit<}
 use Rattle.std.proofs.lemmas.Bool.{agree_below, agree_below_at, and_parts, eqb-true}
 use Rattle.std.proofs.lemmas.Slice.Eq.{bytes_eq-Decides}
-use Rattle.std.proofs.lemmas.List.FromFn.{fill_by_all}
-use Rattle.std.specs.List.{range_with_len}
 use Rattle.std.specs.Str.{chars, bytes_eq}
 use Rattle.cj_spans.specs.Text.{are_same}
 use Rattle.cj_spans.specs.Tree.{Tree}
 use Rattle.cj_spans.specs.Parts.{text_of, has_text}
 use Rattle.cj_geometry.proofs.Texts.{text-is}
-use Rattle.cj_geometry.specs.ObjectTypes.{ObjectRow, first_level, object_types, row_in, row_of, row_named_in, row_at}
+use Rattle.cj_geometry.specs.ObjectTypes.{ObjectRow, object_types, row_in, row_of, row_numbered, number_of, row_at}
+use Rattle.cj_geometry.specs.declared.object_type.ObjectType.{ObjectType}
+use Rattle.cj_geometry.specs.declared.object_type.ObjectType.TheVariants.{Bridge, Building, CityFurniture, CityObjectGroup, GenericCityObject, LandUse, OtherConstruction, PlantCover, Railway, Road, SolitaryVegetationObject, TINRelief, TransportSquare, Tunnel, WaterBody, Waterway, BridgeConstructiveElement, BridgeFurniture, BridgeInstallation, BridgePart, BridgeRoom, BuildingConstructiveElement, BuildingFurniture, BuildingInstallation, BuildingPart, BuildingRoom, BuildingStorey, BuildingUnit, TunnelConstructiveElement, TunnelFurniture, TunnelHollowSpace, TunnelInstallation, TunnelPart}
 
 pub count : length object_types ≡ 33
 unfolding object_types
@@ -20,49 +20,147 @@ always n = true
 
 -- ---- numbers and levels
 
-each-number : agree_below (λ k. nat_eq (row_at k).number k) always 33 ≡ true
+each-number : agree_below (λ k. nat_eq (row_numbered k).number k) always 33 ≡ true
 unfolding object_types always
 each-number = refl
 
-pub has-number : (n : ℕ) → n < 33 → (row_at n).number ≡ n
+pub has-number : (n : ℕ) → n < 33 → (row_numbered n).number ≡ n
 unfolding always
-has-number n small = eqb-true (row_at n).number n (agree_below_at (λ k. nat_eq (row_at k).number k) always 33 n each-number small)
+has-number n small = eqb-true (row_numbered n).number n (agree_below_at (λ k. nat_eq (row_numbered k).number k) always 33 n each-number small)
 
-each-level : agree_below (λ k. (row_at k).is_second) (λ k. nat_le 16 k) 33 ≡ true
+each-level : agree_below (λ k. (row_numbered k).is_second) (λ k. nat_le 16 k) 33 ≡ true
 unfolding object_types
 each-level = refl
 
-pub has-level : (n : ℕ) → n < 33 → (row_at n).is_second ≡ nat_le 16 n
-has-level n small = agree_below_at (λ k. (row_at k).is_second) (λ k. nat_le 16 k) 33 n each-level small
+pub has-level : (n : ℕ) → n < 33 → (row_numbered n).is_second ≡ nat_le 16 n
+has-level n small = agree_below_at (λ k. (row_numbered k).is_second) (λ k. nat_le 16 k) 33 n each-level small
 
--- the rows of all numbers, in turn
-each-row : map row_at (map (λ k. k) (range_with_len 0 33)) ≡ object_types
-unfolding object_types
-each-row = refl
+-- ---- the numbers of types
 
-pub all-rows : (ns : List ℕ) → length ns ≡ 33 → ((k : ℕ) → k < 33 → get_or ns k 0 ≡ k) → map row_at ns ≡ object_types
-all-rows ns long each = ap (map row_at) (fill_by_all (λ k. k) ns 33 0 long each) ∙ each-row
+pub number-below : (o : ObjectType) → number_of o < 33
+number-below Bridge = lit< tt
+number-below Building = lit< tt
+number-below CityFurniture = lit< tt
+number-below CityObjectGroup = lit< tt
+number-below GenericCityObject = lit< tt
+number-below LandUse = lit< tt
+number-below OtherConstruction = lit< tt
+number-below PlantCover = lit< tt
+number-below Railway = lit< tt
+number-below Road = lit< tt
+number-below SolitaryVegetationObject = lit< tt
+number-below TINRelief = lit< tt
+number-below TransportSquare = lit< tt
+number-below Tunnel = lit< tt
+number-below WaterBody = lit< tt
+number-below Waterway = lit< tt
+number-below BridgeConstructiveElement = lit< tt
+number-below BridgeFurniture = lit< tt
+number-below BridgeInstallation = lit< tt
+number-below BridgePart = lit< tt
+number-below BridgeRoom = lit< tt
+number-below BuildingConstructiveElement = lit< tt
+number-below BuildingFurniture = lit< tt
+number-below BuildingInstallation = lit< tt
+number-below BuildingPart = lit< tt
+number-below BuildingRoom = lit< tt
+number-below BuildingStorey = lit< tt
+number-below BuildingUnit = lit< tt
+number-below TunnelConstructiveElement = lit< tt
+number-below TunnelFurniture = lit< tt
+number-below TunnelHollowSpace = lit< tt
+number-below TunnelInstallation = lit< tt
+number-below TunnelPart = lit< tt
 
--- ---- one row after another
+pub type-number : (o : ObjectType) → (row_at o).number ≡ number_of o
+type-number o = has-number (number_of o) (number-below o)
 
--- the rows from a number on begin with the row of that number
-pub row-next : (n : ℕ) (t : Tree) → n < 33 → row_in (drop n object_types) t ≡ cond (has_text (chars (row_at n).name) t) (Some (row_at n)) (row_in (drop (n + 1) object_types) t)
-row-next n t small =
-    let within : n < length object_types = omega (arith, count) in
-    rw (drop-cons object_types n (first_level [] 0) within, add-one) refl
+pub type-level : (o : ObjectType) → (row_at o).is_second ≡ nat_le 16 (number_of o)
+type-level o = has-level (number_of o) (number-below o)
 
-pub row-none : (t : Tree) → row_in (drop 33 object_types) t ≡ None
-unfolding object_types
-row-none t = refl
+-- the types, each at the place of its number
+types : List ObjectType
+types =
+    Bridge
+    ∷ Building
+    ∷ CityFurniture
+    ∷ CityObjectGroup
+    ∷ GenericCityObject
+    ∷ LandUse
+    ∷ OtherConstruction
+    ∷ PlantCover
+    ∷ Railway
+    ∷ Road
+    ∷ SolitaryVegetationObject
+    ∷ TINRelief
+    ∷ TransportSquare
+    ∷ Tunnel
+    ∷ WaterBody
+    ∷ Waterway
+    ∷ BridgeConstructiveElement
+    ∷ BridgeFurniture
+    ∷ BridgeInstallation
+    ∷ BridgePart
+    ∷ BridgeRoom
+    ∷ BuildingConstructiveElement
+    ∷ BuildingFurniture
+    ∷ BuildingInstallation
+    ∷ BuildingPart
+    ∷ BuildingRoom
+    ∷ BuildingStorey
+    ∷ BuildingUnit
+    ∷ TunnelConstructiveElement
+    ∷ TunnelFurniture
+    ∷ TunnelHollowSpace
+    ∷ TunnelInstallation
+    ∷ TunnelPart
+    ∷ []
 
-pub named-next : (n : ℕ) (s : List ℕ) → n < 33 → row_named_in (drop n object_types) s ≡ cond (bytes_eq s (row_at n).name) (Some (row_at n)) (row_named_in (drop (n + 1) object_types) s)
-named-next n s small =
-    let within : n < length object_types = omega (arith, count) in
-    rw (drop-cons object_types n (first_level [] 0) within, add-one) refl
+type_numbered : ℕ → ObjectType
+type_numbered n = get_or types n Bridge
 
-pub named-none : (s : List ℕ) → row_named_in (drop 33 object_types) s ≡ None
-unfolding object_types
-named-none s = refl
+its-number : (o : ObjectType) → type_numbered (number_of o) ≡ o
+unfolding type_numbered types
+its-number Bridge = refl
+its-number Building = refl
+its-number CityFurniture = refl
+its-number CityObjectGroup = refl
+its-number GenericCityObject = refl
+its-number LandUse = refl
+its-number OtherConstruction = refl
+its-number PlantCover = refl
+its-number Railway = refl
+its-number Road = refl
+its-number SolitaryVegetationObject = refl
+its-number TINRelief = refl
+its-number TransportSquare = refl
+its-number Tunnel = refl
+its-number WaterBody = refl
+its-number Waterway = refl
+its-number BridgeConstructiveElement = refl
+its-number BridgeFurniture = refl
+its-number BridgeInstallation = refl
+its-number BridgePart = refl
+its-number BridgeRoom = refl
+its-number BuildingConstructiveElement = refl
+its-number BuildingFurniture = refl
+its-number BuildingInstallation = refl
+its-number BuildingPart = refl
+its-number BuildingRoom = refl
+its-number BuildingStorey = refl
+its-number BuildingUnit = refl
+its-number TunnelConstructiveElement = refl
+its-number TunnelFurniture = refl
+its-number TunnelHollowSpace = refl
+its-number TunnelInstallation = refl
+its-number TunnelPart = refl
+
+-- different types have different numbers, and different rows
+pub same-number : (a b : ObjectType) → number_of a ≡ number_of b → a ≡ b
+same-number a b h = sym (its-number a) ∙ ap type_numbered h ∙ its-number b
+
+pub same-row : (a b : ObjectType) → row_at a ≡ row_at b → a ≡ b
+same-row a b h = same-number a b (sym (type-number a) ∙ ap (λ r. r.number) h ∙ type-number b)
 
 -- ---- names are distinct
 
@@ -89,9 +187,9 @@ abbrev is_row : Option ObjectRow → ObjectRow → Bool
 is_row None q = false
 is_row (Some r) q = bytes_eq r.name q.name && (bool_same r.is_second q.is_second && nat_eq r.number q.number)
 
-same-row : (o : Option ObjectRow) (q : ObjectRow) → is_row o q ≡ true → o ≡ Some q
-same-row None q h = cc
-same-row (Some r) q h =
+row-is : (o : Option ObjectRow) (q : ObjectRow) → is_row o q ≡ true → o ≡ Some q
+row-is None q h = cc
+row-is (Some r) q h =
     let parts = and_parts (bytes_eq r.name q.name) (bool_same r.is_second q.is_second && nat_eq r.number q.number) h in
     let others = and_parts (bool_same r.is_second q.is_second) (nat_eq r.number q.number) parts.1 in
     let name = (bytes_eq-Decides r.name q.name).0 parts.0 in
@@ -99,16 +197,28 @@ same-row (Some r) q h =
     let number = eqb-true r.number q.number others.1 in
     λ i. Some (record { name = name i; is_second = level i; number = number i })
 
-each-named : agree_below (λ k. is_row (row_with object_types (chars (row_at k).name)) (row_at k)) always 33 ≡ true
+each-named : agree_below (λ k. is_row (row_with object_types (chars (row_numbered k).name)) (row_numbered k)) always 33 ≡ true
 unfolding object_types always chars
 each-named = refl
 
-is-named : (n : ℕ) → n < 33 → row_with object_types (chars (row_at n).name) ≡ Some (row_at n)
+is-named : (n : ℕ) → n < 33 → row_with object_types (chars (row_numbered n).name) ≡ Some (row_numbered n)
 unfolding always
-is-named n small = same-row (row_with object_types (chars (row_at n).name)) (row_at n) (agree_below_at (λ k. is_row (row_with object_types (chars (row_at k).name)) (row_at k)) always 33 n each-named small)
+is-named n small = row-is (row_with object_types (chars (row_numbered n).name)) (row_numbered n) (agree_below_at (λ k. is_row (row_with object_types (chars (row_numbered k).name)) (row_numbered k)) always 33 n each-named small)
 
 -- ---- the type of a name
 
 -- a text that is the name of a type is of that type alone
-pub of-name : (n : ℕ) (t : Tree) → n < 33 → has_text (chars (row_at n).name) t ≡ true → row_of t ≡ Some (row_at n)
-of-name n t small h = of-text object_types (chars (row_at n).name) t (text-is (chars (row_at n).name) t h) ∙ is-named n small
+pub of-name : (n : ℕ) (t : Tree) → n < 33 → has_text (chars (row_numbered n).name) t ≡ true → row_of t ≡ Some (row_numbered n)
+of-name n t small h = of-text object_types (chars (row_numbered n).name) t (text-is (chars (row_numbered n).name) t h) ∙ is-named n small
+
+pub of-name-type : (o : ObjectType) (t : Tree) → has_text (chars (row_at o).name) t ≡ true → row_of t ≡ Some (row_at o)
+of-name-type o t h = of-name (number_of o) t (number-below o) h
+
+-- a tree whose row this is has its name as a text
+pub row-named : (rows : List ObjectRow) (t : Tree) (r : ObjectRow) → row_in rows t ≡ Some r → has_text (chars r.name) t ≡ true
+row-named [] t r h = cc
+row-named (q ∷ qs) t r h = go (has_text (chars q.name) t) refl (row-named qs t r) h
+  where
+    go : (b : Bool) → has_text (chars q.name) t ≡ b → (row_in qs t ≡ Some r → has_text (chars r.name) t ≡ true) → cond b (Some q) (row_in qs t) ≡ Some r → has_text (chars r.name) t ≡ true
+    go true here later k = let same : q ≡ r = cc in rw (← same) here
+    go false other later k = later k

@@ -11,7 +11,8 @@ ghost use Rattle.cj_spans.specs.Forest.{forest};
 ghost use Rattle.cj_spans.specs.Preorder.{preorder};
 ghost use Rattle.cj_geometry.specs.Geometry.{geometry, listed, empty, itself};
 ghost use Rattle.cj_geometry.specs.Lod.{lod};
-ghost use Rattle.cj_geometry.specs.ObjectTypes.{object_types, row_of, row_at};
+ghost use Rattle.cj_geometry.specs.ObjectTypes.{object_types, row_of, row_numbered, number_of, row_at};
+ghost use Rattle.cj_geometry.specs.declared.object_type.ObjectType.{ObjectType};
 ghost use Rattle.cj_geometry.specs.Table.{parts, instance, table, form_of};
 ghost use Rattle.cj_geometry.specs.Examples.{points_line, points, three, empty_object, cone_line, cone, instance_line, bare_instance, templates_line, templates, placed_line, sixteen, fifteen, seventeen, complete_instance, short_instance, long_instance, negative_instance, past_instance, doubled_line, doubled, solid_line, null_whole, null_shell, null_surface, no_shell, one_surface, past_surfaces, string, HaveTheirForms, HasNoName};
 
@@ -160,11 +161,13 @@ pub fn no_form_of_other_values()
 {}
 
 /// The types of city objects: as many as there are, each at the place of its number, those of the second
-/// level from 16 on, and no name twice.
+/// level from 16 on, and no name twice. Different types have different rows.
 pub fn table_of_object_types()
     ensures count { length object_types ≡ 33 }
-    ensures number { (n : ℕ) → n < 33 → (row_at n).number ≡ n }
-    ensures level { (n : ℕ) → n < 33 → (row_at n).is_second ≡ nat_le 16 n }
-    ensures name { (n : ℕ) (t : Tree) → n < 33 → has_text (chars (row_at n).name) t ≡ true
-        → row_of t ≡ Some (row_at n) }
+    ensures number { (n : ℕ) → n < 33 → (row_numbered n).number ≡ n }
+    ensures level { (n : ℕ) → n < 33 → (row_numbered n).is_second ≡ nat_le 16 n }
+    ensures name { (n : ℕ) (t : Tree) → n < 33 → has_text (chars (row_numbered n).name) t ≡ true
+        → row_of t ≡ Some (row_numbered n) }
+    ensures types { (o : ObjectType) → (row_at o).number ≡ number_of o }
+    ensures apart { (o p : ObjectType) → row_at o ≡ row_at p → o ≡ p }
 {}

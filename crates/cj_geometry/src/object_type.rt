@@ -1,5 +1,5 @@
 //! The types of city objects (CityJSON 2.0, section 2).
-ghost use Rattle.std.specs.Prelude.{◌≡◌, ◌<◌, ℕ, Some, true, map, option_map};
+ghost use Rattle.std.specs.Prelude.{◌≡◌, ◌<◌, true, Some, map, option_map};
 ghost use Rattle.std.specs.Str.{chars};
 ghost use Rattle.cj_spans.specs.Tree.{Tree};
 ghost use Rattle.cj_spans.specs.Parts.{has_text};
@@ -7,84 +7,87 @@ ghost use Rattle.cj_spans.specs.View.{tree};
 ghost use Rattle.cj_geometry.specs.ObjectTypes.{object_types, row_of, row_named, row_at};
 
 use cj_spans::Node;
-use std::marker::Model;
 
-/// How many types there are, and how many of them are of the first level: those come first.
-const TYPES: u8 = 33;
-
-const FIRST_LEVEL: u8 = 16;
-
-/// A type of city objects: its row in the table of types, of which contracts see the number.
+/// A type of city objects. They stand in the order of the table, those of the first level before those of
+/// the second.
 #[derive(Clone, Copy, Debug, PartialEq, Eq)]
-pub struct ObjectType {
-    number: u8,
-}
-
-impl Model for ObjectType {
-    ghost use Rattle.std.specs.Prelude.{ℕ, ◌<◌};
-
-    ghost Value = { ℕ };
-
-    ghost view = { λ t. t.number };
-
-    ghost invariant = { λ t. t.number < 33 };
-
-    ghost inverse = { λ n. record { number = n } };
-}
-
-/// The name of the type of this number.
-#[tactic(auto, unfolding(crate::specs::ObjectTypes::object_types))]
-fn name_at(number: u8) -> &'static str
-    requires { number < 33 }
-    ensures { result.now ≡ (row_at number).name }
-{
-    match number {
-        0 => "Bridge",
-        1 => "Building",
-        2 => "CityFurniture",
-        3 => "CityObjectGroup",
-        4 => "GenericCityObject",
-        5 => "LandUse",
-        6 => "OtherConstruction",
-        7 => "PlantCover",
-        8 => "Railway",
-        9 => "Road",
-        10 => "SolitaryVegetationObject",
-        11 => "TINRelief",
-        12 => "TransportSquare",
-        13 => "Tunnel",
-        14 => "WaterBody",
-        15 => "Waterway",
-        16 => "BridgeConstructiveElement",
-        17 => "BridgeFurniture",
-        18 => "BridgeInstallation",
-        19 => "BridgePart",
-        20 => "BridgeRoom",
-        21 => "BuildingConstructiveElement",
-        22 => "BuildingFurniture",
-        23 => "BuildingInstallation",
-        24 => "BuildingPart",
-        25 => "BuildingRoom",
-        26 => "BuildingStorey",
-        27 => "BuildingUnit",
-        28 => "TunnelConstructiveElement",
-        29 => "TunnelFurniture",
-        30 => "TunnelHollowSpace",
-        31 => "TunnelInstallation",
-        _ => "TunnelPart",
-    }
+pub enum ObjectType {
+    Bridge,
+    Building,
+    CityFurniture,
+    CityObjectGroup,
+    GenericCityObject,
+    LandUse,
+    OtherConstruction,
+    PlantCover,
+    Railway,
+    Road,
+    SolitaryVegetationObject,
+    TINRelief,
+    TransportSquare,
+    Tunnel,
+    WaterBody,
+    Waterway,
+    BridgeConstructiveElement,
+    BridgeFurniture,
+    BridgeInstallation,
+    BridgePart,
+    BridgeRoom,
+    BuildingConstructiveElement,
+    BuildingFurniture,
+    BuildingInstallation,
+    BuildingPart,
+    BuildingRoom,
+    BuildingStorey,
+    BuildingUnit,
+    TunnelConstructiveElement,
+    TunnelFurniture,
+    TunnelHollowSpace,
+    TunnelInstallation,
+    TunnelPart,
 }
 
 impl ObjectType {
     /// All types, in the order of the table.
+    #[tactic(auto, unfolding(crate::specs::ObjectTypes::object_types))]
     pub fn all() -> [ObjectType; 33]
         ensures { map row_at result ≡ object_types }
     {
-        let mut types = [ObjectType { number: 0 }; 33];
-        for number in 0..TYPES {
-            types[number as usize] = ObjectType { number };
-        }
-        types
+        [
+            ObjectType::Bridge,
+            ObjectType::Building,
+            ObjectType::CityFurniture,
+            ObjectType::CityObjectGroup,
+            ObjectType::GenericCityObject,
+            ObjectType::LandUse,
+            ObjectType::OtherConstruction,
+            ObjectType::PlantCover,
+            ObjectType::Railway,
+            ObjectType::Road,
+            ObjectType::SolitaryVegetationObject,
+            ObjectType::TINRelief,
+            ObjectType::TransportSquare,
+            ObjectType::Tunnel,
+            ObjectType::WaterBody,
+            ObjectType::Waterway,
+            ObjectType::BridgeConstructiveElement,
+            ObjectType::BridgeFurniture,
+            ObjectType::BridgeInstallation,
+            ObjectType::BridgePart,
+            ObjectType::BridgeRoom,
+            ObjectType::BuildingConstructiveElement,
+            ObjectType::BuildingFurniture,
+            ObjectType::BuildingInstallation,
+            ObjectType::BuildingPart,
+            ObjectType::BuildingRoom,
+            ObjectType::BuildingStorey,
+            ObjectType::BuildingUnit,
+            ObjectType::TunnelConstructiveElement,
+            ObjectType::TunnelFurniture,
+            ObjectType::TunnelHollowSpace,
+            ObjectType::TunnelInstallation,
+            ObjectType::TunnelPart,
+        ]
     }
 
     /// The type whose name is the text of this node; None for any other node. Texts are compared by
@@ -92,9 +95,9 @@ impl ObjectType {
     pub fn of(node: Node) -> Option<ObjectType>
         ensures { option_map row_at result ≡ row_of (tree node.entry) }
     {
-        for number in 0..TYPES {
-            if node.text_is(name_at(number)) {
-                return Some(ObjectType { number });
+        for object_type in ObjectType::all() {
+            if node.text_is(object_type.name()) {
+                return Some(object_type);
             }
         }
         None
@@ -104,29 +107,65 @@ impl ObjectType {
     pub fn named(name: &str) -> Option<ObjectType>
         ensures { option_map row_at result ≡ row_named name.now }
     {
-        for number in 0..TYPES {
-            if name == name_at(number) {
-                return Some(ObjectType { number });
+        for object_type in ObjectType::all() {
+            if name == object_type.name() {
+                return Some(object_type);
             }
         }
         None
     }
 
     /// Its name.
+    #[tactic(auto, unfolding(crate::specs::ObjectTypes::object_types))]
     pub fn name(self) -> &'static str
         ensures name { result.now ≡ (row_at self).name }
 
         // A law of the table: a text with this name is of this type, and of no other.
         ensures only { (t : Tree) → has_text (chars result.now) t ≡ true → row_of t ≡ Some (row_at self) }
     {
-        name_at(self.number)
+        match self {
+            ObjectType::Bridge => "Bridge",
+            ObjectType::Building => "Building",
+            ObjectType::CityFurniture => "CityFurniture",
+            ObjectType::CityObjectGroup => "CityObjectGroup",
+            ObjectType::GenericCityObject => "GenericCityObject",
+            ObjectType::LandUse => "LandUse",
+            ObjectType::OtherConstruction => "OtherConstruction",
+            ObjectType::PlantCover => "PlantCover",
+            ObjectType::Railway => "Railway",
+            ObjectType::Road => "Road",
+            ObjectType::SolitaryVegetationObject => "SolitaryVegetationObject",
+            ObjectType::TINRelief => "TINRelief",
+            ObjectType::TransportSquare => "TransportSquare",
+            ObjectType::Tunnel => "Tunnel",
+            ObjectType::WaterBody => "WaterBody",
+            ObjectType::Waterway => "Waterway",
+            ObjectType::BridgeConstructiveElement => "BridgeConstructiveElement",
+            ObjectType::BridgeFurniture => "BridgeFurniture",
+            ObjectType::BridgeInstallation => "BridgeInstallation",
+            ObjectType::BridgePart => "BridgePart",
+            ObjectType::BridgeRoom => "BridgeRoom",
+            ObjectType::BuildingConstructiveElement => "BuildingConstructiveElement",
+            ObjectType::BuildingFurniture => "BuildingFurniture",
+            ObjectType::BuildingInstallation => "BuildingInstallation",
+            ObjectType::BuildingPart => "BuildingPart",
+            ObjectType::BuildingRoom => "BuildingRoom",
+            ObjectType::BuildingStorey => "BuildingStorey",
+            ObjectType::BuildingUnit => "BuildingUnit",
+            ObjectType::TunnelConstructiveElement => "TunnelConstructiveElement",
+            ObjectType::TunnelFurniture => "TunnelFurniture",
+            ObjectType::TunnelHollowSpace => "TunnelHollowSpace",
+            ObjectType::TunnelInstallation => "TunnelInstallation",
+            ObjectType::TunnelPart => "TunnelPart",
+        }
     }
 
     /// Whether it is of the second level: such a city object needs a parent.
     pub fn is_second_level(self) -> bool
         ensures { result ≡ (row_at self).is_second }
     {
-        self.number >= FIRST_LEVEL
+        // the first of the second level
+        self.number() >= ObjectType::BridgeConstructiveElement.number()
     }
 
     /// Its number, from 0 to 32, in the order of the table.
@@ -134,7 +173,6 @@ impl ObjectType {
         ensures number { result ≡ (row_at self).number }
         ensures below { result < 33 }
     {
-        let ObjectType { number } = self;
-        number
+        self as u8
     }
 }

@@ -10,8 +10,10 @@ ghost use Rattle.cj_spans.specs.Text.{char_of, four_digits, escaped as escaped_o
 
 #[cfg(test)]
 mod examples;
+mod strings;
 
 use std::cmp::Ordering;
+pub use strings::{compare_strings, hash_of_string};
 
 /// A code point, and the place after it.
 #[derive(Clone, Copy)]

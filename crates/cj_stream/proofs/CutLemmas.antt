@@ -13,7 +13,7 @@ use Rattle.cj_stream.specs.Verdict.{Rules, verdict, header_of, item_after, refus
 use Rattle.cj_stream.specs.Cut.{joined, PutsPieces, EndsAt, Copies, TookWhole, IsUnread}
 use Rattle.cj_stream.specs.Engine.{EngineState, rules_of, lines_of, Delivers, Faults, Tells, Concludes}
 use Rattle.cj_stream.specs.Reading.{Reads}
-use Rattle.cj_stream.specs.Run.{Runs}
+use Rattle.cj_stream.specs.Run.{Run, Runs}
 use Rattle.cj_stream.specs.Sink.{Took, LeavesNext}
 use Rattle.cj_stream.proofs.JoinedLemmas.{joined-cut, joined-next}
 use Rattle.cj_stream.proofs.LineLemmas.{closed-then, begun-then, NoLf-begun, first_content-long}
@@ -123,7 +123,9 @@ kept-pieces rules pieces n good =
 
 module _ {S : Type 0} (takes leaves : S → Item → S → Type 0) (rules : Rules) (pieces : List (List ℕ)) (n : ℕ) (s t : S) (count features : ℕ) (peaks : Peaks) where
   abbrev Given : End → Type 0
-  Given e = Runs takes leaves rules (joined (take (n + 1) pieces)) (joined (take (n + 1) pieces) ≡ joined pieces) s t count features peaks e
+  Given e =
+      let run : Run = record { rules = rules; read = joined (take (n + 1) pieces); outcome = record { lines = count; kept = features; peaks = peaks; ended = e } } in
+      Runs takes leaves run (joined (take (n + 1) pieces) ≡ joined pieces) s t
 
   -- what a sink took of the lines that were dealt with before a fault
   taken : (e : End) → TookWhole takes leaves rules pieces n count s t e → (more : List Item) × (middle : S)

@@ -1,16 +1,16 @@
 -- What the headline says, by what a run tells, and by what pieces tell.
-use Rattle.std.proofs.Common.{◌≡◌, ◌⊎◌, inl, inr, ℕ, List, ◌++◌, Option, Some, sym}
+use Rattle.std.proofs.Common.{◌≡◌, ◌⊎◌, inl, inr, ℕ, List, [], ◌++◌, Option, Some, sym}
 use Rattle.std.proofs.lemmas.List.{append-nil}
 use Rattle.std.specs.Io.KnownBytes.{Appends}
 use Rattle.cj_budget.specs.declared.limits.Peaks.{Peaks}
 use Rattle.cj_spans.specs.declared.reason.Reason.{Reason}
 use Rattle.cj_stream.specs.declared.ending.End.{End}
 use Rattle.cj_stream.specs.declared.ending.End.TheVariants.{Complete, Refused, ReadFault, ReadLimit, WriteFault, Memory}
-use Rattle.cj_stream.specs.Bound.{exact_peaks}
-use Rattle.cj_stream.specs.Cut.{Copies, joined}
+use Rattle.cj_stream.specs.Bound.{IsBounded, exact_peaks}
+use Rattle.cj_stream.specs.Cut.{Copies, joined, IsUnread}
 use Rattle.cj_stream.specs.Headline.{Headline, HeadlineOfRun, IsUnhindered}
 use Rattle.cj_stream.specs.Output.{Channel}
-use Rattle.cj_stream.specs.Run.{Account, Writes}
+use Rattle.cj_stream.specs.Run.{Run, Account, Ends, Writes}
 use Rattle.cj_stream.specs.Sink.{HasRisen}
 use Rattle.cj_stream.specs.Verdict.{Rules, refusal_in, judged, output, ending}
 use Rattle.cj_stream.proofs.CutLemmas.{refused-more}
@@ -41,49 +41,55 @@ fault-not_complete h = cc
 memory-not_complete : Memory ≡ Complete → ⊥
 memory-not_complete h = cc
 
-module _ (rules : Rules) (r : List ℕ) (at_end : Type 0) (n features : ℕ) (peaks : Peaks) where
+module _ (rules : Rules) (r : List ℕ) (at_end : Type 0) (n : ℕ) (peaks : Peaks) (bounded : IsBounded rules.limits r peaks) where
   -- a run whose end is that of each text that begins so
   told : (e : End) (old new : Channel) (rest : List ℕ) → (e ≡ ending rules (r ++ rest)) → Appends old.bytes new.bytes (output rules (r ++ rest))
-      → (e ≡ WriteFault → HasRisen old.failures new.failures) → Account rules r at_end n features peaks e → (e ≡ Complete → peaks ≡ exact_peaks rules.limits (r ++ rest))
+      → (e ≡ WriteFault → HasRisen old.failures new.failures) → (e ≡ Complete → peaks ≡ exact_peaks rules.limits (r ++ rest))
       → Headline rules (r ++ rest) r e peaks old new
-  told e old new rest ends writes cause account exact = record {
+  told e old new rest ends writes cause exact = record {
     writes = λ u. writes;
     ends = λ u. ends;
     cause = cause;
-    held = account.bounded;
+    held = bounded;
     exact = exact;
   }
 
-  -- what a run over a writer tells is the headline
-  pub Headline-run : (e : End) (old new : Channel) → Account rules r at_end n features peaks e → Writes rules r e old.bytes new.bytes
-      → (e ≡ WriteFault → HasRisen old.failures new.failures) → HeadlineOfRun rules r at_end e peaks old new
-  Headline-run Complete old new a w c rest all u =
-      let none = all a.ends.2 in
+  -- what a run over a writer tells is the headline, by its end
+  ended : (e : End) (old new : Channel) → Ends rules r n at_end e → (e ≡ Complete → peaks ≡ exact_peaks rules.limits r) → Writes rules r e old.bytes new.bytes
+      → (e ≡ WriteFault → HasRisen old.failures new.failures) → (rest : List ℕ) → (at_end → rest ≡ []) → IsUnread e → Headline rules (r ++ rest) r e peaks old new
+  ended Complete old new ends exact w c rest all u =
+      let none = all ends.2 in
       let nothing : r ++ rest ≡ r = rw none (append-nil r) in
-      told Complete old new rest (rw nothing (sym a.ends.0)) (rw nothing w) c a (λ h. rw nothing (a.exact h))
-  Headline-run (Refused number place reason) old new a w c rest all u = go a.ends.2
+      told Complete old new rest (rw nothing (sym ends.0)) (rw nothing w) c (λ h. rw nothing (exact h))
+  ended (Refused number place reason) old new ends exact w c rest all u = go ends.2
     where
       go : at_end ⊎ (refusal_in rules (judged rules.limits r) ≡ Some (Refused number place reason)) → Headline rules (r ++ rest) r (Refused number place reason) peaks old new
       go (inl end) =
           let none = all end in
           let nothing : r ++ rest ≡ r = rw none (append-nil r) in
-          told (Refused number place reason) old new rest (rw nothing (sym a.ends.0)) (rw nothing w) c a (λ h. absurd (refusal-not_complete number place reason h))
+          told (Refused number place reason) old new rest (rw nothing (sym ends.0)) (rw nothing w) c (λ h. absurd (refusal-not_complete number place reason h))
       go (inr refused) =
           let more = refused-more rules r rest (Refused number place reason) refused in
-          told (Refused number place reason) old new rest (sym more.0) (rw more.1 w) c a (λ h. absurd (refusal-not_complete number place reason h))
-  Headline-run ReadFault old new a w c rest all u = absurd u
-  Headline-run ReadLimit old new a w c rest all u = absurd u
-  Headline-run WriteFault old new a w c rest all u = record {
+          told (Refused number place reason) old new rest (sym more.0) (rw more.1 w) c (λ h. absurd (refusal-not_complete number place reason h))
+  ended ReadFault old new ends exact w c rest all u = absurd u
+  ended ReadLimit old new ends exact w c rest all u = absurd u
+  ended WriteFault old new ends exact w c rest all u = record {
     writes = λ h. absurd h;
     ends = λ h. absurd h;
     cause = c;
-    held = a.bounded;
+    held = bounded;
     exact = λ h. absurd (fault-not_complete h);
   }
-  Headline-run Memory old new a w c rest all u = record {
+  ended Memory old new ends exact w c rest all u = record {
     writes = λ h. absurd h;
     ends = λ h. absurd h;
     cause = c;
-    held = a.bounded;
+    held = bounded;
     exact = λ h. absurd (memory-not_complete h);
   }
+
+-- what a run over a writer tells is the headline
+pub Headline-run : (run : Run) (at_end : Type 0) (old new : Channel) → Account run at_end → Writes run.rules run.read run.outcome.ended old.bytes new.bytes
+    → (run.outcome.ended ≡ WriteFault → HasRisen old.failures new.failures) → HeadlineOfRun run at_end old new
+Headline-run run at_end old new account writes cause =
+    ended run.rules run.read at_end run.outcome.lines run.outcome.peaks account.bounded run.outcome.ended old new account.ends account.exact writes cause

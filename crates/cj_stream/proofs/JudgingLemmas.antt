@@ -1,6 +1,6 @@
 -- What is kept of the header, from line to line, and what comes of a line that is a text.
 use Rattle.std.proofs.Common.{◌≡◌, ◌<◌, Option}
-use Rattle.cj_feature.specs.declared.header.parts.HeaderParts.{HeaderParts}
+use Rattle.cj_feature.specs.declared.header.reading.HeaderParts.{HeaderParts}
 use Rattle.cj_stream.specs.Judging.{KeepsFirst}
 use Rattle.cj_stream.specs.Reading.{Reading, Passes}
 use Rattle.cj_stream.specs.Scanning.{Scanning, Forgets}

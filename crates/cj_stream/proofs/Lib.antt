@@ -12,6 +12,7 @@ pub mod EngineLemmas
 pub mod FinishLemmas
 pub mod GoodLemmas
 pub mod HeadlineLemmas
+pub mod IdLemmas
 pub mod IsGoodLemmas
 pub mod IsLinesLemmas
 pub mod JoinedLemmas

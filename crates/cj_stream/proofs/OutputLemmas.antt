@@ -3,15 +3,14 @@ use Rattle.std.proofs.Common.{◌≡◌, ℕ, List, [], ◌∷◌, ◌++◌, len
 use Rattle.std.specs.List.{flat_map}
 use Rattle.std.proofs.lemmas.List.{append-nil}
 use Rattle.std.specs.Io.KnownBytes.{Appends}
-use Rattle.cj_budget.specs.declared.limits.Peaks.{Peaks}
 use Rattle.cj_stream.specs.declared.ending.End.{End}
 use Rattle.cj_stream.specs.declared.ending.End.TheVariants.{Complete, Refused, ReadFault, ReadLimit, WriteFault, Memory}
 use Rattle.cj_stream.specs.Lines.{lines, whole, closed}
 use Rattle.cj_stream.specs.Item.{Item, raw_item}
 use Rattle.cj_stream.specs.Verdict.{Rules, refusal_in, good, good_from, kept_from, kept, kept_first, item_after}
-use Rattle.cj_stream.specs.Engine.{Delivers}
+use Rattle.cj_stream.specs.Engine.{Counts, Delivers}
 use Rattle.cj_stream.specs.Cut.{AppendsMore}
-use Rattle.cj_stream.specs.Run.{Account, Puts, Runs, Writes}
+use Rattle.cj_stream.specs.Run.{Run, Account, Ends, Puts, Runs, Writes}
 use Rattle.cj_stream.specs.Sink.{Took, TookFront, LeavesNext, AppendsPart}
 use Rattle.cj_stream.proofs.IsLinesLemmas.{joined-append, lines-whole}
 use Rattle.cj_stream.proofs.ReadingLemmas.{length-map_lines}
@@ -45,20 +44,20 @@ Took-all takes leaves rules r n s t e h still all =
     let k : h.added ≡ kept rules r = sym h.kept ∙ kept_first-good rules n r all in
     rw (← k, still) h.took
 
-module _ {S : Type 0} (takes leaves : S → Item → S → Type 0) (rules : Rules) (r : List ℕ) (at_end : Type 0) (s t : S) (n features : ℕ) (peaks : Peaks) where
+module _ {S : Type 0} (takes leaves : S → Item → S → Type 0) (rules : Rules) (r : List ℕ) (at_end : Type 0) (s t : S) (n features : ℕ) where
   -- what a sink took, by the end of the run
-  puts-told : (e : End) → Account rules r at_end n features peaks e → Delivers takes leaves rules r 0 n s t (Some e) → Puts takes leaves rules r e s t
-  puts-told Complete a d = Took-all takes leaves rules r n s t Complete d d.fault a.ends.1
-  puts-told (Refused number place reason) a d = Took-all takes leaves rules r n s t (Refused number place reason) d d.fault a.ends.1
-  puts-told ReadFault a d =
-      let k : d.added ≡ kept rules (whole r) = sym d.kept ∙ kept-whole rules n r a.ends.0 a.ends.1 in
+  puts-told : (e : End) → Ends rules r n at_end e → Counts rules r n features → Delivers takes leaves rules r 0 n s t (Some e) → Puts takes leaves rules r e s t
+  puts-told Complete ends counts d = Took-all takes leaves rules r n s t Complete d d.fault ends.1
+  puts-told (Refused number place reason) ends counts d = Took-all takes leaves rules r n s t (Refused number place reason) d d.fault ends.1
+  puts-told ReadFault ends counts d =
+      let k : d.added ≡ kept rules (whole r) = sym d.kept ∙ kept-whole rules n r ends.0 ends.1 in
       rw (← k, d.fault) d.took
-  puts-told ReadLimit a d =
-      let k : d.added ≡ kept rules (whole r) = sym d.kept ∙ kept-whole rules n r a.ends.0 a.ends.1 in
+  puts-told ReadLimit ends counts d =
+      let k : d.added ≡ kept rules (whole r) = sym d.kept ∙ kept-whole rules n r ends.0 ends.1 in
       rw (← k, d.fault) d.took
-  puts-told WriteFault a d =
+  puts-told WriteFault ends counts d =
       let fault = d.fault in
-      let next = kept-next_line rules n r fault.0 a.counts.good fault.1 fault.2 in
+      let next = kept-next_line rules n r fault.0 counts.good fault.1 fault.2 in
       record {
         more = d.added;
         others = item_after rules (take n (lines r)) fault.0 ∷ next.0;
@@ -67,19 +66,25 @@ module _ {S : Type 0} (takes leaves : S → Item → S → Type 0) (rules : Rule
         took = d.took;
         left = fault.3;
       }
-  puts-told Memory a d =
+  puts-told Memory ends counts d =
       let others : List Item = kept_from rules (take n (lines r)) (good_from rules (take n (lines r)) (drop n (lines r))) in
       record {
         more = d.added;
         others = others;
         middle = d.middle;
-        front = kept-split rules n r a.counts.good ∙ ap (λ z. z ++ others) d.kept;
+        front = kept-split rules n r counts.good ∙ ap (λ z. z ++ others) d.kept;
         took = d.took;
         left = d.fault;
       }
 
-  pub Runs-told : (e : End) → Account rules r at_end n features peaks e → Delivers takes leaves rules r 0 n s t (Some e) → Runs takes leaves rules r at_end s t n features peaks e
-  Runs-told e a d = record { account = a; sink = d; puts = puts-told e a d }
+-- a run by its account and by what the sink took
+pub Runs-told : {S : Type 0} (takes leaves : S → Item → S → Type 0) (run : Run) (at_end : Type 0) (s t : S) → Account run at_end
+    → Delivers takes leaves run.rules run.read 0 run.outcome.lines s t (Some run.outcome.ended) → Runs takes leaves run at_end s t
+Runs-told takes leaves run at_end s t account sink = record {
+  account = account;
+  sink = sink;
+  puts = puts-told takes leaves run.rules run.read at_end s t run.outcome.lines run.outcome.kept run.outcome.ended account.ends account.counts sink;
+}
 
 module _ {S : Type 0} (contents : S → Option (List ℕ)) where
   abbrev pub writes : S → Item → S → Type 0

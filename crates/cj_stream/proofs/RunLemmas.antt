@@ -8,9 +8,9 @@ use Rattle.cj_stream.specs.declared.ending.End.TheVariants.{Complete, Refused, R
 use Rattle.cj_stream.specs.Lines.{Line, closed, lines, whole}
 use Rattle.cj_stream.specs.Item.{Item}
 use Rattle.cj_stream.specs.Verdict.{Rules, verdict, refusal_of, refusal_in, refusal_from, judged, ending, ending_of, kept_first}
-use Rattle.cj_stream.specs.Engine.{EngineState, StandsFor, Delivers, Faults, Concludes, Tells, rules_of, lines_of, peaks_of}
+use Rattle.cj_stream.specs.Engine.{EngineState, StandsFor, Delivers, Faults, Concludes, Tells, rules_of, lines_of}
 use Rattle.cj_stream.specs.Reading.{Reads}
-use Rattle.cj_stream.specs.Run.{Ends, Runs}
+use Rattle.cj_stream.specs.Run.{Ends, Runs, outcome_of}
 use Rattle.cj_stream.specs.Sink.{HasRisen, Took}
 use Rattle.cj_stream.proofs.PieceLemmas.{Took-append}
 use Rattle.cj_stream.proofs.EngineLemmas.{judged-front, kept_first-front}
@@ -101,8 +101,8 @@ Delivers-ended takes leaves rules r n s t e still h = record {
 -- a run that is left between two pieces, with an end that keeps the sink as it is
 pub Runs-left : {S : Type 0} (takes leaves : S → Item → S → Type 0) (e : EngineState) (r : List ℕ) (at_end : Type 0) (s t : S) (end : End)
     → (end ≡ Complete → ⊥) → Ends (rules_of e) r (lines_of e) at_end end → ((m u : S) → u ≡ m → Faults leaves (rules_of e) r (lines_of e) m u (Some end))
-    → StandsFor e r → Delivers takes leaves (rules_of e) r 0 (lines_of e) s t None → Runs takes leaves (rules_of e) r at_end s t (lines_of e) e.reading.kept (peaks_of e) end
-Runs-left takes leaves e r at_end s t end other ends still stands h = Runs-told takes leaves (rules_of e) r at_end s t (lines_of e) e.reading.kept (peaks_of e) end
+    → StandsFor e r → Delivers takes leaves (rules_of e) r 0 (lines_of e) s t None → Runs takes leaves (record { rules = rules_of e; read = r; outcome = outcome_of e end }) at_end s t
+Runs-left takes leaves e r at_end s t end other ends still stands h = Runs-told takes leaves (record { rules = rules_of e; read = r; outcome = outcome_of e end }) at_end s t
     (record { bounded = stands.bounded; exact = λ x. absurd (other x); counts = stands.counts; ends = ends })
     (Delivers-ended takes leaves (rules_of e) r (lines_of e) s t end still h)
 

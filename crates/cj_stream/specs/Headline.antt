@@ -7,6 +7,7 @@ use Rattle.cj_stream.specs.declared.ending.End.TheVariants.{Complete, Refused, R
 use Rattle.cj_stream.specs.Bound.{IsBounded, exact_peaks}
 use Rattle.cj_stream.specs.Cut.{IsUnread}
 use Rattle.cj_stream.specs.Output.{Channel}
+use Rattle.cj_stream.specs.Run.{Run}
 use Rattle.cj_stream.specs.Sink.{HasRisen}
 use Rattle.cj_stream.specs.Verdict.{Rules, output, ending}
 
@@ -32,8 +33,9 @@ pub record Headline (rules : Rules) (text given : List ℕ) (end : End) (peaks :
   pub held : IsBounded rules.limits given peaks
   pub exact : end ≡ Complete → peaks ≡ exact_peaks rules.limits text
 
--- the same of a run over the bytes r that a reader gave: unless a read failed or the reads ran out, of each stream that
+-- the same of a run over the bytes that a reader gave: unless a read failed or the reads ran out, of each stream that
 -- begins with them, and of which they are all where the reader was at its end
-abbrev pub HeadlineOfRun : Rules → List ℕ → Type 0 → End → Peaks → Channel → Channel → Type 0
-HeadlineOfRun rules r at_end end peaks old new =
-    (rest : List ℕ) → (at_end → rest ≡ []) → IsUnread end → Headline rules (r ++ rest) r end peaks old new
+abbrev pub HeadlineOfRun : Run → Type 0 → Channel → Channel → Type 0
+HeadlineOfRun run at_end old new =
+    (rest : List ℕ) → (at_end → rest ≡ []) → IsUnread run.outcome.ended
+    → Headline run.rules (run.read ++ rest) run.read run.outcome.ended run.outcome.peaks old new

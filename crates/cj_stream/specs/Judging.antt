@@ -4,7 +4,7 @@ use Rattle.cj_spans.specs.declared.token.Token.{Token}
 use Rattle.cj_spans.specs.Tree.{Tree}
 use Rattle.cj_spans.specs.Json.{Json}
 use Rattle.cj_spans.specs.Sound.{AreOf}
-use Rattle.cj_feature.specs.declared.header.parts.HeaderParts.{HeaderParts}
+use Rattle.cj_feature.specs.declared.header.reading.HeaderParts.{HeaderParts}
 use Rattle.cj_feature.specs.Shown.{ArePartsOf, parts_box}
 use Rattle.cj_stream.specs.declared.judge.Content.{Content}
 use Rattle.cj_stream.specs.declared.judge.Content.TheVariants.{Faulty, BlankLine, Sound}

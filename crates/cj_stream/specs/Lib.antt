@@ -12,6 +12,7 @@ pub mod EndRows
 pub mod Engine
 pub mod Extent
 pub mod Headline
+pub mod Ids
 pub mod IsGood
 pub mod IsLines
 pub mod Item

@@ -17,7 +17,7 @@ texts_of part = option_map (λ texts. map string_bytes (vec_items texts)) part
 -- what a query asks
 unfoldable pub criteria : Query → Criteria
 criteria q = record {
-  ids = texts_of q.ids;
+  ids = q.ids;
   types = q.types;
   lods = texts_of q.lods;
   box = option_map box_of q.bounds;

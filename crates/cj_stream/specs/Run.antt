@@ -1,15 +1,25 @@
 -- What a whole run makes of the bytes that it reads.
 use Rattle.std.specs.Prelude.{◌≡◌, ◌⊎◌, ℕ, List, [], Option, Some, None, length}
 use Rattle.std.specs.Io.KnownBytes.{Appends}
-use Rattle.cj_budget.specs.declared.limits.Peaks.{Peaks}
 use Rattle.cj_stream.specs.declared.ending.End.{End}
 use Rattle.cj_stream.specs.declared.ending.End.TheVariants.{Complete, Refused, ReadFault, ReadLimit, WriteFault, Memory}
+use Rattle.cj_stream.specs.declared.running.Outcome.{Outcome}
 use Rattle.cj_stream.specs.Lines.{lines, whole}
 use Rattle.cj_stream.specs.Item.{Item}
 use Rattle.cj_stream.specs.Verdict.{Rules, refusal_in, judged, good, kept, ending, output}
 use Rattle.cj_stream.specs.Bound.{IsBounded, exact_peaks}
-use Rattle.cj_stream.specs.Engine.{Counts, Delivers}
+use Rattle.cj_stream.specs.Engine.{EngineState, Counts, Delivers, lines_of, peaks_of}
 use Rattle.cj_stream.specs.Sink.{Took, TookFront, LeavesNext, AppendsPart}
+
+-- a run: the rules that its lines are judged by, the bytes that it read, and how it went
+pub record Run : Type 0 where
+  pub rules : Rules
+  pub read : List ℕ
+  pub outcome : Outcome
+
+-- how a run went that left its engine so, and came to this end
+abbrev pub outcome_of : EngineState → End → Outcome
+outcome_of e end = record { lines = lines_of e; kept = e.reading.kept; peaks = peaks_of e; ended = end }
 
 -- what the end of a run tells of the bytes r that it read, after n of their lines; `at_end` says that r is all there
 -- was. A line is refused before that only if LF ended it or it is too long.
@@ -22,13 +32,13 @@ Ends rules r n at_end ReadLimit = (refusal_in rules (lines (whole r)) ≡ None) 
 Ends rules r n at_end WriteFault = Unit {0}
 Ends rules r n at_end Memory = Unit {0}
 
--- the account of a run over these bytes: it dealt with n lines, kept some features, held at most so much, and ended
--- so; what it held at most is exact where it is complete
-pub record Account (rules : Rules) (r : List ℕ) (at_end : Type 0) (n features : ℕ) (peaks : Peaks) (e : End) : Type 0 where
-  pub bounded : IsBounded rules.limits r peaks
-  pub exact : e ≡ Complete → peaks ≡ exact_peaks rules.limits r
-  pub counts : Counts rules r n features
-  pub ends : Ends rules r n at_end e
+-- the account of a run: so many lines were dealt with and so many features kept, no more was held, and it ended so;
+-- what it held at most is exact where it is complete; `at_end` says that what it read is all there was
+pub record Account (run : Run) (at_end : Type 0) : Type 0 where
+  pub bounded : IsBounded run.rules.limits run.read run.outcome.peaks
+  pub exact : run.outcome.ended ≡ Complete → run.outcome.peaks ≡ exact_peaks run.rules.limits run.read
+  pub counts : Counts run.rules run.read run.outcome.lines run.outcome.kept
+  pub ends : Ends run.rules run.read run.outcome.lines at_end run.outcome.ended
 
 -- what a sink took of the bytes r, by the end of the run: what is kept of them, or of their whole lines where a read
 -- failed or the reads ran out; or a prefix of that, and then what a failed step of the next one may leave, or nothing
@@ -41,11 +51,12 @@ Puts takes leaves rules r ReadLimit s t = Took takes s (kept rules (whole r)) t
 Puts takes leaves rules r WriteFault s t = TookFront takes (LeavesNext leaves) (kept rules r) [] s t
 Puts takes leaves rules r Memory s t = TookFront takes (λ others a b. b ≡ a) (kept rules r) [] s t
 
--- a run over these bytes: its account, and what the sink took, by the lines that were dealt with and by the end
-pub record Runs {S : Type 0} (takes leaves : S → Item → S → Type 0) (rules : Rules) (r : List ℕ) (at_end : Type 0) (s t : S) (n features : ℕ) (peaks : Peaks) (e : End) : Type 0 where
-  pub account : Account rules r at_end n features peaks e
-  pub sink : Delivers takes leaves rules r 0 n s t (Some e)
-  pub puts : Puts takes leaves rules r e s t
+-- a run from one state of a sink to another: its account, and what the sink took, by the lines that were dealt with and
+-- by the end
+pub record Runs {S : Type 0} (takes leaves : S → Item → S → Type 0) (run : Run) (at_end : Type 0) (old new : S) : Type 0 where
+  pub account : Account run at_end
+  pub sink : Delivers takes leaves run.rules run.read 0 run.outcome.lines old new (Some run.outcome.ended)
+  pub puts : Puts takes leaves run.rules run.read run.outcome.ended old new
 
 -- the bytes that a writer got of r, by the end of the run: the output of r, or of its whole lines where a read
 -- failed, or a prefix of the output where a write failed or memory was refused

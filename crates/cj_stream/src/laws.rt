@@ -10,7 +10,6 @@
 //! ```
 ghost use Rattle.std.specs.Prelude.{◌≡◌, ◌++◌, ℕ, List, Option, length};
 ghost use Rattle.std.specs.Io.KnownBytes.{IsAtEnd};
-ghost use Rattle.cj_budget.specs.declared.limits.Peaks.{Peaks};
 ghost use Rattle.cj_stream.specs.CountSink.{no_counts, Counts, CountsRun, CountsPieces};
 ghost use Rattle.cj_stream.specs.Cut.{Copies, PutsPieces};
 ghost use Rattle.cj_stream.specs.Headline.{HeadlineOfRun};
@@ -18,7 +17,7 @@ ghost use Rattle.cj_stream.specs.IsGood.{AreGood, EndsAfter};
 ghost use Rattle.cj_stream.specs.IsLines.{IsLines, IsWhole};
 ghost use Rattle.cj_stream.specs.Lines.{Line, lines, whole};
 ghost use Rattle.cj_stream.specs.Output.{output_writer, output_failures, channel, WritesItem, WritesPart};
-ghost use Rattle.cj_stream.specs.Run.{Puts, Runs, Writes};
+ghost use Rattle.cj_stream.specs.Run.{Puts, Run, Runs, Writes};
 ghost use Rattle.cj_stream.specs.Sink.{HasRisen};
 ghost use Rattle.cj_stream.specs.TallySink.{Tally, no_tally, Tallies, TalliesRun, TalliesPieces};
 ghost use Rattle.cj_stream.specs.Verdict.{Rules, good, kept, kept_first, ending};
@@ -78,11 +77,10 @@ pub fn puts_are_written<W: Write + Drop>()
     ensures runs { (rules : Rules) (r : List ℕ) (e : End) (a b : Output W)
         → Puts (WritesItem W.contents) (WritesPart W.contents) rules r e a b
         → Writes rules r e (W.contents (output_writer a)) (W.contents (output_writer b)) }
-    ensures headline { (rules : Rules) (r : List ℕ) (left : Option (List ℕ)) (n features : ℕ) (peaks : Peaks) (e : End)
-        (a b : Output W)
-        → Runs (WritesItem W.contents) (WritesPart W.contents) rules r (IsAtEnd left) a b n features peaks e
-        → (e ≡ End.WriteFault → HasRisen (output_failures a) (output_failures b))
-        → HeadlineOfRun rules r (IsAtEnd left) e peaks (channel W.contents a) (channel W.contents b) }
+    ensures headline { (run : Run) (left : Option (List ℕ)) (a b : Output W)
+        → Runs (WritesItem W.contents) (WritesPart W.contents) run (IsAtEnd left) a b
+        → (run.outcome.ended ≡ End.WriteFault → HasRisen (output_failures a) (output_failures b))
+        → HeadlineOfRun run (IsAtEnd left) (channel W.contents a) (channel W.contents b) }
     ensures pieces { (rules : Rules) (pieces : List (List ℕ)) (n : ℕ) (e : End) (a b : Output W)
         → PutsPieces (WritesItem W.contents) (WritesPart W.contents) rules pieces n e a b
         → Copies rules pieces n e (W.contents (output_writer a)) (W.contents (output_writer b)) }

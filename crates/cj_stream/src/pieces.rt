@@ -6,7 +6,7 @@ ghost use Rattle.cj_stream.specs.Cut.{joined, Copies, PutsPieces, TookWhole, Fed
 ghost use Rattle.cj_stream.specs.Engine.{IsFresh, rules_of, lines_of};
 ghost use Rattle.cj_stream.specs.Headline.{Headline};
 ghost use Rattle.cj_stream.specs.Output.{output_writer, channel};
-ghost use Rattle.cj_stream.specs.Run.{Runs};
+ghost use Rattle.cj_stream.specs.Run.{Runs, outcome_of};
 ghost use Rattle.cj_stream.specs.Sink.{HasRisen};
 
 use crate::ending::End;
@@ -34,8 +34,9 @@ fn feed_all<S: LineSink>(engine: &mut Engine, pieces: &[&[u8]], sink: &mut S) ->
     requires short { length (joined (map (λ piece. piece.now) pieces.now)) ≤ 2 ^ 60 }
     ensures fed { Fed (rules_of engine.old) (map (λ piece. piece.now) pieces.now) result engine.new }
     ensures runs { let given = joined (take (result.taken + 1) (map (λ piece. piece.now) pieces.now)) in
-        Runs S.takes S.leaves (rules_of engine.old) given (given ≡ joined (map (λ piece. piece.now) pieces.now))
-        sink.old sink.new (lines_of engine.new) engine.new.reading.kept result.peaks result.ended }
+        Runs S.takes S.leaves
+        (record { rules = rules_of engine.old; read = given; outcome = outcome_of engine.new result.ended })
+        (given ≡ joined (map (λ piece. piece.now) pieces.now)) sink.old sink.new }
     ensures taken { TookWhole S.takes S.leaves (rules_of engine.old) (map (λ piece. piece.now) pieces.now) result.taken
         (lines_of engine.new) sink.old sink.new result.ended }
     ensures cause { result.ended ≡ End.WriteFault → HasRisen (S.failures sink.old) (S.failures sink.new) }

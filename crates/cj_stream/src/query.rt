@@ -14,12 +14,14 @@ mod bounds;
 mod extent;
 mod fault;
 mod holding;
+mod ids;
 mod texts;
 
 use bounds::Bounds;
 use cj_feature::{Feature, Header};
 use cj_geometry::ObjectType;
 pub use fault::QueryFault;
+use ids::{Ids, add_id};
 use std::alloc::Global;
 use texts::add_text;
 
@@ -30,7 +32,7 @@ const TYPES: usize = 33;
 #[derive(Drop)]
 pub struct Query {
     alloc: Global,
-    ids: Option<Vec<String>>,
+    ids: Option<Ids>,
     types: Option<[bool; TYPES]>,
     lods: Option<Vec<String>>,
     bounds: Option<Bounds>,
@@ -66,7 +68,7 @@ impl Query {
     pub fn start_ids(&mut self)
         ensures { criteria self.new ≡ record (criteria self.old) { ids = Some [] } }
     {
-        self.ids = Some(Vec::new(self.alloc));
+        self.ids = Some(Ids::new(self.alloc));
     }
 
     /// Sets the part on types to no type, whatever it was: no feature holds there until one is added. It
@@ -99,7 +101,7 @@ impl Query {
         ensures err { OnErr result (criteria self.new ≡ criteria self.old) }
         ensures memory { IfErr result (λ fault. fault ≡ Memory) }
     {
-        add_text(self.alloc, &mut self.ids, id)
+        add_id(self.alloc, &mut self.ids, id)
     }
 
     /// Adds a type to the part on types, by its name (CityJSON 2.0, section 2): a feature holds there of
@@ -176,7 +178,7 @@ impl Query {
         ensures { result ≡ if_set (λ ids. id_holds ids (feature_tree feature.now)) (criteria self.now).ids }
     {
         match &self.ids {
-            Some(ids) => holding::has_id(ids.as_slice(), feature),
+            Some(ids) => holding::has_id(ids, feature),
             None => true,
         }
     }

@@ -2,9 +2,9 @@
 ghost use Rattle.std.specs.Prelude.{◌≡◌, ◌↔◌, ◌≤◌, ℕ, List, length, false, IsTrue};
 ghost use Rattle.std.specs.Io.KnownBytes.{Consumes, IsAtEnd};
 ghost use Rattle.cj_stream.specs.Sink.{HasRisen};
-ghost use Rattle.cj_stream.specs.Engine.{IsFresh, rules_of, lines_of, peaks_of};
+ghost use Rattle.cj_stream.specs.Engine.{IsFresh, rules_of};
 ghost use Rattle.cj_stream.specs.Query.{rules_for};
-ghost use Rattle.cj_stream.specs.Run.{Runs};
+ghost use Rattle.cj_stream.specs.Run.{Runs, outcome_of};
 ghost use Rattle.cj_stream.specs.Source.{source_reader, source_name, reads_of, has_failed};
 
 mod source;
@@ -74,9 +74,9 @@ fn drive<R: Read, S: LineSink>(
     ensures same_reference { source_name source.new ≡ source_name source.old }
     ensures runs { (r : List ℕ)
         × Consumes (R.remaining (source_reader source.old)) (R.remaining (source_reader source.new)) r
-        × Runs S.takes S.leaves (rules_of engine.old) r
-        (IsAtEnd (R.remaining (source_reader source.new))) sink.old sink.new
-        (lines_of engine.new) engine.new.reading.kept (peaks_of engine.new) result }
+        × Runs S.takes S.leaves
+        (record { rules = rules_of engine.old; read = r; outcome = outcome_of engine.new result })
+        (IsAtEnd (R.remaining (source_reader source.new))) sink.old sink.new }
     ensures cause { result ≡ End.WriteFault → HasRisen (S.failures sink.old) (S.failures sink.new) }
     ensures reads { reads_of source.new ≤ MOST_READS }
     ensures limit { result ≡ End.ReadLimit → reads_of source.new ≡ MOST_READS }
@@ -105,8 +105,8 @@ pub fn run<R: Read, S: LineSink>(
     query: &Query,
 ) -> Outcome
     ensures runs { (r : List ℕ) × Consumes (R.remaining reader.old) (R.remaining reader.new) r
-        × Runs S.takes S.leaves (rules_for limits query.now) r (IsAtEnd (R.remaining reader.new)) sink.old sink.new
-        result.lines result.kept result.peaks result.ended }
+        × Runs S.takes S.leaves (record { rules = rules_for limits query.now; read = r; outcome = result })
+        (IsAtEnd (R.remaining reader.new)) sink.old sink.new }
     ensures cause { result.ended ≡ End.WriteFault → HasRisen (S.failures sink.old) (S.failures sink.new) }
 {
     let mut engine = match Engine::open(alloc, limits, query) {

@@ -12,6 +12,7 @@ ghost use Rattle.cj_feature.specs.Links.{is_known as is_known_in, has_item as ha
 use crate::feature::ids::is_known;
 use crate::feature::many_links::check_many_links;
 use crate::feature::objects::is_part;
+use cj_geometry::ObjectType;
 use cj_geometry::rule::add;
 use cj_spans::{Kind, Least, Node, Reason};
 
@@ -43,11 +44,12 @@ fn lists(objects: Node, list: &str, from: Node, to: Node) -> bool
 }
 
 /// Whether the city object is a group.
+#[tactic(auto, unfolding(cj_geometry::specs::ObjectTypes::object_types))]
 pub fn is_group(object: Node) -> bool
     ensures { result ≡ is_group_of (tree object.entry) }
 {
     match object.get("type") {
-        Some(name) => name.text_is("CityObjectGroup"),
+        Some(name) => name.text_is(ObjectType::CityObjectGroup.name()),
         None => false,
     }
 }

@@ -1,25 +1,29 @@
-//! The rules on features, one after another.
-ghost use Rattle.std.specs.Prelude.{◌≡◌, [], false, codes, length, option_map};
+//! The rules on features, one after another, and the verdict by them.
+ghost use Rattle.std.specs.Prelude.{◌≡◌, [], Some, MatchResult, IfOk, false, codes, length, option_map};
 ghost use Rattle.std.specs.List.{flat_map};
 ghost use Rattle.std.specs.Str.{chars};
 ghost use Rattle.cj_spans.specs.declared.reason.Reason.TheVariants.{NotThree};
-ghost use Rattle.cj_spans.specs.Finding.{least};
+ghost use Rattle.cj_spans.specs.Finding.{least, IsLeast};
 ghost use Rattle.cj_spans.specs.Kinds.{is_object};
 ghost use Rattle.cj_spans.specs.Parts.{items_of, member_of};
-ghost use Rattle.cj_spans.specs.View.{tree};
+ghost use Rattle.cj_spans.specs.View.{tree, document, document_line};
 ghost use Rattle.cj_geometry.specs.Geometry.{count_if, count_of};
 ghost use Rattle.cj_geometry.specs.Given.{given};
 ghost use Rattle.cj_geometry.specs.Rule.{of_kind, needs, whole_number, of_length};
-ghost use Rattle.cj_feature.specs.Feature.{vertex_list, feature_rules};
+ghost use Rattle.cj_feature.specs.Feature.{vertex_list, feature_rules, feature};
+ghost use Rattle.cj_feature.specs.HeaderView.{header_tree};
 ghost use Rattle.cj_feature.specs.Links.{links};
+ghost use Rattle.cj_feature.specs.View.{feature_tree, feature_line, feature_header};
 
+use crate::feature::Feature;
 use crate::feature::ids::check_id_member;
 use crate::feature::links::check_links;
 use crate::feature::objects::check_city_objects_member;
+use crate::header::Header;
 use crate::member::{check_name_member, check_there};
 use cj_geometry::Templates;
 use cj_geometry::rule::{add, check_array, check_names, check_object, check_whole};
-use cj_spans::{Least, Node, Reason};
+use cj_spans::{Doc, Finding, Least, Node, Reason};
 
 /// Each item is a whole number; answers how many there are, so that they are gone over once.
 #[inline(always)]
@@ -89,7 +93,7 @@ fn check_links_if(linked: bool, objects: Option<Node>, found: &mut Least)
 
 /// The value is a feature, with these members, beside these templates. Vertices come before the city
 /// objects, which ask for their number.
-pub fn check_root(
+fn check_root(
     node: Node,
     objects: Option<Node>,
     vertices: Option<Node>,
@@ -108,5 +112,30 @@ pub fn check_root(
         let count = check_vertices_member(node, vertices, found);
         let linked = check_city_objects_member(node, objects, count, templates, found);
         check_links_if(linked, objects, found);
+    }
+}
+
+/// Judges a line as a feature (CityJSON 2.0, sections 2 and 8, and the CityJSONSeq page of cityjson.org)
+/// beside the header of its text: the least of its findings, if there are any.
+///
+/// # Errors
+///
+/// The least finding by place and code.
+pub fn check_feature<'a>(doc: Doc<'a>, header: &Header<'a>) -> Result<Feature<'a>, Finding>
+    ensures verdict { MatchResult result (λ f. feature (header_tree header.now) (document doc.entry) ≡ [])
+        (λ f. IsLeast (feature (header_tree header.now) (document doc.entry)) (Some f)) }
+    ensures tree { IfOk result (λ f. feature_tree f ≡ document doc.entry) }
+    ensures line { IfOk result (λ f. feature_line f ≡ document_line doc.entry) }
+    ensures header { IfOk result (λ f. feature_header f ≡ header_tree header.now) }
+{
+    let root = doc.root();
+    let objects = root.get("CityObjects");
+    let vertices = root.get("vertices");
+    let templates = header.templates();
+    let mut found = Least::new();
+    check_root(root, objects, vertices, templates, &mut found);
+    match found.get() {
+        Some(finding) => Err(finding),
+        None => Ok(Feature::of(doc, header.doc(), objects, vertices, templates)),
     }
 }

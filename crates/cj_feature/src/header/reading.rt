@@ -1,20 +1,33 @@
 //! What a valid header says, read once.
-ghost use Rattle.std.specs.Prelude.{◌≡◌, ◌<◌, ◌∷◌, [], Some, map, true, length};
+ghost use Rattle.std.specs.Prelude.{◌≡◌, ◌<◌, ◌∷◌, [], Some, MatchOption, map, option_map, true, length};
 ghost use Rattle.std.specs.List.{flat_map};
 ghost use Rattle.std.specs.Str.{chars};
 ghost use Rattle.cj_spans.specs.declared.reason.Reason.TheVariants.{NotThree};
+ghost use Rattle.cj_spans.specs.declared.token.Kind.TheVariants.{Array};
 ghost use Rattle.cj_spans.specs.Tree.{Tree};
-ghost use Rattle.cj_spans.specs.Parts.{items_of, member_of};
+ghost use Rattle.cj_spans.specs.Parts.{kind_of, items_of, member_of};
 ghost use Rattle.cj_spans.specs.View.{tree, items_left};
+ghost use Rattle.cj_geometry.specs.Geometry.{listed, empty, list_of};
 ghost use Rattle.cj_geometry.specs.Rule.{number, needs, of_length};
+ghost use Rattle.cj_feature.specs.Feature.{templates_of};
 ghost use Rattle.cj_feature.specs.Header.{is_fixed, units_of, header};
 ghost use Rattle.cj_feature.specs.Members.{items_if};
 ghost use Rattle.cj_feature.specs.Shown.{value_of, first_maps, are_fixed, parts_box, ArePartsOf};
 
-use crate::header::HeaderParts;
-use crate::header::templates::count_templates;
 use cj_decimal::{Affine, Decimal};
-use cj_spans::{Items, Node};
+use cj_geometry::rule::count_items;
+use cj_spans::{Items, Kind, Node};
+
+/// What is read of a header once and for all. It borrows nothing, so that it can be kept beside a copy
+/// of the line and its tokens.
+#[derive(Clone, Copy, Debug)]
+pub struct HeaderParts {
+    pub(crate) scale: [Decimal; 3],
+    pub(crate) translate: [Decimal; 3],
+    pub(crate) with_box: bool,
+    pub(crate) maps: Option<[Affine; 2]>,
+    pub(crate) templates: Option<u64>,
+}
 
 /// The value of a number in range.
 fn read_number(node: Node) -> Decimal
@@ -87,6 +100,33 @@ fn map_axes(scale: [Decimal; 3], translate: [Decimal; 3]) -> [Affine; 2]
         map_axis(scale[0], translate[0]),
         map_axis(scale[1], translate[1]),
     ]
+}
+
+/// The list of templates of a header, if it has one.
+pub fn template_list(root: Node) -> Option<Node>
+    ensures { MatchOption result (templates_of (tree root.entry) ≡ empty)
+        (λ list. (templates_of (tree root.entry) ≡ listed (tree list)) × (kind_of (tree list) ≡ Array)) }
+{
+    let Some(templates) = root.get("geometry-templates") else {
+        return None;
+    };
+    let Some(list) = templates.get("templates") else {
+        return None;
+    };
+    match list.kind() {
+        Kind::Array => Some(list),
+        _ => None,
+    }
+}
+
+/// How many templates the list of a header has, if it has one. It goes over them.
+fn count_templates(root: Node) -> Option<u64>
+    ensures { result ≡ option_map (λ list. length (items_of list)) (list_of (templates_of (tree root.entry))) }
+{
+    match template_list(root) {
+        Some(list) => Some(count_items(list)),
+        None => None,
+    }
 }
 
 /// The parts of a header, for a box or for none.

@@ -1,21 +1,24 @@
-//! The rules on headers, one after another.
-ghost use Rattle.std.specs.Prelude.{◌≡◌, [], cond, codes};
+//! The rules on headers, one after another, and the verdict by them.
+ghost use Rattle.std.specs.Prelude.{◌≡◌, [], Some, MatchResult, IfOk, cond, codes};
 ghost use Rattle.std.specs.Str.{chars};
 ghost use Rattle.cj_spans.specs.declared.reason.Reason.TheVariants.{NotThree, TransformNotFixed};
-ghost use Rattle.cj_spans.specs.Finding.{least};
-ghost use Rattle.cj_spans.specs.View.{tree};
+ghost use Rattle.cj_spans.specs.Finding.{least, IsLeast};
+ghost use Rattle.cj_spans.specs.View.{tree, document, document_line};
 ghost use Rattle.cj_geometry.specs.Rule.{one, needs, may_have, number, of_length};
 ghost use Rattle.cj_geometry.specs.Geometry.{count_of};
 ghost use Rattle.cj_spans.specs.Parts.{items_of, member_of};
 ghost use Rattle.cj_feature.specs.Header.{fixed, first_two, three_numbers, transform, no_members, empty_object, empty_array, template_vertices, template_list, geometry_templates, header};
+ghost use Rattle.cj_feature.specs.HeaderView.{header_tree, header_line, has_box};
 
+use crate::header::Header;
+use crate::header::reading::read_parts;
 use crate::member::{check_name_member, count_member};
 use cj_decimal::Decimal;
 use cj_geometry::rule::{
     add, check_array, check_length, check_names, check_number, check_object, needed,
 };
 use cj_geometry::{Templates, check_geometry};
-use cj_spans::{Kind, Least, Node, Reason};
+use cj_spans::{Doc, Finding, Kind, Least, Node, Reason};
 
 /// The value is an array of three numbers.
 fn check_three_numbers(node: Node, found: &mut Least)
@@ -207,7 +210,7 @@ fn check_templates_member(object: Node, found: &mut Least)
 }
 
 /// The value is a header, for a box or for none.
-pub fn check_root(node: Node, with_box: bool, found: &mut Least)
+fn check_root(node: Node, with_box: bool, found: &mut Least)
     ensures { found.new ≡ least found.old (header with_box (tree node.entry)) }
 {
     if check_object(node, found) {
@@ -218,5 +221,28 @@ pub fn check_root(node: Node, with_box: bool, found: &mut Least)
         check_no_objects_member(node, found);
         check_no_vertices_member(node, found);
         check_templates_member(node, found);
+    }
+}
+
+/// Judges a line as a header (CityJSON 2.0, section 1, and the CityJSONSeq page of cityjson.org): the
+/// least of its findings, if there are any. With a box the scale and the translation of the x and y axes
+/// have to be numbers that a box can be compared with.
+///
+/// # Errors
+///
+/// The least finding by place and code.
+pub fn check_header<'a>(doc: Doc<'a>, with_box: bool) -> Result<Header<'a>, Finding>
+    ensures verdict { MatchResult result (λ h. header with_box (document doc.entry) ≡ [])
+        (λ f. IsLeast (header with_box (document doc.entry)) (Some f)) }
+    ensures tree { IfOk result (λ h. header_tree h ≡ document doc.entry) }
+    ensures line { IfOk result (λ h. header_line h ≡ document_line doc.entry) }
+    ensures with_box { IfOk result (λ h. has_box h ≡ with_box) }
+{
+    let root = doc.root();
+    let mut found = Least::new();
+    check_root(root, with_box, &mut found);
+    match found.get() {
+        Some(finding) => Err(finding),
+        None => Ok(Header::of(doc, read_parts(root, with_box))),
     }
 }

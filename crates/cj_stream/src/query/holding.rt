@@ -5,6 +5,7 @@ ghost use Rattle.cj_feature.specs.HeaderView.{header_tree};
 ghost use Rattle.cj_feature.specs.View.{feature_tree};
 ghost use Rattle.cj_stream.specs.Criteria.{there_is, is_one_of as is_one, has_id as id_holds, has_type as type_holds, has_lod as lod_holds};
 
+use crate::query::ids::Ids;
 use cj_feature::{Feature, Header};
 use cj_geometry::{Lods, lod_of};
 use cj_spans::Node;
@@ -22,10 +23,10 @@ fn is_one_of(texts: &[String], node: Node) -> bool
 }
 
 /// Whether the id of a feature is one of these.
-pub fn has_id(ids: &[String], feature: &Feature) -> bool
-    ensures { result ≡ id_holds (map string_bytes ids.now) (feature_tree feature.now) }
+pub fn has_id(ids: &Ids, feature: &Feature) -> bool
+    ensures { result ≡ id_holds ids.now (feature_tree feature.now) }
 {
-    is_one_of(ids, feature.id())
+    ids.has(feature.id())
 }
 
 /// Whether the type of some city object is one of these.

@@ -38,6 +38,27 @@ impl Read for SlowReader<'_> {
     }
 }
 
+/// Gives the bytes before a cut by one read, if there is room, and those behind it by the next.
+#[derive(Drop)]
+pub struct CutReader<'a> {
+    pub front: &'a [u8],
+    pub back: &'a [u8],
+}
+
+impl Read for CutReader<'_> {
+    fn read(&mut self, buf: &mut [u8]) -> Result<usize> {
+        if self.front.is_empty() {
+            self.front = self.back;
+            self.back = &[];
+        }
+        let bytes = self.front;
+        let n = bytes.len().min(buf.len());
+        buf[..n].copy_from_slice(&bytes[..n]);
+        self.front = &bytes[n..];
+        Ok(n)
+    }
+}
+
 /// Takes at most `step` bytes a write, and fails at the write number `fails_at`, from 1.
 #[derive(Drop)]
 pub struct SlowWriter {

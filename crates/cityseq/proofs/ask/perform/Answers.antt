@@ -8,17 +8,14 @@ pub returns : goal.returns
 returns g c =
     let e = c.answer-told.ensures in (
       e.0,
-      e.5,
+      e.2,
       record {
-        lines = e.1;
-        features = e.2;
-        peaks = e.3;
-        ended = e.4;
+        outcome = e.1;
         told = c.answer-told.result;
         shown = c.show.result;
-        account = e.6;
-        answers = Answers-kept _ e.0 _ e.3 e.4 c.answer-told.result (channel g.W.Write.contents c.args.out.now) (channel g.W.Write.contents c.answer-told.new.out) (channel g.W.Write.contents c.flush.new.self) e.7 c.flush.ensures.bytes c.flush.ensures.failures;
-        cause = λ is. subst (λ n. HasRisen (output_failures c.args.out.now) n) (sym c.flush.ensures.failures) (e.8 is);
+        account = e.3;
+        answers = Answers-kept _ e.0 _ e.1 c.answer-told.result (channel g.W.Write.contents c.args.out.now) (channel g.W.Write.contents c.answer-told.new.out) (channel g.W.Write.contents c.flush.new.self) e.4 c.flush.ensures.bytes c.flush.ensures.failures;
+        cause = λ is. subst (λ n. HasRisen (output_failures c.args.out.now) n) (sym c.flush.ensures.failures) (e.5 is);
         reports = record {
           flushed = c.flush.result;
           told = c.flush.ensures.noted;

@@ -1,10 +1,9 @@
 use Rattle.std.proofs.Common.{◌≡◌, ◌∙◌, ℕ, List, ◌∷◌, [], Ok, Err, get_or, sym, subst, zero-add, arith}
 use Rattle.std.proofs.lemmas.List.FromFn.{get_or-range_with_len}
 use Rattle.cj_stream.specs.Output.{channel}
-use Rattle.cj_stream.specs.declared.output.WriteFault.{WriteFault}
 use Rattle.cityseq.specs.Report.{Wrote}
 use Rattle.cityseq.specs.Summary.{class_text}
-use Rattle.cityseq.proofs.WroteLemmas.{Wrote-nothing, part-wrote, part-stops, parts-wrote}
+use Rattle.cityseq.proofs.WroteLemmas.{Wrote-nothing, part-wrote, part-stops}
 use Rattle.cityseq.proofs.summary.write_lods.Goals as goal
 
 classes : List ℕ

@@ -1,6 +1,7 @@
 use Rattle.std.proofs.Common.{[], ◌≡◌, ◌+◌, ◌++◌, ◌∙◌, length, take, map, get_or, refl, sym, ap, arith, Err}
 use Rattle.std.proofs.lemmas.List.{length-map}
 use Rattle.cj_stream.specs.Engine.{rules_of, lines_of}
+use Rattle.cj_stream.specs.Run.{outcome_of}
 use Rattle.cj_stream.specs.Cut.{joined}
 use Rattle.cj_stream.proofs.JoinedLemmas.{joined-more, joined-short, joined-all}
 use Rattle.cj_stream.proofs.CutLemmas.{TookWhole-left, EndsAt-told, EndsAt-concludes}
@@ -43,7 +44,7 @@ returns-in-Err-clause-runs g c =
     let r = joined (take k (map (λ piece. piece.now) c.args.pieces.now)) in
     let more = joined-more (λ piece. piece.now) c.args.pieces.now k (record { ref_ptr = (0, 0); now = [] }) (omega arith) in
     let stands = c.feed.ensures.stands r i.2 in
-    rw (more, c.peaks.ensures) (Runs-told g.S.LineSink.takes g.S.LineSink.leaves (rules_of c.args.engine.now) (r ++ piece.now) _ c.args.sink.now c.feed.new.sink _ _ _ c.in-Err.ended
+    rw more (Runs-told g.S.LineSink.takes g.S.LineSink.leaves (record { rules = rules_of c.args.engine.now; read = r ++ piece.now; outcome = outcome_of c.feed.new.self c.in-Err.ended }) _ c.args.sink.now c.feed.new.sink
     (record {
       bounded = let x = stands.bounded in rw (i.0, c.feed.ensures.rules, i.1) at x;
       exact = λ h. absurd (told-not_complete (rules_of c.loop-taken.engine) (r ++ piece.now) (lines_of c.feed.new.self) c.in-Err.ended (c.in-Err.ensures.told r i.2 i.0) h);
@@ -120,7 +121,7 @@ returns-clause-runs g c =
     let given = joined-all (length c.args.pieces.now + 1) pieces (omega (arith, length-map c.args.pieces.now (λ piece. piece.now))) in
     let same : joined (take (length c.args.pieces.now + 1) (map (λ piece. piece.now) c.args.pieces.now)) ≡ joined (take k (map (λ piece. piece.now) c.args.pieces.now)) = given ∙ sym all in
     let stands = c.finish-ended.ensures.stands r i.2 in
-    rw (same, c.peaks-2.ensures) (Runs-told g.S.LineSink.takes g.S.LineSink.leaves (rules_of c.args.engine.now) r _ c.args.sink.now c.finish-ended.new.sink _ _ _ c.finish-ended.result
+    rw same (Runs-told g.S.LineSink.takes g.S.LineSink.leaves (record { rules = rules_of c.args.engine.now; read = r; outcome = outcome_of c.finish-ended.new.self c.finish-ended.result }) _ c.args.sink.now c.finish-ended.new.sink
     (record {
       bounded = let x = stands.bounded in rw (c.finish-ended.ensures.rules, i.1) at x;
       exact = λ h. let x = c.finish-ended.ensures.exact r i.2 i.0 h in rw i.1 at x;

@@ -2,6 +2,7 @@ use Rattle.std.proofs.Common.{◌++◌, ◌∙◌, length-take, take, refl, ap, 
 use Rattle.std.proofs.lemmas.List.{append-nil}
 use Rattle.cj_stream.specs.declared.ending.End.TheVariants.{ReadFault, ReadLimit}
 use Rattle.cj_stream.specs.Engine.{rules_of, lines_of}
+use Rattle.cj_stream.specs.Run.{outcome_of}
 use Rattle.cj_stream.proofs.RunLemmas.{Consumes-then, Consumes-kept, Delivers-then, Runs-left, kept_first-same, Ends-finished, Ends-fed, whole-good, HasRisen-after, told-not_complete, fault-not_complete, limit-not_complete}
 use Rattle.std.specs.Prelude.{is_err}
 use Rattle.cj_stream.proofs.CutLemmas.{unread-told, unread-concludes}
@@ -26,7 +27,7 @@ returns-in-Ok-eq0-clause-runs g c =
     let stands = c.finish.ensures.stands r i.5.2 in (
       r,
       let k = Consumes-then _ _ _ r (take c.in-Ok-eq0.field-0 c.read.new.buffer) i.5.1 c.in-Ok-eq0.ensures.bytes.0 in rw (c.in-Ok-eq0.field-0-test, append-nil r) at k,
-      Runs-told g.S.LineSink.takes g.S.LineSink.leaves (rules_of c.args.engine.now) r _ c.args.sink.now c.finish.new.sink _ _ _ c.finish.result
+      Runs-told g.S.LineSink.takes g.S.LineSink.leaves (record { rules = rules_of c.args.engine.now; read = r; outcome = outcome_of c.finish.new.self c.finish.result }) _ c.args.sink.now c.finish.new.sink
           (record {
             bounded = let k = stands.bounded in rw (c.finish.ensures.rules, i.3) at k;
             exact = λ h. let k = c.finish.ensures.exact r i.5.2 i.2 h in rw i.3 at k;
@@ -50,7 +51,7 @@ returns-in-Err-feed-clause-runs g c =
     let stands = c.feed.ensures.stands r i.5.2 in (
       r ++ piece,
       Consumes-then _ _ _ r piece i.5.1 c.in-Ok.ensures.bytes.0,
-      Runs-told g.S.LineSink.takes g.S.LineSink.leaves (rules_of c.args.engine.now) (r ++ piece) _ c.args.sink.now c.feed.new.sink _ _ _ c.in-Err-feed.end
+      Runs-told g.S.LineSink.takes g.S.LineSink.leaves (record { rules = rules_of c.args.engine.now; read = r ++ piece; outcome = outcome_of c.feed.new.self c.in-Err-feed.end }) _ c.args.sink.now c.feed.new.sink
           (record {
             bounded = let k = stands.bounded in rw (i.2, c.feed.ensures.rules, i.3) at k;
             exact = λ h. absurd (told-not_complete (rules_of e) (r ++ piece) (lines_of c.feed.new.self) c.in-Err-feed.end (c.in-Err-feed.ensures.told r i.5.2 i.2) h);

@@ -1,7 +1,10 @@
-use Rattle.std.proofs.Common.{◌∙◌, sym, ap}
-use Rattle.cj_geometry.specs.ObjectTypes.{row_at}
-use Rattle.cj_geometry.proofs.ObjectTypes.{has-level}
+use Rattle.std.proofs.Common.{◌∙◌, sym}
+use Rattle.cj_geometry.proofs.ObjectTypes.{type-number, type-level}
+use Rattle.cj_geometry.specs.declared.object_type.ObjectType.TheVariants.{BridgeConstructiveElement}
 use Rattle.cj_geometry.proofs.object_type.ObjectType.is_second_level.Goals as goal
 
 pub returns : goal.returns
-returns c = sym (has-level c.self.inside.number c.self.invariant) ∙ ap (λ n. (row_at n).is_second) c.self.view_is
+returns c =
+    let own = c.number.ensures.number ∙ type-number c.args.self in
+    let first = c.number-2.ensures.number ∙ type-number BridgeConstructiveElement in
+    rw (own, first) (sym (type-level c.args.self))

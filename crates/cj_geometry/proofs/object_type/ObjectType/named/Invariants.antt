@@ -1,6 +1,6 @@
-use Rattle.std.proofs.Common.{◌≡◌, drop}
-use Rattle.cj_geometry.specs.ObjectTypes.{object_types, row_named_in, row_named}
+use Rattle.std.proofs.Common.{◌≡◌, drop, map}
+use Rattle.cj_geometry.specs.ObjectTypes.{row_named_in, row_named, row_at}
 use Rattle.cj_geometry.proofs.object_type.ObjectType.named.Given as goal
 
-abbrev pub invariant-loop-number : goal.invariant-loop-number
-invariant-loop-number l = row_named_in (drop l.number object_types) l.name ≡ row_named l.name
+abbrev pub invariant-loop-object_type : goal.invariant-loop-object_type
+invariant-loop-object_type l = row_named_in (map row_at (drop l.object_type-index l.object_type-items)) l.name ≡ row_named l.name

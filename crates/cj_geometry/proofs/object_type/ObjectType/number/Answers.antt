@@ -1,7 +1,11 @@
-use Rattle.std.proofs.Common.{◌∙◌, sym, ap}
-use Rattle.cj_geometry.specs.ObjectTypes.{row_at}
-use Rattle.cj_geometry.proofs.ObjectTypes.{has-number}
+use Rattle.std.proofs.Common.{rules, ◌≡◌, ◌∙◌, sym}
+use denote.Enum.Declared.{tag_of}
+use Rattle.cj_geometry.specs.ObjectTypes.{number_of}
+use Rattle.cj_geometry.specs.contracts.object_type.ObjectType.{the_type}
+use Rattle.cj_geometry.proofs.ObjectTypes.{type-number}
 use Rattle.cj_geometry.proofs.object_type.ObjectType.number.Goals as goal
 
 pub returns-clause-number : goal.returns-clause-number
-returns-clause-number c = sym (has-number c.self.inside.number c.self.invariant) ∙ ap (λ n. (row_at n).number) c.self.view_is
+returns-clause-number c =
+    let place : tag_of the_type c.args.self ≡ number_of c.args.self = search rules in
+    place ∙ sym (type-number c.args.self)

@@ -1,0 +1,228 @@
+-- The ids of a query: one is found in runs that are in order.
+use Rattle.std.proofs.Common.{◌≡◌, ℕ, suc, zero, ◌+◌, ◌-◌, ◌<◌, ◌≤◌, Bool, true, false, List, [], ◌∷◌, ◌++◌, length, get_or, min, map, take, drop, sum, Option, Some, None, Result, Ok, Err, is_ok, String, string_bytes, option_map, unwrap_or, refl, sym, ap, ◌∙◌, subst, inl, inr, ◌⊎◌, arith, add-one}
+use Rattle.std.specs.Cmp.{IsTotalOrder, tied_itself}
+use Rattle.std.specs.Cmp.Lexicographic.{bytes_decides, nat_list_cmp_total, options_total, texts_ties}
+use Rattle.std.specs.List.{list_any, All, slice_get}
+use Rattle.std.specs.List.Sorted.{IsPermutation, IsSortedBy, IsSearchInRange, IsBinarySearchResult}
+use Rattle.std.specs.Ordering.{nat_cmp, ordering_then, ordering_reverse, is_lt, is_eq}
+use Rattle.std.specs.Str.{chars}
+use Rattle.std.specs.declared.cmp.Ordering.{Ordering}
+use Rattle.std.specs.declared.cmp.Ordering.TheVariants.{Less, Equal, Greater}
+use Rattle.std.proofs.lemmas.Bool.{cases_lt}
+use Rattle.std.proofs.lemmas.Cmp.{nat_cmp_total, on_total, then_total}
+use Rattle.std.proofs.lemmas.List.{get_or-map, get_or_append_left, length-map, length-append, length-drop, length-take, length-take-le, take-append-le, take-take, take_all, drop_all, drop_at, append-nil, drop-append-le, take-append-drop, drop-take, take-map, map-append}
+use Rattle.std.proofs.Math.Seq.{get_or-append_seam}
+use borrow.Rule.Slice.PartMut.{put_mid}
+use Rattle.std.proofs.lemmas.Option.{slice_get-get_or}
+use Rattle.std.proofs.lemmas.List.Elements.{All-append, All-cons, All-nil}
+use Rattle.std.proofs.lemmas.List.Folds.{list_any_at, list_any_none}
+use Rattle.std.specs.Prelude.{◌||◌}
+use Rattle.std.proofs.lemmas.List.Sorted.{IsPermutation-append, IsPermutation-map, IsPermutation-refl, IsPermutation-trans, All-permutation, length_permutation, searchable_from_sorted}
+use Rattle.std.proofs.lemmas.List.Sums.{sum_by-cons, sum_by-take-le}
+use Rattle.cj_spans.specs.Hash.{hash_of}
+use Rattle.cj_spans.specs.Order.{compare, compare_texts}
+use Rattle.cj_spans.specs.Parts.{text_of, are_same_texts}
+use Rattle.cj_spans.specs.Tree.{Tree}
+use Rattle.cj_stream.specs.Criteria.{is_one_of}
+use Rattle.cj_stream.specs.declared.query.ids.Entry.{Entry}
+use Rattle.cj_stream.specs.Ids.{Key, key_of, compare_keys, id_at, key_at, keys_at, keys_of, Ascend, AreRuns, AreIndexed}
+
+-- keys have one order
+pub keys_total : IsTotalOrder compare_keys
+keys_total = then_total (on_total (λ (k : Key). k.number) nat_cmp_total) (on_total (λ (k : Key). k.text) (options_total nat_list_cmp_total))
+
+-- ---- what is the same key
+
+-- what comes after a number tells whether both are equal, where numbers are equal as soon as it is
+then_equal : (n o : Ordering) → (o ≡ Equal → n ≡ Equal) → is_eq (ordering_then n o) ≡ is_eq o
+then_equal Equal o h = refl
+then_equal Less Less h = refl
+then_equal Less Equal h = ap is_eq (h refl)
+then_equal Less Greater h = refl
+then_equal Greater Less h = refl
+then_equal Greater Equal h = ap is_eq (h refl)
+then_equal Greater Greater h = refl
+
+reversed : (o : Ordering) → is_eq (ordering_reverse o) ≡ is_eq o
+reversed Less = refl
+reversed Equal = refl
+reversed Greater = refl
+
+-- texts that are equal in the order are the same
+same_texts : (s t : List ℕ) → compare s t ≡ Equal → s ≡ t
+same_texts s t h = (bytes_decides s t).0 (texts_ties s t ∙ ap is_eq h)
+
+pub same_key : (s : List ℕ) (o : Option (List ℕ)) → is_eq (compare_keys (key_of (Some s)) (key_of o)) ≡ are_same_texts o (Some s)
+same_key s None = then_equal (nat_cmp (hash_of (Some s)) (hash_of None)) Greater (λ h. cc)
+same_key s (Some t) =
+    let equal : compare s t ≡ Equal → nat_cmp (hash_of (Some s)) (hash_of (Some t)) ≡ Equal = λ h. subst (λ u. nat_cmp (hash_of (Some s)) (hash_of (Some u)) ≡ Equal) (same_texts s t h) (tied_itself nat_cmp_total (hash_of (Some s))) in
+    then_equal (nat_cmp (hash_of (Some s)) (hash_of (Some t))) (compare s t) equal
+    ∙ sym (reversed (compare s t))
+    ∙ ap is_eq (sym (nat_list_cmp_total.antisymm t s))
+    ∙ sym (texts_ties t s)
+
+-- the key of a tree's text is among those of the ids where the tree is one of them
+pub has_key : {A : Type 0} (ids : List (String A)) (t : Tree)
+    → list_any (λ key. is_eq (compare_keys key (key_of (text_of t)))) (keys_of ids) ≡ is_one_of (map string_bytes ids) t
+has_key [] t = refl
+has_key (id ∷ ids) t = ap (λ b. b || list_any (λ key. is_eq (compare_keys key (key_of (text_of t)))) (keys_of ids)) (same_key (chars (string_bytes id)) (text_of t))
+    ∙ ap (λ b. are_same_texts (text_of t) (Some (chars (string_bytes id))) || b) (has_key ids t)
+
+-- a text beside a key is compared by the turned answer, where the numbers are equal
+pub compare_turned : (n m : ℕ) (s : List ℕ) (o : Option (List ℕ)) → nat_cmp n m ≡ Equal
+    → ordering_reverse (compare_texts o (Some s)) ≡ compare_keys (record { number = n; text = Some s }) (record { number = m; text = o })
+compare_turned n m s o e =
+    let total = options_total nat_list_cmp_total in
+    sym (ap (λ r. ordering_then r (compare_texts (Some s) o)) e ∙ total.antisymm (Some s) o)
+
+-- ---- what is in order
+
+module _ {X : Type 0} (f : X → Key) where
+  -- the keys of what is in order by its keys are in order
+  pub keys_ascend : (xs : List X) → IsSortedBy (λ a b. is_lt (compare_keys (f a) (f b))) xs → Ascend (map f xs)
+  keys_ascend [] up k e low h = absurd (omega arith)
+  keys_ascend (x ∷ xs) up k e low h =
+      let near : suc k < length (x ∷ xs) = omega (arith, h, length-map (x ∷ xs) f) in
+      let here : k < length (x ∷ xs) = omega arith in
+      let next : k + 1 < length (x ∷ xs) = omega arith in
+      rw (get_or-map f (x ∷ xs) (k + 1) x e next, get_or-map f (x ∷ xs) k x e here) (up k x low next)
+
+  -- and the other way round
+  pub ascend_by_keys : (xs : List X) → Ascend (map f xs) → IsSortedBy (λ a b. is_lt (compare_keys (f a) (f b))) xs
+  ascend_by_keys xs up k d low h =
+      let here : k < length xs = omega arith in
+      let whole : k + 1 < length (map f xs) = omega (arith, h, length-map xs f) in
+      rw (get_or-map f xs (k + 1) d (f d) h, get_or-map f xs k d (f d) here) at (up k (f d) low whole)
+
+  list_any_map : (p : Key → Bool) (xs : List X) → list_any p (map f xs) ≡ list_any (λ x. p (f x)) xs
+  list_any_map p [] = refl
+  list_any_map p (x ∷ xs) = ap (λ b. p (f x) || b) (list_any_map p xs)
+
+  -- a binary search in what is in order finds a key where there is one
+  pub found : (q : Key) (xs : List X) (r : Result ℕ ℕ) → Ascend (map f xs) → IsSearchInRange r (length xs)
+      → IsBinarySearchResult (λ x. compare_keys (f x) q) xs r → is_ok r ≡ list_any (λ key. is_eq (compare_keys key q)) (map f xs)
+  found q [] (Ok i) up within is = absurd (omega arith)
+  found q (x ∷ xs) (Ok i) up within is =
+      sym (list_any_map (λ key. is_eq (compare_keys key q)) (x ∷ xs) ∙ list_any_at (λ y. is_eq (compare_keys (f y) q)) (x ∷ xs) i x within (ap is_eq (is x)))
+  found q xs (Err i) up within is =
+      let parts = is (searchable_from_sorted keys_total f xs q (ascend_by_keys xs up)) in
+      let none : All (λ y. is_eq (compare_keys (f y) q) ≡ false) xs =
+      λ k d h. elim (cases_lt k i) [ inl below ↦ ap is_eq (parts.0 k d (omega arith) below) | inr above ↦ ap is_eq (parts.1 k d above h) ] in
+      sym (list_any_map (λ key. is_eq (compare_keys key q)) xs ∙ list_any_none (λ y. is_eq (compare_keys (f y) q)) xs none)
+
+-- ---- runs
+
+-- runs hold all keys
+runs_sum : (keys : List Key) (ns : List ℕ) → AreRuns keys ns → sum ns ≡ length keys
+runs_sum keys [] runs = ap length (sym runs)
+runs_sum keys (n ∷ ns) runs =
+    let rest = runs_sum (drop n keys) ns runs.2 in
+    sum_by-cons (λ x. x) n ns ∙ omega (arith, rest, runs.0, length-drop n keys)
+
+-- the first runs
+runs_front : (keys : List Key) (ns : List ℕ) (j : ℕ) → AreRuns keys ns → AreRuns (take (sum (take j ns)) keys) (take j ns)
+runs_front keys ns zero runs = refl
+runs_front keys [] (suc j) runs = refl
+runs_front keys (n ∷ ns) (suc j) runs =
+    let s = sum (take j ns) in
+    let more : sum (n ∷ take j ns) ≡ n + s = sum_by-cons (λ x. x) n (take j ns) in
+    rw more (
+      omega (arith, runs.0, length-take (n + s) keys),
+      subst Ascend (sym (take-take n (n + s) keys (omega arith))) runs.1,
+      subst (λ ks. AreRuns ks (take j ns)) (sym (drop-take n s keys)) (runs_front (drop n keys) ns j runs.2),
+    )
+
+-- one run more
+runs_back : (keys more : List Key) (ns : List ℕ) → AreRuns keys ns → Ascend more → AreRuns (keys ++ more) (ns ++ length more ∷ [])
+runs_back keys more [] runs up =
+    subst (λ ks. AreRuns (ks ++ more) (length more ∷ [])) (sym runs)
+    (omega arith, subst Ascend (sym (take_all (length more) more (omega arith))) up, drop_all (length more) more (omega arith))
+runs_back keys more (n ∷ ns) runs up = (
+  omega (arith, runs.0, length-append keys more),
+  subst Ascend (sym (take-append-le n keys more runs.0)) runs.1,
+  subst (λ ks. AreRuns ks (ns ++ length more ∷ [])) (sym (drop-append-le n keys more runs.0)) (runs_back (drop n keys) more ns runs.2 up),
+)
+
+-- ---- one id more
+
+module _ {A : Type 0} (ids : List (String A)) (id : String A) where
+  -- places that were within the ids tell the same ids
+  same_keys : (entries : List Entry) → All (λ (e : Entry). e.place < length ids) entries → keys_at (ids ++ id ∷ []) entries ≡ keys_at ids entries
+  same_keys [] within = refl
+  same_keys (e ∷ entries) within =
+      let here : e.place < length ids = within 0 e (omega arith) in
+      let rest = same_keys entries (λ k d h. within (suc k) d (omega arith)) in
+      let same : key_at (ids ++ id ∷ []) e ≡ key_at ids e = ap (λ s. record { number = e.number; text = Some (chars s) }) (kept e.place here) in
+      ap (λ k. k ∷ keys_at (ids ++ id ∷ []) entries) same ∙ ap (λ ks. key_at ids e ∷ ks) rest
+    where
+      kept : (place : ℕ) → place < length ids → id_at (ids ++ id ∷ []) place ≡ id_at ids place
+      kept place h =
+          let more : slice_get (ids ++ id ∷ []) place ≡ Some (get_or (ids ++ id ∷ []) place id) = slice_get-get_or (ids ++ id ∷ []) place id (omega (arith, h, length-append ids (id ∷ []))) in
+          ap (λ o. unwrap_or (option_map string_bytes o) []) (more ∙ ap Some (get_or_append_left ids (id ∷ []) id place h) ∙ sym (slice_get-get_or ids place id h))
+
+  -- the key of the new id's entry
+  new_key : (e : Entry) → e.number ≡ hash_of (Some (chars (string_bytes id))) → e.place ≡ length ids → key_at (ids ++ id ∷ []) e ≡ key_of (Some (chars (string_bytes id)))
+  new_key e n p =
+      let last : slice_get (ids ++ id ∷ []) (length ids) ≡ Some id =
+      slice_get-get_or (ids ++ id ∷ []) (length ids) id (omega (arith, length-append ids (id ∷ []))) ∙ ap Some (get_or-append_seam ids id [] id) in
+      let told : id_at (ids ++ id ∷ []) e.place ≡ string_bytes id =
+      ap (λ k. id_at (ids ++ id ∷ []) k) p ∙ ap (λ o. unwrap_or (option_map string_bytes o) []) last in
+      let numbered : key_at (ids ++ id ∷ []) e ≡ record { number = hash_of (Some (chars (string_bytes id))); text = Some (chars (id_at (ids ++ id ∷ []) e.place)) } =
+      ap (λ m. record { number = m; text = Some (chars (id_at (ids ++ id ∷ []) e.place)) }) n in
+      numbered ∙ ap (λ s. record { number = hash_of (Some (chars (string_bytes id))); text = Some (chars s) }) told
+
+  -- the entries of one id more, sorted from a place on that joins the runs that were taken off
+  pub indexed_more : (entries sorted : List Entry) (runs left : List ℕ) (e : Entry) (count start : ℕ) → AreIndexed ids entries runs
+      → e.number ≡ hash_of (Some (chars (string_bytes id))) → e.place ≡ length ids
+      → left ≡ take (length left) runs → sum left + count ≡ sum runs + 1 → start + count ≡ length entries + 1
+      → take start sorted ≡ take start (entries ++ e ∷ []) → IsPermutation (entries ++ e ∷ []) sorted
+      → Ascend (keys_at (ids ++ id ∷ []) (drop start sorted))
+      → AreIndexed (ids ++ id ∷ []) sorted (left ++ count ∷ [])
+  indexed_more entries sorted runs left e count start old number place front counts starts kept moved up =
+      let more : List (String A) = ids ++ id ∷ [] in
+      let keys : List Key = keys_at ids entries in
+      let key : Key = key_of (Some (chars (string_bytes id))) in
+      let held : sum runs ≡ length keys = runs_sum keys runs old.ordered in
+      let few : sum left ≤ sum runs = subst (λ ns. sum ns ≤ sum runs) (sym front) (sum_by-take-le (λ x. x) runs (length left)) in
+      let first : sum left ≡ start = omega (arith, counts, starts, held, length-map entries (key_at ids)) in
+      let low : start ≤ length entries = omega (arith, first, few, held, length-map entries (key_at ids)) in
+      let front_runs : AreRuns (take (sum left) keys) left = subst (λ ns. AreRuns (take (sum ns) keys) ns) (sym front) (runs_front keys runs (length left) old.ordered) in
+      let same : keys_at more (take start sorted) ≡ take start keys =
+      ap (keys_at more) (kept ∙ take-append-le start entries (e ∷ []) low) ∙ sym (take-map (key_at more) start entries) ∙ ap (take start) (same_keys entries old.within) in
+      let fronts : AreRuns (keys_at more (take start sorted)) left =
+      subst (λ ks. AreRuns ks left) (sym same) (subst (λ m. AreRuns (take m keys) left) first front_runs) in
+      let back : length (keys_at more (drop start sorted)) ≡ count =
+      omega (arith, length-map (drop start sorted) (key_at more), length-drop start sorted, length_permutation (entries ++ e ∷ []) sorted moved, length-append entries (e ∷ []), starts, low) in
+      let whole : keys_at more (take start sorted) ++ keys_at more (drop start sorted) ≡ keys_at more sorted =
+      sym (map-append (key_at more) (take start sorted) (drop start sorted)) ∙ ap (keys_at more) (take-append-drop start sorted) in
+      let ended : keys_at more (entries ++ e ∷ []) ≡ keys ++ key ∷ [] =
+      map-append (key_at more) entries (e ∷ []) ∙ ap (λ ks. ks ++ key_at more e ∷ []) (same_keys entries old.within) ∙ ap (λ k. keys ++ k ∷ []) (new_key e number place) in
+      let each : IsPermutation (keys_of more) (keys ++ key ∷ []) =
+      subst (λ ks. IsPermutation ks (keys ++ key ∷ [])) (sym (map-append (λ i. key_of (Some (chars (string_bytes i)))) ids (id ∷ [])))
+      (IsPermutation-append (keys_of ids) keys (key ∷ []) (key ∷ []) old.each (IsPermutation-refl (key ∷ []))) in
+      let P : Entry → Type 0 = λ entry. entry.place < length more in
+      record {
+        within = All-permutation P (entries ++ e ∷ []) sorted moved
+            (All-append P entries (e ∷ []) (λ k d h. omega (arith, old.within k d h, length-append ids (id ∷ [])))
+            (All-cons P e [] (omega (arith, place, length-append ids (id ∷ []))) (All-nil P)));
+        each = IsPermutation-trans (keys_of more) (keys_at more (entries ++ e ∷ [])) (keys_at more sorted)
+            (subst (IsPermutation (keys_of more)) (sym ended) each) (IsPermutation-map (key_at more) (entries ++ e ∷ []) sorted moved);
+        ordered = subst (λ ks. AreRuns ks (left ++ count ∷ [])) whole
+            (subst (λ n. AreRuns (keys_at more (take start sorted) ++ keys_at more (drop start sorted)) (left ++ n ∷ [])) back
+            (runs_back (keys_at more (take start sorted)) (keys_at more (drop start sorted)) left fronts up));
+      }
+
+-- the first run of some is in order
+pub first_run : (keys : List Key) (runs left : List ℕ) (n : ℕ) → runs ≡ n ∷ left → AreRuns keys runs → Ascend (take n keys)
+first_run keys runs left n e ordered = (subst (AreRuns keys) e ordered).1
+
+-- there are as many keys in runs as ids
+pub runs_held : {A : Type 0} (ids : List (String A)) (entries : List Entry) (runs : List ℕ) → AreIndexed ids entries runs → sum runs ≡ length entries
+runs_held ids entries runs old = runs_sum (keys_at ids entries) runs old.ordered ∙ length-map entries (key_at ids)
+
+-- what stands behind a place once it was written anew
+pub drop_put : {X : Type 0} (start : ℕ) (xs ys : List X) → start ≤ length xs → drop start (put_mid start (length xs - start) xs ys) ≡ ys
+drop_put start xs ys h =
+    let rest = drop (length xs - start) (drop start xs) in
+    let here : drop start (take start xs ++ (ys ++ rest)) ≡ ys ++ rest = drop_at (take start xs) (ys ++ rest) start (length-take-le start xs h) in
+    here ∙ ap (λ zs. ys ++ zs) (drop_all (length xs - start) (drop start xs) (omega (arith, length-drop start xs))) ∙ append-nil ys

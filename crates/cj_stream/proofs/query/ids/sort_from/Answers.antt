@@ -1,0 +1,17 @@
+use Rattle.std.proofs.Common.{◌≡◌, ◌-◌, length, sym, ap, subst, rules}
+use Rattle.std.specs.Ordering.{is_lt}
+use Rattle.std.proofs.lemmas.Fn.{always_returns_same}
+use Rattle.std.proofs.lemmas.List.Sorted.{IsPermutation-put_mid, ranks_by}
+use Rattle.cj_stream.specs.Ids.{Ascend, compare_keys, key_at, keys_at}
+use Rattle.cj_stream.proofs.IdLemmas.{keys_total, keys_ascend, drop_put}
+use Rattle.cj_stream.proofs.query.ids.sort_from.Goals as goal
+
+pub returns-clause-moved : goal.returns-clause-moved
+returns-clause-moved c =
+    IsPermutation-put_mid c.args.start (length c.args.entries.now - c.args.start) c.args.entries.now c.sort_unstable_by.new.self c.sort_unstable_by.ensures.permutation
+
+pub returns-clause-ascends : goal.returns-clause-ascends
+returns-clause-ascends c =
+    let texts = c.args.texts.now in
+    let sorted = c.sort_unstable_by.ensures.sorted (λ a b. is_lt (compare_keys (key_at texts a) (key_at texts b))) (ranks_by keys_total (key_at texts)) (always_returns_same _ _ _ (λ a r g h. search rules)) in
+    subst (λ es. Ascend (keys_at texts es)) (sym (drop_put c.args.start c.args.entries.now c.sort_unstable_by.new.self c.requires)) (keys_ascend (key_at texts) c.sort_unstable_by.new.self sorted)

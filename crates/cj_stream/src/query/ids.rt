@@ -1,0 +1,257 @@
+//! The ids of a query, kept so that one is found among many.
+//!
+//! Beside the ids as they were added stand their entries, in runs of which each is in order. A new entry is a run of its own, to
+//! which those before it are joined that are at most [`STEP`] times as long as what stands behind them, and what is joined is
+//! sorted. So each run is more than so many times as long as the next one: there are few, one is looked up in each by a binary
+//! search, and to add an id takes some sorts of short runs, and a sort of long ones seldom.
+//!
+//! Entries are ordered by the numbers of their texts, and by the texts where these are the same. Numbers stand side by side, so
+//! that a text is gone to for about one id of all, also where ids begin alike. Who makes ids of one number makes each step of a
+//! search compare texts, and no more steps.
+ghost use Rattle.std.specs.Prelude.{◌≡◌, ℕ, ◌+◌, ◌-◌, ◌<◌, ◌≤◌, ◌^◌, [], ◌∷◌, ◌++◌, length, map, take, drop, sum, vec_items, vec_len, vec_capacity, string_bytes, IfErr, OnOk, OnErr, Some};
+ghost use Rattle.std.specs.List.{list_any};
+ghost use Rattle.std.specs.List.Sorted.{IsPermutation};
+ghost use Rattle.std.specs.Ordering.{is_eq};
+ghost use Rattle.cj_spans.specs.Parts.{text_of};
+ghost use Rattle.cj_spans.specs.View.{tree};
+ghost use Rattle.cj_stream.specs.Adding.{with_text};
+ghost use Rattle.cj_stream.specs.Criteria.{is_one_of as is_one};
+ghost use Rattle.cj_stream.specs.Ids.{key_of, compare_keys, id_at, key_at, keys_at, Ascend, AreRuns, AreIndexed};
+ghost use Rattle.cj_stream.specs.declared.query.fault.QueryFault.TheVariants.{Memory};
+
+use crate::query::fault::QueryFault;
+use cj_spans::{Node, compare_strings, hash_of_string};
+use std::alloc::{AllocError, Global};
+use std::cmp::Ordering;
+use std::marker::Model;
+
+/// How many times as long as what stands behind it a run has to be, so that it stays a run.
+const STEP: usize = 8;
+
+/// The number of an id, and its place among the ids.
+#[derive(Clone, Copy)]
+struct Entry {
+    number: u64,
+    place: usize,
+}
+
+/// Ids in the order in which they were added.
+#[derive(Drop)]
+pub struct Ids {
+    texts: Vec<String>,
+    entries: Vec<Entry>,
+    runs: Vec<usize>,
+}
+
+impl Model for Ids {
+    ghost use Rattle.std.specs.Prelude.{ℕ, List, map, string_bytes, vec_items};
+
+    ghost Value = { List (List ℕ) };
+
+    ghost use Rattle.cj_stream.specs.Ids.{AreIndexed};
+
+    ghost view = { λ a. map string_bytes (vec_items a.texts) };
+
+    ghost invariant = { λ a. AreIndexed (vec_items a.texts) (vec_items a.entries) (vec_items a.runs) };
+}
+
+/// The id at a place; the empty one where there is none.
+fn text_at(texts: &[String], place: usize) -> &str
+    ensures { result.now ≡ id_at texts.now place }
+{
+    match texts.get(place) {
+        Some(text) => text.as_str(),
+        None => "",
+    }
+}
+
+/// How two entries are ordered.
+fn compare_entries(texts: &[String], first: Entry, second: Entry) -> Ordering
+    ensures { result ≡ compare_keys (key_at texts.now first) (key_at texts.now second) }
+{
+    match first.number.cmp(&second.number) {
+        Ordering::Equal => {
+            compare_strings(text_at(texts, first.place), text_at(texts, second.place))
+        }
+        order => order,
+    }
+}
+
+/// How an entry is ordered beside a node, whose text has this number.
+fn compare_with_node(texts: &[String], entry: Entry, number: u64, node: Node) -> Ordering
+    ensures { result
+        ≡ compare_keys (key_at texts.now entry) (record { number = number; text = text_of (tree node.entry) }) }
+{
+    match entry.number.cmp(&number) {
+        Ordering::Equal => node.compare_with(text_at(texts, entry.place)).reverse(),
+        order => order,
+    }
+}
+
+/// Sorts the entries from a place on.
+fn sort_from(texts: &[String], entries: &mut [Entry], start: usize)
+    requires { start ≤ length entries.old }
+    ensures kept { take start entries.new ≡ take start entries.old }
+    ensures moved { IsPermutation entries.old entries.new }
+    ensures ascends { Ascend (keys_at texts.now (drop start entries.new)) }
+{
+    entries[start..].sort_unstable_by(|first, second| compare_entries(texts, *first, *second));
+}
+
+/// Puts a value at the end of a list that has room for it.
+fn put<T: Drop>(list: &mut Vec<T>, value: T)
+    requires { vec_len list.old < vec_capacity list.old }
+    ensures { vec_items list.new ≡ vec_items list.old ++ value ∷ [] }
+{
+    let _ = list.push(value);
+}
+
+/// Takes off the runs to which one entry more is joined, and answers how many entries that are with it.
+fn join_last(runs: &mut Vec<usize>) -> usize
+    requires { sum (vec_items runs.old) < 2 ^ 63 }
+    ensures front { vec_items runs.new ≡ take (length (vec_items runs.new)) (vec_items runs.old) }
+    ensures room { vec_len runs.new ≤ vec_len runs.old }
+    ensures capacity { vec_capacity runs.new ≡ vec_capacity runs.old }
+    ensures count { sum (vec_items runs.new) + result ≡ sum (vec_items runs.old) + 1 }
+{
+    let mut count = 1;
+    while let Some(last) = runs.last() {
+        let last = *last;
+        if last / STEP > count {
+            break;
+        }
+        count += last;
+        runs.pop();
+    }
+    count
+}
+
+/// Makes room for one id more. A refusal changes nothing.
+fn make_room(
+    texts: &mut Vec<String>,
+    entries: &mut Vec<Entry>,
+    runs: &mut Vec<usize>,
+) -> Result<(), AllocError>
+    ensures texts { vec_items texts.new ≡ vec_items texts.old }
+    ensures entries { vec_items entries.new ≡ vec_items entries.old }
+    ensures runs { vec_items runs.new ≡ vec_items runs.old }
+    ensures room { OnOk result ((vec_len texts.new < vec_capacity texts.new)
+        × (vec_len entries.new < vec_capacity entries.new) × (vec_len runs.new < vec_capacity runs.new)) }
+{
+    texts.reserve(1)?;
+    entries.reserve(1)?;
+    runs.reserve(1)?;
+    Ok(())
+}
+
+/// Adds an id at the end, where there is room for it, and puts its entry in order.
+fn add_entry(texts: &mut Vec<String>, entries: &mut Vec<Entry>, runs: &mut Vec<usize>, text: String)
+    requires indexed { AreIndexed (vec_items texts.old) (vec_items entries.old) (vec_items runs.old) }
+    requires text_room { vec_len texts.old < vec_capacity texts.old }
+    requires entry_room { vec_len entries.old < vec_capacity entries.old }
+    requires run_room { vec_len runs.old < vec_capacity runs.old }
+    ensures texts { vec_items texts.new ≡ vec_items texts.old ++ text ∷ [] }
+    ensures indexed { AreIndexed (vec_items texts.new) (vec_items entries.new) (vec_items runs.new) }
+{
+    let entry = Entry {
+        number: hash_of_string(text.as_str()),
+        place: texts.len(),
+    };
+    let count = join_last(runs);
+    put(texts, text);
+    put(entries, entry);
+    put(runs, count);
+    let start = entries.len() - count;
+    sort_from(texts.as_slice(), entries.as_mut_slice(), start);
+}
+
+/// Whether a node has the text of an entry of a run.
+fn is_in_run(texts: &[String], run: &[Entry], number: u64, node: Node) -> bool
+    requires { Ascend (keys_at texts.now run.now) }
+    ensures { result ≡ list_any
+        (λ key. is_eq (compare_keys key (record { number = number; text = text_of (tree node.entry) })))
+        (keys_at texts.now run.now) }
+{
+    run.binary_search_by(|entry| compare_with_node(texts, *entry, number, node))
+        .is_ok()
+}
+
+/// Whether a node has the text of an entry of some run.
+fn is_in_runs(texts: &[String], entries: &[Entry], runs: &[usize], node: Node) -> bool
+    requires { AreRuns (keys_at texts.now entries.now) runs.now }
+    ensures { result ≡ list_any (λ key. is_eq (compare_keys key (key_of (text_of (tree node.entry)))))
+        (keys_at texts.now entries.now) }
+{
+    let number = node.text_hash();
+    let mut rest = entries;
+    for length in runs {
+        let (run, others) = rest.split_at(*length);
+        if is_in_run(texts, run, number, node) {
+            return true;
+        }
+        rest = others;
+    }
+    false
+}
+
+impl Ids {
+    /// No id. It takes no memory.
+    pub fn new(alloc: Global) -> Ids
+        ensures { result ≡ [] }
+    {
+        Ids {
+            texts: Vec::new(alloc),
+            entries: Vec::new(alloc),
+            runs: Vec::new(alloc),
+        }
+    }
+
+    /// Adds an id at the end. A refusal changes nothing.
+    fn push(&mut self, text: String) -> Result<(), AllocError>
+        ensures ok { OnOk result (self.new ≡ self.old ++ string_bytes text ∷ []) }
+        ensures err { OnErr result (self.new ≡ self.old) }
+    {
+        make_room(&mut self.texts, &mut self.entries, &mut self.runs)?;
+        add_entry(&mut self.texts, &mut self.entries, &mut self.runs, text);
+        Ok(())
+    }
+
+    /// Whether a node has the text of one of them.
+    pub fn has(&self, node: Node) -> bool
+        ensures { result ≡ is_one self.now (tree node.entry) }
+    {
+        is_in_runs(
+            self.texts.as_slice(),
+            self.entries.as_slice(),
+            self.runs.as_slice(),
+            node,
+        )
+    }
+}
+
+/// Adds an id at the end of a part, which is empty before where it was not set. A refusal changes nothing.
+pub fn add_id(alloc: Global, part: &mut Option<Ids>, text: &str) -> Result<(), QueryFault>
+    ensures ok { OnOk result (part.new ≡ with_text text.now part.old) }
+    ensures err { OnErr result (part.new ≡ part.old) }
+    ensures memory { IfErr result (λ fault. fault ≡ Memory) }
+{
+    let Ok(text) = String::from_str(alloc, text) else {
+        return Err(QueryFault::Memory);
+    };
+    match part {
+        Some(ids) => match ids.push(text) {
+            Ok(()) => Ok(()),
+            Err(_) => Err(QueryFault::Memory),
+        },
+        None => {
+            let mut ids = Ids::new(alloc);
+            match ids.push(text) {
+                Ok(()) => {
+                    *part = Some(ids);
+                    Ok(())
+                }
+                Err(_) => Err(QueryFault::Memory),
+            }
+        }
+    }
+}

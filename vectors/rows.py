@@ -1,0 +1,249 @@
+# The rows of the vectors, read by make.py. Of each reason some stand at the edge of its rule, with the same line beside them
+# that is just valid.
+
+# ---- the lines of a stream, and what is written
+row("empty", [], 1, 0)
+row("empty-least-limits", [], 1, 0, limits=(1, 1))
+row("empty-asked-for-an-id", [], 1, 0, words=["--id", "b1"])
+row("header-and-feature", [H, F])
+row("blank-and-no-last-lf", [H, "\r", F.replace("{", "{ ", 1)], end="")
+row("header-alone", [H], end="")
+row("header-alone-with-lf", [H])
+row("small-and-feature", [H, feature(B), F])
+row("good-lines-around-a-bad-one", [H, F, one("[[[0,1,2,3]]]", "[[[0,1,2,^4]]]"), F], 25)
+row("blanks-of-each-kind", [H, "", " ", "\t", "\r", " \t\r ", F])
+row("blank-first-line", ["^", H], 4)
+row("spaces-first-line", ["  ^", H], 4)
+row("form-feed-is-not-blank", [H, "^\f", F], 4)
+
+# ---- 2: line too long
+row("line-as-long-as-the-limit", [H, F], limits=(210, 64))
+row("line-one-byte-too-long", [H, F, F + " "], 2, 210, limits=(210, 64))
+row("line-one-byte-too-long-no-lf", [H, F + " "], 2, 210, limits=(210, 64), end="")
+row("header-as-long-as-the-limit", [H], limits=(140, 64))
+row("header-one-byte-too-long", [H], 2, 139, limits=(139, 64))
+row("header-past-the-least-limit", [H], 2, 1, limits=(1, 1))
+row("blank-as-long-as-the-limit", [H, " " * 140], limits=(140, 64))
+row("blank-one-byte-too-long", [H, " " * 141], 2, 140, limits=(140, 64))
+row("too-long-before-not-utf8", [H, b"\xff" * 141], 2, 140, limits=(140, 64))
+
+# ---- 3: not UTF-8
+euro = one('"boundaries":[[[0,1,2,3]]]}]', '"boundaries":[[[0,1,2,3]]]}],"attributes":{"a":"€"}').encode()
+assert euro.index(b"\xe2\x82\xac") == 170
+row("euro", [H, euro])
+row("euro-without-its-last-byte", [H, euro.replace(b"\xac", b"")], 3, 170)
+row("euro-at-the-end-without-its-last-byte", [H, euro[:172]], 3, 170)
+row("surrogate-in-bytes", [H, b'{"a":"\xed\xa0\x80"}'], 3, 6)
+row("too-long-form", [H, b'{"a":"\xc0\xaf"}'], 3, 6)
+row("greatest-code-point", [H, feature(B, more=',"a":"\U0010ffff"')])
+row("past-the-greatest-code-point", [H, b'{"a":"\xf4\x90\x80\x80"}'], 3, 6)
+row("blank-with-a-bad-byte", [H, b"  \xff"], 3, 2)
+row("bad-byte-before-bad-syntax", [H, b"}\xff"], 3, 1)
+row("bad-first-line", [b"\xff" + H.encode()], 3, 0)
+
+# ---- 4: syntax
+row("comma-before-a-brace", [H, '{"type":"CityJSONFeature",^}'], 4)
+row("front-of-a-feature", [H, F[:100] + "^"], 4)
+row("zero-before-a-digit", [H, "0^1"], 4)
+row("minus-alone", [H, "-^"], 4)
+row("comma-before-a-bracket", [H, "[1,^]"], 4)
+row("escape-of-no-letter", [H, '"\\^q"'], 4)
+row("word-cut-by-a-brace", [H, "tru^}"], 4)
+row("text-after-a-text", [H, "{} ^x"], 4)
+row("array-not-closed", [H, "[1^"], 4)
+row("plus-before-a-digit", [H, "^+1"], 4)
+row("point-without-digits", [H, "[1.^]"], 4)
+row("exponent-without-digits", [H, "[1e^]"], 4)
+row("control-character-in-a-string", [H, '["^\x1f"]'], 4)
+row("single-quotes", [H, "[^'a']"], 4)
+row("name-without-quotes", [H, "{^a:1}"], 4)
+row("half-an-escape", [H, '["\\u12^G4"]'], 4)
+row("byte-order-mark", ["^\ufeff" + H], 4)
+row("record-separator", ["^\x1e" + H], 4)
+row("comment", [H, "^// no"], 4)
+
+# ---- 5: nested too deep
+row("deepest-allowed", [H, "[" * 1024 + "^"], 4, limits=(2_000, 1_024))
+row("one-deeper-than-allowed", [H, "[" * 1024 + "^["], 5, limits=(2_000, 1_024))
+row("one-deeper-than-64", [H, "[" * 64 + "^["], 5)
+row("feature-at-its-depth", [H, F], limits=(1_000, 8))
+row("feature-past-its-depth", [H, one("[[[0,1,2,3]]]", "[[^[0,1,2,3]]]")], 5, limits=(1_000, 7))
+row("header-at-its-depth", [H], limits=(140, 3))
+row("header-past-its-depth", [header('"scale":[', '"scale":^[')], 5, limits=(140, 2))
+row("too-deep-before-syntax", [H, "[[[^[}"], 5, limits=(1_000, 3))
+
+# ---- 10: member missing
+row("feature-as-the-first-line", ["^" + F], 10)
+row("second-header", [H, "^" + H], 10)
+row("no-lod", [H, one('{"type":"MultiSurface","lod":"2.2",', '^{"type":"MultiSurface",')], 10)
+row("part-without-parents", [H, feature('"b":^{"type":"BuildingPart"}')], 10)
+row("city-object-without-type", [H, feature('"b":^{}')], 10)
+row("no-boundaries", [H, with_geometry('^{"type":"Solid","lod":"1"}')], 10)
+row("semantics-without-values", [H, with_geometry(
+    '{"type":"Solid","lod":"1","boundaries":[],"semantics":^{"surfaces":[]}}')], 10)
+row("instance-without-matrix", [templates(), feature(
+    '"b":{"type":"PlantCover","geometry":[^{"type":"GeometryInstance","template":0,"boundaries":[0]}]}', "[[0,0,0]]")], 10)
+
+# ---- 11: duplicate name
+row("one-name-twice", [H, feature('"b":{"type":"Building"},^"b":{"type":"Building"}')], 11)
+row("one-name-twice-by-an-escape", [H, feature('"b":{"type":"Building"},^"\\u0062":{"type":"Building"}')], 11)
+row("one-name-twice-in-attributes", [H, feature('"b":{"type":"Building","attributes":{"a":1,"a":2}}')])
+row("one-name-twice-in-the-root", [H, feature(B, more=',"a":1,^"a":2')], 11)
+row("one-name-twice-in-a-geometry", [H, with_geometry('{"type":"Solid","lod":"1","boundaries":[],^"lod":"2"}')], 11)
+row("one-name-twice-in-a-transform", [header('"transform":{', '"transform":{"a":1,^"a":2,')], 11)
+row("names-that-differ-in-case", [H, feature('"b":{"type":"Building"},"B":{"type":"Building"}')])
+
+# ---- 12: wrong kind
+row("an-array", [H, "^[]"], 12)
+row("null", [H, "^null"], 12)
+row("lod-that-is-a-number", [H, one('"lod":"2.2"', '"lod":^2.2').replace("2,3]]]", "2,4]]]")], 12)
+row("vertex-that-is-a-number", [H, feature(B, "[^3]")], 12)
+row("children-that-are-null", [H, feature('"b":{"type":"Building","children":^null}')], 12)
+row("child-that-is-a-number", [H, feature('"b":{"type":"Building","children":[^3]}')], 12)
+row("city-object-that-is-a-text", [H, feature('"b":^"x"')], 12)
+row("index-that-is-a-text", [H, one("[[[0,1,2,3]]]", '[[[0,1,2,^"3"]]]')], 12)
+row("semantics-that-are-null", [H, with_geometry('{"type":"Solid","lod":"1","boundaries":[],"semantics":^null}')], 12)
+row("header-that-is-a-number", ["^1"], 12)
+
+# ---- 13: number out of range
+row("index-of-37-digits", [H, one("[[[0,1,2,3]]]", "[[[0,1,2,^" + "1" * 37 + "]]]")], 13)
+row("index-of-36-digits", [H, one("[[[0,1,2,3]]]", "[[[0,1,2,^" + "1" * 36 + "]]]")], 18)
+row("scale-of-37-digits", [header('"scale":[0.001,', '"scale":[^0.' + "1" * 37 + ",")], 13)
+row("scale-of-36-digits", [header('"scale":[0.001,', '"scale":[0.' + "1" * 36 + ",")])
+row("power-past-a-million", [header('"scale":[0.001,', '"scale":[^1e1000001,')], 13)
+row("power-of-a-million", [header('"scale":[0.001,', '"scale":[1e1000000,')])
+row("power-past-minus-a-million", [header('"scale":[0.001,', '"scale":[^1e-1000001,')], 13)
+row("unread-number-of-any-size", [H, feature(B, more=',"a":1e9999999')])
+
+# ---- 14, 15: type and version
+row("header-of-type-feature", [header('"CityJSON"', '^"CityJSONFeature"')], 14)
+row("feature-of-type-header", [H, feature(B).replace('"CityJSONFeature"', '^"CityJSON"')], 14)
+row("type-in-small-letters", [H, feature(B).replace('"CityJSONFeature"', '^"cityjsonfeature"')], 14)
+row("type-by-an-escape", [H, feature(B).replace('"CityJSONFeature"', '"\\u0043ityJSONFeature"')])
+row("version-1.1", [header('"2.0"', '^"1.1"')], 15)
+row("version-2.0.1", [header('"2.0"', '^"2.0.1"')], 15)
+row("version-2", [header('"2.0"', '^"2"')], 15)
+row("version-by-an-escape", [header('"2.0"', '"2.\\u0030"')])
+
+# ---- 16: not empty
+row("header-with-a-city-object", [header('"CityObjects":{}', '"CityObjects":^{"a":{}}')], 16)
+row("header-with-a-vertex", [header('"vertices":[]', '"vertices":^[0]')], 16)
+row("header-with-a-whole-vertex", [header('"vertices":[]', '"vertices":^[[0,0,0]]')], 16)
+
+# ---- 17: not three items
+row("scale-of-two", [header("[0.001,0.001,0.001]", "^[1,1]")], 17)
+row("scale-of-four", [header("[0.001,0.001,0.001]", "^[1,1,1,1]")], 17)
+row("vertex-of-two", [H, feature(B, "[^[0,0]]")], 17)
+row("vertex-of-four", [H, feature(B, "[^[0,0,0,0]]")], 17)
+row("template-vertex-of-two", [templates(points="[[0,0,0],^[0,0],[0,0,0]]")], 17)
+
+# ---- 18: not a whole number
+row("coordinate-of-a-half", [H, feature(B, "[[0,0,^0.5]]")], 18)
+row("coordinate-of-10-18", [H, feature(B, "[[0,0,^1000000000000000000]]")], 18)
+row("coordinate-below-10-18", [H, feature(B, "[[0,0,-999999999999999999]]")])
+row("index-of-one-and-a-half", [H, one("[[[0,1,2,3]]]", "[[[0,1,2,^1.5]]]")], 18)
+row("index-of-1e18", [H, one("[[[0,1,2,3]]]", "[[[0,1,2,^1e18]]]")], 18)
+row("index-with-a-point", [H, one("[[[0,1,2,3]]]", "[[[0,1,2,3.0]]]")])
+row("index-with-an-exponent", [H, one("[[[0,1,2,3]]]", "[[[0,1,2,3e0]]]")])
+row("index-of-minus-zero", [H, one("[[[0,1,2,3]]]", "[[[0,1,2,-0]]]")])
+
+# ---- 19: unknown object type
+row("type-of-an-extension", [H, feature('"b":{"type":^"+Shed"}')], 19)
+row("type-in-another-case", [H, feature('"b":{"type":^"building"}')], 19)
+row("type-with-a-space", [H, feature('"b":{"type":^"Building "}')], 19)
+row("type-that-is-empty", [H, feature('"b":{"type":^""}')], 19)
+
+# ---- 20: id not among the city objects
+row("id-of-no-city-object", [H, feature('"c":{"type":"Building"}').replace('"id":"b"', '"id":^"b"')], 20)
+row("id-and-no-city-objects", [H, feature("").replace('"id":"b"', '"id":^"b"')], 20)
+row("id-in-another-case", [H, feature(B).replace('"id":"b"', '"id":^"B"')], 20)
+row("id-by-an-escape", [H, feature(B).replace('"id":"b"', '"id":"\\u0062"')])
+
+# ---- 21, 22, 23: links
+row("child-that-is-not-there", [H, feature('"b":{"type":"Building","children":[^"q"]}')], 21)
+row("second-child-that-is-not-there", [H, feature(
+    '"b":{"type":"Building","children":["p",^"q"]},"p":{"type":"BuildingPart","parents":["b"]}')], 21)
+row("child-in-another-case", [H, feature('"b":{"type":"Building","children":[^"B"]}')], 21)
+row("child-of-a-group-that-is-not-there", [H, feature('"b":{"type":"CityObjectGroup","children":["q"]}')])
+row("parent-that-does-not-list-it", [H, feature('"b":{"type":"Building"},"p":{"type":"BuildingPart","parents":[^"b"]}')], 22)
+row("child-that-does-not-list-it", [H, feature(
+    '"b":{"type":"Building","children":[^"p"]},"p":{"type":"Building"}')], 22)
+row("group-that-does-not-list-it", [H, feature(
+    '"b":{"type":"Building","parents":[^"g"]},"g":{"type":"CityObjectGroup"}')], 22)
+row("parent-of-another-feature", [H, feature('"b":{"type":"Building","parents":["g"]}')])
+row("child-and-parent-of-itself", [H, feature('"b":{"type":"Building","children":["b"],"parents":["b"]}')])
+row("links-by-escapes", [H, feature(
+    '"b":{"type":"Building","children":["\\u0070"]},"p":{"type":"BuildingPart","parents":["\\u0062"]}')])
+row("part-of-another-feature", [H, feature('"b":^{"type":"BuildingPart","parents":["g"]}')], 23)
+row("part-of-no-parents", [H, feature('"b":^{"type":"BuildingPart","parents":[]}')], 23)
+row("part-of-a-number", [H, feature('"b":^{"type":"BuildingPart","parents":[3]}')], 23)
+row("part-of-a-second-parent", [H, feature(
+    '"b":{"type":"Building","children":["p"]},"p":{"type":"BuildingPart","parents":["g","b"]}')])
+
+# ---- 24: unknown geometry type
+row("geometry-of-a-cone", [H, feature('"b":{"type":"Building","geometry":[{"type":^"Cone"}]}')], 24)
+row("geometry-in-another-case", [H, feature('"b":{"type":"Building","geometry":[{"type":^"solid"}]}')], 24)
+row("geometry-with-no-name", [H, feature('"b":{"type":"Building","geometry":[{"type":^""}]}')], 24)
+row("template-of-a-cone", [templates('{"type":^"Cone"}')], 24)
+
+# ---- 25: vertex index out of range
+row("index-past-the-vertices", [H, one("[[[0,1,2,3]]]", "[[[0,1,2,^4]]]")], 25)
+row("index-below-zero", [H, one("[[[0,1,2,3]]]", "[[[0,1,2,^-1]]]")], 25)
+row("index-before-the-lod", [H, one('"lod":"2.2","boundaries":[[[0,1,2,3]]]', '"boundaries":[[[0,1,2,^4]]],"lod":2.2')], 25)
+row("index-of-a-template", [templates('{"type":"MultiSurface","lod":"1","boundaries":[[[0,1,^3]]]}')], 25)
+row("index-of-an-instance", [templates(), instance(boundaries="[^1]")], 25)
+row("index-with-no-vertices", [H, with_geometry('{"type":"MultiPoint","lod":"1","boundaries":[^0]}', "[]")], 25)
+
+# ---- 26, 27: semantics
+for name, values in (("null", "null"), ("null-shell", "[null]"), ("null-surface", "[[0,null]]")):
+    row("values-of-" + name, [H, solid(values)])
+row("values-of-no-shell", [H, solid("^[]")], 26)
+row("values-of-one-surface-of-two", [H, solid("[^[0]]")], 26)
+row("values-of-three-surfaces-of-two", [H, solid("[^[0,0,0]]")], 26)
+row("value-past-the-surfaces", [H, solid("[[0,^1]]")], 27)
+row("value-below-zero", [H, solid("[[0,^-1]]")], 27)
+row("value-of-no-surfaces", [H, solid("[[^0,null]]", surfaces="[]")], 27)
+row("value-of-the-last-surface", [H, solid("[[0,1]]", surfaces='[{"type":"RoofSurface"},{"type":"WallSurface"}]')])
+
+# ---- 28, 29: templates and instances
+row("instance-of-a-template", [templates(), instance()])
+row("instance-asked-for-by-its-lod", [templates(), instance()], words=["--lod", "1"])
+row("instance-of-another-lod", [templates(), instance()], words=["--lod", "2"], kept=[1])
+row("template-past-the-list", [templates(), instance("^1")], 28)
+row("template-below-zero", [templates(), instance("^-1")], 28)
+row("template-of-no-list", [H, instance("^0")], 28)
+row("template-that-is-an-instance", [templates('{"type":^"GeometryInstance"}')], 29)
+row("matrix-of-15", [templates(), instance(matrix="^[1,0,0,0,0,1,0,0,0,0,1,0,0,0,0]")], 29)
+row("matrix-of-17", [templates(), instance(matrix="^[1,0,0,0,0,1,0,0,0,0,1,0,0,0,0,1,0]")], 29)
+row("instance-at-no-vertex", [templates(), instance(boundaries="^[]")], 29)
+row("instance-at-two-vertices", [templates(), instance(boundaries="^[0,0]")], 29)
+
+# ---- 30: a transform that no box can use, and boxes
+row("translate-too-fine", [header("[1000.0,", "[^1e-19,"), F], 30, words=["--bbox=0,0,1,1"])
+row("translate-too-fine-and-no-box", [header("[1000.0,", "[1e-19,")])
+row("scale-too-great", [header('"scale":[0.001,', '"scale":[^1e18,'), F], 30, words=["--bbox=0,0,1,1"])
+row("second-scale-too-fine", [header("[0.001,0.001,", "[0.001,^0.0000000000000000001,"), F], 30, words=["--bbox=0,0,1,1"])
+row("third-scale-too-fine", [header(",0.001]", ",1e-19]"), F], words=["--bbox=1001,2001,1005,2005"], kept=[1, 2])
+row("box-that-touches-a-corner", [H, F], words=["--bbox=1001,2001,1005,2005"])
+row("box-just-beside-a-corner", [H, F], words=["--bbox=1001.000000000000000001,2001,1005,2005"], kept=[1])
+row("box-and-a-scale-below-zero", [header('"scale":[0.001,', '"scale":[-0.001,'), F], words=["--bbox=999,2000,999,2000"])
+row("box-on-the-wrong-side", [header('"scale":[0.001,', '"scale":[-0.001,'), F], words=["--bbox=1000.5,2000,1001,2001"], kept=[1])
+great = '{"type":"CityJSON","version":"2.0","transform":{"scale":[999999999999999999,999999999999999999,1],"translate":[0,0,0]},"CityObjects":{},"vertices":[]}'
+row("box-and-a-product-too-great", [great, feature(B, "[[999999999999999999,0,0]]")], words=["--bbox=0,0,999999999999999999,0"], kept=[1])
+row("box-between-two-products", [great, feature(B, "[[-999999999999999999,0,0],[999999999999999999,0,0]]")],
+    words=["--bbox=0,0,999999999999999999,0"])
+
+# ---- queries by id, type and LoD
+row("asked-for-by-its-id", [H, F], words=["--id", "b1"])
+row("asked-for-by-another-id", [H, F], words=["--id", "b2"], kept=[1])
+row("asked-for-by-one-of-two-ids", [H, F], words=["--id", "b2,b1"])
+row("asked-for-by-its-type", [H, F], words=["--type", "Building"])
+row("asked-for-by-its-lod", [H, F], words=["--lod", "2.2"])
+row("asked-for-by-a-front-of-its-lod", [H, F], words=["--lod", "2"], kept=[1])
+row("asked-for-by-its-lod-and-another-id", [H, F], words=["--lod", "2.2", "--id", "b2"], kept=[1])
+
+# ---- a feature cut short, and with one byte that is no UTF-8, at each place
+for count in range(1, 210):
+    row(f"cut/{count:03}", [H, F[:count]], 4, count)
+for at in range(210):
+    row(f"not-utf8/{at:03}", [H, F.encode()[:at] + b"\x80" + F.encode()[at + 1:]], 3, at)

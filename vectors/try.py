@@ -1,0 +1,91 @@
+#!/usr/bin/env python3
+"""Tries the vectors with a program: python3 vectors/try.py cityseq PROGRAM, or python3 vectors/try.py peer COMMAND..
+
+With `cityseq` all of each row is wanted: what `filter` writes, its fault line and its status; and what `info` says of lines and
+peaks where a stream is complete and nothing is asked. The last line is 'N passed, M failed', and the status is 0 where all passed.
+
+With `peer` another checker's command is run, which has the stream on its standard input and ends with status 0 exactly where it
+takes it for valid. It says where that differs from these vectors, those aside that ask for limits of their own or have a query,
+and always ends with status 0: what another checker means by valid may well be something else."""
+import os
+import subprocess
+import sys
+
+HERE = os.path.dirname(os.path.abspath(__file__))
+COLUMNS = ("name", "line limit", "depth", "query", "answer", "lines", "written", "peaks")
+
+
+def rows():
+    """The rows of the table, each with the bytes of its stream."""
+    with open(os.path.join(HERE, "table.tsv"), encoding="utf-8") as table:
+        names, *lines = [line.rstrip("\n").split("\t") for line in table]
+    assert tuple(names) == COLUMNS, names
+    for line in lines:
+        row = dict(zip(COLUMNS, line))
+        with open(os.path.join(HERE, row["name"] + ".jsonl"), "rb") as stream:
+            row["text"] = stream.read()
+        yield row
+
+
+def run(command, text):
+    """What a command writes, says and answers on a stream."""
+    ran = subprocess.run(command, input=text, capture_output=True, timeout=60)
+    return ran.stdout, ran.stderr, ran.returncode
+
+
+def wanted_of(row):
+    """What `filter` has to write, to say and to answer."""
+    *ended, last = row["text"].split(b"\n")
+    lines = [line + b"\n" for line in ended] + [last]
+    kept = [] if row["written"] == "-" else [int(number) for number in row["written"].split(",")]
+    complete = row["answer"] == "complete"
+    return b"".join(lines[number - 1] for number in kept), b"" if complete else row["answer"].encode() + b"\n", int(not complete)
+
+
+def differences(program, row):
+    """What of a row comes out otherwise."""
+    limits = ["--line-limit", row["line limit"], "--depth", row["depth"]]
+    query = [] if row["query"] == "-" else row["query"].split(" ")
+    for name, wanted, got in zip(("written", "said", "status"), wanted_of(row), run([program, "filter", *limits, *query], row["text"])):
+        if wanted != got:
+            yield f"{name}: wanted {wanted!r}, got {got!r}"
+    if row["answer"] == "complete" and not query:
+        report = run([program, "info", *limits], row["text"])[0].decode().splitlines()
+        told = dict(line.rsplit(" ", 1) for line in report)
+        got = [told.get("lines")] + [told.get(f"peak {kind}") for kind in ("bytes", "tokens", "open")]
+        wanted = [row["lines"], *row["peaks"].split(" ")]
+        if wanted != got:
+            yield f"lines and peaks: wanted {wanted}, got {got}"
+
+
+def try_cityseq(program):
+    passed = failed = 0
+    for row in rows():
+        wrong = list(differences(program, row))
+        for difference in wrong:
+            print(f"{row['name']}: {difference}")
+        passed, failed = passed + (not wrong), failed + bool(wrong)
+    print(f"{passed} passed, {failed} failed")
+    return int(failed > 0)
+
+
+def try_peer(command):
+    tried = differ = 0
+    for row in rows():
+        if row["query"] != "-" or (row["line limit"], row["depth"]) != ("1000", "64"):
+            continue
+        tried += 1
+        valid, status = row["answer"] == "complete", run(command, row["text"])[2]
+        if valid != (status == 0):
+            differ += 1
+            print(f"{row['name']}: {row['answer']} here, status {status} there")
+    print(f"{tried} vectors tried, {differ} told otherwise")
+    return 0
+
+
+if __name__ == "__main__":
+    if len(sys.argv) == 3 and sys.argv[1] == "cityseq":
+        sys.exit(try_cityseq(sys.argv[2]))
+    if len(sys.argv) > 2 and sys.argv[1] == "peer":
+        sys.exit(try_peer(sys.argv[2:]))
+    sys.exit(__doc__)
