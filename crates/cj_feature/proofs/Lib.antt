@@ -1,4 +1,3 @@
-pub mod Absent
 pub mod Fixed
 pub mod FixedRule
 pub mod Ids
@@ -6,8 +5,8 @@ pub mod Lengths
 pub mod LinkFaults
 pub mod Listed
 pub mod None
-pub mod Pairs
 pub mod Passes
+pub mod Questions
 pub mod Typed
 pub mod Unlinked
 pub mod Valid

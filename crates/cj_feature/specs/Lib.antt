@@ -1,12 +1,11 @@
-pub mod Absent
 pub mod Examples
 pub mod Feature
 pub mod Header
 pub mod HeaderView
 pub mod Links
 pub mod Members
-pub mod Pairs
 pub mod Part
+pub mod Questions
 pub mod Relations
 pub mod Shown
 pub mod Typed

@@ -7,7 +7,6 @@ ghost use Rattle.cj_geometry.specs.Given.{given};
 ghost use Rattle.cj_feature.specs.Feature.{feature, templates_of};
 ghost use Rattle.cj_geometry.specs.TreeSet.{tree_if-set, given-set};
 
-mod absent;
 mod city_object;
 mod coordinates;
 mod geometries;
@@ -15,7 +14,7 @@ mod ids;
 mod links;
 mod many_links;
 mod objects;
-mod pairs;
+mod questions;
 mod rules;
 mod vertices;
 

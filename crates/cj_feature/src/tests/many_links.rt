@@ -1,12 +1,12 @@
-//! Links between many city objects, more of them than are looked up at once. What is wrong with a line is told from
+//! Links between many city objects, more of them than are asked about at once. What is wrong with a line is told from
 //! how it is made.
 use super::{HEADER, features_meet};
 use std::alloc::{AllocError, Global};
 use std::process::Abort;
 use std::test::Fail;
 
-/// How many city objects a line has: more than twice as many as are looked up at once.
-const MANY: u32 = 4500;
+/// How many city objects a line has, or how many others one lists: more than are asked about at once.
+const MANY: u32 = 30_000;
 
 /// A line of these city objects, whose first is `p0`, has the finding that is wanted.
 fn objects_meet(
@@ -60,7 +60,7 @@ fn ring(alloc: Global, broken: u32) -> Result<String, AllocError> {
 fn rings(rt: HostRuntime) -> Result<(), Fail> {
     let whole = ring(rt.alloc(), MANY)?;
     objects_meet(&rt, rt.alloc(), &whole, "none")?;
-    let broken = ring(rt.alloc(), 3000)?;
+    let broken = ring(rt.alloc(), 29_000)?;
     objects_meet(&rt, rt.alloc(), &broken, "22 link not mutual")?;
     let last = ring(rt.alloc(), MANY - 1)?;
     objects_meet(&rt, rt.alloc(), &last, "22 link not mutual")?;
@@ -79,14 +79,15 @@ fn backwards(alloc: Global, marked: u32) -> Result<String, AllocError> {
     Ok(children)
 }
 
-/// Parts of `p0`, but that of the number `alone`, which has another text for a parent.
-fn parts(alloc: Global, alone: u32, other: &str) -> Result<String, AllocError> {
+/// Parts of `p0`, but that of the number `alone`, which has another text for a parent. The first letter of their names
+/// is spelled so.
+fn parts(alloc: Global, letter: &str, alone: u32, other: &str) -> Result<String, AllocError> {
     let mut parts = String::new(alloc);
     for i in 0..MANY {
         let part = i as u64 + 1;
         let parent = if part == alone as u64 { other } else { "p0" };
         parts.push_str(&format!(in alloc;
-            r#","p{part}":{{"type":"BuildingPart","parents":["{parent}"]}}"#
+            r#","{letter}{part}":{{"type":"BuildingPart","parents":["{parent}"]}}"#
         )?)?;
     }
     Ok(parts)
@@ -100,9 +101,20 @@ fn building(alloc: Global, children: &str, parts: &str) -> Result<String, AllocE
 #[test]
 fn children_listed_backwards(rt: HostRuntime) -> Result<(), Fail> {
     let alloc = rt.alloc();
-    let whole = building(alloc, &backwards(alloc, 0)?, &parts(alloc, 0, "p0")?)?;
+    let whole = building(alloc, &backwards(alloc, 0)?, &parts(alloc, "p", 0, "p0")?)?;
     objects_meet(&rt, alloc, &whole, "none")?;
-    let of_another = building(alloc, &backwards(alloc, 7)?, &parts(alloc, 7, "p8")?)?;
+    let of_another = building(alloc, &backwards(alloc, 7)?, &parts(alloc, "p", 7, "p8")?)?;
+    objects_meet(&rt, alloc, &of_another, "22 link not mutual")?;
+    Ok(())
+}
+
+#[test]
+fn names_by_escapes(rt: HostRuntime) -> Result<(), Fail> {
+    let alloc = rt.alloc();
+    let letter = r"\u0070";
+    let whole = building(alloc, &backwards(alloc, 0)?, &parts(alloc, letter, 0, "p0")?)?;
+    objects_meet(&rt, alloc, &whole, "none")?;
+    let of_another = building(alloc, &backwards(alloc, 7)?, &parts(alloc, letter, 7, r"\u00708")?)?;
     objects_meet(&rt, alloc, &of_another, "22 link not mutual")?;
     Ok(())
 }
@@ -221,5 +233,67 @@ fn parents_that_are_not_there(rt: HostRuntime) -> Result<(), Fail> {
 fn a_parent_among_those_that_are_not_there(rt: HostRuntime) -> Result<(), Fail> {
     let beside_one = with_absent(rt.alloc(), r#",^"p3000""#)?;
     objects_meet(&rt, rt.alloc(), &beside_one, "22 link not mutual")?;
+    Ok(())
+}
+
+#[test]
+fn the_last_of_many_parents_is_there(rt: HostRuntime) -> Result<(), Fail> {
+    let alloc = rt.alloc();
+    let parents = format!(in alloc; r#"{},"p0""#, absent(alloc)?.as_str())?;
+    let listed = two_parts(alloc, r#""p","q""#, &parents)?;
+    objects_meet(&rt, alloc, &listed, "none")?;
+    let unlisted = format!(in alloc; r#"{},^"p0""#, absent(alloc)?.as_str())?;
+    let not_listed = two_parts(alloc, r#""q""#, &unlisted)?;
+    objects_meet(&rt, alloc, &not_listed, "22 link not mutual")?;
+    Ok(())
+}
+
+/// A number listed again and again.
+fn numbers(alloc: Global) -> Result<String, AllocError> {
+    let mut numbers = String::new(alloc);
+    for i in 0..MANY {
+        let comma = comma(i);
+        numbers.push_str(&format!(in alloc; "{comma}3")?)?;
+    }
+    Ok(numbers)
+}
+
+#[test]
+fn parents_that_are_no_texts(rt: HostRuntime) -> Result<(), Fail> {
+    let parents = numbers(rt.alloc())?;
+    let part = format!(in rt.alloc(); r#""p":^{{"type":"BuildingPart","parents":[{parents}]}}"#)?;
+    meet_among_many(&rt, rt.alloc(), &part, "23 no parent in the feature")?;
+    Ok(())
+}
+
+#[test]
+fn children_of_a_group(rt: HostRuntime) -> Result<(), Fail> {
+    let children = absent(rt.alloc())?;
+    let group = format!(in rt.alloc(); r#""g":{{"type":"CityObjectGroup","children":[{children}]}}"#)?;
+    meet_among_many(&rt, rt.alloc(), &group, "none")?;
+    let beside = format!(in rt.alloc(); r#"{group},"b":{{"type":"Building","children":[^"q0"]}}"#)?;
+    meet_among_many(&rt, rt.alloc(), &beside, "21 child not found")?;
+    Ok(())
+}
+
+/// A building `p0` whose child has the mark, and many buildings of the child's name without links.
+fn of_one_name(alloc: Global, mark: &str) -> Result<String, AllocError> {
+    let mut objects = format!(in alloc; r#""p0":{{"type":"Building","children":[{mark}"q"]}}"#)?;
+    for _ in 0..MANY {
+        objects.push_str(r#","q":{"type":"Building"}"#)?;
+    }
+    Ok(objects)
+}
+
+#[test]
+fn city_objects_of_one_name(rt: HostRuntime) -> Result<(), Fail> {
+    let alloc = rt.alloc();
+    let not_listed = of_one_name(alloc, "^")?;
+    objects_meet(&rt, alloc, &not_listed, "22 link not mutual")?;
+    let listed = of_one_name(alloc, "")?;
+    let by_the_last = format!(in alloc; r#"{listed},"q":{{"type":"Building","parents":["p0"]}}"#)?;
+    let place = r#"{"type":"CityJSONFeature","id":"p0","CityObjects":{"p0":{"type":"Building","children":["q"]},"q":{"type":"Building"},"#.len();
+    let want = format!(in alloc; "{place} 11 duplicate name")?;
+    objects_meet(&rt, alloc, &by_the_last, &want)?;
     Ok(())
 }

@@ -1,4 +1,4 @@
-use Rattle.std.proofs.Common.{◌≡◌, length}
+use Rattle.std.proofs.Common.{◌≡◌, [], length}
 use Rattle.std.specs.Prelude.{codes}
 use Rattle.std.specs.List.{flat_map}
 use Rattle.std.specs.Str.{chars}
@@ -6,13 +6,13 @@ use Rattle.cj_spans.specs.Finding.{least}
 use Rattle.cj_spans.specs.Parts.{members_of}
 use Rattle.cj_spans.specs.View.{tree, members_left}
 use Rattle.cj_feature.specs.Links.{children}
-use Rattle.cj_feature.specs.Pairs.{ArePairsOf}
+use Rattle.cj_feature.specs.Questions.{AreAnswered}
 use Rattle.cj_feature.proofs.feature.many_links.check_all_children.Given as goal
 
 abbrev pub invariant-loop-name : goal.invariant-loop-name
 invariant-loop-name l = record {
   found : least l.found (flat_map (children (members_of (tree l.objects))) (members_left l.later)) ≡ least l.initial.found (flat_map (children (members_of (tree l.objects))) (members_of (tree l.objects)));
-  pairs : ArePairsOf (chars (codes "parents")) (members_of (tree l.objects)) l.table.pairs;
+  answered : AreAnswered (chars (codes "parents")) l.objects [] l.questions;
 }
 
 abbrev pub decreases-loop-name : goal.decreases-loop-name

@@ -10,7 +10,6 @@ loop-name-preserved c =
     let all = members_of (tree c.args.objects) in
     let m = trees (c.in-Some.name, c.in-Some.object) in
     record {
-      found = least_on (parents_and_part all) _ _ _ _ _ _ c.loop-name.invariant.found c.in-Some.ensures.steps.0 (least-two c.loop-name.found c.check_parents-known.new.found c.check_part.new.found (parents all m) (part all m) c.check_parents-known.ensures.found c.check_part.ensures.found);
-      pairs = c.check_parents-known.ensures.pairs;
-      absent = c.check_part.ensures.absent;
+      found = least_on (parents_and_part all) _ _ _ _ _ _ c.loop-name.invariant.found c.in-Some.ensures.steps.0 (least-two c.loop-name.found c.check_parents.new.found c.check_part.new.found (parents all m) (part all m) c.check_parents.ensures.found c.check_part.ensures.found);
+      answered = c.check_part.ensures.answered;
     }

@@ -1,20 +1,18 @@
-use Rattle.std.proofs.Common.{◌≡◌, length}
+use Rattle.std.proofs.Common.{◌≡◌, [], length}
 use Rattle.std.specs.Prelude.{codes}
 use Rattle.std.specs.List.{flat_map}
 use Rattle.std.specs.Str.{chars}
 use Rattle.cj_spans.specs.Finding.{least}
 use Rattle.cj_spans.specs.Parts.{members_of}
 use Rattle.cj_spans.specs.View.{tree, members_left}
-use Rattle.cj_feature.specs.Absent.{AreAbsent}
-use Rattle.cj_feature.specs.Pairs.{ArePairsOf}
+use Rattle.cj_feature.specs.Questions.{AreAnswered}
 use Rattle.cj_feature.proofs.Passes.{parents_and_part}
 use Rattle.cj_feature.proofs.feature.many_links.check_all_parents.Given as goal
 
 abbrev pub invariant-loop-name : goal.invariant-loop-name
 invariant-loop-name l = record {
   found : least l.found (flat_map (parents_and_part (members_of (tree l.objects))) (members_left l.later)) ≡ least l.initial.found (flat_map (parents_and_part (members_of (tree l.objects))) (members_of (tree l.objects)));
-  pairs : ArePairsOf (chars (codes "children")) (members_of (tree l.objects)) l.table.pairs;
-  absent : AreAbsent (members_of (tree l.objects)) l.absent.texts;
+  answered : AreAnswered (chars (codes "children")) l.objects [] l.questions;
 }
 
 abbrev pub decreases-loop-name : goal.decreases-loop-name

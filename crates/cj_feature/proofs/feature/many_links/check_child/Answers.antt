@@ -3,5 +3,5 @@ use Rattle.cj_spans.specs.View.{tree}
 use Rattle.cj_feature.proofs.Passes.{listed_child}
 use Rattle.cj_feature.proofs.feature.many_links.check_child.Goals as goal
 
-pub returns-then-finds-clause-found : goal.returns-then-finds-clause-found
-returns-then-finds-clause-found c = listed_child (members_of (tree c.args.objects)) (tree c.args.ahead.name) (tree c.args.item) c.args.found.now (c.finds.ensures.found c.if-finds.true)
+pub returns-in-Listed-clause-found : goal.returns-in-Listed-clause-found
+returns-in-Listed-clause-found c = listed_child (members_of (tree c.args.objects)) (tree c.args.ahead.name) (tree c.args.item) c.args.found.now c.in-Listed.ensures.answer

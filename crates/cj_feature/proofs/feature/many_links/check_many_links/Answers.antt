@@ -6,6 +6,12 @@ use Rattle.cj_spans.specs.View.{tree}
 use Rattle.cj_feature.proofs.Passes.{parents_and_part, walks}
 use Rattle.cj_feature.proofs.feature.many_links.check_many_links.Goals as goal
 
+pub check_all_children-requires : goal.check_all_children-requires
+check_all_children-requires c = c.new-questions.ensures _ c.args.objects
+
+pub check_all_parents-requires : goal.check_all_parents-requires
+check_all_parents-requires c = c.clear.ensures _ c.args.objects
+
 pub returns : goal.returns
 returns c =
     let all = members_of (tree c.args.objects) in

@@ -1,0 +1,178 @@
+-- Questions on links, in order.
+use Rattle.std.proofs.Common.{◌≡◌, ◌⊎◌, inl, inr, ℕ, ◌+◌, ◌<◌, ◌≤◌, Bool, true, false, ◌||◌, List, [], ◌∷◌, Option, Some, None, length, get_or, arith, refl, sym, ap, ◌∙◌, subst}
+use Rattle.std.specs.Prelude.{slice_get, slice_set, slice_index_or}
+use Rattle.std.specs.Cmp.{IsStrictWeakOrder, IsTotalOrder, nat_cmp_total, on_total, then_total}
+use Rattle.std.specs.Cmp.Lexicographic.{nat_list_cmp_total, options_total}
+use Rattle.std.specs.Fn.{Called, ComparesAs}
+use Rattle.std.specs.List.Sorted.{IsPartitionedBy, IsPartitionPoint, IsSortedBy}
+use Rattle.std.specs.Ordering.{is_lt, ordering_index}
+use Rattle.std.specs.declared.cmp.Ordering.{Ordering}
+use Rattle.std.specs.declared.cmp.Ordering.TheVariants.{Less, Equal, Greater}
+use Rattle.std.proofs.lemmas.Bool.{cases_eq}
+use Rattle.std.proofs.lemmas.Fn.{always_returns_same}
+use Rattle.std.proofs.lemmas.List.{get_or-set_same, get_or-set_other}
+use Rattle.std.proofs.lemmas.List.Sorted.{ranks_by, searchable_from_sorted}
+use Rattle.std.proofs.lemmas.Option.{slice_get_within}
+use denote.Param.Members.{Mut}
+use denote.Ref.{Bor}
+use Rattle.cj_spans.specs.declared.node.Node.{Node}
+use Rattle.cj_spans.specs.declared.token.Kind.TheVariants.{Null, Truth, Number, Text, Array, Object}
+use Rattle.cj_spans.specs.Tree.{Tree, scalar, array, object}
+use Rattle.cj_spans.specs.Parts.{kind_of, members_of, text_of, are_same_texts}
+use Rattle.cj_spans.specs.View.{tree}
+use Rattle.cj_geometry.proofs.Repeats.{same_texts}
+use Rattle.cj_feature.specs.declared.feature.questions.Question.{Question}
+use Rattle.cj_feature.specs.Links.{same_text, is_known, lists}
+use Rattle.cj_feature.specs.Questions.{Key, compare_keys, key_of, from_in, to_in, key_in, AreInOrder, IsPlaceOf, IsFirstOn, IsQuestion, AreListed, AreLeft}
+
+-- ---- marks
+
+marked-not : (marks : List Bool) (p i : ℕ) → p < length marks → p ≡ i → slice_index_or (slice_set marks p true) i false ≡ false → ⊥
+marked-not marks p i below e clear =
+    let yes : get_or (slice_set marks p true) p false ≡ true = get_or-set_same marks p true false below in
+    let no : get_or (slice_set marks p true) p false ≡ false = subst (λ k. get_or (slice_set marks p true) k false ≡ false) (sym e) clear in
+    cc
+
+unmarked : (marks : List Bool) (p i : ℕ) → p < length marks → slice_index_or (slice_set marks p true) i false ≡ false → slice_index_or marks i false ≡ false
+unmarked marks p i below clear =
+    elim (cases_eq i p) [
+      | inl e ↦ absurd (marked-not marks p i below (sym e) clear)
+      | inr n ↦ sym (get_or-set_other marks p i true false n) ∙ clear
+    ]
+
+shared : (a b c : Tree) → same_text a b ≡ true → same_text a c ≡ true → same_text b c ≡ true
+shared a b c e f = subst (λ o. are_same_texts o (text_of c) ≡ true) (same_texts (text_of a) (text_of b) e) f
+
+-- ---- the order
+
+pub keys_total : IsTotalOrder compare_keys
+keys_total =
+    let texts = options_total nat_list_cmp_total in
+    then_total (on_total (λ (k : Key). k.0) nat_cmp_total) (then_total (on_total (λ (k : Key). k.1) texts) (on_total (λ (k : Key). k.2) texts))
+
+-- from the clause `sorted` of the sort, where each call of the closure compares keys
+pub in_order : (objects : Node) {F : Type 0} {g : Mut F (Bor Question × (Bor Question × Unit {0})) Ordering} {f : F} (qs : List Question) → ((lt : Question → Question → Bool) → IsStrictWeakOrder lt → ComparesAs g lt f → IsSortedBy lt qs)
+    → ((a : Bor Question × (Bor Question × Unit {0})) (r : Ordering) (f' : F) → Called g f a r f' → (r ≡ compare_keys (key_in objects a.0.now) (key_in objects a.1.0.now)) × (f' ≡ f)) → AreInOrder objects qs
+in_order objects {g = g} {f = f} qs sorted each =
+    let key = key_in objects in
+    sorted (λ x y. is_lt (compare_keys (key x) (key y))) (ranks_by keys_total key)
+      (always_returns_same g (λ a r. is_lt r ≡ is_lt (compare_keys (key a.0.now) (key a.1.0.now))) f (λ a r f' k. (ap is_lt (each a r f' k).0, (each a r f' k).1)))
+
+no_later : (r s : Ordering) → ordering_index r ≤ ordering_index s → is_lt s ≡ true → is_lt r ≡ true
+no_later Less s h e = refl
+no_later Equal Less h e = absurd (omega arith)
+no_later Equal Equal h e = e
+no_later Equal Greater h e = e
+no_later Greater Less h e = absurd (omega arith)
+no_later Greater Equal h e = e
+no_later Greater Greater h e = e
+
+-- those before a key come before all others
+pub parted : (objects : Node) (qs : List Question) (k : Key) → AreInOrder objects qs → IsPartitionedBy (λ q. is_lt (compare_keys (key_in objects q) k)) qs
+parted objects qs k h =
+    let rises = searchable_from_sorted keys_total (key_in objects) qs k h in
+    λ i j d le below e. no_later (compare_keys (key_in objects (get_or qs i d)) k) (compare_keys (key_in objects (get_or qs j d)) k) (rises i j d le below) e
+
+either : (b : Bool) → (b ≡ true) ⊎ (b ≡ false)
+either true = inl refl
+either false = inr refl
+
+-- a key has one place below the end
+one_place : {X : Type 0} (p : X → Bool) (xs : List X) (d : X) (i j : ℕ) → i < length xs → IsPartitionPoint (λ y. p y ≡ true) (λ y. p y ≡ false) xs i → IsPartitionPoint (λ y. p y ≡ true) (λ y. p y ≡ false) xs j → i ≡ j
+one_place p xs d i j below h k =
+    let no_less : i < j → ⊥ = λ lt.
+          let a : p (get_or xs i d) ≡ true = k.0 i d (omega arith) lt in
+          let b : p (get_or xs i d) ≡ false = h.1 i d (omega arith) below in
+          cc in
+    let no_more : j < i → ⊥ = λ lt.
+          let a : p (get_or xs j d) ≡ true = h.0 j d (omega arith) lt in
+          let b : p (get_or xs j d) ≡ false = k.1 j d (omega arith) (omega arith) in
+          cc in
+    omega arith
+
+module _ (objects : Node) (qs : List Question) where
+  -- the first question on a text stands where its key has its place
+  pub only_here : (t : Tree) (p i : ℕ) → IsPlaceOf objects (key_of (text_of t) (text_of (tree objects))) qs p → IsFirstOn objects qs t i → i ≡ p
+  only_here t p i h f =
+      one_place (λ w. is_lt (compare_keys (key_in objects w) (key_of (text_of t) (text_of (tree objects))))) qs f.question i p (slice_get_within qs i f.question f.stands) f.place h
+
+  -- so there is none, where another stands there
+  pub none_here : (t : Tree) (p i : ℕ) → IsPlaceOf objects (key_of (text_of t) (text_of (tree objects))) qs p → ((q : Question) → slice_get qs p ≡ Some q → same_text (from_in objects q) t ≡ false) → IsFirstOn objects qs t i → ⊥
+  none_here t p i h other f =
+      let no : same_text (from_in objects f.question) t ≡ false = other f.question (ap (slice_get qs) (sym (only_here t p i h f)) ∙ f.stands) in
+      let yes : same_text (from_in objects f.question) t ≡ true = f.same in
+      cc
+
+  moved : (n t : Tree) (i : ℕ) → text_of n ≡ text_of t → IsFirstOn objects qs t i → IsFirstOn objects qs n i
+  moved n t i e f = record {
+    place = subst (λ o. IsPlaceOf objects (key_of o (text_of (tree objects))) qs i) (sym e) f.place;
+    question = f.question;
+    stands = f.stands;
+    same = subst (λ o. are_same_texts (text_of (from_in objects f.question)) o ≡ true) (sym e) f.same;
+  }
+
+  -- ---- one city object less is left
+
+  module _ (marks : List Bool) (m : Tree × Tree) (rest : List (Tree × Tree)) (left : AreLeft objects qs marks (m ∷ rest)) where
+    -- whose name is not asked about
+    pub left_unasked : ((i : ℕ) → IsFirstOn objects qs m.0 i → None ≡ Some i) → AreLeft objects qs marks rest
+    left_unasked none = λ t i f clear.
+      elim (either (same_text m.0 t)) [
+        | inl e ↦ let no : None ≡ Some i = none i (moved m.0 t i (same_texts (text_of m.0) (text_of t) e) f) in absurd (cc)
+        | inr e ↦ left t i f clear ∙ ap (λ v. v || is_known rest t) e
+      ]
+
+    -- whose name is asked about: the first question on it has a mark now
+    pub left_marked : (p : ℕ) → p < length marks → ((i : ℕ) → IsFirstOn objects qs m.0 i → Some p ≡ Some i) → AreLeft objects qs (slice_set marks p true) rest
+    left_marked p below is = λ t i f clear.
+      elim (either (same_text m.0 t)) [
+        | inl e ↦
+            let same : Some p ≡ Some i = is i (moved m.0 t i (same_texts (text_of m.0) (text_of t) e) f) in
+            let at : p ≡ i = cc in
+            absurd (marked-not marks p i below at clear)
+        | inr e ↦ left t i f (unmarked marks p i below clear) ∙ ap (λ v. v || is_known rest t) e
+      ]
+
+  -- ---- what is listed
+
+  pub listed_on : (list : List ℕ) (marks : List Bool) (from to : Tree) (p : ℕ) → AreListed list objects qs marks → IsQuestion objects qs from to p
+      → ((f t : Tree) → same_text from f ≡ true → same_text to t ≡ true → lists list (members_of (tree objects)) f t ≡ true) → AreListed list objects qs (slice_set marks p true)
+  listed_on list marks from to p old here has = λ i q stands marked.
+    elim (cases_eq i p) [
+      | inl e ↦
+          let other : slice_get qs i ≡ Some here.question = ap (slice_get qs) e ∙ here.stands in
+          let same : q ≡ here.question = cc in
+          λ f t h k. has f t (shared (from_in objects here.question) from f here.first (subst (λ w. same_text (from_in objects w) f ≡ true) same h))
+            (shared (to_in objects here.question) to t here.second (subst (λ w. same_text (to_in objects w) t ≡ true) same k))
+      | inr n ↦ old i q stands (sym (get_or-set_other marks p i true false n) ∙ marked)
+    ]
+
+  -- ---- no questions
+
+  pub none_listed : (list : List ℕ) (marks : List Bool) → ((i : ℕ) → slice_index_or marks i false ≡ false) → AreListed list objects qs marks
+  none_listed list marks none = λ i q stands marked. let no : slice_index_or marks i false ≡ false = none i in absurd (cc)
+
+-- ---- what is no text is the name of nothing
+
+no_text : (t : Tree) → (kind_of t ≡ Text → ⊥) → text_of t ≡ None
+no_text (scalar Null a) h = refl
+no_text (scalar Truth a) h = refl
+no_text (scalar Number a) h = refl
+no_text (scalar Text a) h = absurd (h refl)
+no_text (scalar Array a) h = refl
+no_text (scalar Object a) h = refl
+no_text (array i j ts) h = refl
+no_text (object i j ms) h = refl
+
+none_same : (o : Option (List ℕ)) → are_same_texts o None ≡ false
+none_same None = refl
+none_same (Some s) = refl
+
+none_known : (objects : List (Tree × Tree)) (t : Tree) → text_of t ≡ None → is_known objects t ≡ false
+none_known [] t e = refl
+none_known (m ∷ ms) t e =
+    let here : same_text m.0 t ≡ false = ap (are_same_texts (text_of m.0)) e ∙ none_same (text_of m.0) in
+    ap (λ v. v || is_known ms t) here ∙ none_known ms t e
+
+pub unknown : (objects : List (Tree × Tree)) (t : Tree) → (kind_of t ≡ Text → ⊥) → is_known objects t ≡ false
+unknown objects t h = none_known objects t (no_text t h)
