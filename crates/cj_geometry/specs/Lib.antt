@@ -1,12 +1,12 @@
-pub mod Blocks
+pub mod Entries
 pub mod Examples
 pub mod Form
-pub mod Gathered
 pub mod Geometry
 pub mod Given
 pub mod Grammar
 pub mod Lod
 pub mod Lods
+pub mod Names
 pub mod ObjectTypes
 pub mod Places
 pub mod Rule

@@ -27,10 +27,10 @@ ghost use Rattle.cj_spans.specs.View.{tree};
 ghost use Rattle.cj_geometry.specs.Rule.{one, of_kind, nothing};
 
 mod array;
-mod blocks;
 mod member;
 mod names;
 mod number;
+mod order;
 
 pub use array::{check_length, count_items};
 use cj_spans::{Finding, Kind, Least, Node, Reason};

@@ -1,20 +1,24 @@
 //! Repeated names of an object.
 //!
-//! Few names are compared each with each. Of many names a block is gathered at a time, each looked up among those
-//! before it; then all later names are looked up in the block, and the next block begins behind it. So n names take
-//! about n * n / 8,192 look-ups, and no memory is asked for.
-ghost use Rattle.std.specs.Prelude.{◌≡◌, ◌<◌, ◌≤◌, cond, [], map, length, take, drop, true};
-ghost use Rattle.cj_spans.specs.declared.reason.Reason.TheVariants.{DuplicateName};
+//! Few names are compared each with each. Many are gone over in order, by text and then by place: a name that is repeated
+//! stands right behind the one before it of its text. There is room of a fixed size for entries of names ([`Entry`]), so an
+//! object of more names is walked over more than once. Each walk gathers the least names above those that the walks
+//! before have dealt with: where the room is full, the least of what it holds are kept, and the next one is the walk's
+//! ceiling. So n names take about n / 16,000 walks and n * log n comparisons, whatever they are, and no memory is asked for.
+ghost use Rattle.std.specs.Prelude.{◌≡◌, ◌<◌, ◌≤◌, [], length, take, Some, IsSome, IfSome, All};
+ghost use Rattle.std.specs.List.Sorted.{IsPermutation};
 ghost use Rattle.cj_spans.specs.Finding.{least};
-ghost use Rattle.cj_spans.specs.Hash.{hash_of};
-ghost use Rattle.cj_spans.specs.Parts.{text_of};
-ghost use Rattle.cj_spans.specs.View.{tree, members_left};
-ghost use Rattle.cj_geometry.specs.Rule.{one, repeats_of, repeats, distinct};
-ghost use Rattle.cj_geometry.specs.Blocks.{is_named, repeats_in, number_of, are_marked};
-ghost use Rattle.cj_geometry.specs.Gathered.{gathered};
+ghost use Rattle.cj_spans.specs.Parts.{members_of, AreInOrder};
+ghost use Rattle.cj_spans.specs.View.{tree, source_of, members_left};
+ghost use Rattle.cj_geometry.specs.Rule.{repeats_of, distinct};
+ghost use Rattle.cj_geometry.specs.Names.{is_above, is_below, Ascend, repeat_of, neighbours, last_of, names_of};
+ghost use Rattle.cj_geometry.specs.Entries.{IsWorded, name_in, names_in, limit_in, TakeOne, HoldNames};
 
-use crate::rule::blocks::{Block, MARKS, clear, mark};
-use crate::rule::{add, is_told_before};
+#[cfg(test)]
+mod tests;
+
+use crate::rule::add;
+use crate::rule::order::{Entry, NO_NAME, is_before, sort, take_least};
 use cj_spans::{Least, Members, Node, Reason};
 
 /// At most so many names are compared each with each.
@@ -23,8 +27,16 @@ const FEW: usize = 48;
 /// An object of more names than `FEW` has more bytes: a member has at least five, as in `"":1,`.
 const FEW_BYTES: usize = 245;
 
-/// How many names a block has at most.
-const ROOM: usize = 4096;
+/// At most so many names are put in order in a small room.
+const SOME: usize = 1_000;
+
+/// How many names the small room has place for: more than it is asked to hold, so one walk gathers all.
+const SMALL_ROOM: usize = 1_024;
+
+/// How many names the room has place for, and how many are kept where it is full.
+const ROOM: usize = 21_840;
+
+const KEPT: usize = 10_920;
 
 /// No later name has the text of this one.
 fn check_later(name: Node, rest: Members, found: &mut Least)
@@ -48,104 +60,211 @@ fn check_few(object: Node, found: &mut Least)
     }
 }
 
-/// A name, whose text has the number, has the text of no name of the block.
+/// What a walk has gathered: how many names the room holds, and the least name that had no place there.
+#[derive(Clone, Copy)]
+struct Held {
+    count: usize,
+    ceiling: Option<Entry>,
+}
+
+/// Whether a name comes after the floor: one of those that are not dealt with yet.
 #[inline(always)]
-fn check_name(name: Node, number: u64, block: Block, found: &mut Least)
-    requires { number ≡ hash_of (text_of (tree name)) }
-    ensures { let repeated = is_named (text_of (tree name.entry)) (gathered block.entry) in
-        found.new ≡ least found.old (cond repeated (one DuplicateName (tree name.entry)) []) }
+fn is_left(object: Node, name: Entry, floor: Option<Entry>) -> bool
+    requires name { IsWorded (source_of object) name }
+    requires floor { IfSome floor (IsWorded (source_of object)) }
+    ensures { let s = source_of object.entry in result ≡ is_above (limit_in s floor) (name_in s name) }
 {
-    if is_told_before(*found, name) {
-        return;
+    match floor {
+        Some(floor) => is_before(object, floor, name),
+        None => true,
     }
-    if block.has(name, number) {
+}
+
+/// Whether a name comes before the ceiling: there may be place for it.
+#[inline(always)]
+fn has_place(object: Node, name: Entry, ceiling: Option<Entry>) -> bool
+    requires name { IsWorded (source_of object) name }
+    requires ceiling { IfSome ceiling (IsWorded (source_of object)) }
+    ensures { let s = source_of object.entry in result ≡ is_below (limit_in s ceiling) (name_in s name) }
+{
+    match ceiling {
+        Some(ceiling) => is_before(object, name, ceiling),
+        None => true,
+    }
+}
+
+/// Copies entries to the front of the room.
+fn put_back(room: &mut [Entry], kept: &[Entry])
+    requires { length kept.now ≤ length room.old }
+    ensures room { length room.new ≡ length room.old }
+    ensures front { take (length kept.now) room.new ≡ kept.now }
+{
+    room[..kept.len()].copy_from_slice(kept);
+}
+
+/// Takes a name into the room. Where that is full then, the least names are kept.
+fn put(object: Node, name: Entry, held: Held, room: &mut [Entry], kept: &mut [Entry]) -> Held
+    requires some { 0 < length kept.old }
+    requires fewer { length kept.old < length room.old }
+    requires place { held.count < length room.old }
+    ensures kept { length kept.new ≡ length kept.old }
+    ensures room { length room.new ≡ length room.old }
+    ensures count { (0 < result.count) × (result.count < length room.new) }
+    ensures entries { TakeOne (source_of object.entry) name (take held.count room.old) held.ceiling
+        (take result.count room.new) result.ceiling }
+{
+    room[held.count] = name;
+    let count = held.count + 1;
+    if count < room.len() {
+        return Held {
+            count,
+            ceiling: held.ceiling,
+        };
+    }
+    let ceiling = take_least(object, room, kept);
+    put_back(room, kept);
+    Held {
+        count: kept.len(),
+        ceiling: Some(ceiling),
+    }
+}
+
+/// Gathers the least names of an object above the floor, as many as there is room for.
+fn gather(object: Node, floor: Option<Entry>, room: &mut [Entry], kept: &mut [Entry]) -> Held
+    requires some { 0 < length kept.old }
+    requires fewer { length kept.old < length room.old }
+    requires floor { IfSome floor (IsWorded (source_of object)) }
+    ensures kept { length kept.new ≡ length kept.old }
+    ensures room { length room.new ≡ length room.old }
+    ensures count { result.count < length room.new }
+    ensures more { IsSome result.ceiling → 0 < result.count }
+    ensures order { AreInOrder (members_of (tree object.entry)) }
+    ensures names { let s = source_of object.entry in
+        HoldNames s (names_of (members_of (tree object.entry))) [] (limit_in s floor) (limit_in s result.ceiling)
+        (take result.count room.new) }
+{
+    let mut held = Held {
+        count: 0,
+        ceiling: None,
+    };
+    for (node, _) in object.members() {
+        let name = Entry::of(node);
+        if is_left(object, name, floor) && has_place(object, name, held.ceiling) {
+            held = put(object, name, held, room, kept);
+        }
+    }
+    held
+}
+
+/// A name has another text than the one before it in the order, or is that name again.
+fn check_pair(before: Node, name: Node, found: &mut Least)
+    ensures { found.new ≡ least found.old (repeat_of (Some (tree before.entry)) (tree name.entry)) }
+{
+    if name.same_text(before) && before.start() < name.start() {
         add(name, Reason::DuplicateName, found);
     }
 }
 
-/// Gathers a block of names from the front of `names`, as far as there is room, and checks that they are
-/// distinct. Answers how many they are.
-fn gather(names: &mut Members, numbers: &mut [u64], marks: &mut [bool], found: &mut Least) -> usize
-    requires { length marks.old ≡ MARKS }
-    ensures count { result ≤ length numbers.new }
-    ensures rest { members_left names.new ≡ drop result (members_left names.old) }
-    ensures numbers { take result numbers.new ≡ map number_of (take result (members_left names.old)) }
-    ensures marks { are_marked marks.new (take result numbers.new) ≡ true }
-    ensures none { 0 < length numbers.old → result ≡ 0 → members_left names.old ≡ [] }
-    ensures found { let left = members_left names.old in
-        least (least found.new (repeats_in (take result left) (drop result left))) (repeats (drop result left))
-        ≡ least found.old (repeats left) }
+/// A name does not repeat the one before it.
+#[inline(always)]
+fn check_neighbour(object: Node, before: Option<Entry>, name: Entry, found: &mut Least)
+    requires name { IsWorded (source_of object) name }
+    requires before { IfSome before (IsWorded (source_of object)) }
+    ensures { let s = source_of object.entry in
+        found.new ≡ least found.old (repeat_of (limit_in s before) (name_in s name)) }
 {
-    clear(marks);
-    let block = *names;
-    let mut count = 0;
-    while count < numbers.len() {
-        match names.next() {
-            Some((name, _)) => {
-                let number = name.text_hash();
-                let known = Block {
-                    names: block,
-                    numbers: &numbers[..count],
-                    marks,
-                };
-                check_name(name, number, known, found);
-                numbers[count] = number;
-                mark(marks, number);
-                count += 1;
+    match before {
+        Some(before) => {
+            if before.word == name.word {
+                check_pair(before.name(object), name.name(object), found);
             }
-            None => return count,
         }
+        None => {}
     }
-    count
 }
 
-/// None of these names has the text of a name of the block.
-fn check_rest(rest: Members, block: Block, found: &mut Least)
-    ensures { found.new ≡ least found.old (repeats_in (gathered block.entry) (members_left rest.entry)) }
+/// Names in order, none of which repeats the one before it; before the first of them stands the floor. Answers the last.
+fn check_neighbours(
+    object: Node,
+    floor: Option<Entry>,
+    names: &[Entry],
+    found: &mut Least,
+) -> Option<Entry>
+    requires names { All (IsWorded (source_of object)) names.now }
+    requires floor { IfSome floor (IsWorded (source_of object)) }
+    ensures word { IfSome result (IsWorded (source_of object.entry)) }
+    ensures last { let s = source_of object.entry in
+        limit_in s result ≡ last_of (limit_in s floor) (names_in s names.now) }
+    ensures found { let s = source_of object.entry in
+        found.new ≡ least found.old (neighbours (limit_in s floor) (names_in s names.now)) }
 {
-    for (name, _) in rest {
-        check_name(name, name.text_hash(), block, found);
+    let mut before = floor;
+    for name in names {
+        check_neighbour(object, before, *name, found);
+        before = Some(*name);
     }
+    before
 }
 
-/// The names of an object are distinct: each is looked up in the blocks before it and in its own.
-fn check_blocks(object: Node, numbers: &mut [u64], marks: &mut [bool], found: &mut Least)
-    requires room { 0 < length numbers.old }
-    requires marks { length marks.old ≡ MARKS }
+/// Deals with the names that a walk has gathered. Answers the last of them, above which those are that are left.
+fn deal(object: Node, floor: Option<Entry>, names: &mut [Entry], found: &mut Least) -> Option<Entry>
+    requires names { All (IsWorded (source_of object)) names.old }
+    requires floor { IfSome floor (IsWorded (source_of object)) }
+    ensures permutation { IsPermutation names.old names.new }
+    ensures order { Ascend (names_in (source_of object.entry) names.new) }
+    ensures word { IfSome result (IsWorded (source_of object.entry)) }
+    ensures last { let s = source_of object.entry in
+        limit_in s result ≡ last_of (limit_in s floor) (names_in s names.new) }
+    ensures found { let s = source_of object.entry in
+        found.new ≡ least found.old (neighbours (limit_in s floor) (names_in s names.new)) }
+{
+    sort(object, names);
+    check_neighbours(object, floor, names, found)
+}
+
+/// The names of an object are distinct: a repeated one stands behind the one before it in the order of names.
+fn check_in_order(object: Node, room: &mut [Entry], kept: &mut [Entry], found: &mut Least)
+    requires kept { 0 < length kept.old }
+    requires room { length kept.old < length room.old }
     ensures { found.new ≡ least found.old (distinct (tree object.entry)) }
 {
-    let mut rest = object.members();
+    let mut floor = None;
     loop {
-        let names = rest;
-        let count = gather(&mut rest, numbers, marks, found);
-        if count == 0 {
+        let held = gather(object, floor, room, kept);
+        floor = deal(object, floor, &mut room[..held.count], found);
+        if held.ceiling.is_none() {
             return;
         }
-        let block = Block {
-            names,
-            numbers: &numbers[..count],
-            marks,
-        };
-        check_rest(rest, block, found);
     }
 }
 
-/// The names of an object are distinct, of which there are many. The arrays take 96 KiB of the stack.
+/// The names of an object are distinct, of which there are some. The room takes 16 KiB of the stack.
+#[cold]
+#[inline(never)]
+fn check_some(object: Node, found: &mut Least)
+    ensures { found.new ≡ least found.old (distinct (tree object.entry)) }
+{
+    let mut room = [NO_NAME; SMALL_ROOM];
+    let mut kept = [NO_NAME; 1];
+    check_in_order(object, &mut room, &mut kept, found);
+}
+
+/// The names of an object are distinct, of which there are many. The room takes 512 KiB of the stack.
 #[cold]
 #[inline(never)]
 fn check_many(object: Node, found: &mut Least)
     ensures { found.new ≡ least found.old (distinct (tree object.entry)) }
 {
-    let mut numbers = [0; ROOM];
-    let mut marks = [false; MARKS];
-    check_blocks(object, &mut numbers, &mut marks, found);
+    let mut room = [NO_NAME; ROOM];
+    let mut kept = [NO_NAME; KEPT];
+    check_in_order(object, &mut room, &mut kept, found);
 }
 
-/// Whether an object has more than `FEW` names, told by a walk over them.
+/// Whether an object has more names than this, told by a walk over them.
 #[inline(never)]
-fn walks_over_many(object: Node) -> bool {
+fn has_more(object: Node, count: usize) -> bool {
     let mut left = object.members();
-    for _ in 0..FEW {
+    for _ in 0..count {
         if left.next().is_none() {
             return false;
         }
@@ -153,20 +272,16 @@ fn walks_over_many(object: Node) -> bool {
     left.next().is_some()
 }
 
-/// Whether an object has more than `FEW` names.
-#[inline(always)]
-fn has_many(object: Node) -> bool {
-    object.bytes().len() > FEW_BYTES && walks_over_many(object)
-}
-
 /// The names of an object are distinct: each that has the text of an earlier one has a finding.
 #[inline(always)]
 pub fn check_names(object: Node, found: &mut Least)
     ensures { found.new ≡ least found.old (distinct (tree object.entry)) }
 {
-    if has_many(object) {
+    if object.bytes().len() <= FEW_BYTES || !has_more(object, FEW) {
+        check_few(object, found);
+    } else if has_more(object, SOME) {
         check_many(object, found);
     } else {
-        check_few(object, found);
+        check_some(object, found);
     }
 }

@@ -1,30 +1,76 @@
-use Rattle.std.proofs.Common.{◌≡◌, ◌∙◌, ◌∷◌, sym, refl, arith, take, drop, length}
-use Rattle.std.proofs.lemmas.List.{take_more_set, length-take-le}
-use Rattle.cj_spans.specs.View.{members_left, trees}
-use Rattle.cj_geometry.proofs.Repeats.{owes_first, step_gathered, drop_one, numbered_more, room_more, marked_more, told_by}
+use Rattle.std.proofs.Common.{◌≡◌, ◌∙◌, ◌&&◌, Bool, true, false, None, [], sym, ap, subst, take, arith}
+use Rattle.cj_spans.specs.Parts.{members_of}
+use Rattle.cj_spans.specs.View.{tree, source_of, members_left, members_source}
+use Rattle.cj_geometry.specs.Names.{names_of, is_above, is_below}
+use Rattle.cj_geometry.specs.Entries.{IsWorded, name_in, limit_in}
+use Rattle.cj_geometry.proofs.Rooms.{HasGathered, gathered_first, gathered_passed, gathered_more}
+use Rattle.cj_geometry.proofs.rule.names.gather.Goals.{else-is_left-via-then-is_left+else-has_place, else-is_left-via-else-is_left}
 use Rattle.cj_geometry.proofs.rule.names.gather.Goals as goal
 
-pub loop-count-init : goal.loop-count-init
-loop-count-init c = record {
-  room = omega arith;
-  size = c.clear.ensures ∙ c.requires;
-  rest = refl;
-  numbered = refl;
-  marked = refl;
-  owes = owes_first (members_left c.args.names.now) c.args.found.now;
-}
-
-pub loop-count-preserved : goal.loop-count-preserved
-loop-count-preserved c =
-    let n = c.loop-count.count in
-    let names = members_left c.args.names.now in
-    let m = trees (c.in-Some.name, c.in-Some.field-0-1) in
-    let next : drop n names ≡ m ∷ members_left c.next.new.self = sym c.loop-count.invariant.rest ∙ c.in-Some.ensures.steps.0 in
+pub loop-node-init : goal.loop-node-init
+loop-node-init c =
+    let s = source_of c.args.object in
+    let ms = members_of (tree c.args.object) in
+    let walk = c.into_iter-node-iterator.ensures.into_iter_gives in
+    let all : members_left c.into_iter-node-iterator.result ≡ ms = ap members_left walk ∙ c.members-node-items.ensures.members in
     record {
-      room = room_more n c.loop-count.numbers c.text_hash-number.result c.loop-count-test.true;
-      size = c.mark.auto.marks ∙ c.loop-count.invariant.size;
-      rest = drop_one n names (members_left c.next.new.self) m next;
-      numbered = numbered_more n c.text_hash-number.result c.loop-count.numbers names (members_left c.next.new.self) m c.loop-count-test.true c.loop-count.invariant.numbered next c.text_hash-number.ensures;
-      marked = marked_more c.loop-count.marks _ (take n c.loop-count.numbers) _ c.text_hash-number.result c.loop-count.invariant.size c.loop-count.invariant.marked (take_more_set c.loop-count.numbers n c.text_hash-number.result c.loop-count-test.true) c.mark.ensures;
-      owes = step_gathered n names (members_left c.next.new.self) m c.loop-count.found _ _ c.loop-count.invariant.owes next (told_by (length (take n c.loop-count.numbers)) n names m c.loop-count.found c.check_name.new.found c.check_name.ensures (length-take-le n c.loop-count.numbers c.loop-count.invariant.room));
+      some = c.requires.some;
+      fewer = c.requires.fewer;
+      count = omega arith;
+      more = λ h. cc;
+      source = ap members_source walk ∙ c.members-node-items.ensures.source;
+      gathered = subst (λ xs. HasGathered s (names_of ms) (names_of xs) (limit_in s c.args.floor) None []) (sym all) (gathered_first s (names_of ms) (limit_in s c.args.floor));
     }
+
+pub loop-node-preserved-then-has_place : goal.loop-node-preserved-then-has_place
+loop-node-preserved-then-has_place c =
+    let i = c.loop-node.invariant in
+    let y = c.in-Some.ensures.steps in
+    let s = source_of c.args.object in
+    let names = names_of (members_of (tree c.args.object)) in
+    let e : source_of c.in-Some.node ≡ s = y.4.0 ∙ i.source in
+    let name = c.of-name.result in
+    let r = c.put-held.ensures in
+    let some = i.some in
+    let fewer = i.fewer in
+    record {
+      some = let k = r.kept in omega arith;
+      fewer = let k = r.kept in let l = r.room in omega arith;
+      count = r.count.1;
+      more = λ h. r.count.0;
+      source = y.3 ∙ i.source;
+      gathered = gathered_more s names (names_of (members_left c.next.new.self)) (limit_in s c.args.floor) c.loop-node.held.ceiling c.put-held.result.ceiling name (tree c.in-Some.node) (take c.loop-node.held.count c.loop-node.room) _
+          (subst (λ x. name_in x name ≡ tree c.in-Some.node) e c.of-name.ensures.name) (subst (λ x. IsWorded x name) e c.of-name.ensures.word)
+          (sym c.is_left.ensures ∙ c.if-is_left.true) (sym c.has_place.ensures ∙ c.if-has_place.true) r.entries
+          (subst (λ xs. HasGathered s names (names_of xs) (limit_in s c.args.floor) c.loop-node.held.ceiling (take c.loop-node.held.count c.loop-node.room)) y.0 i.gathered);
+    }
+
+pub loop-node-preserved : goal.loop-node-preserved
+loop-node-preserved c =
+    let i = c.loop-node.invariant in
+    let y = c.in-Some.ensures.steps in
+    let s = source_of c.args.object in
+    let names = names_of (members_of (tree c.args.object)) in
+    let floor = limit_in s c.args.floor in
+    let ceiling = c.loop-node.held.ceiling in
+    let e : source_of c.in-Some.node ≡ s = y.4.0 ∙ i.source in
+    let name = c.of-name.result in
+    let unwanted : is_above floor (name_in s name) && is_below (limit_in s ceiling) (name_in s name) ≡ false =
+    elim c.else-is_left.branch [
+      | else-is_left-via-then-is_left+else-has_place w ↦ both_or (is_above floor (name_in s name)) (is_below (limit_in s ceiling) (name_in s name)) (sym w.has_place.ensures ∙ w.if-has_place.false)
+      | else-is_left-via-else-is_left w ↦ ap (λ v. v && is_below (limit_in s ceiling) (name_in s name)) (sym c.is_left.ensures ∙ w.if-is_left.false)
+    ] in
+    record {
+      some = i.some;
+      fewer = i.fewer;
+      count = i.count;
+      more = i.more;
+      source = y.3 ∙ i.source;
+      gathered = gathered_passed s names (names_of (members_left c.next.new.self)) floor ceiling name (tree c.in-Some.node) (take c.loop-node.held.count c.loop-node.room)
+          (subst (λ x. name_in x name ≡ tree c.in-Some.node) e c.of-name.ensures.name) unwanted
+          (subst (λ xs. HasGathered s names (names_of xs) floor ceiling (take c.loop-node.held.count c.loop-node.room)) y.0 i.gathered);
+    }
+  where
+    both_or : (a b : Bool) → b ≡ false → a && b ≡ false
+    both_or true b h = h
+    both_or false b h = ap (λ x. false) h

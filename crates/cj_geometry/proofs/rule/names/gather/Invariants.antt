@@ -1,21 +1,18 @@
-use Rattle.std.proofs.Common.{◌≡◌, ◌≤◌, ◌-◌, length, take, drop, true}
-use Rattle.std.specs.Prelude.{map}
-use Rattle.cj_spans.specs.Finding.{least}
-use Rattle.cj_spans.specs.View.{members_left}
-use Rattle.cj_geometry.specs.Rule.{repeats}
-use Rattle.cj_geometry.specs.Blocks.{number_of, are_marked}
-use Rattle.cj_geometry.proofs.Repeats.{Owes}
+use Rattle.std.proofs.Common.{◌≡◌, ◌<◌, length, take}
+use Rattle.std.specs.Prelude.{IsSome}
+use Rattle.cj_spans.specs.Parts.{members_of}
+use Rattle.cj_spans.specs.View.{tree, source_of, members_left, members_source}
+use Rattle.cj_geometry.specs.Names.{names_of}
+use Rattle.cj_geometry.specs.Entries.{limit_in}
+use Rattle.cj_geometry.proofs.Rooms.{HasGathered}
 use Rattle.cj_geometry.proofs.rule.names.gather.Given as goal
 
-abbrev pub invariant-loop-count : goal.invariant-loop-count
-invariant-loop-count l = record {
-  room : l.count ≤ length l.numbers;
-  size : length l.marks ≡ 65536;
-  rest : members_left l.names ≡ drop l.count (members_left l.block);
-  numbered : take l.count l.numbers ≡ map number_of (take l.count (members_left l.block));
-  marked : are_marked l.marks (take l.count l.numbers) ≡ true;
-  owes : Owes l.count (members_left l.block) l.found (least l.initial.found (repeats (members_left l.block)));
+abbrev pub invariant-loop-node : goal.invariant-loop-node
+invariant-loop-node l = record {
+  some : 0 < length l.kept;
+  fewer : length l.kept < length l.room;
+  count : l.held.count < length l.room;
+  more : IsSome l.held.ceiling → 0 < l.held.count;
+  source : members_source l.node-iterator ≡ source_of l.object;
+  gathered : HasGathered (source_of l.object) (names_of (members_of (tree l.object))) (names_of (members_left l.node-iterator)) (limit_in (source_of l.object) l.fn.floor) l.held.ceiling (take l.held.count l.room);
 }
-
-abbrev pub decreases-loop-count : goal.decreases-loop-count
-decreases-loop-count l = length l.numbers - l.count

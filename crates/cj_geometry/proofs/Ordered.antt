@@ -1,0 +1,140 @@
+-- The order of names, and what neighbours in it tell.
+use Rattle.std.proofs.Common.{◌≡◌, ℕ, ◌<◌, inl, inr, nat_lt, nat_eq, Bool, true, false, cond, List, Option, Some, None, refl, sym, ap, subst, arith, ◌∙◌}
+use Rattle.std.specs.Cmp.{IsTotalOrder, tied_itself, alike_right, then_total, on_total, nat_cmp_total}
+use Rattle.std.specs.Cmp.Lexicographic.{bytes_decides, nat_list_cmp_total, options_total, texts_ties}
+use Rattle.std.specs.Ordering.{ordering_then, ordering_reverse, nat_cmp, is_lt, is_eq}
+use Rattle.std.specs.declared.cmp.Ordering.{Ordering}
+use Rattle.std.specs.declared.cmp.Ordering.TheVariants.{Less, Equal, Greater}
+use Rattle.std.proofs.lemmas.Bool.{cases_order, cases_lt}
+use Rattle.std.proofs.lemmas.Bool.Decides.{nat_tests}
+use Rattle.cj_spans.specs.Tree.{Tree, start_of}
+use Rattle.cj_spans.specs.Parts.{text_of}
+use Rattle.cj_spans.specs.Order.{compare_texts}
+use Rattle.cj_geometry.specs.Names.{compare_names, is_earlier}
+
+-- ---- one order of all names
+
+pub order : IsTotalOrder compare_names
+order = then_total (on_total text_of (options_total nat_list_cmp_total)) (on_total start_of nat_cmp_total)
+
+less_is : (r : Ordering) → is_lt r ≡ true → r ≡ Less
+less_is Less h = refl
+less_is Equal h = cc
+less_is Greater h = cc
+
+pub earlier_itself : (t : Tree) → is_earlier t t ≡ false
+earlier_itself t = ap is_lt (tied_itself order t)
+
+pub earlier_on : (t u v : Tree) → is_earlier t u ≡ true → is_earlier u v ≡ true → is_earlier t v ≡ true
+earlier_on t u v h k = ap is_lt (order.trans t u v (less_is _ h) (less_is _ k))
+
+-- t is no later than u, which comes before v
+upto_by : (t u v : Tree) (r : Ordering) → compare_names u t ≡ r → is_lt r ≡ false → is_earlier u v ≡ true → is_earlier t v ≡ true
+upto_by t u v Less e h k = cc
+upto_by t u v Equal e h k = ap is_lt (sym (order.congr u t v e)) ∙ k
+upto_by t u v Greater e h k = earlier_on t u v (ap is_lt (order.antisymm t u ∙ ap ordering_reverse e)) k
+
+pub upto_on : (t u v : Tree) → is_earlier u t ≡ false → is_earlier u v ≡ true → is_earlier t v ≡ true
+upto_on t u v h k = upto_by t u v (compare_names u t) refl h k
+
+-- t comes before u, which is no later than v
+on_by : (t u v : Tree) (r : Ordering) → compare_names v u ≡ r → is_lt r ≡ false → is_earlier t u ≡ true → is_earlier t v ≡ true
+on_by t u v Less e h k = cc
+on_by t u v Equal e h k = ap is_lt (alike_right order v u t e) ∙ k
+on_by t u v Greater e h k = earlier_on t u v k (ap is_lt (order.antisymm u v ∙ ap ordering_reverse e))
+
+pub on_upto : (t u v : Tree) → is_earlier t u ≡ true → is_earlier v u ≡ false → is_earlier t v ≡ true
+on_upto t u v h k = on_by t u v (compare_names v u) refl k h
+
+-- a test and its negation
+pub both_sides : {b : Bool} → b ≡ true → b ≡ false → ⊥
+both_sides {b} h k = cc
+
+pub none_true : (b : Bool) → (b ≡ true → ⊥) → b ≡ false
+none_true true f = absurd (f refl)
+none_true false f = refl
+
+pub upto_upto : (t u v : Tree) → is_earlier u t ≡ false → is_earlier v u ≡ false → is_earlier v t ≡ false
+upto_upto t u v h k = none_true (is_earlier v t) (λ e. both_sides (on_upto v t u e h) k)
+
+pub earlier_not_back : (t u : Tree) → is_earlier t u ≡ true → is_earlier u t ≡ false
+earlier_not_back t u h = none_true (is_earlier u t) (λ k. both_sides (earlier_on t u t h k) (earlier_itself t))
+
+-- ---- names that neither comes before the other
+
+tied_by : (t u : Tree) (r : Ordering) → compare_names t u ≡ r → is_lt r ≡ false → is_earlier u t ≡ false → compare_names t u ≡ Equal
+tied_by t u Less e h k = cc
+tied_by t u Equal e h k = e
+tied_by t u Greater e h k = absurd (both_sides (ap is_lt (order.antisymm u t ∙ ap ordering_reverse e)) k)
+
+then_equal : (r s : Ordering) → ordering_then r s ≡ Equal → (r ≡ Equal) × (s ≡ Equal)
+then_equal Less s h = cc
+then_equal Equal s h = (refl, h)
+then_equal Greater s h = cc
+
+same_number : (m n : ℕ) → nat_cmp m n ≡ Equal → m ≡ n
+same_number m n h =
+    elim (cases_order m n) [
+      | inl e ↦ e
+      | inr (inl l) ↦ let e : nat_lt m n ≡ true = grind (arith, nat_tests) in let f : Less ≡ Equal = sym (ap (λ b. cond b Less (cond (nat_eq m n) Equal Greater)) e) ∙ h in cc
+      | inr (inr g) ↦
+          let e : nat_lt m n ≡ false = grind (arith, nat_tests) in
+          let d : nat_eq m n ≡ false = grind (arith, nat_tests) in
+          let f : Greater ≡ Equal = sym (ap (λ b. cond b Less (cond (nat_eq m n) Equal Greater)) e ∙ ap (λ b. cond b Equal Greater) d) ∙ h in
+          cc
+    ]
+
+pub same_by_order : (s t : Option (List ℕ)) → compare_texts s t ≡ Equal → s ≡ t
+same_by_order None None h = refl
+same_by_order None (Some t) h = cc
+same_by_order (Some s) None h = cc
+same_by_order (Some s) (Some t) h = ap Some ((bytes_decides s t).0 (texts_ties s t ∙ ap is_eq h))
+
+pub record AreTied (t u : Tree) : Type 0 where
+  pub text : text_of t ≡ text_of u
+  pub start : start_of t ≡ start_of u
+
+pub tied : (t u : Tree) → is_earlier t u ≡ false → is_earlier u t ≡ false → AreTied t u
+tied t u h k =
+    let e = then_equal (compare_texts (text_of t) (text_of u)) (nat_cmp (start_of t) (start_of u)) (tied_by t u (compare_names t u) refl h k) in
+    record { text = same_by_order (text_of t) (text_of u) e.0; start = same_number (start_of t) (start_of u) e.1 }
+
+-- ---- names of one text
+
+text_itself : (s t : Option (List ℕ)) → s ≡ t → compare_texts s t ≡ Equal
+text_itself s t e = subst (λ x. compare_texts s x ≡ Equal) e (tied_itself (options_total nat_list_cmp_total) s)
+
+less_number : (m n : ℕ) → m < n → nat_cmp m n ≡ Less
+less_number m n h = let e : nat_lt m n ≡ true = grind (arith, nat_tests) in ap (λ b. cond b Less (cond (nat_eq m n) Equal Greater)) e
+
+number_less : (m n : ℕ) → nat_cmp m n ≡ Less → m < n
+number_less m n h =
+    elim (cases_lt m n) [
+      | inl l ↦ l
+      | inr g ↦
+          let e : nat_lt m n ≡ false = grind (arith, nat_tests) in
+          let f : cond (nat_eq m n) Equal Greater ≡ Less = sym (ap (λ b. cond b Less (cond (nat_eq m n) Equal Greater)) e) ∙ h in
+          absurd (never_less (nat_eq m n) f)
+    ]
+  where
+    never_less : (b : Bool) → cond b Equal Greater ≡ Less → ⊥
+    never_less true e = cc
+    never_less false e = cc
+
+-- where they start orders them
+pub earlier_by_start : (t u : Tree) → text_of t ≡ text_of u → start_of t < start_of u → is_earlier t u ≡ true
+earlier_by_start t u e h =
+    ap (λ r. is_lt (ordering_then r (nat_cmp (start_of t) (start_of u)))) (text_itself (text_of t) (text_of u) e) ∙ ap is_lt (less_number (start_of t) (start_of u) h)
+
+pub start_by_earlier : (t u : Tree) → text_of t ≡ text_of u → is_earlier t u ≡ true → start_of t < start_of u
+start_by_earlier t u e h =
+    number_less (start_of t) (start_of u) (less_is _ (sym (ap (λ r. is_lt (ordering_then r (nat_cmp (start_of t) (start_of u)))) (text_itself (text_of t) (text_of u) e)) ∙ h))
+
+-- what stands between two names of one text has it too
+between_by : (t u v : Tree) (r : Ordering) → compare_texts (text_of u) (text_of v) ≡ r → text_of t ≡ text_of v → is_earlier u t ≡ false → is_earlier u v ≡ true → text_of u ≡ text_of v
+between_by t u v Less e s h k = absurd (both_sides (ap (λ x. is_lt (ordering_then (compare_texts (text_of u) x) (nat_cmp (start_of u) (start_of t)))) s ∙ ap (λ r. is_lt (ordering_then r (nat_cmp (start_of u) (start_of t)))) e) h)
+between_by t u v Equal e s h k = same_by_order (text_of u) (text_of v) e
+between_by t u v Greater e s h k = absurd (both_sides k (ap (λ r. is_lt (ordering_then r (nat_cmp (start_of u) (start_of v)))) e))
+
+pub text_between : (t u v : Tree) → text_of t ≡ text_of v → is_earlier u t ≡ false → is_earlier u v ≡ true → text_of u ≡ text_of v
+text_between t u v s h k = between_by t u v (compare_texts (text_of u) (text_of v)) refl s h k

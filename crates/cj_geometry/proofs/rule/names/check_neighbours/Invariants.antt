@@ -1,0 +1,16 @@
+use Rattle.std.proofs.Common.{◌≡◌, drop}
+use Rattle.std.specs.Prelude.{IfSome}
+use Rattle.cj_spans.specs.Finding.{least}
+use Rattle.cj_spans.specs.View.{source_of}
+use Rattle.cj_geometry.specs.Names.{neighbours, last_of}
+use Rattle.cj_geometry.specs.Entries.{IsWorded, limit_in, names_in}
+use Rattle.cj_geometry.proofs.rule.names.check_neighbours.Given as goal
+
+abbrev pub invariant-loop-name : goal.invariant-loop-name
+invariant-loop-name l = record {
+  word : IfSome l.before (IsWorded (source_of l.object));
+  last : last_of (limit_in (source_of l.object) l.before) (names_in (source_of l.object) (drop l.name-index l.names))
+      ≡ last_of (limit_in (source_of l.object) l.fn.floor) (names_in (source_of l.object) l.names);
+  told : least l.found (neighbours (limit_in (source_of l.object) l.before) (names_in (source_of l.object) (drop l.name-index l.names)))
+      ≡ least l.initial.found (neighbours (limit_in (source_of l.object) l.fn.floor) (names_in (source_of l.object) l.names));
+}

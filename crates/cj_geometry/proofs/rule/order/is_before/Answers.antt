@@ -1,0 +1,8 @@
+use Rattle.std.proofs.Common.{ap, ◌∙◌}
+use Rattle.std.specs.Ordering.{is_lt}
+use Rattle.cj_spans.specs.View.{source_of}
+use Rattle.cj_geometry.proofs.Entries.{less_as_earlier}
+use Rattle.cj_geometry.proofs.rule.order.is_before.Goals as goal
+
+pub returns : goal.returns
+returns c = c.is_lt.ensures ∙ ap is_lt c.compare.ensures ∙ less_as_earlier (source_of c.args.object) c.args.first c.args.second c.requires.first c.requires.second

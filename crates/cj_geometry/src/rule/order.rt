@@ -1,0 +1,99 @@
+//! Names of an object in order: by their texts, and of one text by where they start. So names of one text are neighbours.
+//!
+//! A name is kept as an entry of 16 bytes: the word of its text, which tells most texts apart, and its number in the line.
+//! Only where two words are the same, the line is looked at.
+ghost use Rattle.std.specs.Prelude.{◌≡◌, ◌<◌, length, All};
+ghost use Rattle.std.specs.List.Sorted.{IsPermutation};
+ghost use Rattle.cj_spans.specs.View.{tree, source_of};
+ghost use Rattle.cj_geometry.specs.Names.{compare_names, is_earlier, Ascend};
+ghost use Rattle.cj_geometry.specs.Entries.{IsWorded, name_in, names_in, compare_entries, AreLeast};
+
+use cj_spans::Node;
+use std::cmp::Ordering;
+
+/// A name of a line: the word of its text and its number.
+#[derive(Clone, Copy)]
+pub(super) struct Entry {
+    pub(super) word: u64,
+    pub(super) number: u32,
+}
+
+/// What room holds before there is a name in it.
+pub(super) const NO_NAME: Entry = Entry { word: 0, number: 0 };
+
+/// How two names are ordered.
+fn compare_nodes(first: Node, second: Node) -> Ordering
+    ensures { result ≡ compare_names (tree first.entry) (tree second.entry) }
+{
+    match first.compare_text(second) {
+        Ordering::Equal => first.start().cmp(&second.start()),
+        other => other,
+    }
+}
+
+impl Entry {
+    /// The entry of a name.
+    #[inline(always)]
+    pub(super) fn of(name: Node) -> Entry
+        ensures name { name_in (source_of name.entry) result ≡ tree name.entry }
+        ensures word { IsWorded (source_of name.entry) result }
+    {
+        Entry {
+            word: name.text_word(),
+            number: name.number(),
+        }
+    }
+
+    /// The name of the entry, in the line of an object.
+    pub(super) fn name(self, object: Node) -> Node
+        ensures { tree result ≡ name_in (source_of object.entry) self }
+    {
+        object.at(self.number)
+    }
+}
+
+/// How two entries of an object's line are ordered: by their words, and where these are the same, by their names.
+#[inline(always)]
+fn compare(object: Node, first: Entry, second: Entry) -> Ordering
+    ensures { result ≡ compare_entries (source_of object.entry) first second }
+{
+    match first.word.cmp(&second.word) {
+        Ordering::Equal => compare_nodes(first.name(object), second.name(object)),
+        other => other,
+    }
+}
+
+/// Whether the first of two names comes before the second.
+#[inline(always)]
+pub(super) fn is_before(object: Node, first: Entry, second: Entry) -> bool
+    requires first { IsWorded (source_of object) first }
+    requires second { IsWorded (source_of object) second }
+    ensures { result ≡ is_earlier (name_in (source_of object.entry) first) (name_in (source_of object.entry) second) }
+{
+    compare(object, first, second).is_lt()
+}
+
+/// Puts entries of names in order.
+pub(super) fn sort(object: Node, entries: &mut [Entry])
+    requires { All (IsWorded (source_of object)) entries.old }
+    ensures permutation { IsPermutation entries.old entries.new }
+    ensures order { Ascend (names_in (source_of object.entry) entries.new) }
+{
+    entries.sort_unstable_by(|first, second| compare(object, *first, *second));
+}
+
+/// Copies the least of these entries, as many as there is room for, and answers the next one. The order of the entries
+/// themselves is not kept.
+pub(super) fn take_least(object: Node, entries: &mut [Entry], least: &mut [Entry]) -> Entry
+    requires { length least.old < length entries.old }
+    ensures room { length entries.new ≡ length entries.old }
+    ensures count { length least.new ≡ length least.old }
+    ensures least { AreLeast (source_of object.entry) entries.old least.new result }
+{
+    let (front, next, _) = entries.select_nth_unstable_by(
+        least.len(),
+        |first, second| compare(object, *first, *second),
+    );
+    least.copy_from_slice(front);
+    *next
+}
