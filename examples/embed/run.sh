@@ -55,7 +55,7 @@ done > "$listed"
 copy_parts examples/embed "$work/crates/embed" src specs proofs
 rename .rattle .rt
 rename .logic .antt
-echo 'embed: cj_budget cj_feature cj_spans cj_stream' >> "$listed"
+echo 'embed: cj_budget cj_feature cj_geometry cj_spans cj_stream' >> "$listed"
 cd "$work/crates/embed"
 if $is_try; then
   rt try < "$input"
