@@ -1,6 +1,7 @@
 -- What a contract sees of a list with a limit.
-use Rattle.std.specs.Prelude.{◌≡◌, ◌↔◌, ◌⊎◌, ℕ, ◌<◌, ◌≤◌, List, [], length, max, Bool, IsTrue, Result, OnOk, OnErr, IsOk, IsErrOf, refl}
+use Rattle.std.specs.Prelude.{◌≡◌, ◌↔◌, ◌⊎◌, ℕ, ◌<◌, ◌≤◌, List, [], length, max, Bool, true, IsTrue, Result, OnOk, OnErr, IsOk, IsErrOf, refl}
 use Rattle.std.specs.Coded.{Coded, code_by, coded×, coded_ℕ, coded_list, coded_bool}
+use Rattle.cj_budget.specs.declared.bounded.NoMemory.{NoMemory}
 use Rattle.cj_budget.specs.declared.bounded.Refused.{Refused}
 use Rattle.cj_budget.specs.declared.bounded.Refused.TheVariants.{Full, Memory}
 
@@ -47,3 +48,11 @@ module _ {T : Type 0} where
     pub err : OnErr r (new ≡ old)
     pub refused : OnErr r (IsErrOf r (Full x) ⊎ IsErrOf r (Memory x))
     pub room : IsTrue old.reserved → length old.elements < old.limit → IsOk r
+
+  -- there is room for the limit now, and all else stays; or memory was refused and nothing has changed, which never comes
+  -- where that room was there already
+  pub record Reserves (old : BoundedList T) (r : Result (Unit {0}) NoMemory) (new : BoundedList T) : Type 0 where
+    pub ok : OnOk r (new ≡ record old { reserved = true })
+    pub err : OnErr r (new ≡ old)
+    pub room : IsTrue old.reserved → IsOk r
+    pub within : IsWithin new

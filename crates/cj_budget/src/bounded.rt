@@ -9,8 +9,11 @@
 //! asked for first, and the step after it cannot fail. Whether there is room for the limit is a part of
 //! what contracts see (`reserved`), so that a caller can know that a call succeeds; each call has to keep
 //! it. `Vec` may take more room than the limit: the bound speaks of lengths alone.
+//!
+//! `reserve_all` makes that room by one request for exactly what is missing, as a plain reserve may take
+//! twice of it. From then on nothing asks for memory, so the reserved forms have no answer to refuse with.
 ghost use Rattle.std.specs.Prelude.{◌≡◌, ◌+◌, ◌<◌, ◌≤◌, ◌↔◌, ◌++◌, ◌∷◌, [], length, IsTrue, IsOk, OnOk, OnErr, IsErrOf, slice_set};
-ghost use Rattle.cj_budget.specs.Bounded.{IsNew, IsWithin, Becomes, Adds};
+ghost use Rattle.cj_budget.specs.Bounded.{IsNew, IsWithin, Becomes, Adds, Reserves};
 
 use std::alloc::Global;
 use std::marker::Model;
@@ -131,6 +134,47 @@ impl<T: Copy> Bounded<T> {
         }
         let _ = self.items.extend_from_slice(xs);
         Ok(())
+    }
+
+    /// Makes room for as many elements as the limit allows. It asks for memory once, and not at all where
+    /// that room is there. A refusal changes nothing.
+    pub fn reserve_all(&mut self) -> Result<(), NoMemory>
+        ensures { Reserves self.old result self.new }
+    {
+        let missing = self.limit - self.items.len();
+        if self.items.try_reserve_exact(missing).is_err() {
+            return Err(NoMemory);
+        }
+        Ok(())
+    }
+
+    /// Whether there is room for as many elements as the limit allows.
+    pub fn is_reserved(&self) -> bool
+        ensures value { result ≡ self.now.reserved }
+        ensures within { IsWithin self.now }
+    {
+        self.items.capacity() >= self.limit
+    }
+
+    /// Adds an element at the end of a list that is not full and has its room reserved. It takes no memory
+    /// and cannot fail.
+    #[inline(always)]
+    pub fn push_reserved(&mut self, x: T)
+        requires reserved { IsTrue self.old.reserved }
+        requires fits { length self.old.elements < self.old.limit }
+        ensures { Becomes self.old (self.old.elements ++ x ∷ []) self.new }
+    {
+        self.items.push_reserved(x);
+    }
+
+    /// Adds all elements of a slice that fits under the limit, to a list that has its room reserved. It
+    /// takes no memory and cannot fail.
+    pub fn extend_reserved(&mut self, xs: &[T])
+        requires reserved { IsTrue self.old.reserved }
+        requires fits { length self.old.elements + length xs.now ≤ self.old.limit }
+        ensures { Becomes self.old (self.old.elements ++ xs.now) self.new }
+    {
+        let _never_fails = self.items.extend_from_slice(xs);
     }
 
     /// Replaces the element at an index. The length, the peak and the room stay. It takes no memory.

@@ -5,6 +5,9 @@
 //! remembers its greatest length, its peak. A [`Stack`] does so for the open containers. The layers
 //! above hold nothing that grows in any other list, so what they hold is bounded by the limits.
 //!
+//! Either can make room for its limit at once, by `reserve_all`. From then on it asks for no memory, and
+//! `push_reserved` and `extend_reserved` cannot fail.
+//!
 //! ```text
 //! let limits = Limits::usual(); // or Limits::new(1_000_000, 16)?
 //! let mut line = Bounded::new(alloc, limits.line() as usize);

@@ -1,11 +1,13 @@
 //! The open containers of a line: a stack with a limit, which keeps its greatest length.
 //!
 //! Contracts see it from the top on, since a scan looks at the innermost container; the code pushes at
-//! the end. Its first items lie in the stack itself, so `push` has a clause of its own for them.
-ghost use Rattle.std.specs.Prelude.{◌≡◌, ◌<◌, ◌↔◌, ◌∷◌, [], length, drop, IsTrue, IsOk, slice_get};
-ghost use Rattle.cj_budget.specs.Bounded.{IsNew, IsWithin, Becomes, Adds};
+//! the end. Its first items lie in the stack itself, so `push`, `reserve_all` and `is_reserved` have a
+//! clause of their own for them. `reserve_all` asks for exactly what is missing: a plain reserve of a
+//! `SmallVec` goes up to a power of two.
+ghost use Rattle.std.specs.Prelude.{◌≡◌, ◌<◌, ◌≤◌, ◌↔◌, ◌∷◌, [], length, drop, IsTrue, IsOk, slice_get};
+ghost use Rattle.cj_budget.specs.Bounded.{IsNew, IsWithin, Becomes, Adds, Reserves};
 
-use crate::bounded::Refused;
+use crate::bounded::{NoMemory, Refused};
 use smallvec::SmallVec;
 use std::alloc::Global;
 use std::marker::Model;
@@ -70,6 +72,39 @@ impl Stack {
         }
         self.peak = self.peak.max(length + 1);
         Ok(())
+    }
+
+    /// Makes room for as many items as the limit allows. It asks for memory once, and not at all where that
+    /// room is there, as it always is under a limit of up to 64. A refusal changes nothing.
+    pub fn reserve_all(&mut self) -> Result<(), NoMemory>
+        ensures reserves { Reserves self.old result self.new }
+        ensures inline { self.old.limit ≤ 64 → IsOk result }
+    {
+        let missing = self.limit - self.items.len();
+        if self.items.try_reserve_exact(missing).is_err() {
+            return Err(NoMemory);
+        }
+        Ok(())
+    }
+
+    /// Whether there is room for as many items as the limit allows.
+    pub fn is_reserved(&self) -> bool
+        ensures value { result ≡ self.now.reserved }
+        ensures inline { self.now.limit ≤ 64 → IsTrue result }
+        ensures within { IsWithin self.now }
+    {
+        self.items.capacity() >= self.limit
+    }
+
+    /// Puts an item on top of a stack that is not full and has its room reserved. It takes no memory and
+    /// cannot fail.
+    pub fn push_reserved(&mut self, item: u32)
+        requires reserved { IsTrue self.old.reserved }
+        requires fits { length self.old.elements < self.old.limit }
+        ensures { Becomes self.old (item ∷ self.old.elements) self.new }
+    {
+        self.items.push_reserved(item);
+        self.peak = self.peak.max(self.items.len());
     }
 
     /// Takes the top item away. It keeps the peak and the room.

@@ -121,6 +121,71 @@ fn a_list_that_is_not_full(rt: HostRuntime) -> Result<(), Fail> {
     Ok(())
 }
 
+/// Reserves the room of a list that has none, or too little, for its limit.
+fn reserve(rt: &impl Abort, list: &mut Bounded<u8>) {
+    assert!(rt; !list.is_reserved());
+    assert_eq!(rt; list.reserve_all(), Ok(()));
+    assert!(rt; list.is_reserved());
+}
+
+/// Adds an element by the form that cannot fail.
+fn push_reserved(rt: &impl Abort, list: &mut Bounded<u8>, x: u8) {
+    assert!(rt; list.is_reserved() && list.len() < list.limit());
+    list.push_reserved(x);
+}
+
+/// Adds a slice by the form that cannot fail.
+fn extend_reserved(rt: &impl Abort, list: &mut Bounded<u8>, xs: &[u8]) {
+    assert!(rt; list.is_reserved() && xs.len() <= list.limit() - list.len());
+    list.extend_reserved(xs);
+}
+
+#[test]
+fn a_list_that_is_reserved_after_use(rt: HostRuntime) -> Result<(), Fail> {
+    let mut list: Bounded<u8> = Bounded::new(rt.alloc(), 2);
+    assert_eq!(rt; list.extend_from_slice(&[1, 2]), Ok(()));
+    list.clear();
+    assert_eq!(rt; list.reserve_all(), Ok(()));
+    assert_eq!(rt; list.extend_from_slice(&[3, 4]), Ok(()));
+    assert_eq!(rt; list.as_slice(), [3u8, 4].as_slice());
+    Ok(())
+}
+
+#[test]
+fn a_list_that_is_reserved_by_the_way(rt: HostRuntime) -> Result<(), Fail> {
+    let mut list: Bounded<u8> = Bounded::new(rt.alloc(), 100);
+    assert_eq!(rt; list.push(1), Ok(()));
+    reserve(&rt, &mut list);
+    push_reserved(&rt, &mut list, 2);
+    extend_reserved(&rt, &mut list, &[3, 4]);
+    extend_reserved(&rt, &mut list, &[]);
+    assert_eq!(rt; list.as_slice(), [1u8, 2, 3, 4].as_slice());
+    assert_eq!(rt; list.peak(), 4);
+    Ok(())
+}
+
+#[test]
+fn a_list_that_keeps_its_room(rt: HostRuntime) -> Result<(), Fail> {
+    let mut list: Bounded<u8> = Bounded::new(rt.alloc(), 100);
+    reserve(&rt, &mut list);
+    extend_reserved(&rt, &mut list, &[7; 100]);
+    assert_eq!(rt; list.extend_from_slice(&[8]), Err(ExtendFault::Full));
+    list.clear();
+    assert!(rt; list.is_reserved());
+    assert_eq!(rt; list.reserve_all(), Ok(()));
+    Ok(())
+}
+
+#[test]
+fn a_list_whose_room_no_machine_has(rt: HostRuntime) -> Result<(), Fail> {
+    let mut list: Bounded<u64> = Bounded::new(rt.alloc(), usize::MAX);
+    assert_eq!(rt; list.push(1), Ok(()));
+    assert_eq!(rt; list.reserve_all(), Err(NoMemory));
+    assert!(rt; !list.is_reserved());
+    assert_eq!(rt; list.as_slice(), [1u64].as_slice());
+    Ok(())
+}
+
 #[test]
 fn one_element_is_replaced(rt: HostRuntime) -> Result<(), Fail> {
     let mut list: Bounded<u8> = Bounded::new(rt.alloc(), 3);
@@ -165,6 +230,56 @@ fn a_stack_past_its_inline_room(rt: HostRuntime) -> Result<(), Fail> {
         assert_eq!(rt; stack.pop(), Some(99 - item));
     }
     assert_eq!(rt; stack.len(), 0);
+    Ok(())
+}
+
+#[test]
+fn a_stack_whose_room_no_machine_has(rt: HostRuntime) -> Result<(), Fail> {
+    let mut stack = Stack::new(rt.alloc(), usize::MAX);
+    assert_eq!(rt; stack.push(1), Ok(()));
+    assert_eq!(rt; stack.reserve_all(), Err(NoMemory));
+    assert!(rt; !stack.is_reserved());
+    assert_eq!(rt; stack.pop(), Some(1));
+    Ok(())
+}
+
+/// Pushes by the form that cannot fail.
+fn push_item_reserved(rt: &impl Abort, stack: &mut Stack, item: u32) {
+    assert!(rt; stack.is_reserved() && stack.len() < stack.limit());
+    stack.push_reserved(item);
+}
+
+#[test]
+fn a_stack_that_needs_no_room(rt: HostRuntime) -> Result<(), Fail> {
+    let mut one = Stack::new(rt.alloc(), 1);
+    assert!(rt; one.is_reserved());
+    assert_eq!(rt; one.reserve_all(), Ok(()));
+    push_item_reserved(&rt, &mut one, 4);
+    assert_eq!(rt; one.push(5), Err(Refused::Full(5)));
+    assert_eq!(rt; one.pop(), Some(4));
+    assert_eq!(rt; one.peak(), 1);
+    let usual = Stack::new(rt.alloc(), 64);
+    assert!(rt; usual.is_reserved());
+    Ok(())
+}
+
+#[test]
+fn a_stack_that_is_reserved(rt: HostRuntime) -> Result<(), Fail> {
+    let mut stack = Stack::new(rt.alloc(), 1_024);
+    assert!(rt; !stack.is_reserved());
+    assert_eq!(rt; stack.push(0), Ok(()));
+    assert_eq!(rt; stack.reserve_all(), Ok(()));
+    for item in 1..1_024u32 {
+        push_item_reserved(&rt, &mut stack, item);
+    }
+    assert_eq!(rt; stack.push(1_024), Err(Refused::Full(1_024)));
+    assert_eq!(rt; stack.top(), Some(1_023));
+    assert_eq!(rt; stack.peak(), 1_024);
+    for item in 0..1_024u32 {
+        assert_eq!(rt; stack.pop(), Some(1_023 - item));
+    }
+    stack.clear();
+    assert!(rt; stack.is_reserved());
     Ok(())
 }
 
