@@ -7,7 +7,7 @@ use Rattle.std.proofs.lemmas.Bool.Decides.{nat_tests}
 use Rattle.std.proofs.lemmas.Grind.{common_steps}
 use Rattle.cj_spans.specs.declared.text.CodePoint.{CodePoint}
 use Rattle.cj_spans.specs.Decoding.{left, after_read, ReadsCodePoint, plain_front, code_points_from}
-use Rattle.cj_spans.specs.Hash.{hash_on}
+use Rattle.cj_spans.specs.Tail.{tail_on}
 use Rattle.cj_spans.specs.Order.{compare}
 use Rattle.std.specs.declared.cmp.Ordering.TheVariants.{Equal}
 use Rattle.cj_spans.specs.Text.{char_of, four_digits, unit, is_unicode, is_escaped, is_pair, escaped, first_code_point, first_width, code_points_after, text, are_same, StandFor, done, plain, letter, single, pair}
@@ -290,8 +290,8 @@ order_ends bs ds i j h k = ap (λ ps. compare ps (code_points_from ds j)) (point
 pub order_ends_with : (bs ws : List ℕ) (i j : ℕ) → length bs ≤ i → length ws ≤ j → compare (code_points_from bs i) (left ws j) ≡ Equal
 order_ends_with bs ws i j h k = ap (λ ps. compare ps (left ws j)) (points_done bs i (chars_past bs i h)) ∙ ap (compare []) (chars_past ws j k)
 
-pub hash_ends : (bs : List ℕ) (i h : ℕ) → length bs ≤ i → hash_on h (code_points_from bs i) ≡ h
-hash_ends bs i h e = ap (hash_on h) (points_done bs i (chars_past bs i e))
+pub tail_ends : (bs : List ℕ) (i h : ℕ) → length bs ≤ i → tail_on h (code_points_from bs i) ≡ h
+tail_ends bs i h e = ap (tail_on h) (points_done bs i (chars_past bs i e))
 
 -- ---- between the quotes
 

@@ -5,7 +5,7 @@ pub mod Judgement
 pub mod Front
 pub mod Preorder
 pub mod Forest
-pub mod Hash
+pub mod Tail
 pub mod Order
 pub mod Scan
 pub mod Pass

@@ -57,5 +57,5 @@ pub use next::slow_next;
 pub use node::{Doc, Items, Members, Node};
 pub use reason::Reason;
 pub use scanner::scan;
-pub use text::{compare_strings, hash_of_string};
+pub use text::{compare_strings, tail_of_string};
 pub use token::{Kind, Token};

@@ -27,7 +27,7 @@ mod examples;
 mod tests;
 
 use crate::text::{
-    CodePoints, compare_spelling_with, compare_spellings, hash, spell_one_text, spells, word,
+    CodePoints, compare_spelling_with, compare_spellings, spell_one_text, spells, tail, word,
 };
 use crate::token::{Kind, Token};
 use std::cmp::Ordering;
@@ -266,7 +266,7 @@ impl<'a> Node<'a> {
     ghost use Rattle.cj_spans.specs.Parts.{text_of, are_same_texts, has_text, first_code_of, member_of};
     ghost use Rattle.cj_spans.specs.Decoding.{code_points_left};
     ghost use Rattle.cj_spans.specs.Text.{text};
-    ghost use Rattle.cj_spans.specs.Hash.{hash_of};
+    ghost use Rattle.cj_spans.specs.Tail.{tail_of};
     ghost use Rattle.cj_spans.specs.Order.{compare_texts, word_of};
     ghost use Rattle.cj_spans.specs.View.{tree, line_of};
 
@@ -370,14 +370,14 @@ impl<'a> Node<'a> {
         }
     }
 
-    /// A number of 64 bits of the text of a string or a name; 0 for any other value. Equal texts have equal
-    /// numbers, however they are spelled, and other texts seldom do: it tells quickly that two texts differ,
-    /// and never that they are the same.
-    pub fn text_hash(self) -> u64
-        ensures { result ≡ hash_of (text_of (tree self.entry)) }
+    /// The last eight code points of the text of a string or a name as one number; 0 for any other value. Equal texts
+    /// have equal numbers, however they are spelled: so texts that begin alike and end otherwise are told apart without
+    /// a look at the line.
+    pub fn text_tail(self) -> u64
+        ensures { result ≡ tail_of (text_of (tree self.entry)) }
     {
         match self.points() {
-            Some(points) => hash(points),
+            Some(points) => tail(points),
             None => 0,
         }
     }

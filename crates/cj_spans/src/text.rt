@@ -4,7 +4,7 @@ ghost use Rattle.std.specs.Str.{chars, chars_after};
 ghost use Rattle.std.specs.Char.{digit_value as digit_value_of};
 ghost use Rattle.std.specs.Char.Utf16.{is_high_surrogate as is_high_of, is_low_surrogate as is_low_of};
 ghost use Rattle.cj_spans.specs.Decoding.{left, after_read, ReadsCodePoint, plain_front, code_points_from, code_points_left, characters_left};
-ghost use Rattle.cj_spans.specs.Hash.{hash_step, hash_on};
+ghost use Rattle.cj_spans.specs.Tail.{tail_step, tail_on};
 ghost use Rattle.cj_spans.specs.Order.{compare, digits};
 ghost use Rattle.cj_spans.specs.Text.{char_of, four_digits, escaped as escaped_of, is_escaped, is_unicode, unit, first_code_point, first_width, text, are_same};
 
@@ -13,7 +13,7 @@ mod examples;
 mod strings;
 
 use std::cmp::Ordering;
-pub use strings::{compare_strings, hash_of_string};
+pub use strings::{compare_strings, tail_of_string};
 
 /// A code point, and the place after it.
 #[derive(Clone, Copy)]
@@ -701,49 +701,44 @@ pub(crate) fn word(points: CodePoints) -> u64
     word
 }
 
-/// What the hash of a text begins with.
-const HASH_START: u64 = 14_695_981_039_346_656_037;
+/// Seven code points of a tail are below this: the next one takes the place of the first of eight.
+const SEVEN_DIGITS: u64 = 1 << 56;
 
-/// What each code point is multiplied by in the hash.
-const HASH_FACTOR: u64 = 11_400_714_819_323_198_485;
-
-/// The state of the hash after one code point more. No part of it is linear in the code points before, so texts
-/// that are to have one hash have to be searched for.
+/// The tail after one code point more.
 #[inline(always)]
-fn hash_code_point(state: u64, point: u32) -> u64
-    ensures { result ≡ hash_step state point }
+fn tail_with(tail: u64, point: u32) -> u64
+    ensures { result ≡ tail_step tail point }
 {
-    let product = (state ^ point as u64).wrapping_mul(HASH_FACTOR);
-    product ^ (product >> 32)
+    tail % SEVEN_DIGITS * BASE + point.min(PAST_DIGITS) as u64
 }
 
-/// The hash after these code points, from a state on, by code points: for what is spelled by escapes or is not ASCII.
+/// The tail after these code points, from a front on, by code points: for what is spelled by escapes or is not ASCII.
 #[cold]
 #[inline(never)]
-fn hash_slowly(state: u64, points: CodePoints) -> u64
-    ensures { result ≡ hash_on state (code_points_left points.entry) }
+fn tail_slowly(front: u64, points: CodePoints) -> u64
+    ensures { result ≡ tail_on front (code_points_left points.entry) }
 {
-    let mut hash = state;
+    let mut tail = front;
     for point in points {
-        hash = hash_code_point(hash, point);
+        tail = tail_with(tail, point);
     }
-    hash
+    tail
 }
 
-/// A number of a string's text: the code points alone make it, not their spelling.
-#[tactic(auto, using(crate::proofs::Texts::hash_ends))]
+/// The last eight code points of a string's text as one number.
+#[tactic(auto, using(crate::proofs::Texts::tail_ends))]
 #[inline]
-pub(crate) fn hash(points: CodePoints) -> u64
-    ensures { result ≡ hash_on HASH_START (code_points_left points.entry) }
+pub(crate) fn tail(points: CodePoints) -> u64
+    ensures { result ≡ tail_on 0 (code_points_left points.entry) }
 {
-    let mut hash = HASH_START;
+    let mut tail = 0;
     let mut left = points;
     while let Some(byte) = plain_at(left.bytes, left.place) {
-        hash = hash_code_point(hash, byte as u32);
+        tail = tail_with(tail, byte as u32);
         left.place += 1;
     }
     if left.place >= left.bytes.len() {
-        return hash;
+        return tail;
     }
-    hash_slowly(hash, left)
+    tail_slowly(tail, left)
 }

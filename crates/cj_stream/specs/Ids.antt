@@ -4,18 +4,18 @@ use Rattle.std.specs.List.Sorted.{IsPermutation, IsSortedBy}
 use Rattle.std.specs.Ordering.{nat_cmp, ordering_then, is_lt, is_eq}
 use Rattle.std.specs.Str.{chars}
 use Rattle.std.specs.declared.cmp.Ordering.{Ordering}
-use Rattle.cj_spans.specs.Hash.{hash_of}
+use Rattle.cj_spans.specs.Tail.{tail_of}
 use Rattle.cj_spans.specs.Order.{compare_texts}
 use Rattle.cj_stream.specs.declared.query.ids.Entry.{Entry}
 
--- what ids are ordered by: the number of a text, and then the text
+-- what ids are ordered by: the end of a text as a number, and then the text
 pub record Key : Type 0 where
   pub number : ℕ
   pub text : Option (List ℕ)
 
 -- the key of a text
 abbrev pub key_of : Option (List ℕ) → Key
-key_of text = record { number = hash_of text; text = text }
+key_of text = record { number = tail_of text; text = text }
 
 -- how two keys are ordered
 abbrev pub compare_keys : Key → Key → Ordering

@@ -303,6 +303,30 @@ fn words_are_of_the_first_eight_code_points(rt: HostRuntime) -> Result<(), Fail>
     Ok(())
 }
 
+#[test]
+fn tails_are_of_the_last_eight_code_points(rt: HostRuntime) -> Result<(), Fail> {
+    let line =
+        b"[12,\"\",\"a\",\"\\u0061b\",\"abcdefgh\",\"xabcdefgh\",\"a\xE2\x82\xACb\",\"\\u00e9a\",\"\xC3\xBFa\"]";
+    let tails = [
+        0u64,
+        0,
+        0x61,
+        0x6162,
+        0x6162_6364_6566_6768,
+        0x6162_6364_6566_6768,
+        0x61_FF62,
+        0xE961,
+        0xFF61,
+    ];
+    let mut tokens: Bounded<Token> = Bounded::new(rt.alloc(), 1_000);
+    let items = view(&rt, rt.alloc(), line, &mut tokens).root().items();
+    for (item, tail) in items.zip(tails.iter()) {
+        assert_eq!(&rt; item.text_tail(), *tail);
+    }
+    assert_eq!(&rt; crate::tail_of_string("a\u{20AC}b"), 0x61_FF62);
+    Ok(())
+}
+
 /// How the items of a line are ordered beside a text.
 fn are_ordered_beside(items: Items, text: &str, wanted: &[Ordering]) -> bool {
     let mut all = true;

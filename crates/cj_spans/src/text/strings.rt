@@ -1,10 +1,10 @@
 //! Texts that stand in no line, such as what a query asks for: their order and their numbers are those that nodes have.
 ghost use Rattle.std.specs.Prelude.{◌≡◌, Some};
 ghost use Rattle.std.specs.Str.{chars};
-ghost use Rattle.cj_spans.specs.Hash.{hash_of};
+ghost use Rattle.cj_spans.specs.Tail.{tail_of};
 ghost use Rattle.cj_spans.specs.Order.{compare};
 
-use crate::text::{Characters, HASH_START, hash_code_point};
+use crate::text::{Characters, tail_with};
 use std::cmp::Ordering;
 
 /// How two texts are ordered, as [`crate::Node::compare_text`] orders those of nodes.
@@ -29,13 +29,13 @@ pub fn compare_strings(first: &str, second: &str) -> Ordering
     }
 }
 
-/// The number of a text, which is [`crate::Node::text_hash`] of a node that has it.
-pub fn hash_of_string(text: &str) -> u64
-    ensures { result ≡ hash_of (Some (chars text.now)) }
+/// The last eight code points of a text as one number, which is [`crate::Node::text_tail`] of a node that has it.
+pub fn tail_of_string(text: &str) -> u64
+    ensures { result ≡ tail_of (Some (chars text.now)) }
 {
-    let mut hash = HASH_START;
+    let mut tail = 0;
     for character in Characters::of(text) {
-        hash = hash_code_point(hash, character);
+        tail = tail_with(tail, character);
     }
-    hash
+    tail
 }

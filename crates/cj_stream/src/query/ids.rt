@@ -5,9 +5,9 @@
 //! sorted. So each run is more than so many times as long as the next one: there are few, one is looked up in each by a binary
 //! search, and to add an id takes some sorts of short runs, and a sort of long ones seldom.
 //!
-//! Entries are ordered by the numbers of their texts, and by the texts where these are the same. Numbers stand side by side, so
-//! that a text is gone to for about one id of all, also where ids begin alike. Who makes ids of one number makes each step of a
-//! search compare texts, and no more steps.
+//! Entries are ordered by the ends of their texts, eight code points as a number, and by the texts where these are the same.
+//! Numbers stand side by side, so that a text is gone to for about one id of all, also where ids begin alike. Where ids end alike
+//! too each step of a search compares texts, and there are no more steps.
 ghost use Rattle.std.specs.Prelude.{◌≡◌, ℕ, ◌+◌, ◌-◌, ◌<◌, ◌≤◌, ◌^◌, [], ◌∷◌, ◌++◌, length, map, take, drop, sum, vec_items, vec_len, vec_capacity, string_bytes, IfErr, OnOk, OnErr, Some};
 ghost use Rattle.std.specs.List.{list_any};
 ghost use Rattle.std.specs.List.Sorted.{IsPermutation};
@@ -20,7 +20,7 @@ ghost use Rattle.cj_stream.specs.Ids.{key_of, compare_keys, id_at, key_at, keys_
 ghost use Rattle.cj_stream.specs.declared.query.fault.QueryFault.TheVariants.{Memory};
 
 use crate::query::fault::QueryFault;
-use cj_spans::{Node, compare_strings, hash_of_string};
+use cj_spans::{Node, compare_strings, tail_of_string};
 use std::alloc::{AllocError, Global};
 use std::cmp::Ordering;
 use std::marker::Model;
@@ -28,7 +28,7 @@ use std::marker::Model;
 /// How many times as long as what stands behind it a run has to be, so that it stays a run.
 const STEP: usize = 8;
 
-/// The number of an id, and its place among the ids.
+/// The end of an id as a number, and its place among the ids.
 #[derive(Clone, Copy)]
 struct Entry {
     number: u64,
@@ -154,7 +154,7 @@ fn add_entry(texts: &mut Vec<String>, entries: &mut Vec<Entry>, runs: &mut Vec<u
     ensures indexed { AreIndexed (vec_items texts.new) (vec_items entries.new) (vec_items runs.new) }
 {
     let entry = Entry {
-        number: hash_of_string(text.as_str()),
+        number: tail_of_string(text.as_str()),
         place: texts.len(),
     };
     let count = join_last(runs);
@@ -182,7 +182,7 @@ fn is_in_runs(texts: &[String], entries: &[Entry], runs: &[usize], node: Node) -
     ensures { result ≡ list_any (λ key. is_eq (compare_keys key (key_of (text_of (tree node.entry)))))
         (keys_at texts.now entries.now) }
 {
-    let number = node.text_hash();
+    let number = node.text_tail();
     let mut rest = entries;
     for length in runs {
         let (run, others) = rest.split_at(*length);
