@@ -97,7 +97,7 @@ not-so false h = refl
 
 -- ---- texts
 
-from-texts : (o p : Option (List ℕ)) → are_same_texts o p ≡ true → (t : List ℕ) × (o ≡ Some t) × (p ≡ Some t)
+pub from-texts : (o p : Option (List ℕ)) → are_same_texts o p ≡ true → (t : List ℕ) × (o ≡ Some t) × (p ≡ Some t)
 from-texts None p h = cc
 from-texts (Some s) None h = cc
 from-texts (Some s) (Some t) h = (s, refl, ap (λ z. Some z) (sym ((bytes_decides s t).0 h)))

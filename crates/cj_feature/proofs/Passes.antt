@@ -58,8 +58,3 @@ walks objects (m ∷ ms) o =
     ∙ walks objects ms (least (least o c) (p ++ q))
     ∙ ap (λ x. least x all) (least-append (least o c) p q ∙ ap (λ x. least x q) (sym (least-append o c p)) ∙ sym (least-append o (c ++ p) q))
     ∙ sym (least-append o (c ++ p ++ q) all)
-
--- ---- a parent that is not in the feature
-
-pub absent_parent : (objects : List (Tree × Tree)) (name item : Tree) (o : Option Finding) → is_known objects item ≡ false → o ≡ least o (parent objects name item)
-absent_parent objects name item o h = sym (ap (λ v. least o (cond v (answered (lists (chars (codes "children")) objects item name) item) [])) h)

@@ -20,9 +20,9 @@ use Rattle.cj_spans.specs.declared.token.Kind.TheVariants.{Null, Truth, Number, 
 use Rattle.cj_spans.specs.Tree.{Tree, scalar, array, object}
 use Rattle.cj_spans.specs.Parts.{kind_of, members_of, text_of, are_same_texts}
 use Rattle.cj_spans.specs.View.{tree}
-use Rattle.cj_geometry.proofs.Repeats.{same_texts}
 use Rattle.cj_feature.specs.declared.feature.questions.Question.{Question}
 use Rattle.cj_feature.specs.Links.{same_text, is_known, lists}
+use Rattle.cj_feature.proofs.LinkFaults.{from-texts}
 use Rattle.cj_feature.specs.Questions.{Key, compare_keys, key_of, from_in, to_in, key_in, AreInOrder, IsPlaceOf, IsFirstOn, IsQuestion, AreListed, AreLeft}
 
 -- ---- marks
@@ -40,8 +40,11 @@ unmarked marks p i below clear =
       | inr n ↦ sym (get_or-set_other marks p i true false n) ∙ clear
     ]
 
+same_texts : (t u : Tree) → same_text t u ≡ true → text_of t ≡ text_of u
+same_texts t u h = let texts = from-texts (text_of t) (text_of u) h in texts.1 ∙ sym texts.2
+
 shared : (a b c : Tree) → same_text a b ≡ true → same_text a c ≡ true → same_text b c ≡ true
-shared a b c e f = subst (λ o. are_same_texts o (text_of c) ≡ true) (same_texts (text_of a) (text_of b) e) f
+shared a b c e f = subst (λ o. are_same_texts o (text_of c) ≡ true) (same_texts a b e) f
 
 -- ---- the order
 
@@ -56,7 +59,7 @@ pub in_order : (objects : Node) {F : Type 0} {g : Mut F (Bor Question × (Bor Qu
 in_order objects {g = g} {f = f} qs sorted each =
     let key = key_in objects in
     sorted (λ x y. is_lt (compare_keys (key x) (key y))) (ranks_by keys_total key)
-      (always_returns_same g (λ a r. is_lt r ≡ is_lt (compare_keys (key a.0.now) (key a.1.0.now))) f (λ a r f' k. (ap is_lt (each a r f' k).0, (each a r f' k).1)))
+    (always_returns_same g (λ a r. is_lt r ≡ is_lt (compare_keys (key a.0.now) (key a.1.0.now))) f (λ a r f' k. (ap is_lt (each a r f' k).0, (each a r f' k).1)))
 
 no_later : (r s : Ordering) → ordering_index r ≤ ordering_index s → is_lt s ≡ true → is_lt r ≡ true
 no_later Less s h e = refl
@@ -81,13 +84,13 @@ either false = inr refl
 one_place : {X : Type 0} (p : X → Bool) (xs : List X) (d : X) (i j : ℕ) → i < length xs → IsPartitionPoint (λ y. p y ≡ true) (λ y. p y ≡ false) xs i → IsPartitionPoint (λ y. p y ≡ true) (λ y. p y ≡ false) xs j → i ≡ j
 one_place p xs d i j below h k =
     let no_less : i < j → ⊥ = λ lt.
-          let a : p (get_or xs i d) ≡ true = k.0 i d (omega arith) lt in
-          let b : p (get_or xs i d) ≡ false = h.1 i d (omega arith) below in
-          cc in
+    let a : p (get_or xs i d) ≡ true = k.0 i d (omega arith) lt in
+    let b : p (get_or xs i d) ≡ false = h.1 i d (omega arith) below in
+    cc in
     let no_more : j < i → ⊥ = λ lt.
-          let a : p (get_or xs j d) ≡ true = h.0 j d (omega arith) lt in
-          let b : p (get_or xs j d) ≡ false = k.1 j d (omega arith) (omega arith) in
-          cc in
+    let a : p (get_or xs j d) ≡ true = h.0 j d (omega arith) lt in
+    let b : p (get_or xs j d) ≡ false = k.1 j d (omega arith) (omega arith) in
+    cc in
     omega arith
 
 module _ (objects : Node) (qs : List Question) where
@@ -117,35 +120,35 @@ module _ (objects : Node) (qs : List Question) where
     -- whose name is not asked about
     pub left_unasked : ((i : ℕ) → IsFirstOn objects qs m.0 i → None ≡ Some i) → AreLeft objects qs marks rest
     left_unasked none = λ t i f clear.
-      elim (either (same_text m.0 t)) [
-        | inl e ↦ let no : None ≡ Some i = none i (moved m.0 t i (same_texts (text_of m.0) (text_of t) e) f) in absurd (cc)
-        | inr e ↦ left t i f clear ∙ ap (λ v. v || is_known rest t) e
-      ]
+        elim (either (same_text m.0 t)) [
+          | inl e ↦ let no : None ≡ Some i = none i (moved m.0 t i (same_texts m.0 t e) f) in absurd (cc)
+          | inr e ↦ left t i f clear ∙ ap (λ v. v || is_known rest t) e
+        ]
 
     -- whose name is asked about: the first question on it has a mark now
     pub left_marked : (p : ℕ) → p < length marks → ((i : ℕ) → IsFirstOn objects qs m.0 i → Some p ≡ Some i) → AreLeft objects qs (slice_set marks p true) rest
     left_marked p below is = λ t i f clear.
-      elim (either (same_text m.0 t)) [
-        | inl e ↦
-            let same : Some p ≡ Some i = is i (moved m.0 t i (same_texts (text_of m.0) (text_of t) e) f) in
-            let at : p ≡ i = cc in
-            absurd (marked-not marks p i below at clear)
-        | inr e ↦ left t i f (unmarked marks p i below clear) ∙ ap (λ v. v || is_known rest t) e
-      ]
+        elim (either (same_text m.0 t)) [
+          | inl e ↦
+              let same : Some p ≡ Some i = is i (moved m.0 t i (same_texts m.0 t e) f) in
+              let at : p ≡ i = cc in
+              absurd (marked-not marks p i below at clear)
+          | inr e ↦ left t i f (unmarked marks p i below clear) ∙ ap (λ v. v || is_known rest t) e
+        ]
 
   -- ---- what is listed
 
   pub listed_on : (list : List ℕ) (marks : List Bool) (from to : Tree) (p : ℕ) → AreListed list objects qs marks → IsQuestion objects qs from to p
       → ((f t : Tree) → same_text from f ≡ true → same_text to t ≡ true → lists list (members_of (tree objects)) f t ≡ true) → AreListed list objects qs (slice_set marks p true)
   listed_on list marks from to p old here has = λ i q stands marked.
-    elim (cases_eq i p) [
-      | inl e ↦
-          let other : slice_get qs i ≡ Some here.question = ap (slice_get qs) e ∙ here.stands in
-          let same : q ≡ here.question = cc in
-          λ f t h k. has f t (shared (from_in objects here.question) from f here.first (subst (λ w. same_text (from_in objects w) f ≡ true) same h))
+      elim (cases_eq i p) [
+        | inl e ↦
+            let other : slice_get qs i ≡ Some here.question = ap (slice_get qs) e ∙ here.stands in
+            let same : q ≡ here.question = cc in
+            λ f t h k. has f t (shared (from_in objects here.question) from f here.first (subst (λ w. same_text (from_in objects w) f ≡ true) same h))
             (shared (to_in objects here.question) to t here.second (subst (λ w. same_text (to_in objects w) t ≡ true) same k))
-      | inr n ↦ old i q stands (sym (get_or-set_other marks p i true false n) ∙ marked)
-    ]
+        | inr n ↦ old i q stands (sym (get_or-set_other marks p i true false n) ∙ marked)
+      ]
 
   -- ---- no questions
 

@@ -27,8 +27,8 @@ const HEADER: &str =
 fn tokens_of(rt: &impl Abort, alloc: Global, line: &[u8]) -> Bounded<Token>
     ensures { AreOf line.now result.elements }
 {
-    assert!(rt; line.len() <= 4_000_000);
-    let mut tokens: Bounded<Token> = Bounded::new(alloc, 4_000_000);
+    assert!(rt; line.len() <= 1_000_000);
+    let mut tokens: Bounded<Token> = Bounded::new(alloc, 1_000_000);
     let mut stack = Stack::new(alloc, 64);
     match scan(line, &mut tokens, &mut stack) {
         Ok(()) => {}

@@ -1,12 +1,15 @@
-//! Questions on links, of which many are answered in one walk over the city objects: whether a text is the name of one,
-//! and whether one of that name lists another text.
+//! Questions on links: is a text the name of a city object, and does one of that name list another text? Many are
+//! answered in one walk over the city objects.
 //!
-//! Of what is asked next as much is noted as there is room for, and sorted by the texts. Then each name is looked up in
-//! it by halves, and where a question asks for the name, each item of its list is. So n links take n / 28,672 walks, each of a look-up for a
-//! name and an item, whatever the names are and in whatever order they stand. Equal questions stand side by side, and of
-//! these the first alone is marked and read. What is noted is never wrong, whatever is asked next; but it may not be what is asked.
+//! What is asked next is noted as far as there is room, and sorted by the texts. Then a walk looks each name up among
+//! the questions by halves, and each item of its list where a question asks for the name. So n links take n / 28,672
+//! walks, and each walk a search for each name and for the items of the lists that are asked about, whatever the texts
+//! are and in whatever order they stand. Equal questions stand side by side: the first alone is marked and read.
 //!
-//! No memory is taken. The questions are 516,104 bytes, which a caller has on its stack.
+//! What is asked next is only guessed by the lists that follow, and no answer hangs on the guess: a mark is set where a
+//! city object lists what a question asks, and no mark is missing where a name is asked for.
+//!
+//! No memory is taken: `Questions` is 516,104 bytes of the stack.
 ghost use Rattle.std.specs.Prelude.{◌≡◌, ◌≤◌, ◌<◌, ℕ, List, [], ◌∷◌, Some, IfSome, length, true, false, slice_get, slice_index_or, slice_set};
 ghost use Rattle.std.specs.Ordering.{is_lt};
 ghost use Rattle.std.specs.Str.{chars};
@@ -22,8 +25,8 @@ use std::cmp::Ordering;
 /// How many questions are noted at once.
 const ROOM: usize = 28_672;
 
-/// A question: whether some city object of the name `from` lists `to`. Both are told by the numbers of nodes in the line
-/// of the city objects, and most first texts are told apart by their words.
+/// A question: whether some city object of the name `from` lists `to`. Both are told by the numbers of nodes in the
+/// line of the city objects, and most first texts are told apart by their words.
 #[derive(Clone, Copy)]
 pub struct Question {
     word: u64,
@@ -149,8 +152,8 @@ fn question_at(questions: &[Question], place: usize) -> Option<Question>
     }
 }
 
-/// The place of the first question on a text, if there is one. What is no text comes before all texts, and so do the city
-/// objects as a second text.
+/// The place of the first question on a text, if there is one. What is no text comes before all texts, so the city
+/// objects stand for a second text before all others.
 fn first_on(objects: Node, questions: &[Question], text: Node) -> Option<usize>
     requires { AreInOrder objects questions.now }
     ensures first { IfSome result (IsFirstOn objects.entry questions.now (tree text.entry)) }
@@ -279,14 +282,7 @@ impl Questions {
     }
 
     /// Marks the questions that the list of a city object of this name answers.
-    fn answer_items(
-        &mut self,
-        list: &str,
-        objects: Node,
-        name: Node,
-        object: Node,
-        later: Members,
-    )
+    fn answer_items(&mut self, list: &str, objects: Node, name: Node, object: Node, later: Members)
         requires answered { AreAnswered (chars list.now) objects (members_left later) self.old }
         requires listed { (from to : Tree) → same_text (tree name) from ≡ true
             → has_item_of (listed_in (chars list.now) (tree object)) to ≡ true
@@ -309,14 +305,7 @@ impl Questions {
 
     /// Marks the questions that a city object answers, if one asks for its name; then these are answered by all but the
     /// later city objects.
-    fn answer_object(
-        &mut self,
-        list: &str,
-        objects: Node,
-        name: Node,
-        object: Node,
-        later: Members,
-    )
+    fn answer_object(&mut self, list: &str, objects: Node, name: Node, object: Node, later: Members)
         requires answered { AreAnswered (chars list.now) objects (trees (name, object) ∷ members_left later) self.old }
         requires listed { (from to : Tree) → same_text (tree name) from ≡ true
             → has_item_of (listed_in (chars list.now) (tree object)) to ≡ true
@@ -352,32 +341,24 @@ impl Questions {
         self.answer_all(list, objects);
     }
 
-    /// Whether the question is noted.
-    fn is_noted(&self, list: &str, objects: Node, pair: Pair) -> bool
+    /// What was found for a question; None where it is not noted.
+    fn found(&self, list: &str, objects: Node, pair: Pair) -> Option<Answer>
         requires { AreAnswered (chars list.now) objects [] self.now }
-    {
-        find(objects, &self.questions[..self.count], pair).is_some()
-    }
-
-    /// What was found for a question.
-    fn found(&self, list: &str, objects: Node, pair: Pair) -> Answer
-        requires { AreAnswered (chars list.now) objects [] self.now }
-        ensures { IsAnswer (chars list.now) objects.entry (tree pair.entry.from) (tree pair.entry.to) result }
+        ensures { IfSome result (IsAnswer (chars list.now) objects.entry (tree pair.entry.from) (tree pair.entry.to)) }
     {
         let questions = &self.questions[..self.count];
-        if let Some(place) = find(objects, questions, pair) {
-            if self.listed[place] {
-                return Answer::Listed;
-            }
+        let place = find(objects, questions, pair)?;
+        if self.listed[place] {
+            return Some(Answer::Listed);
         }
         match first_on(objects, questions, pair.from) {
-            Some(place) if !self.known[place] => Answer::Absent,
-            _ => Answer::Untold,
+            Some(first) if !self.known[first] => Some(Answer::Absent),
+            _ => Some(Answer::Untold),
         }
     }
 
-    /// Whether a city object of the name that is an item lists the one that is gone over, in its list of the name `list`.
-    /// Where that is not noted, it and what is asked next, by lists of the name `asked`, are noted and answered.
+    /// Whether a city object of the name that is an item lists the one that is gone over, in its list of the name
+    /// `list`. Where that is not noted, it is noted and answered with what is asked next, by lists of the name `asked`.
     pub fn answer(
         &mut self,
         list: &str,
@@ -393,10 +374,14 @@ impl Questions {
         match item.kind() {
             Kind::Text => {
                 let pair = Pair::of(item, ahead.name);
-                if !self.is_noted(list, objects, pair) {
-                    self.ask(list, asked, objects, item, ahead);
+                if let Some(answer) = self.found(list, objects, pair) {
+                    return answer;
                 }
-                self.found(list, objects, pair)
+                self.ask(list, asked, objects, item, ahead);
+                match self.found(list, objects, pair) {
+                    Some(answer) => answer,
+                    None => Answer::Untold,
+                }
             }
             _ => Answer::Absent,
         }

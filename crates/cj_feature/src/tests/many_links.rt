@@ -5,8 +5,11 @@ use std::alloc::{AllocError, Global};
 use std::process::Abort;
 use std::test::Fail;
 
-/// How many city objects a line has, or how many others one lists: more than are asked about at once.
-const MANY: u32 = 30_000;
+/// How many city objects a line has.
+const MANY: u32 = 4500;
+
+/// How many items a long list has: more than are asked about at once.
+const LONG: u32 = 30_000;
 
 /// A line of these city objects, whose first is `p0`, has the finding that is wanted.
 fn objects_meet(
@@ -60,7 +63,7 @@ fn ring(alloc: Global, broken: u32) -> Result<String, AllocError> {
 fn rings(rt: HostRuntime) -> Result<(), Fail> {
     let whole = ring(rt.alloc(), MANY)?;
     objects_meet(&rt, rt.alloc(), &whole, "none")?;
-    let broken = ring(rt.alloc(), 29_000)?;
+    let broken = ring(rt.alloc(), 3000)?;
     objects_meet(&rt, rt.alloc(), &broken, "22 link not mutual")?;
     let last = ring(rt.alloc(), MANY - 1)?;
     objects_meet(&rt, rt.alloc(), &last, "22 link not mutual")?;
@@ -112,9 +115,17 @@ fn children_listed_backwards(rt: HostRuntime) -> Result<(), Fail> {
 fn names_by_escapes(rt: HostRuntime) -> Result<(), Fail> {
     let alloc = rt.alloc();
     let letter = r"\u0070";
-    let whole = building(alloc, &backwards(alloc, 0)?, &parts(alloc, letter, 0, "p0")?)?;
+    let whole = building(
+        alloc,
+        &backwards(alloc, 0)?,
+        &parts(alloc, letter, 0, "p0")?,
+    )?;
     objects_meet(&rt, alloc, &whole, "none")?;
-    let of_another = building(alloc, &backwards(alloc, 7)?, &parts(alloc, letter, 7, r"\u00708")?)?;
+    let of_another = building(
+        alloc,
+        &backwards(alloc, 7)?,
+        &parts(alloc, letter, 7, r"\u00708")?,
+    )?;
     objects_meet(&rt, alloc, &of_another, "22 link not mutual")?;
     Ok(())
 }
@@ -170,14 +181,34 @@ fn a_part_of_what_is_no_city_object(rt: HostRuntime) -> Result<(), Fail> {
     Ok(())
 }
 
-/// A text listed again and again.
-fn again(alloc: Global, text: &str) -> Result<String, AllocError> {
-    let mut texts = String::new(alloc);
-    for i in 0..MANY {
-        let comma = comma(i);
-        texts.push_str(&format!(in alloc; r#"{comma}"{text}""#)?)?;
+/// An item listed so many times.
+fn again(alloc: Global, item: &str, count: u32) -> Result<String, AllocError> {
+    let mut items = String::from_str(alloc, item)?;
+    for _ in 1..count {
+        items.push_str(",")?;
+        items.push_str(item)?;
     }
-    Ok(texts)
+    Ok(items)
+}
+
+/// A ring behind a group that lists a text so often that what is asked next ends amid the ring.
+fn ring_behind_a_group(alloc: Global, broken: u32) -> Result<String, AllocError> {
+    let texts = again(alloc, r#""q""#, 27_000)?;
+    let ring = ring(alloc, broken)?;
+    format!(in alloc;
+        r#""g":{{"type":"CityObjectGroup","children":[{texts}],"parents":[{texts}]}},{ring}"#
+    )
+}
+
+#[test]
+fn rings_behind_a_group(rt: HostRuntime) -> Result<(), Fail> {
+    let whole = ring_behind_a_group(rt.alloc(), MANY)?;
+    objects_meet(&rt, rt.alloc(), &whole, "none")?;
+    let broken = ring_behind_a_group(rt.alloc(), 1000)?;
+    objects_meet(&rt, rt.alloc(), &broken, "22 link not mutual")?;
+    let later = ring_behind_a_group(rt.alloc(), 3000)?;
+    objects_meet(&rt, rt.alloc(), &later, "22 link not mutual")?;
+    Ok(())
 }
 
 /// `p0` with these children, `p` with these parents, and a part `q` of `p0`.
@@ -190,8 +221,8 @@ fn two_parts(alloc: Global, children: &str, parents: &str) -> Result<String, All
 #[test]
 fn a_pair_listed_again_and_again(rt: HostRuntime) -> Result<(), Fail> {
     let alloc = rt.alloc();
-    let children = format!(in alloc; r#"{},"p""#, again(alloc, "q")?.as_str())?;
-    let whole = two_parts(alloc, &children, &again(alloc, "p0")?)?;
+    let children = format!(in alloc; r#"{},"p""#, again(alloc, r#""q""#, LONG)?.as_str())?;
+    let whole = two_parts(alloc, &children, &again(alloc, r#""p0""#, LONG)?)?;
     objects_meet(&rt, alloc, &whole, "none")?;
     Ok(())
 }
@@ -199,8 +230,8 @@ fn a_pair_listed_again_and_again(rt: HostRuntime) -> Result<(), Fail> {
 #[test]
 fn a_pair_listed_again_by_one_alone(rt: HostRuntime) -> Result<(), Fail> {
     let alloc = rt.alloc();
-    let parents = format!(in alloc; r#"^"p0",{}"#, again(alloc, "p0")?.as_str())?;
-    let whole = two_parts(alloc, &again(alloc, "q")?, &parents)?;
+    let parents = format!(in alloc; r#"^"p0",{}"#, again(alloc, r#""p0""#, LONG)?.as_str())?;
+    let whole = two_parts(alloc, &again(alloc, r#""q""#, LONG)?, &parents)?;
     objects_meet(&rt, alloc, &whole, "22 link not mutual")?;
     Ok(())
 }
@@ -208,7 +239,7 @@ fn a_pair_listed_again_by_one_alone(rt: HostRuntime) -> Result<(), Fail> {
 /// Texts `q0`, `q1` and so on.
 fn absent(alloc: Global) -> Result<String, AllocError> {
     let mut texts = String::new(alloc);
-    for i in 0..MANY {
+    for i in 0..LONG {
         let comma = comma(i);
         texts.push_str(&format!(in alloc; r#"{comma}"q{i}""#)?)?;
     }
@@ -248,19 +279,9 @@ fn the_last_of_many_parents_is_there(rt: HostRuntime) -> Result<(), Fail> {
     Ok(())
 }
 
-/// A number listed again and again.
-fn numbers(alloc: Global) -> Result<String, AllocError> {
-    let mut numbers = String::new(alloc);
-    for i in 0..MANY {
-        let comma = comma(i);
-        numbers.push_str(&format!(in alloc; "{comma}3")?)?;
-    }
-    Ok(numbers)
-}
-
 #[test]
 fn parents_that_are_no_texts(rt: HostRuntime) -> Result<(), Fail> {
-    let parents = numbers(rt.alloc())?;
+    let parents = again(rt.alloc(), "3", LONG)?;
     let part = format!(in rt.alloc(); r#""p":^{{"type":"BuildingPart","parents":[{parents}]}}"#)?;
     meet_among_many(&rt, rt.alloc(), &part, "23 no parent in the feature")?;
     Ok(())
@@ -269,16 +290,20 @@ fn parents_that_are_no_texts(rt: HostRuntime) -> Result<(), Fail> {
 #[test]
 fn children_of_a_group(rt: HostRuntime) -> Result<(), Fail> {
     let children = absent(rt.alloc())?;
-    let group = format!(in rt.alloc(); r#""g":{{"type":"CityObjectGroup","children":[{children}]}}"#)?;
+    let group = format!(in rt.alloc();
+        r#""g":{{"type":"CityObjectGroup","children":[{children}]}}"#
+    )?;
     meet_among_many(&rt, rt.alloc(), &group, "none")?;
     let beside = format!(in rt.alloc(); r#"{group},"b":{{"type":"Building","children":[^"q0"]}}"#)?;
     meet_among_many(&rt, rt.alloc(), &beside, "21 child not found")?;
     Ok(())
 }
 
-/// A building `p0` whose child has the mark, and many buildings of the child's name without links.
-fn of_one_name(alloc: Global, mark: &str) -> Result<String, AllocError> {
-    let mut objects = format!(in alloc; r#""p0":{{"type":"Building","children":[{mark}"q"]}}"#)?;
+/// A building `p0` whose child has this mark, and many buildings of the child's name, of which the second has that one.
+fn of_one_name(alloc: Global, mark: &str, second: &str) -> Result<String, AllocError> {
+    let mut objects = format!(in alloc;
+        r#""p0":{{"type":"Building","children":[{mark}"q"]}},"q":{{"type":"Building"}},{second}"q":{{"type":"Building"}}"#
+    )?;
     for _ in 0..MANY {
         objects.push_str(r#","q":{"type":"Building"}"#)?;
     }
@@ -288,12 +313,10 @@ fn of_one_name(alloc: Global, mark: &str) -> Result<String, AllocError> {
 #[test]
 fn city_objects_of_one_name(rt: HostRuntime) -> Result<(), Fail> {
     let alloc = rt.alloc();
-    let not_listed = of_one_name(alloc, "^")?;
+    let not_listed = of_one_name(alloc, "^", "")?;
     objects_meet(&rt, alloc, &not_listed, "22 link not mutual")?;
-    let listed = of_one_name(alloc, "")?;
-    let by_the_last = format!(in alloc; r#"{listed},"q":{{"type":"Building","parents":["p0"]}}"#)?;
-    let place = r#"{"type":"CityJSONFeature","id":"p0","CityObjects":{"p0":{"type":"Building","children":["q"]},"q":{"type":"Building"},"#.len();
-    let want = format!(in alloc; "{place} 11 duplicate name")?;
-    objects_meet(&rt, alloc, &by_the_last, &want)?;
+    let others = of_one_name(alloc, "", "^")?;
+    let by_the_last = format!(in alloc; r#"{others},"q":{{"type":"Building","parents":["p0"]}}"#)?;
+    objects_meet(&rt, alloc, &by_the_last, "11 duplicate name")?;
     Ok(())
 }
