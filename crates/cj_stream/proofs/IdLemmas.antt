@@ -1,5 +1,5 @@
 -- The ids of a query: one is found in runs that are in order.
-use Rattle.std.proofs.Common.{◌≡◌, ℕ, suc, zero, ◌+◌, ◌-◌, ◌<◌, ◌≤◌, Bool, true, false, List, [], ◌∷◌, ◌++◌, length, get_or, min, map, take, drop, sum, Option, Some, None, Result, Ok, Err, is_ok, String, string_bytes, option_map, unwrap_or, refl, sym, ap, ◌∙◌, subst, inl, inr, ◌⊎◌, arith, add-one}
+use Rattle.std.proofs.Common.{◌≡◌, ℕ, suc, zero, ◌+◌, ◌-◌, ◌<◌, ◌≤◌, Bool, false, List, [], ◌∷◌, ◌++◌, length, get_or, map, take, drop, sum, Option, Some, None, Result, Ok, Err, is_ok, String, string_bytes, option_map, unwrap_or, refl, sym, ap, ◌∙◌, subst, inl, inr, arith}
 use Rattle.std.specs.Cmp.{IsTotalOrder, tied_itself}
 use Rattle.std.specs.Cmp.Lexicographic.{bytes_decides, nat_list_cmp_total, options_total, texts_ties}
 use Rattle.std.specs.List.{list_any, All, slice_get}
@@ -19,13 +19,12 @@ use Rattle.std.proofs.lemmas.List.Folds.{list_any_at, list_any_none}
 use Rattle.std.specs.Prelude.{◌||◌}
 use Rattle.std.proofs.lemmas.List.Sorted.{IsPermutation-append, IsPermutation-map, IsPermutation-refl, IsPermutation-trans, All-permutation, length_permutation, searchable_from_sorted}
 use Rattle.std.proofs.lemmas.List.Sums.{sum_by-cons, sum_by-take-le}
-use Rattle.cj_spans.specs.Hash.{hash_of}
 use Rattle.cj_spans.specs.Order.{compare, compare_texts}
 use Rattle.cj_spans.specs.Parts.{text_of, are_same_texts}
 use Rattle.cj_spans.specs.Tree.{Tree}
 use Rattle.cj_stream.specs.Criteria.{is_one_of}
 use Rattle.cj_stream.specs.declared.query.ids.Entry.{Entry}
-use Rattle.cj_stream.specs.Ids.{Key, key_of, compare_keys, id_at, key_at, keys_at, keys_of, Ascend, AreRuns, AreIndexed}
+use Rattle.cj_stream.specs.Ids.{Key, number_of, key_of, compare_keys, id_at, key_at, keys_at, keys_of, Ascend, AreRuns, AreIndexed}
 
 -- keys have one order
 pub keys_total : IsTotalOrder compare_keys
@@ -53,10 +52,10 @@ same_texts : (s t : List ℕ) → compare s t ≡ Equal → s ≡ t
 same_texts s t h = (bytes_decides s t).0 (texts_ties s t ∙ ap is_eq h)
 
 pub same_key : (s : List ℕ) (o : Option (List ℕ)) → is_eq (compare_keys (key_of (Some s)) (key_of o)) ≡ are_same_texts o (Some s)
-same_key s None = then_equal (nat_cmp (hash_of (Some s)) (hash_of None)) Greater (λ h. cc)
+same_key s None = then_equal (nat_cmp (number_of (Some s)) (number_of None)) Greater (λ h. cc)
 same_key s (Some t) =
-    let equal : compare s t ≡ Equal → nat_cmp (hash_of (Some s)) (hash_of (Some t)) ≡ Equal = λ h. subst (λ u. nat_cmp (hash_of (Some s)) (hash_of (Some u)) ≡ Equal) (same_texts s t h) (tied_itself nat_cmp_total (hash_of (Some s))) in
-    then_equal (nat_cmp (hash_of (Some s)) (hash_of (Some t))) (compare s t) equal
+    let equal : compare s t ≡ Equal → nat_cmp (number_of (Some s)) (number_of (Some t)) ≡ Equal = λ h. subst (λ u. nat_cmp (number_of (Some s)) (number_of (Some u)) ≡ Equal) (same_texts s t h) (tied_itself nat_cmp_total (number_of (Some s))) in
+    then_equal (nat_cmp (number_of (Some s)) (number_of (Some t))) (compare s t) equal
     ∙ sym (reversed (compare s t))
     ∙ ap is_eq (sym (nat_list_cmp_total.antisymm t s))
     ∙ sym (texts_ties t s)
@@ -161,19 +160,19 @@ module _ {A : Type 0} (ids : List (String A)) (id : String A) where
           ap (λ o. unwrap_or (option_map string_bytes o) []) (more ∙ ap Some (get_or_append_left ids (id ∷ []) id place h) ∙ sym (slice_get-get_or ids place id h))
 
   -- the key of the new id's entry
-  new_key : (e : Entry) → e.number ≡ hash_of (Some (chars (string_bytes id))) → e.place ≡ length ids → key_at (ids ++ id ∷ []) e ≡ key_of (Some (chars (string_bytes id)))
+  new_key : (e : Entry) → e.number ≡ number_of (Some (chars (string_bytes id))) → e.place ≡ length ids → key_at (ids ++ id ∷ []) e ≡ key_of (Some (chars (string_bytes id)))
   new_key e n p =
       let last : slice_get (ids ++ id ∷ []) (length ids) ≡ Some id =
       slice_get-get_or (ids ++ id ∷ []) (length ids) id (omega (arith, length-append ids (id ∷ []))) ∙ ap Some (get_or-append_seam ids id [] id) in
       let told : id_at (ids ++ id ∷ []) e.place ≡ string_bytes id =
       ap (λ k. id_at (ids ++ id ∷ []) k) p ∙ ap (λ o. unwrap_or (option_map string_bytes o) []) last in
-      let numbered : key_at (ids ++ id ∷ []) e ≡ record { number = hash_of (Some (chars (string_bytes id))); text = Some (chars (id_at (ids ++ id ∷ []) e.place)) } =
+      let numbered : key_at (ids ++ id ∷ []) e ≡ record { number = number_of (Some (chars (string_bytes id))); text = Some (chars (id_at (ids ++ id ∷ []) e.place)) } =
       ap (λ m. record { number = m; text = Some (chars (id_at (ids ++ id ∷ []) e.place)) }) n in
-      numbered ∙ ap (λ s. record { number = hash_of (Some (chars (string_bytes id))); text = Some (chars s) }) told
+      numbered ∙ ap (λ s. record { number = number_of (Some (chars (string_bytes id))); text = Some (chars s) }) told
 
   -- the entries of one id more, sorted from a place on that joins the runs that were taken off
   pub indexed_more : (entries sorted : List Entry) (runs left : List ℕ) (e : Entry) (count start : ℕ) → AreIndexed ids entries runs
-      → e.number ≡ hash_of (Some (chars (string_bytes id))) → e.place ≡ length ids
+      → e.number ≡ number_of (Some (chars (string_bytes id))) → e.place ≡ length ids
       → left ≡ take (length left) runs → sum left + count ≡ sum runs + 1 → start + count ≡ length entries + 1
       → take start sorted ≡ take start (entries ++ e ∷ []) → IsPermutation (entries ++ e ∷ []) sorted
       → Ascend (keys_at (ids ++ id ∷ []) (drop start sorted))

@@ -1,11 +1,9 @@
 -- The good lines are the longest prefix of the lines of which none is refused.
-use Rattle.std.proofs.Common.{◌≡◌, ℕ, ◌+◌, ◌≤◌, List, [], ◌∷◌, ◌++◌, cond, length, Option, Some, None, refl, sym, ap, ◌∙◌, subst, arith, append_assoc, length-append}
-use Rattle.std.specs.Prelude.{is_some, unwrap_or}
+use Rattle.std.proofs.Common.{◌≡◌, ℕ, ◌+◌, ◌≤◌, List, [], ◌∷◌, ◌++◌, cond, length, Option, Some, None, refl, sym, ap, ◌∙◌, arith, append_assoc, length-append}
+use Rattle.std.specs.Prelude.{is_some}
 use Rattle.std.proofs.lemmas.List.{append-nil}
-use Rattle.cj_spans.specs.declared.reason.Reason.TheVariants.{NoHeader}
 use Rattle.cj_stream.specs.declared.ending.End.{End}
-use Rattle.cj_stream.specs.declared.ending.End.TheVariants.{Complete, Refused}
-use Rattle.cj_stream.specs.IsGood.{IsFront, NoneRefused, AreGood, EndsWell, EndsAfter}
+use Rattle.cj_stream.specs.IsGood.{NoneRefused, AreGood, EndsWell, EndsAfter}
 use Rattle.cj_stream.specs.Lines.{Line, lines}
 use Rattle.cj_stream.specs.Verdict.{Rules, verdict, refusal_of, refusal_from, refusal_in, good_from, good, ending, ending_of}
 use Rattle.cj_stream.proofs.Apart.{none-some}

@@ -1,7 +1,7 @@
 -- How the ids of a query are kept, so that one is found among many.
-use Rattle.std.specs.Prelude.{◌≡◌, ℕ, ◌<◌, ◌≤◌, List, [], ◌∷◌, length, map, take, drop, All, Option, Some, option_map, unwrap_or, slice_get, string_bytes, String}
+use Rattle.std.specs.Prelude.{◌≡◌, ℕ, ◌%◌, ◌^◌, ◌<◌, ◌≤◌, List, [], ◌∷◌, length, map, take, drop, All, Option, Some, option_map, unwrap_or, slice_get, string_bytes, String}
 use Rattle.std.specs.List.Sorted.{IsPermutation, IsSortedBy}
-use Rattle.std.specs.Ordering.{nat_cmp, ordering_then, is_lt, is_eq}
+use Rattle.std.specs.Ordering.{nat_cmp, ordering_then, is_lt}
 use Rattle.std.specs.Str.{chars}
 use Rattle.std.specs.declared.cmp.Ordering.{Ordering}
 use Rattle.cj_spans.specs.Hash.{hash_of}
@@ -13,9 +13,13 @@ pub record Key : Type 0 where
   pub number : ℕ
   pub text : Option (List ℕ)
 
+-- the number of a text: the lower half of its hash
+abbrev pub number_of : Option (List ℕ) → ℕ
+number_of text = hash_of text % 2 ^ 32
+
 -- the key of a text
 abbrev pub key_of : Option (List ℕ) → Key
-key_of text = record { number = hash_of text; text = text }
+key_of text = record { number = number_of text; text = text }
 
 -- how two keys are ordered
 abbrev pub compare_keys : Key → Key → Ordering

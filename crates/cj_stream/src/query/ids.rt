@@ -8,15 +8,16 @@
 //! Entries are ordered by the numbers of their texts, and by the texts where these are the same. Numbers stand side by side, so
 //! that a text is gone to for about one id of all, also where ids begin alike. Who makes ids of one number makes each step of a
 //! search compare texts, and no more steps.
-ghost use Rattle.std.specs.Prelude.{◌≡◌, ℕ, ◌+◌, ◌-◌, ◌<◌, ◌≤◌, ◌^◌, [], ◌∷◌, ◌++◌, length, map, take, drop, sum, vec_items, vec_len, vec_capacity, string_bytes, IfErr, OnOk, OnErr, Some};
+ghost use Rattle.std.specs.Prelude.{◌≡◌, ℕ, ◌+◌, ◌%◌, ◌<◌, ◌≤◌, ◌^◌, [], ◌∷◌, ◌++◌, length, map, take, drop, sum, vec_items, vec_len, vec_capacity, string_bytes, IfErr, OnOk, OnErr, Some};
 ghost use Rattle.std.specs.List.{list_any};
+ghost use Rattle.std.specs.Str.{chars};
 ghost use Rattle.std.specs.List.Sorted.{IsPermutation};
 ghost use Rattle.std.specs.Ordering.{is_eq};
 ghost use Rattle.cj_spans.specs.Parts.{text_of};
 ghost use Rattle.cj_spans.specs.View.{tree};
 ghost use Rattle.cj_stream.specs.Adding.{with_text};
 ghost use Rattle.cj_stream.specs.Criteria.{is_one_of as is_one};
-ghost use Rattle.cj_stream.specs.Ids.{key_of, compare_keys, id_at, key_at, keys_at, Ascend, AreRuns, AreIndexed};
+ghost use Rattle.cj_stream.specs.Ids.{number_of, key_of, compare_keys, id_at, key_at, keys_at, Ascend, AreRuns, AreIndexed};
 ghost use Rattle.cj_stream.specs.declared.query.fault.QueryFault.TheVariants.{Memory};
 
 use crate::query::fault::QueryFault;
@@ -26,13 +27,16 @@ use std::cmp::Ordering;
 use std::marker::Model;
 
 /// How many times as long as what stands behind it a run has to be, so that it stays a run.
-const STEP: usize = 8;
+const STEP: usize = 16;
+
+/// There are fewer ids than this, so that an entry takes 8 bytes.
+const IDS_LIMIT: usize = 1 << 32;
 
 /// The number of an id, and its place among the ids.
 #[derive(Clone, Copy)]
 struct Entry {
-    number: u64,
-    place: usize,
+    number: u32,
+    place: u32,
 }
 
 /// Ids in the order in which they were added.
@@ -55,11 +59,32 @@ impl Model for Ids {
     ghost invariant = { λ a. AreIndexed (vec_items a.texts) (vec_items a.entries) (vec_items a.runs) };
 }
 
+/// The lower half of a hash.
+fn lower_half(hash: u64) -> u32
+    ensures { result ≡ hash % 2 ^ 32 }
+{
+    (hash % (1 << 32)) as u32
+}
+
+/// The number of an id.
+fn number_of_id(id: &str) -> u32
+    ensures { result ≡ number_of (Some (chars id.now)) }
+{
+    lower_half(hash_of_string(id))
+}
+
+/// The number of a node's text.
+fn number_of_node(node: Node) -> u32
+    ensures { result ≡ number_of (text_of (tree node.entry)) }
+{
+    lower_half(node.text_hash())
+}
+
 /// The id at a place; the empty one where there is none.
-fn text_at(texts: &[String], place: usize) -> &str
+fn text_at(texts: &[String], place: u32) -> &str
     ensures { result.now ≡ id_at texts.now place }
 {
-    match texts.get(place) {
+    match texts.get(place as usize) {
         Some(text) => text.as_str(),
         None => "",
     }
@@ -78,7 +103,7 @@ fn compare_entries(texts: &[String], first: Entry, second: Entry) -> Ordering
 }
 
 /// How an entry is ordered beside a node, whose text has this number.
-fn compare_with_node(texts: &[String], entry: Entry, number: u64, node: Node) -> Ordering
+fn compare_with_node(texts: &[String], entry: Entry, number: u32, node: Node) -> Ordering
     ensures { result
         ≡ compare_keys (key_at texts.now entry) (record { number = number; text = text_of (tree node.entry) }) }
 {
@@ -126,7 +151,7 @@ fn join_last(runs: &mut Vec<usize>) -> usize
     count
 }
 
-/// Makes room for one id more. A refusal changes nothing.
+/// Makes room for one id more. It is refused where there are too many ids, too. A refusal changes nothing.
 fn make_room(
     texts: &mut Vec<String>,
     entries: &mut Vec<Entry>,
@@ -137,7 +162,11 @@ fn make_room(
     ensures runs { vec_items runs.new ≡ vec_items runs.old }
     ensures room { OnOk result ((vec_len texts.new < vec_capacity texts.new)
         × (vec_len entries.new < vec_capacity entries.new) × (vec_len runs.new < vec_capacity runs.new)) }
+    ensures few { OnOk result (vec_len texts.new < IDS_LIMIT) }
 {
+    if texts.len() >= IDS_LIMIT {
+        return Err(AllocError);
+    }
     texts.reserve(1)?;
     entries.reserve(1)?;
     runs.reserve(1)?;
@@ -147,6 +176,7 @@ fn make_room(
 /// Adds an id at the end, where there is room for it, and puts its entry in order.
 fn add_entry(texts: &mut Vec<String>, entries: &mut Vec<Entry>, runs: &mut Vec<usize>, text: String)
     requires indexed { AreIndexed (vec_items texts.old) (vec_items entries.old) (vec_items runs.old) }
+    requires few { vec_len texts.old < IDS_LIMIT }
     requires text_room { vec_len texts.old < vec_capacity texts.old }
     requires entry_room { vec_len entries.old < vec_capacity entries.old }
     requires run_room { vec_len runs.old < vec_capacity runs.old }
@@ -154,8 +184,8 @@ fn add_entry(texts: &mut Vec<String>, entries: &mut Vec<Entry>, runs: &mut Vec<u
     ensures indexed { AreIndexed (vec_items texts.new) (vec_items entries.new) (vec_items runs.new) }
 {
     let entry = Entry {
-        number: hash_of_string(text.as_str()),
-        place: texts.len(),
+        number: number_of_id(text.as_str()),
+        place: texts.len() as u32,
     };
     let count = join_last(runs);
     put(texts, text);
@@ -166,7 +196,7 @@ fn add_entry(texts: &mut Vec<String>, entries: &mut Vec<Entry>, runs: &mut Vec<u
 }
 
 /// Whether a node has the text of an entry of a run.
-fn is_in_run(texts: &[String], run: &[Entry], number: u64, node: Node) -> bool
+fn is_in_run(texts: &[String], run: &[Entry], number: u32, node: Node) -> bool
     requires { Ascend (keys_at texts.now run.now) }
     ensures { result ≡ list_any
         (λ key. is_eq (compare_keys key (record { number = number; text = text_of (tree node.entry) })))
@@ -182,7 +212,7 @@ fn is_in_runs(texts: &[String], entries: &[Entry], runs: &[usize], node: Node) -
     ensures { result ≡ list_any (λ key. is_eq (compare_keys key (key_of (text_of (tree node.entry)))))
         (keys_at texts.now entries.now) }
 {
-    let number = node.text_hash();
+    let number = number_of_node(node);
     let mut rest = entries;
     for length in runs {
         let (run, others) = rest.split_at(*length);

@@ -1,11 +1,10 @@
-use Rattle.std.proofs.Common.{◌≡◌, ℕ, ◌+◌, ◌-◌, ◌≤◌, ◌<◌, ◌^◌, List, [], ◌∷◌, ◌++◌, length, take, drop, sum, vec_items, string_bytes, Some, ◌∙◌, sym, ap, subst, arith, rules}
+use Rattle.std.proofs.Common.{◌≡◌, ℕ, ◌+◌, ◌-◌, [], ◌∷◌, ◌++◌, length, take, drop, vec_items, string_bytes, Some, ◌∙◌, sym, ap, subst, arith}
 use Rattle.std.specs.List.Sorted.{IsPermutation}
 use Rattle.std.specs.Str.{chars}
 use Rattle.std.proofs.lemmas.List.Sorted.{length_permutation}
-use Rattle.cj_spans.specs.Hash.{hash_of}
 use Rattle.std.proofs.lemmas.List.{length-append, take_at}
 use Rattle.cj_stream.specs.declared.query.ids.Entry.{Entry}
-use Rattle.cj_stream.specs.Ids.{Ascend, keys_at, AreIndexed}
+use Rattle.cj_stream.specs.Ids.{number_of, Ascend, keys_at, AreIndexed}
 use Rattle.cj_stream.proofs.IdLemmas.{indexed_more, runs_held}
 use Rattle.cj_stream.proofs.query.ids.add_entry.Goals as goal
 
@@ -30,7 +29,7 @@ returns-clause-indexed c =
     let count = c.join_last-count.result in
     let start : ℕ = c.len-2.result - count in
     let sorted = c.sort_from.new.entries in
-    let entry : Entry = record { number = c.hash_of_string.result; place = c.len.result } in
+    let entry : Entry = record { number = c.number_of_id.result; place = c.len.result } in
     let held = runs_held ids entries runs c.requires.indexed in
     let longer : length (vec_items c.put-2.new.list) ≡ length entries + 1 = ap (λ es. length es) c.put-2.ensures ∙ length-append entries _ in
     let base : c.as_mut_slice.result.now ≡ entries ++ entry ∷ [] = c.as_mut_slice.ensures.value ∙ c.put-2.ensures in
@@ -38,8 +37,8 @@ returns-clause-indexed c =
     let moved : IsPermutation (entries ++ entry ∷ []) sorted = subst (λ es. IsPermutation es sorted) base c.sort_from.ensures.moved in
     let texts : c.as_slice.result.now ≡ ids ++ c.args.text ∷ [] = c.as_slice.ensures.value ∙ c.put.ensures in
     let up : Ascend (keys_at (ids ++ c.args.text ∷ []) (drop start sorted)) = subst (λ ts. Ascend (keys_at ts (drop start sorted))) texts c.sort_from.ensures.ascends in
-    let number : c.hash_of_string.result ≡ hash_of (Some (chars (string_bytes c.args.text))) =
-    c.hash_of_string.ensures ∙ ap (λ t. hash_of (Some (chars t))) c.as_str.ensures.value in
+    let number : c.number_of_id.result ≡ number_of (Some (chars (string_bytes c.args.text))) =
+    c.number_of_id.ensures ∙ ap (λ t. number_of (Some (chars t))) c.as_str.ensures.value in
     let place : c.len.result ≡ length ids = c.len.ensures ∙ c.args.texts.now.ok.0 in
     let starts : start + count ≡ length entries + 1 =
     omega (arith, held, longer, c.join_last-count.ensures.count, c.len-2.ensures, c.put-2.new.list.ok.0) in
