@@ -1,13 +1,14 @@
 #!/usr/bin/env python3
 """Writes a CityJSONSeq stream of a given shape and size to standard output.
 
-    make_stream.py usual|spread|tiny|huge|text|linked MEGABYTES
+    make_stream.py usual|spread|tiny|named|huge|text|linked MEGABYTES
 
 usual: features of 5 to 125 KB, about 4 bytes a JSON token, as city models have them;
 spread: the same, each of 60 features in a square of 100 m of its own, one beside the other along x;
-tiny: features of about 300 bytes; huge: features of about 6 MB; text: features of 2 to 30 KB, most of
-it long attributes of which half of the letters are not ASCII; linked: features of 10,000 city objects,
-one parent and its children, at least one line. The same arguments give the same bytes."""
+tiny: features of about 300 bytes; named: the same, with ids that begin alike; huge: features of about
+6 MB; text: features of 2 to 30 KB, most of it long attributes of which half of the letters are not
+ASCII; linked: features of 10,000 city objects, one parent and its children, at least one line. The
+same arguments give the same bytes."""
 import random
 import sys
 
@@ -34,6 +35,14 @@ def tiny(rng, number):
             f'"attributes":{{"street":"Grachtenstraße {number}"}},"geometry":[{{"type":"MultiSurface","lod":"2.2",'
             f'"boundaries":[[[0,1,2,3]]]}}]}}}},"vertices":[[0,0,0],[{rng.randrange(1000, 10000)},0,0],'
             f'[1000,1000,0],[0,{rng.randrange(1000, 10000)},0]]}}\n')
+
+
+def named(rng):
+    """A tiny feature with one of 200,000 ids as a register of buildings has them."""
+    name = f"NL.IMBAG.Pand.{rng.randrange(200000):016}"
+    return (f'{{"type":"CityJSONFeature","id":"{name}","CityObjects":{{"{name}":{{"type":"Building",'
+            f'"geometry":[{{"type":"MultiSurface","lod":"2.2","boundaries":[[[0,1,2,3]]]}}]}}}},'
+            f'"vertices":[[0,0,0],[{rng.randrange(1000, 10000)},0,0],[1000,1000,0],[0,{rng.randrange(1000, 10000)},0]]}}\n')
 
 
 ASCII = "abcdefghijklmnopqrstuvwxyz"
@@ -76,6 +85,8 @@ def main():
     # a few lines, written over and over: making each line anew would take longer than reading it
     if shape == "tiny":
         lines = [tiny(rng, i).encode() for i in range(2000)]
+    elif shape == "named":
+        lines = [named(rng).encode() for _ in range(50000)]
     elif shape == "usual":
         lines = [feature(rng, i, rng.randrange(5000, 125000) // VERTEX).encode() for i in range(60)]
     elif shape == "spread":

@@ -1,7 +1,7 @@
 -- How the ids of a query are kept, so that one is found among many.
 use Rattle.std.specs.Prelude.{◌≡◌, ℕ, ◌<◌, ◌≤◌, List, [], ◌∷◌, length, map, take, drop, All, Option, Some, option_map, unwrap_or, slice_get, string_bytes, String}
 use Rattle.std.specs.List.Sorted.{IsPermutation, IsSortedBy}
-use Rattle.std.specs.Ordering.{nat_cmp, ordering_then, is_lt, is_eq}
+use Rattle.std.specs.Ordering.{nat_cmp, ordering_then, is_lt}
 use Rattle.std.specs.Str.{chars}
 use Rattle.std.specs.declared.cmp.Ordering.{Ordering}
 use Rattle.cj_spans.specs.Tail.{tail_of}

@@ -26,7 +26,7 @@ use std::cmp::Ordering;
 use std::marker::Model;
 
 /// How many times as long as what stands behind it a run has to be, so that it stays a run.
-const STEP: usize = 8;
+const STEP: usize = 16;
 
 /// The end of an id as a number, and its place among the ids.
 #[derive(Clone, Copy)]

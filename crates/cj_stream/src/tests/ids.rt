@@ -1,0 +1,184 @@
+//! Queries of many ids: each that was added is found, and no other.
+use super::calls::{check_ended, check_number, joined};
+use super::devices::SlowReader;
+use super::rows::HEADER;
+use crate::{CountSink, End, Query, run};
+use cj_budget::Limits;
+use std::alloc::Global;
+use std::process::Abort;
+use std::test::Fail;
+
+/// In which order ids are added.
+#[derive(Clone, Copy)]
+enum Order {
+    Rising,
+    Falling,
+    /// By steps of 7,919, a prime, around.
+    Mixed,
+}
+
+/// The number that is added at a place, of so many.
+fn number_at(place: u64, count: u64, order: Order) -> u64 {
+    let last = count.saturating_sub(1);
+    match order {
+        Order::Rising => place,
+        Order::Falling => last.saturating_sub(place),
+        Order::Mixed => place.wrapping_mul(7_919) % count.max(1),
+    }
+}
+
+/// The id of a number. All ids begin alike.
+fn id_of(alloc: Global, number: u64) -> Result<String, Fail> {
+    Ok(format!(in alloc; "NL.IMBAG.Pand.{number}")?)
+}
+
+/// A query by the ids of the odd numbers: so many of them, each this often.
+fn query_of(alloc: Global, count: u64, order: Order, times: u64) -> Result<Query, Fail> {
+    let mut query = Query::all(alloc);
+    query.start_ids();
+    for place in 0..count {
+        let number = number_at(place, count, order).wrapping_mul(2);
+        let id = id_of(alloc, number.wrapping_add(1))?;
+        for _ in 0..times {
+            query.add_id(&id)?;
+        }
+    }
+    Ok(query)
+}
+
+/// A feature with this id, as it is spelled, and an LF.
+fn named(alloc: Global, id: &[u8]) -> Result<Vec<u8>, Fail> {
+    joined(
+        alloc,
+        &[
+            b"{\"type\":\"CityJSONFeature\",\"id\":\"",
+            id,
+            b"\",\"CityObjects\":{\"",
+            id,
+            b"\":{\"type\":\"Building\"}},\"vertices\":[]}\n",
+        ],
+    )
+}
+
+/// A header, and a feature for each number below this.
+fn stream_of(alloc: Global, numbers: u64) -> Result<Vec<u8>, Fail> {
+    let mut text = joined(alloc, &[HEADER, b"\n"])?;
+    for number in 0..numbers {
+        let line = named(alloc, id_of(alloc, number)?.as_bytes())?;
+        text.extend_from_slice(&line)?;
+    }
+    Ok(text)
+}
+
+/// Runs over a stream: how many features were kept.
+fn check_kept(
+    rt: &impl Abort,
+    alloc: Global,
+    text: &[u8],
+    query: &Query,
+    kept: u64,
+    row: &str,
+) -> Result<(), Fail> {
+    let mut reader = SlowReader::new(text, 8_192);
+    let mut sink = CountSink {
+        headers: 0,
+        features: 0,
+    };
+    let limits = Limits::new(8_388_608, 64)?;
+    let outcome = run(alloc, &mut reader, &mut sink, limits, query);
+    check_ended(rt, outcome.ended, End::Complete, row, kept);
+    check_number(rt, sink.features, kept, row, kept);
+    Ok(())
+}
+
+/// Asks for so many ids, of a stream that has each of them and one beside each.
+fn check_many(
+    rt: &impl Abort,
+    alloc: Global,
+    count: u64,
+    order: Order,
+    times: u64,
+    row: &str,
+) -> Result<(), Fail> {
+    let query = query_of(alloc, count, order, times)?;
+    let text = stream_of(alloc, count.saturating_mul(2))?;
+    check_kept(rt, alloc, &text, &query, count, row)
+}
+
+#[test]
+fn each_of_many_ids_is_found(rt: HostRuntime) -> Result<(), Fail> {
+    for count in [0, 1, 2, 3, 7, 8, 9, 10, 64, 73, 100, 1_000] {
+        check_many(&rt, rt.alloc(), count, Order::Rising, 1, "rising")?;
+        check_many(&rt, rt.alloc(), count, Order::Falling, 1, "falling")?;
+        check_many(&rt, rt.alloc(), count, Order::Mixed, 1, "mixed")?;
+    }
+    check_many(&rt, rt.alloc(), 10_000, Order::Mixed, 1, "very many")
+}
+
+#[test]
+fn ids_that_are_added_again(rt: HostRuntime) -> Result<(), Fail> {
+    for times in [2, 3, 9] {
+        check_many(&rt, rt.alloc(), 100, Order::Mixed, times, "again")?;
+    }
+    Ok(())
+}
+
+/// Asks for these ids, of one feature.
+fn check_one(
+    rt: &impl Abort,
+    alloc: Global,
+    ids: &[&str],
+    spelled: &[u8],
+    keeps: bool,
+    row: &str,
+) -> Result<(), Fail> {
+    let mut query = Query::all(alloc);
+    for id in ids {
+        query.add_id(id)?;
+    }
+    let text = joined(alloc, &[HEADER, b"\n", &named(alloc, spelled)?])?;
+    check_kept(rt, alloc, &text, &query, keeps.into(), row)
+}
+
+/// Ids of one, two, three and four bytes a letter, fronts of others, and the empty one.
+const IDS: [&str; 12] = [
+    "a",
+    "",
+    "aaaaaaaaa",
+    "aaaaaaaab",
+    "aaaaaaaa",
+    "é",
+    "€",
+    "😀",
+    "ab",
+    "\\u0062",
+    "z",
+    "\u{ffff}",
+];
+
+#[test]
+fn ids_however_they_are_spelled(rt: HostRuntime) -> Result<(), Fail> {
+    for (spelled, keeps, row) in [
+        (b"a".as_slice(), true, "a letter"),
+        (b"\\u0061", true, "an escaped letter"),
+        (b"b", false, "another letter"),
+        (b"", true, "no letter"),
+        (b"aaaaaaaab", true, "the ninth letter"),
+        (b"aaaaaaaa\\u0062", true, "the ninth letter, escaped"),
+        (b"aaaaaaaac", false, "another ninth letter"),
+        (b"aaaaaaa", false, "seven letters"),
+        (b"aaaaaaaaaa", false, "ten letters"),
+        (b"\xc3\xa9", true, "two bytes"),
+        (b"\\u00e9", true, "two bytes, escaped"),
+        (b"e\\u0301", false, "another form of it"),
+        (b"\\u20AC", true, "three bytes, escaped"),
+        (b"\xf0\x9f\x98\x80", true, "four bytes"),
+        (b"\\ud83d\\ude00", true, "a pair of surrogates"),
+        (b"\\ud83d", false, "half of a pair"),
+        (b"\\\\u0062", true, "a backslash"),
+        (b"\\uffff", true, "below a pair by code units alone"),
+    ] {
+        check_one(&rt, rt.alloc(), &IDS, spelled, keeps, row)?;
+    }
+    Ok(())
+}
