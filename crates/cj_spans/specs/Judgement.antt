@@ -1,7 +1,9 @@
 -- What a line is under a depth limit: exactly one of three, as the law `one_judgement` says.
-use Rattle.std.specs.Prelude.{◌≡◌, ℕ, ◌≤◌, ◌⊎◌, List, Result, IsOk, IsErrOf}
+use Rattle.std.specs.Prelude.{◌≡◌, ℕ, ◌≤◌, ◌⊎◌, List, Result, Ok, Err, IsOk, IsErrOf}
 use Rattle.cj_spans.specs.declared.fault.ScanFault.{ScanFault}
-use Rattle.cj_spans.specs.declared.fault.ScanFault.TheVariants.{Syntax, TooDeep, Memory}
+use Rattle.cj_spans.specs.declared.fault.ScanFault.TheVariants.{NotUtf8, Syntax, TooDeep, Memory}
+use Rattle.cj_spans.specs.declared.fault.LineFault.{LineFault}
+use Rattle.cj_spans.specs.declared.fault.LineFault.TheVariants.{NotUtf8 as LineNotUtf8, Syntax as LineSyntax, TooDeep as LineTooDeep}
 use Rattle.cj_spans.specs.Tree.{Tree, size, nest}
 use Rattle.cj_spans.specs.Json.{Json}
 use Rattle.cj_spans.specs.Front.{SyntaxAt, DeepAt, NowhereDeep}
@@ -41,3 +43,16 @@ abbrev pub IsAnswerOf : {b : List ℕ} {d : ℕ} → Judgement b d → Result (U
 IsAnswerOf (spelled t j n) r = IsOk r ⊎ IsErrOf r Memory
 IsAnswerOf (broken i s n) r = IsErrOf r (Syntax i) ⊎ IsErrOf r Memory
 IsAnswerOf (sunk i s) r = IsErrOf r (TooDeep i) ⊎ IsErrOf r Memory
+
+-- what a scan in room that is reserved answers of a line with this judgement
+abbrev pub IsReservedAnswerOf : {b : List ℕ} {d : ℕ} → Judgement b d → Result (Unit {0}) LineFault → Type 0
+IsReservedAnswerOf (spelled t j n) r = IsOk r
+IsReservedAnswerOf (broken i s n) r = IsErrOf r (LineSyntax i)
+IsReservedAnswerOf (sunk i s) r = IsErrOf r (LineTooDeep i)
+
+-- the same answer among those of a scan that may be refused memory
+abbrev pub widened : Result (Unit {0}) LineFault → Result (Unit {0}) ScanFault
+widened (Ok v) = Ok v
+widened (Err (LineNotUtf8 i)) = Err (NotUtf8 i)
+widened (Err (LineSyntax i)) = Err (Syntax i)
+widened (Err (LineTooDeep i)) = Err (TooDeep i)

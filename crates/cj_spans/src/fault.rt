@@ -18,3 +18,19 @@ pub enum ScanFault {
     #[error("out of memory")]
     Memory,
 }
+
+/// Why [`crate::scan_reserved`] refuses a line: what [`ScanFault`] has but for `Memory`. Places are offsets
+/// in the line, from 0.
+#[derive(Clone, Copy, Debug, PartialEq, Eq, Error)]
+pub enum LineFault {
+    /// The line is not UTF-8: the end of its longest valid prefix.
+    #[error("not UTF-8 at byte {0}")]
+    NotUtf8(u64),
+    /// The least place up to and with which the line begins no JSON text, or the length of a line
+    /// that only begins one.
+    #[error("no JSON text at byte {0}")]
+    Syntax(u64),
+    /// The least place at which more containers are open than the limit allows.
+    #[error("nested too deep at byte {0}")]
+    TooDeep(u64),
+}

@@ -3,7 +3,8 @@
 //! [`scan`] reads a line once. Where the line is a JSON text, it leaves one [`Token`] for each value
 //! and each member name, in the order in which they start; else it answers the place of the fault. It
 //! holds nothing but the two lists that it is given, a [`cj_budget::Bounded`] and a
-//! [`cj_budget::Stack`], so what it takes is bounded by the line's length and the depth limit.
+//! [`cj_budget::Stack`], so what it takes is bounded by the line's length and the depth limit. Where both
+//! have their room reserved, [`scan_reserved`] does the same, and is never refused memory.
 //! [`Reason`] is the list of all that a line can be refused for.
 //!
 //! [`Doc`] and [`Node`] view a line that was scanned: they read like its tree, and hold no more than
@@ -50,12 +51,12 @@ mod tests;
 mod text;
 mod token;
 
-pub use fault::ScanFault;
+pub use fault::{LineFault, ScanFault};
 pub use finding::Finding;
 pub use least::Least;
 pub use next::slow_next;
 pub use node::{Doc, Items, Members, Node};
 pub use reason::Reason;
-pub use scanner::scan;
+pub use scanner::{scan, scan_reserved};
 pub use text::{compare_strings, tail_of_string};
 pub use token::{Kind, Token};

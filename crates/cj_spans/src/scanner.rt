@@ -20,14 +20,14 @@ ghost use Rattle.cj_spans.specs.Json.{Json};
 ghost use Rattle.cj_spans.specs.Front.{SyntaxAt, DeepAt, NowhereDeep};
 ghost use Rattle.cj_spans.specs.Begins.{IsFirstFault, IsFirstTooDeep};
 ghost use Rattle.cj_spans.specs.Scan.{IsScanOf, AreSized, KeepsLaw};
-ghost use Rattle.cj_spans.specs.Judgement.{Judgement, IsAnswerOf};
+ghost use Rattle.cj_spans.specs.Judgement.{Judgement, IsAnswerOf, IsReservedAnswerOf, widened};
 ghost use Rattle.cj_spans.specs.Json.{byte as byte_of};
 ghost use Rattle.cj_spans.specs.declared.token.Token.{Token as TokenOf};
 ghost use Rattle.cj_spans.specs.Machine.{State, state, between, in_atom, ComesTo, phase_after, EndAnswers, Grown, BeginsAtom, BeginsValue, BeginsValueNext, BeginsNameNext, InArray, InObject, StaysInArrayNext, StaysInObjectNext, RunAnswers};
 ghost use Rattle.cj_spans.specs.Pass.{Standing, Stands, GoesOn};
 
 use crate::arrays::{enters_array, read_arrays};
-use crate::fault::ScanFault;
+use crate::fault::{LineFault, ScanFault};
 use crate::lex::{Lex, lex_kind, read_atom};
 use crate::members::{enters_object, read_members};
 use crate::step::{Mode, Move, Next, read_byte};
@@ -264,5 +264,71 @@ pub fn scan(line: &[u8], tokens: &mut Bounded<Token>, stack: &mut Stack) -> Resu
     match from_utf8(line) {
         Ok(_) => run(line, tokens, stack),
         Err(error) => Err(ScanFault::NotUtf8(error.valid_up_to() as u64)),
+    }
+}
+
+/// The answer of a pass that was not refused memory.
+fn without_memory(answer: Result<(), ScanFault>) -> Result<(), LineFault>
+    requires { IsErrOf answer ScanFault.Memory → ⊥ }
+    ensures { answer ≡ widened result }
+{
+    match answer {
+        Ok(()) => Ok(()),
+        Err(ScanFault::NotUtf8(place)) => Err(LineFault::NotUtf8(place)),
+        Err(ScanFault::Syntax(place)) => Err(LineFault::Syntax(place)),
+        Err(ScanFault::TooDeep(place)) => Err(LineFault::TooDeep(place)),
+        Err(ScanFault::Memory) => unreachable!(),
+    }
+}
+
+/// Scans a line as [`scan`] does, into lists that have their room reserved. It takes no memory, so it
+/// answers what the line is, whatever is free. The room stays reserved.
+pub fn scan_reserved(
+    line: &[u8],
+    tokens: &mut Bounded<Token>,
+    stack: &mut Stack,
+) -> Result<(), LineFault>
+    requires short { length line.now ≤ 1073741824 }
+    requires room { (length line.now + stack.old.limit + 1) / 2 ≤ tokens.old.limit }
+    requires reserved { IsTrue tokens.old.reserved × IsTrue stack.old.reserved }
+
+    // At Ok the lists show the one tree that the line spells.
+    ensures tree { OnOk result ((t : Tree)
+        × IsScanOf line.now t tokens.old tokens.new stack.old stack.new) }
+    ensures sized { OnOk result (AreSized line.now tokens.new.elements) }
+    ensures utf8 { ((i : ℕ) → IsErrOf result (LineFault.NotUtf8 i) → ⊥) → IsUtf8 line.now }
+
+    // Each fault comes with its place.
+    ensures not_utf8 { (i : ℕ) → (IsErrOf result (LineFault.NotUtf8 i) ↔ IsValidUpTo line.now i) }
+    ensures too_deep { (i : ℕ) → IsErrOf result (LineFault.TooDeep i)
+        → DeepAt line.now stack.old.limit i }
+    ensures syntax { (i : ℕ) → IsErrOf result (LineFault.Syntax i)
+        → SyntaxAt line.now i × NowhereDeep line.now stack.old.limit }
+
+    // The same places, told by the JSON texts that the line begins.
+    ensures first_too_deep { (i : ℕ) → IsErrOf result (LineFault.TooDeep i)
+        → IsFirstTooDeep line.now stack.old.limit i }
+    ensures first_fault { (i : ℕ) → IsErrOf result (LineFault.Syntax i) → IsFirstFault line.now i }
+
+    // And no line is answered otherwise.
+    ensures finds_tree { IsUtf8 line.now → (t : Tree) → Json line.now t → nest t ≤ stack.old.limit
+        → IsOk result }
+    ensures finds_deep { IsUtf8 line.now → (i : ℕ) → DeepAt line.now stack.old.limit i
+        → IsErrOf result (LineFault.TooDeep i) }
+    ensures finds_syntax { IsUtf8 line.now → NowhereDeep line.now stack.old.limit
+        → (i : ℕ) → SyntaxAt line.now i → IsErrOf result (LineFault.Syntax i) }
+
+    // In one: each line has a judgement, and the answer is that judgement's.
+    ensures judgement { Judgement line.now stack.old.limit }
+    ensures judged { (j : Judgement line.now stack.old.limit) → IsUtf8 line.now → IsReservedAnswerOf j result }
+
+    // Whatever the answer, the lists keep the law of the bound, and their room.
+    ensures law { KeepsLaw line.now tokens.old tokens.new stack.old stack.new }
+{
+    tokens.clear();
+    stack.clear();
+    match from_utf8(line) {
+        Ok(_) => without_memory(run(line, tokens, stack)),
+        Err(error) => Err(LineFault::NotUtf8(error.valid_up_to() as u64)),
     }
 }

@@ -4,7 +4,7 @@ ghost use Rattle.cj_spans.specs.Sound.{AreOf};
 
 mod strings;
 
-use crate::{Reason, ScanFault, Token, scan, slow_next};
+use crate::{LineFault, Reason, ScanFault, Token, scan, scan_reserved, slow_next};
 use cj_budget::{Bounded, Stack};
 use std::alloc::Global;
 use std::process::Abort;
@@ -31,7 +31,51 @@ const FEATURE: &[u8] =
 const SMALL: &[u8] =
     b"{\"type\":\"CityJSONFeature\",\"id\":\"b\",\"CityObjects\":{\"b\":{\"type\":\"Building\"}},\"vertices\":[]}";
 
-/// Scans a line into fresh lists and compares the answer, the tokens and the peaks.
+/// The same fault, as a scan tells it that may be refused memory.
+fn scan_fault(fault: LineFault) -> ScanFault {
+    match fault {
+        LineFault::NotUtf8(place) => ScanFault::NotUtf8(place),
+        LineFault::Syntax(place) => ScanFault::Syntax(place),
+        LineFault::TooDeep(place) => ScanFault::TooDeep(place),
+    }
+}
+
+/// Reserves the room of two lists.
+fn reserve(rt: &impl Abort, tokens: &mut Bounded<Token>, stack: &mut Stack) {
+    assert_eq!(rt; tokens.reserve_all(), Ok(()));
+    assert_eq!(rt; stack.reserve_all(), Ok(()));
+}
+
+/// Scans a line into lists that have their room, and tells the tokens and the peak of the stack, or the fault.
+fn answer_reserved(
+    rt: &impl Abort,
+    line: &[u8],
+    tokens: &mut Bounded<Token>,
+    stack: &mut Stack,
+) -> Result<(usize, usize), ScanFault> {
+    assert!(rt; line.len() <= 100_000 && stack.limit() <= 2_000);
+    assert!(rt; (line.len() + stack.limit() + 1) / 2 <= tokens.limit());
+    assert!(rt; tokens.is_reserved() && stack.is_reserved());
+    match scan_reserved(line, tokens, stack) {
+        Ok(()) => Ok((tokens.len(), stack.peak())),
+        Err(fault) => Err(scan_fault(fault)),
+    }
+}
+
+/// Scans a line into fresh lists that have their room, and compares the answer.
+fn meets_reserved(rt: &impl Abort, alloc: Global, row: &Row) {
+    let line = row.line;
+    let depth = row.depth;
+    assert!(rt; line.len() <= 100_000 && depth <= 2_000, "{}", row.name);
+    let mut tokens: Bounded<Token> = Bounded::new(alloc, (line.len() + depth + 1) / 2);
+    let mut stack = Stack::new(alloc, depth);
+    reserve(rt, &mut tokens, &mut stack);
+    let got = answer_reserved(rt, line, &mut tokens, &mut stack);
+    assert_eq!(rt; got, row.want, "{}", row.name);
+}
+
+/// Scans a line into fresh lists, and compares the answer, the tokens and the peaks; then into lists
+/// that have their room, and compares the answer.
 fn meets(rt: &impl Abort, alloc: Global, row: &Row) {
     let line = row.line;
     let depth = row.depth;
@@ -48,6 +92,7 @@ fn meets(rt: &impl Abort, alloc: Global, row: &Row) {
     if got.is_ok() {
         assert!(rt; stack.is_empty(), "{}", row.name);
     }
+    meets_reserved(rt, alloc, row);
 }
 
 /// A row at the usual depth limit.
@@ -382,6 +427,21 @@ fn a_thousand_brackets(rt: HostRuntime) -> Result<(), Fail> {
     assert_eq!(rt; tokens.len(), 64);
     assert_eq!(rt; tokens.peak(), 1_024);
     assert_eq!(rt; shallow.peak(), 64);
+    Ok(())
+}
+
+#[test]
+fn lists_that_are_reserved_once(rt: HostRuntime) -> Result<(), Fail> {
+    let mut tokens: Bounded<Token> = Bounded::new(rt.alloc(), 1_025);
+    let mut stack = Stack::new(rt.alloc(), 1_024);
+    reserve(&rt, &mut tokens, &mut stack);
+    let deep = answer_reserved(&rt, &[b'['; 1_025], &mut tokens, &mut stack);
+    assert_eq!(rt; deep, Err(ScanFault::TooDeep(1_024)));
+    let text = answer_reserved(&rt, b"[1,2]", &mut tokens, &mut stack);
+    assert_eq!(rt; text, Ok((3, 1_024)));
+    let cut = answer_reserved(&rt, b"[1", &mut tokens, &mut stack);
+    assert_eq!(rt; cut, Err(ScanFault::Syntax(2)));
+    assert_eq!(rt; tokens.peak(), 1_024);
     Ok(())
 }
 
