@@ -213,9 +213,6 @@ none_left s ms floor es fs h p a t c =
     there (inl c) = let r = contains_unmap (name_in s) es t c in subst (λ x. Contains (names_in s fs) x) r.2 (contains_map (name_in s) fs r.0 (Contains-permutation es fs r.0 p r.1))
     there (inr c) = absurd (contains_none t c)
 
-pub all_worded : (s : Source) (names left : List Tree) (floor ceiling : Option Tree) (es : List Entry) → HoldNames s names left floor ceiling es → All (IsWorded s) es
-all_worded s names left floor ceiling es h = λ k d l. (h.held k d l).word
-
 -- a part of the room that was put in order has as many entries
 pub room_kept : (n : ℕ) (room fs : List Entry) → n ≤ length room → IsPermutation (take n room) fs → length (fs ++ drop n room) ≡ length room
 room_kept n room fs h p =

@@ -4,7 +4,11 @@
 //! stands right behind the one before it of its text. There is room of a fixed size for entries of names ([`Entry`]), so an
 //! object of more names is walked over more than once. Each walk gathers the least names above those that the walks
 //! before have dealt with: where the room is full, the least of what it holds are kept, and the next one is the walk's
-//! ceiling. So n names take about n / 16,000 walks and n * log n comparisons, whatever they are, and no memory is asked for.
+//! ceiling. What is kept is copied to a second array and back, since contracts say nothing of what a selection leaves
+//! behind.
+//!
+//! So n names take about n / 16,000 walks and n * log n comparisons, in whatever order they come and whatever their texts
+//! are, and no memory is asked for. The room takes 16 KiB of the stack for up to 1,000 names, and 512 KiB for more.
 ghost use Rattle.std.specs.Prelude.{◌≡◌, ◌<◌, ◌≤◌, [], length, take, Some, IsSome, IfSome, All};
 ghost use Rattle.std.specs.List.Sorted.{IsPermutation};
 ghost use Rattle.cj_spans.specs.Finding.{least};
