@@ -11,7 +11,7 @@ use Rattle.cj_spans.specs.Tree.{Tree}
 use Rattle.cj_spans.specs.Parts.{kind_of}
 use Rattle.cj_spans.proofs.Findings.{least-append, least-swap}
 use Rattle.cj_geometry.specs.Rule.{one}
-use Rattle.cj_feature.specs.Links.{same_text, listed_in, is_known, has_item, lists, answered, child, parent, children, parents, part, object_links}
+use Rattle.cj_feature.specs.Links.{same_text, listed_in, is_known, has_item, lists, answered, child, children, parents, part, object_links}
 
 -- ---- who lists is in the feature
 

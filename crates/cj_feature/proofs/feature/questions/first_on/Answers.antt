@@ -1,8 +1,7 @@
 use Rattle.std.proofs.Common.{◌≡◌, true, false, Some, sym, ap, ◌∙◌, subst}
-use Rattle.cj_spans.specs.Parts.{text_of}
 use Rattle.cj_spans.specs.View.{tree}
 use Rattle.cj_feature.specs.Links.{same_text}
-use Rattle.cj_feature.specs.Questions.{from_in, key_of, IsPlaceOf}
+use Rattle.cj_feature.specs.Questions.{from_in, IsPlaceOf}
 use Rattle.cj_feature.proofs.Questions.{only_here, none_here}
 use Rattle.cj_feature.proofs.feature.questions.first_on.Goals as goal
 

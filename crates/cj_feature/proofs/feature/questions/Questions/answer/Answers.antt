@@ -1,4 +1,4 @@
-use Rattle.std.proofs.Common.{sym, ◌∙◌}
+use Rattle.std.proofs.Common.{◌∙◌}
 use Rattle.cj_spans.specs.Parts.{members_of}
 use Rattle.cj_spans.specs.View.{tree}
 use Rattle.cj_feature.proofs.Questions.{unknown}

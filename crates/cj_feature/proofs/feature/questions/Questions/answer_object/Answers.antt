@@ -1,5 +1,4 @@
 use Rattle.std.proofs.Common.{◌<◌, length, arith, sym, subst, ◌∙◌}
-use Rattle.std.specs.Str.{chars}
 use Rattle.std.proofs.lemmas.Grind.{common_steps}
 use Rattle.std.proofs.lemmas.Option.{slice_get_within}
 use Rattle.cj_spans.specs.View.{trees, members_left}
