@@ -122,41 +122,7 @@ def peaks(lines):
 exec(open(os.path.join(HERE, "rows.py"), encoding="utf-8").read())
 
 
-SOURCE = os.path.join(HERE, "..", "crates", "cj_stream", "src", "tests", "vectors", "table.rt")
-
-
-def spelled(text):
-    """Bytes as a byte string of Rust spells them, over several lines where they are many."""
-    def spell(byte):
-        if byte in b'"\\':
-            return "\\" + chr(byte)
-        return chr(byte) if 32 <= byte < 127 else "\\n" if byte == 10 else f"\\x{byte:02x}"
-    return "".join(map(spell, text))
-
-
-def source():
-    """The table of the tests of cj_stream: all vectors but those that its tests make by themselves."""
-    entries = []
-    for name, text, limits, words, refused, lines, kept, good in ROWS:
-        if "/" in name:
-            continue
-        *ended, last = text.split(b"\n")
-        raw = [line + b"\n" for line in ended] + [last]
-        features = len([number for number in kept if number > 1])
-        answer = (f"{refused[0]} {refused[1]} {refused[2]} {lines} {features}" if refused
-                  else f"complete {lines} {features} " + " ".join(map(str, peaks(good))))
-        parts = [name, f"{limits[0]} {limits[1]}", " ".join(words) or "-", answer]
-        written = b"".join(raw[number - 1] for number in kept)
-        entry = [part.encode() for part in parts] + [text, written]
-        assert not any(b"\1" in part for part in entry), name
-        entries.append('    b"' + spelled(b"\1".join(entry)) + '",')
-    return ("//! Written by vectors/make.py: change the rows there, and run it again.\n\n"
-            f"/// The vectors, one after another.\npub const VECTORS: [&[u8]; {len(entries)}] = [\n" + "\n".join(entries) + "\n];\n")
-
-
 def main():
-    with open(SOURCE, "w", encoding="utf-8") as file:
-        file.write(source())
     for folder in ("cut", "not-utf8"):
         shutil.rmtree(os.path.join(HERE, folder), ignore_errors=True)
         os.mkdir(os.path.join(HERE, folder))

@@ -1,7 +1,7 @@
 //! Tests of what no clause says: worked rows, and devices that fail.
 //!
 //! `rows`, `engine_rows`, `blank_lines`, `long_lines`, `large`, `lines`, `order`, `queries` and `ids` have inputs with their answers,
-//! `vectors` the streams of the folder of that name, `lent` and `tally` what sinks see of them, `faults` and `long_devices` what
+//! `vectors` two families of them, by every cut, `lent` and `tally` what sinks see of them, `faults` and `long_devices` what
 //! comes of readers and writers that fail, which are in `devices`, and `calls` what all tests share. A body of many asserts is dear to
 //! prove, and a call is not: a row is one call of a function that checks it.
 mod blank_lines;
