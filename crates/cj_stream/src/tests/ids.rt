@@ -136,7 +136,8 @@ fn check_one(
     for id in ids {
         query.add_id(id)?;
     }
-    let text = joined(alloc, &[HEADER, b"\n", &named(alloc, spelled)?])?;
+    let feature = named(alloc, spelled)?;
+    let text = joined(alloc, &[HEADER, b"\n", &feature])?;
     check_kept(rt, alloc, &text, &query, keeps.into(), row)
 }
 
