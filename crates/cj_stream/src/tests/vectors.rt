@@ -31,7 +31,8 @@ fn check_held(rt: &impl Abort, vector: &Vector, outcome: Outcome) {
 fn check_outcome(rt: &impl Abort, vector: &Vector, outcome: Outcome, written: &[u8]) {
     check_held(rt, vector, outcome);
     assert_eq!(rt; outcome.ended, vector.ended);
-    assert_eq!(rt; (outcome.lines, outcome.kept), (1u64, 0u64));
+    assert_eq!(rt; outcome.lines, 1);
+    assert_eq!(rt; outcome.kept, 0);
     assert_eq!(rt; written.len(), HEADER.len() + 1);
     assert!(rt; written.starts_with(HEADER));
 }
