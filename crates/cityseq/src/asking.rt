@@ -104,6 +104,7 @@ fn add_ids(query: &mut Query, ids: &str) -> Result<(), QueryFault>
     for id in ids.split(',') {
         query.add_id(id)?;
     }
+    query.sort_ids();
     Ok(())
 }
 

@@ -1,20 +1,19 @@
 -- The templates of a header that has no list of them.
-use Rattle.std.proofs.Common.{◌≡◌, Bool, true, false, cond, Option, Some, None, refl}
-use Rattle.std.specs.Prelude.{option_map, length}
+use Rattle.std.proofs.Common.{◌≡◌, Bool, true, false, cond, Option, Some, None, is_some, refl}
 use Rattle.cj_spans.specs.Tree.{Tree}
 use Rattle.cj_spans.specs.Kinds.{is_array}
-use Rattle.cj_spans.specs.Parts.{kind_of, items_of}
+use Rattle.cj_spans.specs.Parts.{kind_of}
 use Rattle.cj_geometry.specs.Geometry.{listed, empty, list_of}
 use Rattle.cj_feature.specs.Feature.{given_list, templates_of}
 
-listed_if : (v : Bool) (t : Tree) → option_map (λ list. length (items_of list)) (list_of (cond v (listed t) empty)) ≡ None → cond v (listed t) empty ≡ empty
+listed_if : (v : Bool) (t : Tree) → false ≡ is_some (list_of (cond v (listed t) empty)) → cond v (listed t) empty ≡ empty
 listed_if true t h = absurd (cc h)
 listed_if false t h = refl
 
-given_none : (o : Option Tree) → option_map (λ list. length (items_of list)) (list_of (given_list o)) ≡ None → given_list o ≡ empty
+given_none : (o : Option Tree) → false ≡ is_some (list_of (given_list o)) → given_list o ≡ empty
 given_none None h = refl
 given_none (Some t) h = listed_if (is_array (kind_of t)) t h
 
--- where they were not counted there are none
-pub no_list : (t : Tree) → option_map (λ list. length (items_of list)) (list_of (templates_of t)) ≡ None → templates_of t ≡ empty
+-- where no steps are known there are none
+pub no_list : (t : Tree) → false ≡ is_some (list_of (templates_of t)) → templates_of t ≡ empty
 no_list t h = given_none _ h

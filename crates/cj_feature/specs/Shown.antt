@@ -1,5 +1,6 @@
 -- What a header shows of its tree.
-use Rattle.std.specs.Prelude.{◌≡◌, ℕ, List, [], ◌∷◌, length, option_map, Bool, false, ◌&&◌, cond, map, ℤ, pos, Option, Some, None, codes}
+use Rattle.std.specs.Prelude.{◌≡◌, ℕ, List, [], ◌∷◌, Bool, false, ◌&&◌, cond, map, ℤ, pos, Option, Some, None, is_some, codes}
+use Rattle.std.specs.Option.{ForSome}
 use Rattle.std.specs.Str.{chars}
 use Rattle.cj_spans.specs.Tree.{Tree}
 use Rattle.cj_spans.specs.Kinds.{is_number}
@@ -8,7 +9,8 @@ use Rattle.cj_decimal.specs.Number.{Number}
 use Rattle.cj_decimal.specs.Class.{Class, no_number, out_of_range, not_whole, whole}
 use Rattle.cj_decimal.proofs.Classes.{class}
 use Rattle.cj_geometry.specs.Rule.{spelling}
-use Rattle.cj_geometry.specs.Geometry.{list_of}
+use Rattle.cj_geometry.specs.Geometry.{list_of, parts_of}
+use Rattle.cj_geometry.specs.ListSteps.{AreStepsOf}
 use Rattle.cj_feature.specs.declared.header.reading.HeaderParts.{HeaderParts}
 use Rattle.cj_feature.specs.Header.{is_fixed, units_of, header}
 use Rattle.cj_feature.specs.Feature.{templates_of}
@@ -65,7 +67,8 @@ pub record ArePartsOf (t : Tree) (parts : HeaderParts) : Type 0 where
   pub maps : parts.maps ≡ maps_if parts.with_box t
   pub scale : transform_values (chars (codes "scale")) t ≡ map Some parts.scale
   pub translate : transform_values (chars (codes "translate")) t ≡ map Some parts.translate
-  pub templates : parts.templates ≡ option_map (λ list. length (items_of list)) (list_of (templates_of t))
+  pub listed : is_some parts.templates ≡ is_some (list_of (templates_of t))
+  pub steps : ForSome parts.templates (AreStepsOf (parts_of (list_of (templates_of t))))
 
 -- whether parts were read for a box
 unfoldable pub parts_box : HeaderParts → Bool

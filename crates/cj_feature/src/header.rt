@@ -59,14 +59,14 @@ impl<'a> Header<'a> {
 
     /// The templates that instances of later lines name. Where the header has no list of them, none is looked for.
     #[tactic(auto, unfolding(crate::specs::HeaderView::header_tree, crate::specs::HeaderView::header_line), using(crate::proofs::Listed::no_list))]
-    pub fn templates(&self) -> Templates<'a>
+    pub fn templates(&'a self) -> Templates<'a>
         ensures { given result ≡ templates_of (header_tree self.now) }
     {
-        let Some(count) = self.parts.templates else {
+        let Some(steps) = &self.parts.templates else {
             return Templates::empty();
         };
         match template_list(self.doc.root()) {
-            Some(list) => Templates::counted(list, count),
+            Some(list) => Templates::stepped(list, steps),
             None => Templates::empty(),
         }
     }

@@ -1,13 +1,14 @@
+pub mod Answers
 pub mod Digits
 pub mod Distinct
 pub mod Entries
 pub mod Grammars
+pub mod ListSteps
 pub mod Neighbours
 pub mod Numbers
 pub mod ObjectTypes
 pub mod OfKind
 pub mod Ordered
-pub mod Places
 pub mod Repeats
 pub mod Rooms
 pub mod Sequences

@@ -1,14 +1,15 @@
+pub mod Answers
 pub mod Entries
 pub mod Examples
 pub mod Form
 pub mod Geometry
 pub mod Given
 pub mod Grammar
+pub mod ListSteps
 pub mod Lod
 pub mod Lods
 pub mod Names
 pub mod ObjectTypes
-pub mod Places
 pub mod Rule
 pub mod Table
 pub mod TreeSet

@@ -117,9 +117,6 @@ tree_if-set = Coded-set (coded_option tree_coded)
 pub options-set : (a b : List (Option Tree)) → IsProp (a ≡ b)
 options-set = Coded-set (coded_list (coded_option tree_coded))
 
-pub lists-set : (a b : List (List Tree)) → IsProp (a ≡ b)
-lists-set = Coded-set (coded_list (coded_list tree_coded))
-
 -- ---- templates
 
 abbrev given_code : Given → Gv

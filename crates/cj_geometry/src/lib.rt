@@ -29,6 +29,7 @@ mod lods;
 mod object_type;
 pub mod rule;
 mod semantics;
+mod steps;
 mod templates;
 #[cfg(test)]
 mod tests;
@@ -38,4 +39,5 @@ pub use grammar::one_grammar_of_numbers;
 pub use lod::lod_of;
 pub use lods::Lods;
 pub use object_type::ObjectType;
+pub use steps::Steps;
 pub use templates::Templates;

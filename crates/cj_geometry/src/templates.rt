@@ -2,8 +2,10 @@
 ghost use Rattle.std.specs.Prelude.{◌≡◌, length};
 ghost use Rattle.cj_spans.specs.Parts.{items_of};
 ghost use Rattle.cj_spans.specs.View.{tree};
+ghost use Rattle.cj_geometry.specs.ListSteps.{AreStepsOf};
 
 use crate::rule::count_items;
+use crate::steps::Steps;
 use cj_spans::Node;
 
 /// A list of templates. It is counted once, and not for each instance.
@@ -14,10 +16,19 @@ struct List<'a> {
     ghost counted: { count ≡ length (items_of (tree node)) },
 }
 
+/// A list of templates that was gone over before.
+#[derive(Clone, Copy)]
+struct SteppedList<'a> {
+    node: Node<'a>,
+    steps: &'a Steps,
+    ghost known: { AreStepsOf (items_of (tree node)) steps.now },
+}
+
 /// The templates there are: those of a list, or none; or the geometry is one itself.
 #[derive(Clone, Copy)]
 enum Choice<'a> {
     Listed(List<'a>),
+    Stepped(SteppedList<'a>),
     Empty,
     Itself,
 }
@@ -32,7 +43,7 @@ impl<'a> Templates<'a> {
     ghost use Rattle.std.specs.Prelude.{option_map, nat_eq};
     ghost use Rattle.cj_spans.specs.declared.token.Kind.TheVariants.{Array};
     ghost use Rattle.cj_spans.specs.Parts.{kind_of};
-    ghost use Rattle.cj_geometry.specs.Geometry.{listed, empty, itself, list_of, template_count, is_itself};
+    ghost use Rattle.cj_geometry.specs.Geometry.{listed, empty, itself, list_of, parts_of, template_count, is_itself};
     ghost use Rattle.cj_geometry.specs.Given.{given};
 
     /// Those of the header's list, which is an array.
@@ -40,17 +51,22 @@ impl<'a> Templates<'a> {
         requires { kind_of (tree node) ≡ Array }
         ensures { given result ≡ listed (tree node.entry) }
     {
-        Templates::counted(node, count_items(node))
+        Templates {
+            choice: Choice::Listed(List {
+                node,
+                count: count_items(node),
+            }),
+        }
     }
 
-    /// Those of the header's list, which is an array and was counted before: it is not gone over.
-    pub fn counted(node: Node<'a>, count: u64) -> Templates<'a>
+    /// Those of the header's list, which is an array and was gone over before: it is not gone over again.
+    pub fn stepped(node: Node<'a>, steps: &'a Steps) -> Templates<'a>
         requires list { kind_of (tree node) ≡ Array }
-        requires count { count ≡ length (items_of (tree node)) }
+        requires steps { AreStepsOf (items_of (tree node)) steps.now }
         ensures { given result ≡ listed (tree node.entry) }
     {
         Templates {
-            choice: Choice::Listed(List { node, count }),
+            choice: Choice::Stepped(SteppedList { node, steps }),
         }
     }
 
@@ -85,6 +101,7 @@ impl<'a> Templates<'a> {
     {
         match self.choice {
             Choice::Listed(list) => Some(list.node),
+            Choice::Stepped(list) => Some(list.node),
             Choice::Empty | Choice::Itself => None,
         }
     }
@@ -95,6 +112,7 @@ impl<'a> Templates<'a> {
     {
         match self.choice {
             Choice::Listed(list) => list.count,
+            Choice::Stepped(list) => list.steps.count(),
             Choice::Empty | Choice::Itself => 0,
         }
     }
@@ -105,7 +123,18 @@ impl<'a> Templates<'a> {
     {
         match self.choice {
             Choice::Itself => true,
-            Choice::Listed(_) | Choice::Empty => false,
+            Choice::Listed(_) | Choice::Stepped(_) | Choice::Empty => false,
+        }
+    }
+
+    /// The steps of the list, which is gone over here if it was not before; without a list those of no items.
+    pub(crate) fn steps(self) -> Steps
+        ensures { AreStepsOf (parts_of (list_of (given self.entry))) result }
+    {
+        match self.choice {
+            Choice::Stepped(list) => *list.steps,
+            Choice::Listed(list) => Steps::of(list.node),
+            Choice::Empty | Choice::Itself => Steps::none(),
         }
     }
 }

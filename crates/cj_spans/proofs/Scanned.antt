@@ -6,7 +6,7 @@ use Rattle.std.proofs.lemmas.Bool.Decides.{nat_tests}
 use Rattle.cj_spans.specs.declared.token.Token.{Token}
 use Rattle.cj_spans.specs.declared.token.Kind.{Kind}
 use Rattle.cj_spans.specs.declared.token.Kind.TheVariants.{Null, Truth, Number, Text, Array, Object}
-use Rattle.cj_spans.specs.Tree.{Atom, Tree, scalar, array, object, Items, no_items, item, Members, no_members, member, add_item, add_member, start_of, size, items_size, members_size}
+use Rattle.cj_spans.specs.Tree.{Atom, Tree, scalar, array, object, Items, no_items, item, Members, no_members, member, add_item, add_member, start_of, size, total_size, items_size, members_size}
 use Rattle.cj_spans.specs.Spelling.{IsScalar}
 use Rattle.cj_spans.specs.Json.{byte, IsAtom, Value, atom, empty_array, full_array, empty_object, full_object, Padded, padded, LedItems, no_led, led, LedMembers, no_led_members, led_member, Named, named, Json}
 use Rattle.cj_spans.specs.Preorder.{Span, span_at, preorder, items_preorder, members_preorder, spans_of}
@@ -19,20 +19,16 @@ use Rattle.cj_spans.proofs.Forests.{atom_kind, Beyond, held_all, names_and_value
 
 -- ---- as many spans as the trees have values and names: none is left out
 
-abbrev pub sizes : List Tree → ℕ
-sizes [] = 0
-sizes (t ∷ ts) = size t + sizes ts
-
 abbrev preorders : List Tree → List Span
 preorders [] = []
 preorders (t ∷ ts) = preorder t ++ preorders ts
 
-size_some : (t : Tree) → 0 < size t
+pub size_some : (t : Tree) → 0 < size t
 size_some (scalar k a) = omega arith
 size_some (array i j ts) = omega arith
 size_some (object i j ms) = omega arith
 
-sizes_none : (ts : List Tree) → sizes ts ≡ 0 → preorders ts ≡ []
+sizes_none : (ts : List Tree) → total_size ts ≡ 0 → preorders ts ≡ []
 sizes_none [] h = refl
 sizes_none (t ∷ ts) h = let s = size_some t in absurd (omega arith)
 
@@ -49,7 +45,7 @@ alone (scalar k a) h = refl
 alone (array i j ts) h = ap (λ ss. span_at i j ∷ ss) (items_none ts (omega arith))
 alone (object i j ms) h = ap (λ ss. span_at i j ∷ ss) (members_none ms (omega arith))
 
-items_size-from : (ts : List Tree) → items_size (items_from ts) ≡ sizes ts
+items_size-from : (ts : List Tree) → items_size (items_from ts) ≡ total_size ts
 items_size-from [] = refl
 items_size-from (t ∷ ts) = ap (λ n. size t + n) (items_size-from ts)
 
@@ -57,22 +53,22 @@ items_preorder-from : (ts : List Tree) → items_preorder (items_from ts) ≡ pr
 items_preorder-from [] = refl
 items_preorder-from (t ∷ ts) = ap (λ ss. preorder t ++ ss) (items_preorder-from ts)
 
-members_small : (ts : List Tree) → members_size (members_from ts) ≤ sizes ts
+members_small : (ts : List Tree) → members_size (members_from ts) ≤ total_size ts
 members_small [] = omega arith
 members_small (n ∷ []) = omega arith
 members_small (n ∷ t ∷ ts) = let s = size_some n in let l = members_small ts in omega arith
 
-members_same : (ts : List Tree) → members_size (members_from ts) ≡ sizes ts → members_preorder (members_from ts) ≡ preorders ts
+members_same : (ts : List Tree) → members_size (members_from ts) ≡ total_size ts → members_preorder (members_from ts) ≡ preorders ts
 members_same [] h = refl
 members_same (n ∷ []) h = let s = size_some n in absurd (omega arith)
 members_same (n ∷ t ∷ ts) h =
     let s = size_some n in
     let l = members_small ts in
     let e : size n ≡ 1 = omega arith in
-    let f : members_size (members_from ts) ≡ sizes ts = omega arith in
+    let f : members_size (members_from ts) ≡ total_size ts = omega arith in
     ap (λ ss. span_at (atom_of n).start (atom_of n).stop ∷ (preorder t ++ ss)) (members_same ts f) ∙ ap (λ ss. ss ++ (preorder t ++ preorders ts)) (sym (alone n e))
 
-pub node_small : (b : List ℕ) (k : Kind) (i j : ℕ) (ts : List Tree) → size (node b k i j ts) ≤ suc (sizes ts)
+pub node_small : (b : List ℕ) (k : Kind) (i j : ℕ) (ts : List Tree) → size (node b k i j ts) ≤ suc (total_size ts)
 node_small b Null i j ts = omega arith
 node_small b Truth i j ts = omega arith
 node_small b Number i j ts = omega arith
@@ -80,7 +76,7 @@ node_small b Text i j ts = omega arith
 node_small b Array i j ts = let e = items_size-from ts in omega arith
 node_small b Object i j ts = let e = members_small ts in omega arith
 
-node_same : (b : List ℕ) (k : Kind) (i j : ℕ) (ts : List Tree) → size (node b k i j ts) ≡ suc (sizes ts) → preorder (node b k i j ts) ≡ span_at i j ∷ preorders ts
+node_same : (b : List ℕ) (k : Kind) (i j : ℕ) (ts : List Tree) → size (node b k i j ts) ≡ suc (total_size ts) → preorder (node b k i j ts) ≡ span_at i j ∷ preorders ts
 node_same b Null i j ts h = ap (λ ss. span_at i j ∷ ss) (sym (sizes_none ts (omega arith)))
 node_same b Truth i j ts h = ap (λ ss. span_at i j ∷ ss) (sym (sizes_none ts (omega arith)))
 node_same b Number i j ts h = ap (λ ss. span_at i j ∷ ss) (sym (sizes_none ts (omega arith)))
@@ -88,7 +84,7 @@ node_same b Text i j ts h = ap (λ ss. span_at i j ∷ ss) (sym (sizes_none ts (
 node_same b Array i j ts h = ap (λ ss. span_at i j ∷ ss) (items_preorder-from ts)
 node_same b Object i j ts h = ap (λ ss. span_at i j ∷ ss) (members_same ts (omega arith))
 
-sizes-append : (ts us : List Tree) → sizes (ts ++ us) ≡ sizes ts + sizes us
+pub sizes-append : (ts us : List Tree) → total_size (ts ++ us) ≡ total_size ts + total_size us
 sizes-append [] us = omega arith
 sizes-append (t ∷ ts) us = let e = sizes-append ts us in omega arith
 
@@ -106,10 +102,10 @@ held-past : (j : ℕ) (ts : List Tree) → held j ts ++ past j ts ≡ ts
 held-past j [] = refl
 held-past j (t ∷ ts) = elim (cases_lt (start_of t) j) [ inl l ↦ held-past_on t ts j l ∙ ap (λ us. t ∷ us) (held-past j ts) | inr g ↦ held-past_here t ts j g ]
 
-pub held_sizes : (j : ℕ) (ts : List Tree) → sizes (held j ts) + sizes (past j ts) ≡ sizes ts
-held_sizes j ts = sym (sizes-append (held j ts) (past j ts)) ∙ ap sizes (held-past j ts)
+pub held_sizes : (j : ℕ) (ts : List Tree) → total_size (held j ts) + total_size (past j ts) ≡ total_size ts
+held_sizes j ts = sym (sizes-append (held j ts) (past j ts)) ∙ ap total_size (held-past j ts)
 
-pub forest_small : (b : List ℕ) (ss : List Span) → sizes (forest b ss) ≤ length ss
+pub forest_small : (b : List ℕ) (ss : List Span) → total_size (forest b ss) ≤ length ss
 unfolding forest
 forest_small b [] = omega arith
 forest_small b (s ∷ ss) =
@@ -118,20 +114,20 @@ forest_small b (s ∷ ss) =
     let n = node_small b (kind_by (byte b s.start)) s.start s.stop (held s.stop (forest b ss)) in
     omega arith
 
-forest_same : (b : List ℕ) (ss : List Span) → sizes (forest b ss) ≡ length ss → preorders (forest b ss) ≡ ss
+forest_same : (b : List ℕ) (ss : List Span) → total_size (forest b ss) ≡ length ss → preorders (forest b ss) ≡ ss
 unfolding forest
 forest_same b [] h = refl
 forest_same b (s ∷ ss) h =
     let l = forest_small b ss in
     let e = held_sizes s.stop (forest b ss) in
     let n = node_small b (kind_by (byte b s.start)) s.start s.stop (held s.stop (forest b ss)) in
-    let f : size (node b (kind_by (byte b s.start)) s.start s.stop (held s.stop (forest b ss))) ≡ suc (sizes (held s.stop (forest b ss))) = omega arith in
-    let g : sizes (forest b ss) ≡ length ss = omega arith in
+    let f : size (node b (kind_by (byte b s.start)) s.start s.stop (held s.stop (forest b ss))) ≡ suc (total_size (held s.stop (forest b ss))) = omega arith in
+    let g : total_size (forest b ss) ≡ length ss = omega arith in
     ap (λ us. us ++ preorders (past s.stop (forest b ss))) (node_same b (kind_by (byte b s.start)) s.start s.stop (held s.stop (forest b ss)) f)
     ∙ ap (λ us. s ∷ us) (sym (preorders-append (held s.stop (forest b ss)) (past s.stop (forest b ss))) ∙ ap preorders (held-past s.stop (forest b ss)) ∙ forest_same b ss g)
 
 pub all_shown : (b : List ℕ) (ss : List Span) (t : Tree) → forest b ss ≡ t ∷ [] → length ss ≡ size t → preorder t ≡ ss
-all_shown b ss t h e = let f : sizes (forest b ss) ≡ length ss = ap sizes h ∙ omega arith in sym (append-nil (preorder t)) ∙ ap preorders (sym h) ∙ forest_same b ss f
+all_shown b ss t h e = let f : total_size (forest b ss) ≡ length ss = ap total_size h ∙ omega arith in sym (append-nil (preorder t)) ∙ ap preorders (sym h) ∙ forest_same b ss f
 
 -- ---- what is known of each span
 

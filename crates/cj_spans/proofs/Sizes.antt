@@ -6,20 +6,20 @@ use Rattle.std.proofs.lemmas.Option.{slice_get_within}
 use Rattle.cj_budget.specs.Bounded.{BoundedList}
 use Rattle.cj_spans.specs.declared.token.Token.{Token}
 use Rattle.cj_spans.specs.declared.fault.ScanFault.{ScanFault}
-use Rattle.cj_spans.specs.Tree.{Atom, Tree, Items, no_items, item, Members, no_members, member, add_item, add_member, size, items_size, members_size}
+use Rattle.cj_spans.specs.Tree.{Atom, Tree, Items, no_items, item, Members, no_members, member, add_item, add_member, size, total_size, items_size, members_size}
 use Rattle.cj_spans.specs.Json.{byte, Value, atom, empty_array, full_array, empty_object, full_object, Padded, padded, LedItems, no_led, led, LedMembers, no_led_members, led_member, Named, named}
 use Rattle.cj_spans.specs.Preorder.{Span, spans_of}
 use Rattle.cj_spans.specs.Forest.{held, past, forest, kind_by, node}
-use Rattle.cj_spans.specs.Sound.{AreOf, before}
+use Rattle.cj_spans.specs.Sound.{AreOf, AreFull, AreNested, AreLinked, before}
 use Rattle.cj_spans.specs.Scan.{AreSized, IsScanOf}
 use Rattle.cj_spans.specs.View.{tree_at}
 use Rattle.cj_spans.proofs.Links.{before_length, before_one, before_zero}
-use Rattle.cj_spans.proofs.Scanned.{sizes, node_small, forest_small, held_sizes, known, length-spans_of}
+use Rattle.cj_spans.proofs.Scanned.{node_small, forest_small, held_sizes, known, length-spans_of}
 use Rattle.cj_spans.proofs.Views.{link_past}
 
 -- ---- where all spans show something, so do those further on
 
-full_next : (b : List ℕ) (s : Span) (ss : List Span) → sizes (forest b (s ∷ ss)) ≡ length (s ∷ ss) → sizes (forest b ss) ≡ length ss
+full_next : (b : List ℕ) (s : Span) (ss : List Span) → total_size (forest b (s ∷ ss)) ≡ length (s ∷ ss) → total_size (forest b ss) ≡ length ss
 unfolding forest
 full_next b s ss h =
     let l = forest_small b ss in
@@ -27,14 +27,14 @@ full_next b s ss h =
     let n = node_small b (kind_by (byte b s.start)) s.start s.stop (held s.stop (forest b ss)) in
     omega arith
 
-full_from : (b : List ℕ) (ss : List Span) (k : ℕ) → sizes (forest b ss) ≡ length ss → sizes (forest b (drop k ss)) ≡ length (drop k ss)
+full_from : (b : List ℕ) (ss : List Span) (k : ℕ) → total_size (forest b ss) ≡ length ss → total_size (forest b (drop k ss)) ≡ length (drop k ss)
 full_from b ss zero h = h
 full_from b [] (suc k) h = h
 full_from b (s ∷ ss) (suc k) h = full_from b ss k (full_next b s ss h)
 
 -- and the tree of each has as many values and names as it holds, and itself
-full_tree : (b : List ℕ) (ts : List Token) (k : ℕ) (t : Token) → slice_get ts k ≡ Some t → sizes (forest b (spans_of ts)) ≡ length (spans_of ts)
-    → size (tree_at b (spans_of ts) k) ≡ suc (sizes (held t.stop (forest b (drop (suc k) (spans_of ts)))))
+full_tree : (b : List ℕ) (ts : List Token) (k : ℕ) (t : Token) → slice_get ts k ≡ Some t → total_size (forest b (spans_of ts)) ≡ length (spans_of ts)
+    → size (tree_at b (spans_of ts) k) ≡ suc (total_size (held t.stop (forest b (drop (suc k) (spans_of ts)))))
 unfolding forest tree_at
 full_tree b [] k t h e = cc
 full_tree b (u ∷ ts) zero t h e =
@@ -42,8 +42,8 @@ full_tree b (u ∷ ts) zero t h e =
     let l = forest_small b (spans_of ts) in
     let f = held_sizes u.stop (forest b (spans_of ts)) in
     let n = node_small b (kind_by (byte b u.start)) u.start u.stop (held u.stop (forest b (spans_of ts))) in
-    let own : size (node b (kind_by (byte b u.start)) u.start u.stop (held u.stop (forest b (spans_of ts)))) ≡ suc (sizes (held u.stop (forest b (spans_of ts)))) = omega arith in
-    subst (λ v. size (node b (kind_by (byte b u.start)) u.start u.stop (held u.stop (forest b (spans_of ts)))) ≡ suc (sizes (held v.stop (forest b (spans_of ts))))) q own
+    let own : size (node b (kind_by (byte b u.start)) u.start u.stop (held u.stop (forest b (spans_of ts)))) ≡ suc (total_size (held u.stop (forest b (spans_of ts)))) = omega arith in
+    subst (λ v. size (node b (kind_by (byte b u.start)) u.start u.stop (held u.stop (forest b (spans_of ts)))) ≡ suc (total_size (held v.stop (forest b (spans_of ts))))) q own
 full_tree b (u ∷ ts) (suc k) t h e = full_tree b ts k t h (full_next b _ (spans_of ts) e)
 
 length_from : (ts : List Token) (k : ℕ) → length (drop k (spans_of ts)) ≡ length (drop k ts)
@@ -52,27 +52,37 @@ length_from [] (suc k) = refl
 length_from (t ∷ ts) (suc k) = length_from ts k
 
 -- so many tokens start before a token stops: those of its tree
-pub past_tree : (b : List ℕ) (ts : List Token) (k : ℕ) (t : Token) → AreOf b ts → slice_get ts k ≡ Some t → k + 1 + before t.stop (drop (k + 1) ts) ≡ k + size (tree_at b (spans_of ts) k)
-past_tree b ts k t a h =
+past_full : (b : List ℕ) (ts : List Token) (k : ℕ) (t : Token) → AreNested ts → AreFull b ts → slice_get ts k ≡ Some t → k + 1 + before t.stop (drop (k + 1) ts) ≡ k + size (tree_at b (spans_of ts) k)
+past_full b ts k t nested whole h =
     let next : suc k ≡ k + 1 = omega arith in
     let ss = spans_of ts in
     let r = k + 1 + before t.stop (drop (k + 1) ts) in
-    let full : sizes (forest b ss) ≡ length ss = ap sizes a.shown ∙ (let c = a.count in let l = length-spans_of ts in omega arith) in
-    let own = subst (λ j. size (tree_at b ss k) ≡ suc (sizes (held t.stop (forest b (drop j ss))))) next (full_tree b ts k t h full) in
-    let after = link_past b ts (k + 1) t.stop r ((known b ts a).nested k t h) refl in
+    let full : total_size (forest b ss) ≡ length ss = whole ∙ sym (length-spans_of ts) in
+    let own = subst (λ j. size (tree_at b ss k) ≡ suc (total_size (held t.stop (forest b (drop j ss))))) next (full_tree b ts k t h full) in
+    let after = link_past b ts (k + 1) t.stop r (nested k t h) refl in
     let parts = held_sizes t.stop (forest b (drop (k + 1) ss)) in
     let here = full_from b ss (k + 1) full in
     let there = full_from b ss r full in
-    let split : sizes (past t.stop (forest b (drop (k + 1) ss))) ≡ length (drop r ss) = ap sizes (sym after) ∙ there in
+    let split : total_size (past t.stop (forest b (drop (k + 1) ss))) ≡ length (drop r ss) = ap total_size (sym after) ∙ there in
     let m = length_from ts (k + 1) in let n = length_from ts r in
     let p = length-drop (k + 1) ts in let q = length-drop r ts in
     let l = before_length t.stop (drop (k + 1) ts) in
     let inside = slice_get_within ts k t h in
     omega arith
 
+-- all tokens of a line show something
+pub are_full : (b : List ℕ) (ts : List Token) → AreOf b ts → AreFull b ts
+are_full b ts a = ap total_size a.shown ∙ (let c = a.count in omega arith)
+
+pub past_tree : (b : List ℕ) (ts : List Token) (k : ℕ) (t : Token) → AreOf b ts → slice_get ts k ≡ Some t → k + 1 + before t.stop (drop (k + 1) ts) ≡ k + size (tree_at b (spans_of ts) k)
+past_tree b ts k t a h = past_full b ts k t (known b ts a).nested (are_full b ts a) h
+
 -- each token links past its tree
+pub full_sized : (b : List ℕ) (ts : List Token) → AreNested ts → AreLinked ts → AreFull b ts → AreSized b ts
+full_sized b ts nested linked whole = λ k t h. linked k t h ∙ past_full b ts k t nested whole h
+
 pub are_sized : (b : List ℕ) (ts : List Token) → AreOf b ts → AreSized b ts
-are_sized b ts a = λ k t h. a.linked k t h ∙ past_tree b ts k t a h
+are_sized b ts a = full_sized b ts (known b ts a).nested a.linked (are_full b ts a)
 
 scan_sized : (b : List ℕ) (old new : BoundedList Token) (old_stack new_stack : BoundedList ℕ) → (t : Tree) × IsScanOf b t old new old_stack new_stack → AreSized b new.elements
 scan_sized b old new old_stack new_stack s = are_sized b new.elements (record { tree = s.0; json = s.1.json; shown = s.1.shown; count = s.1.count; linked = s.1.linked })

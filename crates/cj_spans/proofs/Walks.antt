@@ -8,17 +8,18 @@ use Rattle.std.proofs.lemmas.Bool.Decides.{nat_tests}
 use Rattle.cj_spans.specs.declared.token.Token.{Token}
 use Rattle.cj_spans.specs.declared.token.Kind.{Kind}
 use Rattle.cj_spans.specs.declared.token.Kind.TheVariants.{Null, Truth, Number, Text, Array, Object}
-use Rattle.cj_spans.specs.Tree.{Tree, start_of, size}
+use Rattle.cj_spans.specs.Tree.{Tree, start_of, size, total_size}
 use Rattle.cj_spans.specs.Json.{byte}
 use Rattle.cj_spans.specs.Preorder.{Span, span_at, spans_of}
 use Rattle.cj_spans.specs.Forest.{kind_by, held, past, node, forest}
 use Rattle.cj_spans.specs.Parts.{kind_of, items_of, members_of}
 use Rattle.cj_spans.specs.Sound.{AreOf, AreNamed, AreNested, AreLinked, AreLone, AreWhole, ShowMembers, StopBefore, before, is_name, are_members, link_of, shown_between, items_end, members_end}
+use Rattle.cj_spans.specs.Scan.{AreSized}
 use Rattle.cj_spans.specs.View.{tree_at, pairs_of}
 use Rattle.cj_spans.proofs.Forests.{held_on, past_on, start-node}
 use Rattle.cj_spans.proofs.Links.{before_length, before_one, before_zero}
 use Rattle.cj_spans.proofs.Sizes.{are_sized, before_walked, before_stopped}
-use Rattle.cj_spans.proofs.Scanned.{length-spans_of}
+use Rattle.cj_spans.proofs.Scanned.{forest_small, length-spans_of}
 use Rattle.cj_spans.proofs.Views.{below, below_at, held_none, past_here, past-past, kind-node, kind_object, list-items_from, list-members_from, length-forest, length-pairs}
 
 -- ---- trees up to a place, of those up to a later one
@@ -427,6 +428,85 @@ few_trees b ts k n =
 
 pub few_pairs : (b : List ℕ) (ts : List Token) (k n : ℕ) → length (pairs_of (shown_between b ts k n)) ≤ length ts
 few_pairs b ts k n = let l = length-pairs (shown_between b ts k n) in let m = few_trees b ts k n in omega arith
+
+-- ---- a walk that passes over the first trees by how many values and names they are
+
+passed_over : (ts us : List Tree) (t : Tree) (j : ℕ) → us ≡ t ∷ ts → total_size (take (suc j) us) ≡ size t + total_size (take j ts)
+passed_over ts us t j e = ap (λ xs. total_size (take (suc j) xs)) e
+
+some_left : (ts : List Tree) (j : ℕ) → suc j ≤ length ts → ts ≡ [] → ⊥
+some_left ts j h e = let n : length ts ≡ 0 = ap length e in absurd (omega arith)
+
+-- a walk from the k-th token on, whose first j trees are m values and names
+pub walk_behind : (b : List ℕ) (ts : List Token) (j k m n : ℕ) → AreNested ts → AreLinked ts → AreSized b ts → AreWhole ts k n → j ≤ length (shown_between b ts k n) → total_size (take j (shown_between b ts k n)) ≡ m
+    → shown_between b ts (k + m) n ≡ drop j (shown_between b ts k n)
+walk_behind b ts zero k m n nested linked sized w few e = ap (λ i. shown_between b ts i n) (omega arith)
+walk_behind b ts (suc j) k m n nested linked sized w few e =
+    elim (cases_lt k n) [
+      | inl l ↦
+          let whole = w.0 in
+          let found = below b ts k (omega arith) in
+          let t = found.0 in
+          let r = link_of t in
+          let here = linked k t found.1 in
+          let own = sized k t found.1 in
+          let step = walk_on b ts k n r t nested found.1 here (w.1 k t (omega arith) l found.1) in
+          let first = passed_over (shown_between b ts r n) (shown_between b ts k n) (tree_at b (spans_of ts) k) j step in
+          let count = ap length step in
+          let later = walk_behind b ts j r (total_size (take j (shown_between b ts r n))) n nested linked sized (whole_later ts k r n (omega arith) w) (omega arith) refl in
+          let same : k + m ≡ r + total_size (take j (shown_between b ts r n)) = omega arith in
+          ap (λ i. shown_between b ts i n) same ∙ later ∙ sym (ap (drop (suc j)) step)
+      | inr g ↦ absurd (some_left (shown_between b ts k n) j few (shown_none b ts k n g))
+    ]
+
+-- what a walk shows is no more values and names than tokens
+pub small_trees : (b : List ℕ) (ts : List Token) (k n : ℕ) → total_size (shown_between b ts k n) ≤ n - k
+small_trees b ts k n = let l = forest_small b (slice_range (spans_of ts) k n) in let m = length-range (spans_of ts) k (n - k) in omega arith
+  where
+    length-range : (ss : List Span) (k m : ℕ) → length (take m (drop k ss)) ≤ m
+    length-range ss zero zero = omega arith
+    length-range [] zero (suc m) = omega arith
+    length-range (s ∷ ss) zero (suc m) = let l = length-range ss zero m in omega arith
+    length-range [] (suc k) zero = omega arith
+    length-range [] (suc k) (suc m) = omega arith
+    length-range (s ∷ ss) (suc k) m = length-range ss k m
+
+items_end_low : (r : Kind) (l : ℕ) → items_end r l ≤ l
+items_end_low Null l = omega arith
+items_end_low Truth l = omega arith
+items_end_low Number l = omega arith
+items_end_low Text l = omega arith
+items_end_low Array l = omega arith
+items_end_low Object l = omega arith
+
+link_low : (ts : List Token) (k l : ℕ) → AreLinked ts → k < length ts → LinksTo ts k l → l < 2 ^ 31
+link_low ts k l linked h e =
+    let t = below [] ts k h in
+    let here : t.0.link % 2 ^ 31 ≡ k + 1 + before t.0.stop (drop (k + 1) ts) = linked k t.0 t.1 in
+    let there = e t.0 t.1 in
+    omega arith
+
+-- the items of a node whose token, at k, links to l
+pub small_items : (b : List ℕ) (ts : List Token) (k l n : ℕ) (r : Kind) → AreLinked ts → k < length ts → LinksTo ts k l → n ≡ items_end r l → total_size (shown_between b ts (k + 1) n) < 2 ^ 31
+small_items b ts k l n r linked inside e f =
+    let low = link_low ts k l linked inside e in let end = items_end_low r l in let small = small_trees b ts (k + 1) n in omega arith
+
+-- a walk over them that passes over the first ones
+pub items_behind_link : (b : List ℕ) (ts : List Token) (k l n j m : ℕ) (r : Kind) → AreNested ts → AreLinked ts → AreSized b ts → k < length ts → LinksTo ts k l → r ≡ kind_of (tree_at b (spans_of ts) k) → n ≡ items_end r l
+    → j ≤ length (items_of (tree_at b (spans_of ts) k)) → total_size (take j (items_of (tree_at b (spans_of ts) k))) ≡ m → shown_between b ts (k + 1 + m) n ≡ drop j (items_of (tree_at b (spans_of ts) k))
+items_behind_link b ts k l n j m r nested linked sized inside e f g few same =
+    let w = items_from_link b ts k l n r nested linked inside e f g in
+    let count = ap length w.shown in
+    walk_behind b ts j (k + 1) m n nested linked sized w.whole (omega arith) (ap (λ xs. total_size (take j xs)) w.shown ∙ same) ∙ ap (drop j) w.shown
+
+-- a token's link, by the size of its tree
+pub linked_size : (b : List ℕ) (ts : List Token) (k l : ℕ) → AreLinked ts → AreSized b ts → k < length ts → LinksTo ts k l → (l ≡ k + size (tree_at b (spans_of ts) k)) × (l < 2 ^ 31)
+linked_size b ts k l linked sized inside e =
+    let t = below b ts k inside in
+    let here = linked k t.0 t.1 in
+    let own = sized k t.0 t.1 in
+    let there = e t.0 t.1 in
+    (omega arith, link_low ts k l linked inside e)
 
 -- ---- numbers
 

@@ -3,7 +3,7 @@ use Rattle.std.specs.Prelude.{◌≡◌, ℕ, suc, ◌+◌, ◌%◌, ◌^◌, �
 use Rattle.cj_spans.specs.declared.token.Kind.TheVariants.{Text, Null, Truth, Number, Array, Object}
 use Rattle.cj_spans.specs.declared.token.Kind.{Kind}
 use Rattle.cj_spans.specs.declared.token.Token.{Token}
-use Rattle.cj_spans.specs.Tree.{Tree, scalar, array, object, size}
+use Rattle.cj_spans.specs.Tree.{Tree, scalar, array, object, size, total_size}
 use Rattle.cj_spans.specs.Json.{Json, byte}
 use Rattle.cj_spans.specs.Preorder.{spans_of}
 use Rattle.cj_spans.specs.Forest.{forest, held}
@@ -30,6 +30,10 @@ pub record AreOf (line : List ℕ) (tokens : List Token) : Type 0 where
   pub shown : forest line (spans_of tokens) ≡ tree ∷ []
   pub count : length tokens ≡ size tree
   pub linked : AreLinked tokens
+
+-- the tokens show as many values and names as they are
+abbrev pub AreFull : List ℕ → List Token → Type 0
+AreFull line tokens = total_size (forest line (spans_of tokens)) ≡ length tokens
 
 -- each token has a byte or more, all of the line
 abbrev pub AreWithin : List ℕ → List Token → Type 0

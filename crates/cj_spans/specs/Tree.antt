@@ -1,5 +1,5 @@
 -- Placed JSON trees: each value and each name with where it starts and stops, scalars and names with their spelling.
-use Rattle.std.specs.Prelude.{ℕ, suc, ◌+◌, max, List}
+use Rattle.std.specs.Prelude.{ℕ, suc, ◌+◌, max, List, [], ◌∷◌}
 use Rattle.cj_spans.specs.declared.token.Kind.{Kind}
 
 -- a scalar or a name: where it starts, where it stops, and the bytes between
@@ -61,6 +61,11 @@ abbrev mutual
   pub members_size : Members → ℕ
   members_size no_members = 0
   members_size (member n t ms) = suc (size t + members_size ms)
+
+-- that of some trees together
+abbrev pub total_size : List Tree → ℕ
+total_size [] = 0
+total_size (t ∷ ts) = size t + total_size ts
 
 -- 0 for a scalar, else 1 plus the greatest nest of the parts
 abbrev mutual

@@ -11,8 +11,8 @@
 //!     None => false,
 //! }
 //! ```
-ghost use Rattle.std.specs.Prelude.{◌≡◌, ◌<◌, ◌≤◌, ◌+◌, ◌^◌, ℕ, length, slice_get, Some, List, drop};
-ghost use Rattle.cj_spans.specs.Sound.{AreOf, AreWithin, AreNested, AreNamed, AreLinked, AreLone, AreWhole, ShowMembers, before};
+ghost use Rattle.std.specs.Prelude.{◌≡◌, ◌<◌, ◌≤◌, ◌+◌, ◌^◌, ℕ, length, slice_get, Some, List, take, drop};
+ghost use Rattle.cj_spans.specs.Sound.{AreOf, AreFull, AreWithin, AreNested, AreNamed, AreLinked, AreLone, AreWhole, ShowMembers, before};
 ghost use Rattle.cj_spans.specs.Tree.{Tree};
 ghost use Rattle.cj_spans.specs.declared.token.Token.{Token as TokenOf};
 ghost use Rattle.cj_spans.specs.Json.{Json, byte};
@@ -42,6 +42,7 @@ struct Source<'a> {
     ghost named: { AreNamed line.now tokens.now },
     ghost linked: { AreLinked tokens.now },
     ghost lone: { AreLone line.now tokens.now },
+    ghost full: { AreFull line.now tokens.now },
 }
 
 /// The tree of a line.
@@ -175,7 +176,7 @@ impl<'a> Doc<'a> {
 
 impl<'a> Node<'a> {
     ghost use Rattle.cj_spans.specs.Parts.{kind_of, spelling_of, items_of, members_of, AreInOrder};
-    ghost use Rattle.cj_spans.specs.Tree.{start_of};
+    ghost use Rattle.cj_spans.specs.Tree.{start_of, size, total_size};
     ghost use Rattle.cj_spans.specs.View.{tree, line_of, source_of, items_left, items_line, items_source, members_left, members_line, members_source};
 
     /// What kind of value it is. A member name is a `Text`.
@@ -203,17 +204,40 @@ impl<'a> Node<'a> {
         &self.source.line[token.start as usize..token.stop as usize]
     }
 
+    /// How many values and member names it is: itself, and all that it holds.
+    pub fn size(self) -> u32
+        ensures { result ≡ size (tree self.entry) }
+    {
+        (self.source.after(self.index) - self.index) as u32
+    }
+
     /// The items of an array, in order (RFC 8259, section 5); none of any other value.
     pub fn items(self) -> Items<'a>
         ensures items { items_left result ≡ items_of (tree self.entry) }
         ensures line { items_line result ≡ line_of self.entry }
         ensures source { items_source result ≡ source_of self.entry }
         ensures few { length (items_left result) < 2 ^ 63 }
+        ensures sizes { total_size (items_left result) < 2 ^ 31 }
     {
         let stop = items_end(self.kind(), self.source.after(self.index));
         Items {
             source: self.source,
             next: self.index + 1,
+            stop,
+        }
+    }
+
+    /// The items of an array behind the first ones that are `size` values and names together ([`Node::size`]), found
+    /// without a walk over those.
+    pub fn items_behind(self, size: u32) -> Items<'a>
+        ensures { (k : ℕ) → k ≤ length (items_of (tree self.entry))
+            → total_size (take k (items_of (tree self.entry))) ≡ size
+            → items_left result ≡ drop k (items_of (tree self.entry)) }
+    {
+        let stop = items_end(self.kind(), self.source.after(self.index));
+        Items {
+            source: self.source,
+            next: self.index + 1 + size as usize,
             stop,
         }
     }

@@ -212,6 +212,18 @@ module _ {A : Type 0} (ids : List (String A)) (id : String A) where
             (runs_back (keys_at more (take start sorted)) (keys_at more (drop start sorted)) left fronts up));
       }
 
+-- all entries in one run
+pub indexed_whole : {A : Type 0} (ids : List (String A)) (entries sorted : List Entry) (runs : List ℕ) (count : ℕ) → AreIndexed ids entries runs → IsPermutation entries sorted → Ascend (keys_at ids sorted) → count ≡ length sorted
+    → AreIndexed ids sorted (count ∷ [])
+indexed_whole ids entries sorted runs count old moved up all =
+    let keys = keys_at ids sorted in
+    let long : length keys ≡ length sorted = length-map sorted (key_at ids) in
+    record {
+      within = All-permutation (λ (entry : Entry). entry.place < length ids) entries sorted moved old.within;
+      each = IsPermutation-trans (keys_of ids) (keys_at ids entries) keys old.each (IsPermutation-map (key_at ids) entries sorted moved);
+      ordered = (omega arith, subst Ascend (sym (take_all count keys (omega arith))) up, drop_all count keys (omega arith));
+    }
+
 -- the first run of some is in order
 pub first_run : (keys : List Key) (runs left : List ℕ) (n : ℕ) → runs ≡ n ∷ left → AreRuns keys runs → Ascend (take n keys)
 first_run keys runs left n e ordered = (subst (AreRuns keys) e ordered).1

@@ -104,6 +104,17 @@ impl Query {
         add_id(self.alloc, &mut self.ids, id)
     }
 
+    /// Puts the ids that were added in one order, in which each is found in fewer steps: for a query of many ids, when all
+    /// are added. What it asks stays the same. It takes no memory.
+    #[tactic(auto, unfolding(crate::specs::Query::criteria))]
+    pub fn sort_ids(&mut self)
+        ensures { criteria self.new ≡ criteria self.old }
+    {
+        if let Some(ids) = &mut self.ids {
+            ids.sort();
+        }
+    }
+
     /// Adds a type to the part on types, by its name (CityJSON 2.0, section 2): a feature holds there of
     /// which some city object has one of them. A refusal changes nothing. It takes no memory.
     ///

@@ -121,7 +121,7 @@ fn check_root(
 /// # Errors
 ///
 /// The least finding by place and code.
-pub fn check_feature<'a>(doc: Doc<'a>, header: &Header<'a>) -> Result<Feature<'a>, Finding>
+pub fn check_feature<'a>(doc: Doc<'a>, header: &'a Header<'a>) -> Result<Feature<'a>, Finding>
     ensures verdict { MatchResult result (λ f. feature (header_tree header.now) (document doc.entry) ≡ [])
         (λ f. IsLeast (feature (header_tree header.now) (document doc.entry)) (Some f)) }
     ensures tree { IfOk result (λ f. feature_tree f ≡ document doc.entry) }

@@ -1,13 +1,15 @@
 //! What a valid header says, read once.
-ghost use Rattle.std.specs.Prelude.{◌≡◌, ◌<◌, ◌∷◌, [], Some, MatchOption, map, option_map, true, length};
+ghost use Rattle.std.specs.Prelude.{◌≡◌, ◌<◌, ◌∷◌, [], Some, MatchOption, is_some, map, true, length};
 ghost use Rattle.std.specs.List.{flat_map};
+ghost use Rattle.std.specs.Option.{ForSome};
 ghost use Rattle.std.specs.Str.{chars};
 ghost use Rattle.cj_spans.specs.declared.reason.Reason.TheVariants.{NotThree};
 ghost use Rattle.cj_spans.specs.declared.token.Kind.TheVariants.{Array};
 ghost use Rattle.cj_spans.specs.Tree.{Tree};
 ghost use Rattle.cj_spans.specs.Parts.{kind_of, items_of, member_of};
 ghost use Rattle.cj_spans.specs.View.{tree, items_left};
-ghost use Rattle.cj_geometry.specs.Geometry.{listed, empty, list_of};
+ghost use Rattle.cj_geometry.specs.Geometry.{listed, empty, list_of, parts_of};
+ghost use Rattle.cj_geometry.specs.ListSteps.{AreStepsOf};
 ghost use Rattle.cj_geometry.specs.Rule.{number, needs, of_length};
 ghost use Rattle.cj_feature.specs.Feature.{templates_of};
 ghost use Rattle.cj_feature.specs.Header.{is_fixed, units_of, header};
@@ -15,7 +17,7 @@ ghost use Rattle.cj_feature.specs.Members.{items_if};
 ghost use Rattle.cj_feature.specs.Shown.{value_of, first_maps, are_fixed, parts_box, ArePartsOf};
 
 use cj_decimal::{Affine, Decimal};
-use cj_geometry::rule::count_items;
+use cj_geometry::Steps;
 use cj_spans::{Items, Kind, Node};
 
 /// What is read of a header once and for all. It borrows nothing, so that it can be kept beside a copy
@@ -26,7 +28,7 @@ pub struct HeaderParts {
     pub(crate) translate: [Decimal; 3],
     pub(crate) with_box: bool,
     pub(crate) maps: Option<[Affine; 2]>,
-    pub(crate) templates: Option<u64>,
+    pub(crate) templates: Option<Steps>,
 }
 
 /// The value of a number in range.
@@ -119,12 +121,13 @@ pub fn template_list(root: Node) -> Option<Node>
     }
 }
 
-/// How many templates the list of a header has, if it has one. It goes over them.
-fn count_templates(root: Node) -> Option<u64>
-    ensures { result ≡ option_map (λ list. length (items_of list)) (list_of (templates_of (tree root.entry))) }
+/// The steps of the list of templates of a header, if it has one. It is gone over.
+fn template_steps(root: Node) -> Option<Steps>
+    ensures listed { is_some result ≡ is_some (list_of (templates_of (tree root.entry))) }
+    ensures steps { ForSome result (AreStepsOf (parts_of (list_of (templates_of (tree root.entry))))) }
 {
     match template_list(root) {
-        Some(list) => Some(count_items(list)),
+        Some(list) => Some(Steps::of(list)),
         None => None,
     }
 }
@@ -151,6 +154,6 @@ pub fn read_parts(root: Node, with_box: bool) -> HeaderParts
         translate,
         with_box,
         maps,
-        templates: count_templates(root),
+        templates: template_steps(root),
     }
 }

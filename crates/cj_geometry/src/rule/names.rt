@@ -28,8 +28,8 @@ use cj_spans::{Least, Members, Node, Reason};
 /// At most so many names are compared each with each.
 const FEW: usize = 48;
 
-/// An object of more names than `FEW` has more bytes: a member has at least five, as in `"":1,`.
-const FEW_BYTES: usize = 245;
+/// An object of more names than `FEW` is more values and names than this: itself, and two for each member.
+const FEW_SIZE: u32 = 97;
 
 /// At most so many names are put in order in a small room.
 const SOME: usize = 1_000;
@@ -281,7 +281,7 @@ fn has_more(object: Node, count: usize) -> bool {
 pub fn check_names(object: Node, found: &mut Least)
     ensures { found.new ≡ least found.old (distinct (tree object.entry)) }
 {
-    if object.bytes().len() <= FEW_BYTES || !has_more(object, FEW) {
+    if object.size() <= FEW_SIZE || !has_more(object, FEW) {
         check_few(object, found);
     } else if has_more(object, SOME) {
         check_many(object, found);

@@ -1,7 +1,7 @@
 //! The level of detail of a geometry: a row wants the place and the spelling of the value that is
 //! answered.
 use super::{Given, line_of, list_line, templates_of, tokens_of};
-use crate::{Lods, Templates, lod_of};
+use crate::{Lods, Steps, Templates, lod_of};
 use cj_spans::{Doc, Kind, Node};
 use std::alloc::{AllocError, Global};
 use std::process::Abort;
@@ -144,17 +144,25 @@ fn numbered(alloc: Global, count: u32) -> Result<String, AllocError> {
     Ok(list)
 }
 
+/// The templates of a list, counted now and by its steps.
+fn both_ways<'a>(
+    rt: &impl Abort,
+    list: Node<'a>,
+    steps: &'a Steps,
+) -> (Templates<'a>, Templates<'a>) {
+    match list.kind() {
+        Kind::Array => (Templates::list(list), Templates::stepped(list, steps)),
+        _ => panic!(rt; "no list of templates"),
+    }
+}
+
 /// The level of detail of each of these geometries, asked one after another.
 fn looked_up_in_turn(
     rt: &impl Abort,
     alloc: Global,
     geometries: Node,
-    list: Node,
+    templates: Templates,
 ) -> Result<String, AllocError> {
-    let templates = match list.kind() {
-        Kind::Array => Templates::list(list),
-        _ => panic!(rt; "no list of templates"),
-    };
     let mut lods = Lods::beside(templates);
     let mut found = String::new(alloc);
     for geometry in geometries.items() {
@@ -180,15 +188,14 @@ fn instances_of_a_long_list_find_their_templates(rt: HostRuntime) -> Result<(), 
     let list = numbered(rt.alloc(), 300)?;
     let list_tokens = tokens_of(&rt, rt.alloc(), list.as_bytes());
     let tokens = tokens_of(&rt, rt.alloc(), line.as_bytes());
-    let found = looked_up_in_turn(
-        &rt,
-        rt.alloc(),
-        Doc::of(line.as_bytes(), tokens.as_slice()).root(),
-        Doc::of(list.as_bytes(), list_tokens.as_slice()).root(),
-    )?;
-    assert_eq!(rt;
-        found.as_str(),
-        "299 299 0 298 none \"own\" none 150 149 151 "
-    );
+    let geometries = Doc::of(line.as_bytes(), tokens.as_slice()).root();
+    let list = Doc::of(list.as_bytes(), list_tokens.as_slice()).root();
+    let steps = Steps::of(list);
+    let want = "299 299 0 298 none \"own\" none 150 149 151 ";
+    let (counted, stepped) = both_ways(&rt, list, &steps);
+    let found = looked_up_in_turn(&rt, rt.alloc(), geometries, counted)?;
+    assert_eq!(&rt; found.as_str(), want);
+    let found = looked_up_in_turn(&rt, rt.alloc(), geometries, stepped)?;
+    assert_eq!(&rt; found.as_str(), want);
     Ok(())
 }

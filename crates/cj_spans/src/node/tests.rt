@@ -385,3 +385,25 @@ fn a_copy_is_viewed_as_the_line_was(rt: HostRuntime) -> Result<(), Fail> {
     }
     Ok(())
 }
+
+/// What `[10,[20,{"a":30}],"b",[]]` has, item by item: sizes, and what a walk behind so many values and names begins at.
+#[test]
+fn items_are_found_behind_others(rt: HostRuntime) -> Result<(), Fail> {
+    let line = b"[10,[20,{\"a\":30}],\"b\",[]]";
+    let mut tokens: Bounded<Token> = Bounded::new(rt.alloc(), 1_000);
+    let list = view(&rt, rt.alloc(), line, &mut tokens).root();
+    assert_eq!(&rt; list.size(), 9);
+    let rows: [(u32, &[u8]); 4] = [
+        (0, b"10"),
+        (1, b"[20,{\"a\":30}]"),
+        (6, b"\"b\""),
+        (7, b"[]"),
+    ];
+    for (size, first) in rows.iter() {
+        let mut left = list.items_behind(*size);
+        assert_eq!(&rt; left.next().map(|item| item.bytes()), Some(*first));
+    }
+    assert!(&rt; list.items_behind(8).next().is_none());
+    assert!(&rt; list.items_behind(9_000_000).next().is_none());
+    Ok(())
+}

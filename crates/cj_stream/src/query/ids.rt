@@ -165,6 +165,19 @@ fn add_entry(texts: &mut Vec<String>, entries: &mut Vec<Entry>, runs: &mut Vec<u
     sort_from(texts.as_slice(), entries.as_mut_slice(), start);
 }
 
+/// Puts all entries in one run.
+fn join_all(texts: &[String], entries: &mut [Entry], runs: &mut Vec<usize>)
+    requires { AreIndexed texts.now entries.old (vec_items runs.old) }
+    ensures { AreIndexed texts.now entries.new (vec_items runs.new) }
+{
+    if runs.is_empty() {
+        return;
+    }
+    sort_from(texts, entries, 0);
+    runs.clear();
+    put(runs, entries.len());
+}
+
 /// Whether a node has the text of an entry of a run.
 fn is_in_run(texts: &[String], run: &[Entry], number: u64, node: Node) -> bool
     requires { Ascend (keys_at texts.now run.now) }
@@ -214,6 +227,17 @@ impl Ids {
         make_room(&mut self.texts, &mut self.entries, &mut self.runs)?;
         add_entry(&mut self.texts, &mut self.entries, &mut self.runs, text);
         Ok(())
+    }
+
+    /// Puts them all in one order, in which one is found in about half of the steps that it takes in some runs.
+    pub fn sort(&mut self)
+        ensures { self.new ≡ self.old }
+    {
+        join_all(
+            self.texts.as_slice(),
+            self.entries.as_mut_slice(),
+            &mut self.runs,
+        );
     }
 
     /// Whether a node has the text of one of them.

@@ -100,8 +100,10 @@ fn check_many(
     times: u64,
     row: &str,
 ) -> Result<(), Fail> {
-    let query = query_of(alloc, count, order, times)?;
+    let mut query = query_of(alloc, count, order, times)?;
     let text = stream_of(alloc, count.saturating_mul(2))?;
+    check_kept(rt, alloc, &text, &query, count, row)?;
+    query.sort_ids();
     check_kept(rt, alloc, &text, &query, count, row)
 }
 
@@ -121,6 +123,18 @@ fn ids_that_are_added_again(rt: HostRuntime) -> Result<(), Fail> {
         check_many(&rt, rt.alloc(), 100, Order::Mixed, times, "again")?;
     }
     Ok(())
+}
+
+#[test]
+fn ids_that_are_added_behind_sorted_ones(rt: HostRuntime) -> Result<(), Fail> {
+    let mut query = query_of(rt.alloc(), 40, Order::Falling, 1)?;
+    query.sort_ids();
+    query.add_id("NL.IMBAG.Pand.0")?;
+    let text = stream_of(rt.alloc(), 80)?;
+    check_kept(&rt, rt.alloc(), &text, &query, 41, "one more")?;
+    let mut none = Query::all(rt.alloc());
+    none.sort_ids();
+    check_kept(&rt, rt.alloc(), &text, &none, 80, "no part on ids")
 }
 
 /// Asks for these ids, of one feature.

@@ -1,6 +1,6 @@
 use Rattle.std.proofs.Common.{refl, arith, ◌+◌}
 use Rattle.cj_spans.specs.View.{tree, line_of, source_of, items_line, items_source, items_left}
-use Rattle.cj_spans.proofs.Walks.{items_from_link, few_trees}
+use Rattle.cj_spans.proofs.Walks.{items_from_link, few_trees, small_items}
 use Rattle.cj_spans.proofs.node.Node.items.Goals as goal
 
 pub invariant_of-result : goal.invariant_of-result
@@ -27,3 +27,9 @@ returns-clause-source c = refl
 pub returns-clause-few : goal.returns-clause-few
 unfolding items_left
 returns-clause-few c = let s = c.args.self.source in let l = few_trees s.line.now s.tokens.now (c.args.self.index + 1) c.items_end-stop.result in omega arith
+
+pub returns-clause-sizes : goal.returns-clause-sizes
+unfolding items_left
+returns-clause-sizes c =
+    let n = c.args.self in
+    small_items n.source.line.now n.source.tokens.now n.index c.after.result c.items_end-stop.result c.kind.result n.source.linked n.known c.after.ensures.link c.items_end-stop.ensures

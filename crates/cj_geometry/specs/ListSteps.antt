@@ -1,0 +1,13 @@
+-- What is kept of a list at even steps.
+use Rattle.std.specs.Prelude.{◌≡◌, ℕ, ◌+◌, ◌*◌, ◌/◌, ◌<◌, List, length, take, get_or}
+use Rattle.cj_spans.specs.Tree.{Tree, total_size}
+use Rattle.cj_geometry.specs.declared.steps.Steps.{Steps}
+
+-- how many values and names stand before each item whose number is a multiple of the step
+abbrev pub AreSizesAt : ℕ → List Tree → List ℕ → Type 0
+AreSizesAt step ts sizes = (n : ℕ) → n * step < length ts → get_or sizes n 0 ≡ total_size (take (n * step) ts)
+
+-- the steps of a list: how many items it has, and their sizes at 64 places or fewer
+pub record AreStepsOf (ts : List Tree) (s : Steps) : Type 0 where
+  pub count : s.count ≡ length ts
+  pub sizes : AreSizesAt (length ts / 64 + 1) ts s.sizes

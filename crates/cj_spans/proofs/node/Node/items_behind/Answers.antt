@@ -1,0 +1,19 @@
+use Rattle.std.proofs.Common.{◌+◌, ap, sym, ◌∙◌, length, drop, take, arith, subst}
+use Rattle.cj_spans.specs.Tree.{total_size}
+use Rattle.cj_spans.specs.View.{tree, items_left}
+use Rattle.cj_spans.proofs.Sizes.{full_sized}
+use Rattle.cj_spans.proofs.Walks.{items_from_link, whole_later, items_behind_link}
+use Rattle.cj_spans.proofs.node.Node.items_behind.Goals as goal
+
+pub invariant_of-result : goal.invariant_of-result
+unfolding tree
+invariant_of-result c =
+    let n = c.args.self in
+    let w = items_from_link n.source.line.now n.source.tokens.now n.index c.after.result c.items_end-stop.result c.kind.result n.source.nested n.source.linked n.known c.after.ensures.link c.kind.ensures c.items_end-stop.ensures in
+    record { whole = whole_later n.source.tokens.now (n.index + 1) (n.index + 1 + c.args.size) c.items_end-stop.result (omega arith) w.whole }
+
+pub returns : goal.returns
+unfolding tree items_left
+returns c = λ k few e.
+    let n = c.args.self in
+    items_behind_link n.source.line.now n.source.tokens.now n.index c.after.result c.items_end-stop.result k c.args.size c.kind.result n.source.nested n.source.linked (full_sized n.source.line.now n.source.tokens.now n.source.nested n.source.linked n.source.full) n.known c.after.ensures.link c.kind.ensures c.items_end-stop.ensures few e
