@@ -1,5 +1,9 @@
 //! The level of detail of a geometry: a row wants the place and the spelling of the value that is
 //! answered.
+ghost use Rattle.cj_spans.specs.Parts.{items_of};
+ghost use Rattle.cj_spans.specs.View.{tree};
+ghost use Rattle.cj_geometry.specs.ListSteps.{AreStepsOf};
+
 use super::{Given, line_of, list_line, templates_of, tokens_of};
 use crate::{Lods, Steps, Templates, lod_of};
 use cj_spans::{Doc, Kind, Node};
@@ -149,7 +153,9 @@ fn both_ways<'a>(
     rt: &impl Abort,
     list: Node<'a>,
     steps: &'a Steps,
-) -> (Templates<'a>, Templates<'a>) {
+) -> (Templates<'a>, Templates<'a>)
+    requires { AreStepsOf (items_of (tree list)) steps.now }
+{
     match list.kind() {
         Kind::Array => (Templates::list(list), Templates::stepped(list, steps)),
         _ => panic!(rt; "no list of templates"),

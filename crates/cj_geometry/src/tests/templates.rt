@@ -1,5 +1,9 @@
 //! How many templates there are to name: a row wants whether there is none, and the numbers below 4 that
 //! name one.
+ghost use Rattle.cj_spans.specs.Parts.{items_of};
+ghost use Rattle.cj_spans.specs.View.{tree};
+ghost use Rattle.cj_geometry.specs.ListSteps.{AreStepsOf};
+
 use super::tokens_of;
 use crate::{Steps, Templates, check_geometry};
 use cj_spans::{Doc, Kind, Least, Node};
@@ -8,7 +12,9 @@ use std::process::Abort;
 use std::test::Fail;
 
 /// The templates of a list, by its steps.
-fn stepped<'a>(rt: &impl Abort, list: Node<'a>, steps: &'a Steps) -> Templates<'a> {
+fn stepped<'a>(rt: &impl Abort, list: Node<'a>, steps: &'a Steps) -> Templates<'a>
+    requires { AreStepsOf (items_of (tree list)) steps.now }
+{
     match list.kind() {
         Kind::Array => Templates::stepped(list, steps),
         _ => panic!(rt; "no list of templates"),
