@@ -102,11 +102,11 @@ def escaped(text):
     return "".join(f"\\u{ord(letter):04x}" for letter in text)
 
 
-def parts_of_one(n, order, before="", spell=str):
+def parts_of_one(n, order, before="", spell=str, after=""):
     """Parts that one building lists, in an order, each with that one as its parent."""
     each = f'{{"type":"BuildingPart","parents":["b"]}}'
-    count = n // (2 * len(spell(before + short_text(0))) + len(each) + 8)
-    ids = [before + short_text(i) for i in range(count)]
+    count = n // (2 * len(spell(before + short_text(0) + after)) + len(each) + 8)
+    ids = [before + short_text(i) + after for i in range(count)]
     listed = ",".join(f'"{spell(ids[i])}"' for i in in_order(order, count))
     parts = ",".join(f'"{ids[i]}":{each}' for i in in_order("none", count))
     return feature(building(f',"children":[{listed}]') + "," + parts)
@@ -119,6 +119,22 @@ def parents_of_none(n, order, before=""):
     part = f'"p":{{"type":"BuildingPart","parents":[{listed},"b"]}}'
     others = ",".join(f'"{before}~{short_text(i)}":{{"type":"Road"}}' for i in in_order("none", n // 2 // (len(before) + 25)))
     return feature(building(',"children":["p"]') + "," + part + "," + others)
+
+
+def all_of_all(n, around="", times=1):
+    """Buildings that all list each other and themselves, so many times, by names that are alike at both ends."""
+    count = round((n / 2 / times / (len(around) * 2 + 5)) ** 0.5)
+    ids = [f'"{around}{short_text(i)[2:]}{around}"' for i in range(count)]
+    listed = ",".join(ids * times)
+    each = f'{{"type":"Building","children":[{listed}],"parents":[{listed}]}}'
+    return feature(building() + "," + ",".join(f"{i}:{each}" for i in ids))
+
+
+def parents_in_turn(n):
+    """A building of a long name that lists two parents in turn, again and again."""
+    long, other = "a" * (n // 8), '{"type":"Building","children":["%s"]}'
+    listed = ",".join(['"p","q"'] * (n * 5 // 8 // 8))
+    return feature(building() + f',"p":{other % long},"q":{other % long},"{long}":{{"type":"Building","parents":[{listed}]}}')
 
 
 def links_of_one_hash(n):
@@ -174,6 +190,14 @@ def pairs_again(n):
     children, parents = ",".join(['"q"'] * again), ",".join(['"b"'] * again)
     parts = f'"p":{{"type":"BuildingPart","parents":[{parents}]}},"q":{{"type":"BuildingPart","parents":["b"]}}'
     return feature(building(f',"children":[{children},"p"]') + "," + parts)
+
+
+def pairs_in_turn(n):
+    again = n // 16
+    children, parents = ",".join(['"q","r"'] * again), ",".join(['"b","c"'] * again)
+    each = f'{{"type":"BuildingPart","parents":[{parents}]}}'
+    few = '{"type":"BuildingPart","parents":["b"]}'
+    return feature(building(f',"children":[{children},"p"]') + f',"c":{{"type":"Building","children":["p"]}},"p":{each},"q":{few},"r":{few}')
 
 
 def absent_parents(n):
@@ -250,12 +274,18 @@ SHAPES = {
     "children listed backwards": lambda n: one_parent(n, True),
     "a chain of parents": chain,
     "a pair listed again and again": pairs_again,
+    "two pairs in turn again and again": pairs_in_turn,
+    "two parents of a long name in turn": parents_in_turn,
+    "all list all": all_of_all,
+    "all list all, alike at both ends": lambda n: all_of_all(n, "a" * 8),
+    "few list each other again and again": lambda n: all_of_all(n, times=50),
     "parents that are not there": absent_parents,
     "a group's children that are not there": absent_children,
     "parts of one, in no order": lambda n: parts_of_one(n, "none"),
     "parts of one, in falling order": lambda n: parts_of_one(n, "falling"),
     "parts of one, behind nine letters": lambda n: parts_of_one(n, "none", "a" * 9),
     "parts of one, behind 200 letters": lambda n: parts_of_one(n, "none", "a" * 200),
+    "parts of one, alike at both ends": lambda n: parts_of_one(n, "none", "a" * 8, after="a" * 8),
     "parts of one, by escapes": lambda n: parts_of_one(n, "none", spell=escaped),
     "parts of one hash": links_of_one_hash,
     "a part of unknown parents": lambda n: parents_of_none(n, "none"),

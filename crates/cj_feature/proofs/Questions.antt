@@ -1,7 +1,7 @@
 -- Questions on links, in order.
 use Rattle.std.proofs.Common.{◌≡◌, ◌⊎◌, inl, inr, ℕ, ◌<◌, ◌≤◌, Bool, true, false, ◌||◌, List, [], ◌∷◌, Option, Some, None, length, get_or, arith, refl, sym, ap, ◌∙◌, subst}
 use Rattle.std.specs.Prelude.{slice_get, slice_set, slice_index_or}
-use Rattle.std.specs.Cmp.{IsStrictWeakOrder, IsTotalOrder, nat_cmp_total, on_total, then_total}
+use Rattle.std.specs.Cmp.{IsStrictWeakOrder, IsTotalOrder, nat_cmp_total, on_total, then_total, tied_itself}
 use Rattle.std.specs.Cmp.Lexicographic.{nat_list_cmp_total, options_total}
 use Rattle.std.specs.Fn.{Called, ComparesAs}
 use Rattle.std.specs.List.Sorted.{IsPartitionedBy, IsPartitionPoint, IsSortedBy}
@@ -18,12 +18,13 @@ use denote.Ref.{Bor}
 use Rattle.cj_spans.specs.declared.node.Node.{Node}
 use Rattle.cj_spans.specs.declared.token.Kind.TheVariants.{Null, Truth, Number, Text, Array, Object}
 use Rattle.cj_spans.specs.Tree.{Tree, scalar, array, object}
+use Rattle.cj_spans.specs.Order.{compare_texts}
 use Rattle.cj_spans.specs.Parts.{kind_of, members_of, text_of, are_same_texts}
 use Rattle.cj_spans.specs.View.{tree}
 use Rattle.cj_feature.specs.declared.feature.questions.Question.{Question}
 use Rattle.cj_feature.specs.Links.{same_text, is_known, lists}
 use Rattle.cj_feature.proofs.LinkFaults.{from-texts}
-use Rattle.cj_feature.specs.Questions.{Key, compare_keys, key_of, from_in, to_in, key_in, AreInOrder, IsPlaceOf, IsFirstOn, IsQuestion, AreListed, AreLeft}
+use Rattle.cj_feature.specs.Questions.{Key, Side, tag_of, compare_sides, compare_keys, key_of, from_in, to_in, key_in, AreInOrder, IsPlaceOf, IsFirstOn, IsQuestion, AreListed, AreLeft}
 
 -- ---- marks
 
@@ -48,10 +49,18 @@ shared a b c e f = subst (λ o. are_same_texts o (text_of c) ≡ true) (same_tex
 
 -- ---- the order
 
+texts_total : IsTotalOrder compare_texts
+texts_total = options_total nat_list_cmp_total
+
+sides_total : IsTotalOrder compare_sides
+sides_total = then_total (on_total (λ (s : Side). s.0) nat_cmp_total) (on_total (λ (s : Side). s.1) texts_total)
+
 pub keys_total : IsTotalOrder compare_keys
-keys_total =
-    let texts = options_total nat_list_cmp_total in
-    then_total (on_total (λ (k : Key). k.0) nat_cmp_total) (then_total (on_total (λ (k : Key). k.1) texts) (on_total (λ (k : Key). k.2) texts))
+keys_total = then_total (on_total (λ (k : Key). k.0) sides_total) (on_total (λ (k : Key). k.1) sides_total)
+
+-- one node has one text
+pub one_text : (o p : Option (List ℕ)) → o ≡ p → compare_texts o p ≡ Equal
+one_text o p e = subst (λ u. compare_texts o u ≡ Equal) e (tied_itself texts_total o)
 
 -- from the clause `sorted` of the sort, where each call of the closure compares keys
 pub in_order : (objects : Node) {F : Type 0} {g : Mut F (Bor Question × (Bor Question × Unit {0})) Ordering} {f : F} (qs : List Question) → ((lt : Question → Question → Bool) → IsStrictWeakOrder lt → ComparesAs g lt f → IsSortedBy lt qs)
@@ -94,15 +103,18 @@ one_place p xs d i j below h k =
     omega arith
 
 module _ (objects : Node) (qs : List Question) where
+  pub place_by_sides : {s u : Side} {f o : Side} (p : ℕ) → s ≡ f → u ≡ o → IsPlaceOf objects (s, u) qs p → IsPlaceOf objects (f, o) qs p
+  place_by_sides {s} {u} {f} {o} p e g h = subst (λ v. IsPlaceOf objects (f, v) qs p) g (subst (λ v. IsPlaceOf objects (v, u) qs p) e h)
+
   -- the first question on a text stands where its key has its place
   pub only_here : (t : Tree) (p i : ℕ) → IsPlaceOf objects (key_of (text_of t) (text_of (tree objects))) qs p → IsFirstOn objects qs t i → i ≡ p
   only_here t p i h f =
       one_place (λ w. is_lt (compare_keys (key_in objects w) (key_of (text_of t) (text_of (tree objects))))) qs f.question i p (slice_get_within qs i f.question f.stands) f.place h
 
   -- so there is none, where another stands there
-  pub none_here : (t : Tree) (p i : ℕ) → IsPlaceOf objects (key_of (text_of t) (text_of (tree objects))) qs p → ((q : Question) → slice_get qs p ≡ Some q → same_text (from_in objects q) t ≡ false) → IsFirstOn objects qs t i → ⊥
+  pub none_here : (t : Tree) (p i : ℕ) → IsPlaceOf objects (key_of (text_of t) (text_of (tree objects))) qs p → ((q : Question) → slice_get qs p ≡ Some q → q.from.tag ≡ tag_of (text_of t) → same_text (from_in objects q) t ≡ false) → IsFirstOn objects qs t i → ⊥
   none_here t p i h other f =
-      let no : same_text (from_in objects f.question) t ≡ false = other f.question (ap (slice_get qs) (sym (only_here t p i h f)) ∙ f.stands) in
+      let no : same_text (from_in objects f.question) t ≡ false = other f.question (ap (slice_get qs) (sym (only_here t p i h f)) ∙ f.stands) f.tagged in
       let yes : same_text (from_in objects f.question) t ≡ true = f.same in
       cc
 
@@ -111,6 +123,7 @@ module _ (objects : Node) (qs : List Question) where
     place = subst (λ o. IsPlaceOf objects (key_of o (text_of (tree objects))) qs i) (sym e) f.place;
     question = f.question;
     stands = f.stands;
+    tagged = f.tagged ∙ ap tag_of (sym e);
     same = subst (λ o. are_same_texts (text_of (from_in objects f.question)) o ≡ true) (sym e) f.same;
   }
 

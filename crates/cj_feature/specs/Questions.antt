@@ -1,13 +1,16 @@
 -- Questions on links: whether a city object of one text lists another. Many are answered at once, in the order of texts.
-use Rattle.std.specs.Prelude.{◌≡◌, ℕ, ◌≤◌, List, Bool, true, false, Option, Some, slice_get, slice_index_or, take, length}
+use Rattle.std.specs.Prelude.{◌≡◌, ℕ, ◌+◌, ◌%◌, ◌≤◌, List, Bool, true, false, Option, Some, slice_get, slice_index_or, take, length}
 use Rattle.std.specs.List.Sorted.{IsSortedByKey, IsPartitionPoint}
 use Rattle.std.specs.Ordering.{is_lt, nat_cmp, ordering_then}
 use Rattle.std.specs.declared.cmp.Ordering.{Ordering}
 use Rattle.cj_spans.specs.declared.node.Node.{Node}
 use Rattle.cj_spans.specs.Order.{compare_texts, word_of}
+use Rattle.cj_spans.specs.Tail.{tail_of}
 use Rattle.cj_spans.specs.Tree.{Tree}
 use Rattle.cj_spans.specs.Parts.{members_of, text_of}
 use Rattle.cj_spans.specs.View.{tree, source_of, tree_in}
+use Rattle.cj_feature.specs.declared.feature.questions.Noted.{Noted}
+use Rattle.cj_feature.specs.declared.feature.questions.Text.{Text}
 use Rattle.cj_feature.specs.declared.feature.questions.Pair.{Pair}
 use Rattle.cj_feature.specs.declared.feature.questions.Question.{Question}
 use Rattle.cj_feature.specs.declared.feature.questions.Questions.{Questions}
@@ -17,29 +20,52 @@ use Rattle.cj_feature.specs.Links.{same_text, is_known, lists}
 
 -- ---- the order of questions
 
--- what they are ordered by: the word of the first text, and both texts
+-- the tag of a text: a number by its first and its last eight code points
+abbrev pub tag_of : Option (List ℕ) → ℕ
+tag_of t = word_of t % 2147483647 + tail_of t % 2147483647
+
+-- what a text is ordered by: its tag, and then the text
+abbrev pub Side : Type 0
+Side = ℕ × Option (List ℕ)
+
+abbrev pub compare_sides : Side → Side → Ordering
+compare_sides s t = ordering_then (nat_cmp s.0 t.0) (compare_texts s.1 t.1)
+
+abbrev pub side_of : Option (List ℕ) → Side
+side_of t = (tag_of t, t)
+
+abbrev pub text_side : Text → Side
+text_side t = (t.tag, text_of (tree t.node))
+
+-- a text is noted by the number of a node in the line of the city objects
+abbrev pub noted_in : Node → Noted → Tree
+noted_in objects n = tree_in (source_of objects) n.number
+
+abbrev pub side_in : Node → Noted → Side
+side_in objects n = (n.tag, text_of (noted_in objects n))
+
+-- what questions are ordered by: their first texts, and then their second ones
 abbrev pub Key : Type 0
-Key = ℕ × Option (List ℕ) × Option (List ℕ)
+Key = Side × Side
 
 abbrev pub compare_keys : Key → Key → Ordering
-compare_keys k l = ordering_then (nat_cmp k.0 l.0) (ordering_then (compare_texts k.1 l.1) (compare_texts k.2 l.2))
+compare_keys k l = ordering_then (compare_sides k.0 l.0) (compare_sides k.1 l.1)
 
 -- the key of two texts
 abbrev pub key_of : Option (List ℕ) → Option (List ℕ) → Key
-key_of from to = (word_of from, from, to)
+key_of from to = (side_of from, side_of to)
 
 abbrev pub pair_key : Pair → Key
-pair_key p = (p.word, text_of (tree p.from), text_of (tree p.to))
+pair_key p = (text_side p.from, text_side p.to)
 
--- a question has the numbers of two nodes in the line of the city objects
 abbrev pub from_in : Node → Question → Tree
-from_in objects q = tree_in (source_of objects) q.from
+from_in objects q = noted_in objects q.from
 
 abbrev pub to_in : Node → Question → Tree
-to_in objects q = tree_in (source_of objects) q.to
+to_in objects q = noted_in objects q.to
 
 abbrev pub key_in : Node → Question → Key
-key_in objects q = (q.word, text_of (from_in objects q), text_of (to_in objects q))
+key_in objects q = (side_in objects q.from, side_in objects q.to)
 
 abbrev pub AreInOrder : Node → List Question → Type 0
 AreInOrder objects qs = IsSortedByKey (key_in objects) compare_keys qs
@@ -54,6 +80,7 @@ pub record IsFirstOn (objects : Node) (qs : List Question) (t : Tree) (i : ℕ) 
   pub place : IsPlaceOf objects (key_of (text_of t) (text_of (tree objects))) qs i
   pub question : Question
   pub stands : slice_get qs i ≡ Some question
+  pub tagged : question.from.tag ≡ tag_of (text_of t)
   pub same : same_text (from_in objects question) t ≡ true
 
 -- a question whether the one text lists the other stands at this place

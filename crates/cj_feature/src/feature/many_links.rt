@@ -5,13 +5,13 @@ ghost use Rattle.std.specs.List.{flat_map, list_any};
 ghost use Rattle.std.specs.Str.{chars};
 ghost use Rattle.cj_spans.specs.Finding.{least};
 ghost use Rattle.cj_spans.specs.Parts.{items_of, members_of};
-ghost use Rattle.cj_spans.specs.View.{tree, trees};
+ghost use Rattle.cj_spans.specs.View.{tree, source_of, tree_in};
 ghost use Rattle.cj_feature.specs.Links.{is_known as is_known_in, child, parent, children, parents, part, object_links};
-ghost use Rattle.cj_feature.specs.Questions.{AreAnswered};
+ghost use Rattle.cj_feature.specs.Questions.{noted_in, AreAnswered};
 
 use crate::feature::ids::is_known;
 use crate::feature::links::{self, is_group};
-use crate::feature::questions::{Ahead, Answer, Questions};
+use crate::feature::questions::{Ahead, Answer, Noted, Questions, tag_of};
 use cj_geometry::rule::{add, is_told_before};
 use cj_spans::{Least, Members, Node, Reason};
 
@@ -25,7 +25,8 @@ fn check_child<'a>(
 )
     requires { AreAnswered (chars (codes "parents")) objects [] questions.old }
     ensures found { found.new
-        ≡ least found.old (child (members_of (tree objects.entry)) (tree ahead.entry.name) (tree item.entry)) }
+        ≡ least found.old (child (members_of (tree objects.entry)) (noted_in objects.entry ahead.entry.name)
+        (tree item.entry)) }
     ensures answered { AreAnswered (chars (codes "parents")) objects.entry [] questions.new }
 {
     if is_told_before(*found, item) {
@@ -33,14 +34,14 @@ fn check_child<'a>(
     }
     match questions.answer("parents", "children", objects, item, ahead) {
         Answer::Listed => {}
-        _ => links::check_child(objects, ahead.name, item, found),
+        _ => links::check_child(objects, ahead.name.node(objects), item, found),
     }
 }
 
-/// The children of a city object, unless it is a group.
+/// The children of a city object of the name that has this number in the line, unless it is a group.
 fn check_children<'a>(
     objects: Node<'a>,
-    name: Node<'a>,
+    number: u32,
     object: Node<'a>,
     later: Members<'a>,
     questions: &mut Questions,
@@ -48,7 +49,8 @@ fn check_children<'a>(
 )
     requires { AreAnswered (chars (codes "parents")) objects [] questions.old }
     ensures found { found.new
-        ≡ least found.old (children (members_of (tree objects.entry)) (trees (name.entry, object.entry))) }
+        ≡ least found.old (children (members_of (tree objects.entry))
+        (tree_in (source_of objects.entry) number, tree object.entry)) }
     ensures answered { AreAnswered (chars (codes "parents")) objects.entry [] questions.new }
 {
     let Some(value) = object.get("children") else {
@@ -57,6 +59,10 @@ fn check_children<'a>(
     if is_group(object) {
         return;
     }
+    let name = Noted {
+        tag: tag_of(objects.at(number)),
+        number,
+    };
     let mut items = value.items();
     while let Some(item) = items.next() {
         let ahead = Ahead { name, items, later };
@@ -71,7 +77,7 @@ fn check_all_children<'a>(objects: Node<'a>, questions: &mut Questions, found: &
 {
     let mut later = objects.members();
     while let Some((name, object)) = later.next() {
-        check_children(objects, name, object, later, questions, found);
+        check_children(objects, name.number(), object, later, questions, found);
     }
 }
 
@@ -85,22 +91,23 @@ fn check_parent<'a>(
 )
     requires { AreAnswered (chars (codes "children")) objects [] questions.old }
     ensures found { found.new
-        ≡ least found.old (parent (members_of (tree objects.entry)) (tree ahead.entry.name) (tree item.entry)) }
+        ≡ least found.old (parent (members_of (tree objects.entry)) (noted_in objects.entry ahead.entry.name)
+        (tree item.entry)) }
     ensures answered { AreAnswered (chars (codes "children")) objects.entry [] questions.new }
 {
     if is_told_before(*found, item) {
         return;
     }
     match questions.answer("children", "parents", objects, item, ahead) {
-        Answer::Untold => links::check_parent(objects, ahead.name, item, found),
+        Answer::Untold => links::check_parent(objects, ahead.name.node(objects), item, found),
         _ => {}
     }
 }
 
-/// The parents of a city object.
+/// The parents of a city object of the name that has this number in the line.
 fn check_parents<'a>(
     objects: Node<'a>,
-    name: Node<'a>,
+    number: u32,
     object: Node<'a>,
     later: Members<'a>,
     questions: &mut Questions,
@@ -108,11 +115,16 @@ fn check_parents<'a>(
 )
     requires { AreAnswered (chars (codes "children")) objects [] questions.old }
     ensures found { found.new
-        ≡ least found.old (parents (members_of (tree objects.entry)) (trees (name.entry, object.entry))) }
+        ≡ least found.old (parents (members_of (tree objects.entry))
+        (tree_in (source_of objects.entry) number, tree object.entry)) }
     ensures answered { AreAnswered (chars (codes "children")) objects.entry [] questions.new }
 {
     let Some(value) = object.get("parents") else {
         return;
+    };
+    let name = Noted {
+        tag: tag_of(objects.at(number)),
+        number,
     };
     let mut items = value.items();
     while let Some(item) = items.next() {
@@ -142,7 +154,7 @@ fn is_known_parent<'a>(
 /// Whether an item of the array of parents is an id in the feature.
 fn has_known_item<'a>(
     objects: Node<'a>,
-    name: Node<'a>,
+    name: Noted,
     array: Node<'a>,
     later: Members<'a>,
     questions: &mut Questions,
@@ -161,10 +173,10 @@ fn has_known_item<'a>(
     false
 }
 
-/// Of the parents of a city object of the second level, one is in the feature.
+/// Of the parents of a city object of the second level, of the name that has this number, one is in the feature.
 fn check_part<'a>(
     objects: Node<'a>,
-    name: Node<'a>,
+    number: u32,
     object: Node<'a>,
     later: Members<'a>,
     questions: &mut Questions,
@@ -172,7 +184,8 @@ fn check_part<'a>(
 )
     requires { AreAnswered (chars (codes "children")) objects [] questions.old }
     ensures found { found.new
-        ≡ least found.old (part (members_of (tree objects.entry)) (trees (name.entry, object.entry))) }
+        ≡ least found.old (part (members_of (tree objects.entry))
+        (tree_in (source_of objects.entry) number, tree object.entry)) }
     ensures answered { AreAnswered (chars (codes "children")) objects.entry [] questions.new }
 {
     if is_told_before(*found, object) {
@@ -180,6 +193,10 @@ fn check_part<'a>(
     }
     let Some(value) = links::parents_of_part(object) else {
         return;
+    };
+    let name = Noted {
+        tag: tag_of(objects.at(number)),
+        number,
     };
     if !has_known_item(objects, name, value, later, questions) {
         add(object, Reason::NoParent, found);
@@ -194,12 +211,13 @@ fn check_all_parents<'a>(objects: Node<'a>, questions: &mut Questions, found: &m
 {
     let mut later = objects.members();
     while let Some((name, object)) = later.next() {
-        check_parents(objects, name, object, later, questions, found);
-        check_part(objects, name, object, later, questions, found);
+        let number = name.number();
+        check_parents(objects, number, object, later, questions, found);
+        check_part(objects, number, object, later, questions, found);
     }
 }
 
-/// The links of many city objects. The questions take 504 KiB of the stack.
+/// The links of many city objects. The questions take 507 KiB of the stack.
 #[cold]
 #[inline(never)]
 pub fn check_many_links(objects: Node, found: &mut Least)

@@ -1,51 +1,84 @@
 //! Questions on links: is a text the name of a city object, and does one of that name list another text? Many are
 //! answered in one walk over the city objects.
 //!
-//! What is asked next is noted as far as there is room, and sorted by the texts. Then a walk looks each name up among
-//! the questions by halves, and each item of its list where a question asks for the name. So n links take n / 28,672
-//! walks, and each walk a search for each name and for the items of the lists that are asked about, whatever the texts
-//! are and in whatever order they stand. Equal questions stand side by side: the first alone is marked and read.
+//! What is asked next is noted as far as there is room, and sorted. What is asked again is taken out, and if that is
+//! most of it, more is noted. Then a walk looks each name up among the questions by halves, and each item of its list
+//! among those that ask for the name. So n links take at most n / 27,000 walks, and each walk a search for each name
+//! and for the items of the lists that are asked about, whatever the texts are and in whatever order they stand.
+//!
+//! Texts are ordered by their tags, and only those of one tag by code points: most comparisons are of two numbers. A
+//! long name is looked at seldom, as it may list many: what is asked on one name is told by the number of its node.
 //!
 //! What is asked next is only guessed by the lists that follow, and no answer hangs on the guess: a mark is set where a
-//! city object lists what a question asks, and no mark is missing where a name is asked for.
+//! city object lists what a question asks, and no mark is missing where a name is asked for. In the same way `runs` and
+//! `wanted` only spare time.
 //!
-//! No memory is taken: `Questions` is 516,104 bytes of the stack.
-ghost use Rattle.std.specs.Prelude.{◌≡◌, ◌≤◌, ◌<◌, ℕ, List, [], ◌∷◌, Some, IfSome, length, true, false, slice_get, slice_index_or, slice_set};
+//! No memory is taken: `Questions` is 510,584 bytes of the stack, and while questions are noted 8,192 more are taken.
+ghost use Rattle.std.specs.Prelude.{◌≡◌, ◌+◌, ◌≤◌, ◌<◌, ℕ, List, [], ◌∷◌, Some, IfSome, length, true, false, slice_get, slice_index_or, slice_set};
 ghost use Rattle.std.specs.Ordering.{is_lt};
 ghost use Rattle.std.specs.Str.{chars};
+ghost use Rattle.cj_spans.specs.Order.{compare_texts};
 ghost use Rattle.cj_spans.specs.Tree.{Tree};
 ghost use Rattle.cj_spans.specs.Parts.{members_of, text_of};
-ghost use Rattle.cj_spans.specs.View.{tree, trees, members_left};
+ghost use Rattle.cj_spans.specs.View.{tree, trees, members_left, source_of, tree_in};
 ghost use Rattle.cj_feature.specs.Links.{same_text, listed_in, has_item as has_item_of, lists as lists_of};
-ghost use Rattle.cj_feature.specs.Questions.{key_of, pair_key, from_in, to_in, key_in, compare_keys, AreInOrder, IsPlaceOf, IsFirstOn, IsQuestion, AreAnswered, IsAnswer};
+ghost use Rattle.cj_feature.specs.Questions.{tag_of as tag_of_text, compare_sides, side_of, text_side, noted_in, side_in, pair_key, key_in, compare_keys, AreInOrder, IsPlaceOf, IsFirstOn, IsQuestion, AreAnswered, IsAnswer};
 
 use cj_spans::{Items, Kind, Members, Node};
 use std::cmp::Ordering;
 
 /// How many questions are noted at once.
-const ROOM: usize = 28_672;
+const ROOM: usize = 27_000;
 
-/// A question: whether some city object of the name `from` lists `to`. Both are told by the numbers of nodes in the
-/// line of the city objects, and most first texts are told apart by their words.
+/// How many first texts are kept at hand.
+const KEPT: usize = 1_024;
+
+/// A prime: by their remainders by it second texts are known to be asked about.
+const WANTED: usize = 8_191;
+
+/// A text that is noted: its tag, and the number of its node in the line of the city objects.
+#[derive(Clone, Copy)]
+pub struct Noted {
+    pub tag: u32,
+    pub number: u32,
+}
+
+/// A question: whether some city object of the name `from` lists `to`.
 #[derive(Clone, Copy)]
 pub struct Question {
-    word: u64,
-    from: u32,
-    to: u32,
+    from: Noted,
+    to: Noted,
 }
 
-/// The two texts of a question, and the word of the first.
+/// A text that is looked up: its tag, and its node, which may be one of another line.
+#[derive(Clone, Copy)]
+pub struct Text<'a> {
+    tag: u32,
+    node: Node<'a>,
+}
+
+/// The two texts of a question that is looked up.
 #[derive(Clone, Copy)]
 pub struct Pair<'a> {
-    word: u64,
-    from: Node<'a>,
-    to: Node<'a>,
+    from: Text<'a>,
+    to: Text<'a>,
 }
 
-/// What is asked next: on the items that are left of a city object's list, and then on those of later ones.
+/// Places of questions, of which the first ones are on one first text. Where that is not so, less is found.
+#[derive(Clone, Copy)]
+struct Run {
+    first: usize,
+    end: usize,
+}
+
+/// What is known of a text before it is looked up.
+const NO_RUN: Run = Run { first: 0, end: 0 };
+
+/// What is asked next: on the items that are left of the list of a city object of this name, and then on those of later
+/// ones.
 #[derive(Clone, Copy)]
 pub struct Ahead<'a> {
-    pub name: Node<'a>,
+    pub name: Noted,
     pub items: Items<'a>,
     pub later: Members<'a>,
 }
@@ -61,69 +94,133 @@ pub enum Answer {
     Untold,
 }
 
-/// Questions in order, and what was found for the first of each kind: that its first text is a name, and that a city
-/// object of that name lists the second one.
+/// Questions in order, and what was found: for the first one on each first text that it is a name, and for each that a
+/// city object of that name lists the second text. Beside these are runs that were found before, and which second texts
+/// may be asked about.
 #[derive(Drop)]
 pub struct Questions {
     questions: [Question; ROOM],
     count: usize,
     known: [bool; ROOM],
     listed: [bool; ROOM],
+    runs: [Run; KEPT],
+    wanted: [bool; WANTED],
 }
 
-impl<'a> Pair<'a> {
-    /// The pair of two texts.
-    fn of(from: Node<'a>, to: Node<'a>) -> Pair<'a>
-        ensures key { pair_key result ≡ key_of (text_of (tree from.entry)) (text_of (tree to.entry)) }
-        ensures from { tree result.from ≡ tree from.entry }
-        ensures to { tree result.to ≡ tree to.entry }
-    {
-        Pair {
-            word: from.text_word(),
-            from,
-            to,
+/// A prime: each half of a tag is a remainder by it.
+const HALF_TAGS: u64 = 2_147_483_647;
+
+/// What room holds before a question is noted.
+const NOTHING: Noted = Noted { tag: 0, number: 0 };
+
+/// The tag of a text: a number by its first and its last eight code points, which tells most texts apart. That of what
+/// is no text is 0.
+pub fn tag_of(node: Node) -> u32
+    ensures { result ≡ tag_of_text (text_of (tree node.entry)) }
+{
+    (node.text_word() % HALF_TAGS + node.text_tail() % HALF_TAGS) as u32
+}
+
+impl Noted {
+    /// The text of a node.
+    fn of(node: Node) -> Noted {
+        Noted {
+            tag: tag_of(node),
+            number: node.number(),
         }
     }
 
-    /// How two pairs are ordered: by their first texts, and then by their second ones.
-    fn compare(self, other: Pair) -> Ordering
-        ensures { result ≡ compare_keys (pair_key self.entry) (pair_key other.entry) }
+    /// The node that has the text.
+    pub fn node(self, objects: Node) -> Node
+        ensures { tree result ≡ noted_in objects.entry self }
     {
-        match self.word.cmp(&other.word) {
-            Ordering::Equal => match self.from.compare_text(other.from) {
-                Ordering::Equal => self.to.compare_text(other.to),
-                order => order,
-            },
+        objects.at(self.number)
+    }
+
+    /// How two texts are ordered: by their tags, and where these are the same, by code points.
+    fn compare(self, other: Noted, objects: Node) -> Ordering
+        ensures { result ≡ compare_sides (side_in objects.entry self) (side_in objects.entry other) }
+    {
+        match self.tag.cmp(&other.tag) {
+            Ordering::Equal => compare_numbered(objects, self.number, other.number),
             order => order,
         }
     }
-}
 
-/// The texts of a question, by its numbers in the line of the city objects.
-fn pair_of(objects: Node, question: Question) -> Pair
-    ensures word { result.word ≡ question.word }
-    ensures from { tree result.from ≡ from_in objects.entry question }
-    ensures to { tree result.to ≡ to_in objects.entry question }
-{
-    Pair {
-        word: question.word,
-        from: objects.at(question.from),
-        to: objects.at(question.to),
+    /// How the text is ordered beside one that is looked up.
+    fn compare_with(self, text: Text, objects: Node) -> Ordering
+        ensures { result ≡ compare_sides (side_in objects.entry self) (text_side text.entry) }
+    {
+        match self.tag.cmp(&text.tag) {
+            Ordering::Equal => self.node(objects).compare_text(text.node),
+            order => order,
+        }
+    }
+
+    /// Whether it is the text that is looked up, and has the same tag.
+    fn is(self, text: Text, objects: Node) -> bool
+        ensures tag { result ≡ true → self.tag ≡ text.entry.tag }
+        ensures text { result ≡ true → same_text (noted_in objects.entry self) (tree text.entry.node) ≡ true }
+        ensures other { result ≡ false → self.tag ≡ text.entry.tag
+            → same_text (noted_in objects.entry self) (tree text.entry.node) ≡ false }
+    {
+        self.tag == text.tag && self.node(objects).same_text(text.node)
+    }
+
+    /// Whether both have the same text. Where they are one node, the text is not looked at, which may be long.
+    fn is_same(self, other: Noted, objects: Node) -> bool
+        ensures { result ≡ true → same_text (noted_in objects.entry self) (noted_in objects.entry other) ≡ true }
+    {
+        let node = self.node(objects);
+        match node.kind() {
+            Kind::Text if self.number == other.number => true,
+            _ => self.tag == other.tag && node.same_text(other.node(objects)),
+        }
     }
 }
 
-/// How two questions are ordered.
+/// How the texts of two nodes are ordered, by code points. One node has one text.
+fn compare_numbered(objects: Node, first: u32, second: u32) -> Ordering
+    ensures { result ≡ compare_texts (text_of (tree_in (source_of objects.entry) first))
+        (text_of (tree_in (source_of objects.entry) second)) }
+{
+    if first == second {
+        return Ordering::Equal;
+    }
+    objects.at(first).compare_text(objects.at(second))
+}
+
+impl<'a> Text<'a> {
+    /// The text of a node.
+    fn of(node: Node<'a>) -> Text<'a>
+        ensures side { text_side result ≡ side_of (text_of (tree node.entry)) }
+        ensures node { tree result.node ≡ tree node.entry }
+    {
+        Text {
+            tag: tag_of(node),
+            node,
+        }
+    }
+}
+
+/// How two questions are ordered: by their first texts, and then by their second ones.
 fn compare(objects: Node, first: Question, second: Question) -> Ordering
     ensures { result ≡ compare_keys (key_in objects.entry first) (key_in objects.entry second) }
 {
-    pair_of(objects, first).compare(pair_of(objects, second))
+    match first.from.compare(second.from, objects) {
+        Ordering::Equal => first.to.compare(second.to, objects),
+        order => order,
+    }
 }
 
 /// Whether a question comes before these texts.
 fn is_before(objects: Node, question: Question, pair: Pair) -> bool
     ensures { result ≡ is_lt (compare_keys (key_in objects.entry question) (pair_key pair.entry)) }
 {
-    pair_of(objects, question).compare(pair).is_lt()
+    match question.from.compare_with(pair.from, objects) {
+        Ordering::Equal => question.to.compare_with(pair.to, objects).is_lt(),
+        order => order.is_lt(),
+    }
 }
 
 /// Sorts questions.
@@ -159,70 +256,221 @@ fn first_on(objects: Node, questions: &[Question], text: Node) -> Option<usize>
     ensures first { IfSome result (IsFirstOn objects.entry questions.now (tree text.entry)) }
     ensures only { (i : ℕ) → IsFirstOn objects.entry questions.now (tree text.entry) i → result ≡ Some i }
 {
-    let place = place_of(objects, questions, Pair::of(text, objects));
+    let from = Text::of(text);
+    let to = Text::of(objects);
+    let place = place_of(objects, questions, Pair { from, to });
     match question_at(questions, place) {
-        Some(question) if pair_of(objects, question).from.same_text(text) => Some(place),
+        Some(question) if question.from.is(from, objects) => Some(place),
         _ => None,
     }
 }
 
-/// The place of the first question on these texts, if there is one.
-fn find(objects: Node, questions: &[Question], pair: Pair) -> Option<usize>
-    requires { AreInOrder objects questions.now }
-    ensures { IfSome result (IsQuestion objects.entry questions.now (tree pair.entry.from) (tree pair.entry.to)) }
+/// The run of questions on a text, of which the first one is known.
+fn run_on(objects: Node, questions: &[Question], from: Text, first: usize) -> Run
+    requires { first < length questions.now }
 {
-    let place = place_of(objects, questions, pair);
-    let found = pair_of(objects, question_at(questions, place)?);
-    if found.from.same_text(pair.from) && found.to.same_text(pair.to) {
+    let rest = &questions[first..];
+    let mut length = 1;
+    while length < rest.len() && rest[length].from.is(from, objects) {
+        length *= 2;
+    }
+    let most = length.min(rest.len());
+    let count = rest[..most].partition_point(|question| question.from.is(from, objects));
+    Run {
+        first,
+        end: first + count,
+    }
+}
+
+/// The questions of a run, and how many come before it.
+fn part_of(questions: &[Question], run: Run) -> (usize, &[Question])
+    ensures { result.0 + length result.1.now ≤ length questions.now }
+{
+    let end = run.end.min(questions.len());
+    let first = run.first.min(end);
+    (first, &questions[first..end])
+}
+
+/// Whether a mark is set.
+fn is_marked(marks: &[bool], place: usize) -> bool {
+    place < marks.len() && marks[place]
+}
+
+/// The place of the question on these texts, if it stands in a run and has no mark yet. So where a pair is listed again
+/// and again, its first text is looked at once.
+fn find_unmarked(
+    objects: Node,
+    questions: &[Question],
+    marks: &[bool],
+    run: Run,
+    pair: Pair,
+) -> Option<usize>
+    ensures { IfSome result
+        (IsQuestion objects.entry questions.now (tree pair.entry.from.node) (tree pair.entry.to.node)) }
+{
+    let (first, part) = part_of(questions, run);
+    let place = first + part.partition_point(|one| one.to.compare_with(pair.to, objects).is_lt());
+    if is_marked(marks, place) {
+        return None;
+    }
+    let question = question_at(questions, place)?;
+    if question.to.is(pair.to, objects) && question.from.is(pair.from, objects) {
         Some(place)
     } else {
         None
     }
 }
 
-/// Notes a question behind the first `count`, if there is room; answers how many there are then.
-fn note(questions: &mut [Question], count: usize, from: Node, to: Node) -> usize
+/// The place of the question on these texts, of which the second one is noted, if it stands in a run.
+fn find_noted(
+    objects: Node,
+    questions: &[Question],
+    run: Run,
+    from: Text,
+    to: Noted,
+) -> Option<usize>
+    ensures { IfSome result
+        (IsQuestion objects.entry questions.now (tree from.entry.node) (noted_in objects.entry to)) }
+{
+    let (first, part) = part_of(questions, run);
+    let place = first + part.partition_point(|one| one.to.compare(to, objects).is_lt());
+    let question = question_at(questions, place)?;
+    if question.from.is(from, objects) && question.to.is_same(to, objects) {
+        Some(place)
+    } else {
+        None
+    }
+}
+
+/// Whether two questions are on the same texts.
+fn are_same(objects: Node, first: Question, second: Question) -> bool {
+    compare(objects, first, second).is_eq()
+}
+
+/// Takes questions that come again out of questions in order; answers how many are left, before the others.
+fn take_out_repeated(objects: Node, questions: &mut [Question]) -> usize
+    ensures few { result ≤ length questions.new }
+    ensures length { length questions.new ≡ length questions.old }
+{
+    let mut kept = 0;
+    for i in 0..questions.len() {
+        if kept == 0 || !are_same(objects, questions[kept - 1], questions[i]) {
+            questions[kept] = questions[i];
+            kept += 1;
+        }
+    }
+    kept
+}
+
+/// Puts questions in order, and takes those that come again out; answers how many are left, before the others.
+fn gather(objects: Node, questions: &mut [Question]) -> usize
+    ensures few { result ≤ length questions.new }
+    ensures length { length questions.new ≡ length questions.old }
+{
+    sort(objects, questions);
+    take_out_repeated(objects, questions)
+}
+
+/// Makes room where there is none left, if most questions come again; answers how many are noted then. Where there is
+/// less to gain, to put the questions in order anew would cost more than a walk.
+fn make_room(objects: Node, questions: &mut [Question], count: usize) -> usize
     requires { count ≤ length questions.old }
-    ensures { result ≤ length questions.new }
+    ensures few { result ≤ length questions.new }
+    ensures length { length questions.new ≡ length questions.old }
+{
+    if count < questions.len() {
+        return count;
+    }
+    let kept = gather(objects, questions);
+    if kept <= questions.len() / 2 {
+        kept
+    } else {
+        count
+    }
+}
+
+/// Where a text is kept at hand, by its tag and the bytes in its middle: so also texts that are alike at both ends have
+/// places of their own. By another spelling a text has another place.
+fn hand_of(node: Node, tag: u32) -> usize
+    ensures { result < 1_024 }
+{
+    let bytes = node.bytes();
+    let middle = bytes[bytes.len() / 2] as usize + 61 * bytes[(bytes.len() - 1) / 2] as usize;
+    (tag as usize + middle) % KEPT
+}
+
+/// The text of a node, noted by the node at hand that has it, if there is one: so most equal texts have one number.
+fn noted_at_hand(objects: Node, kept: &mut [Noted; KEPT], node: Node) -> Noted {
+    let noted = Noted::of(node);
+    let place = hand_of(node, noted.tag);
+    let before = kept[place];
+    if before.tag == noted.tag && before.node(objects).same_text(node) {
+        return before;
+    }
+    kept[place] = noted;
+    noted
+}
+
+/// Notes a question behind the first `count`, if there is room; answers how many there are then.
+fn note(questions: &mut [Question], count: usize, question: Question) -> usize
+    requires { count ≤ length questions.old }
+    ensures few { result ≤ length questions.new }
+    ensures length { length questions.new ≡ length questions.old }
 {
     if count == questions.len() {
         return count;
     }
-    questions[count] = Question {
-        word: from.text_word(),
-        from: from.number(),
-        to: to.number(),
-    };
+    questions[count] = question;
     count + 1
 }
 
 /// Notes the questions on these items of a city object's list, as far as there is room.
-fn note_items(questions: &mut [Question], count: usize, items: Items, name: Node) -> usize
+fn note_items(
+    objects: Node,
+    questions: &mut [Question],
+    count: usize,
+    kept: &mut [Noted; KEPT],
+    items: Items,
+    to: Noted,
+) -> usize
     requires { count ≤ length questions.old }
-    ensures { result ≤ length questions.new }
+    ensures few { result ≤ length questions.new }
+    ensures length { length questions.new ≡ length questions.old }
 {
     let mut next = count;
     for item in items {
+        next = make_room(objects, questions, next);
         if next == questions.len() {
             return next;
         }
-        next = note(questions, next, item, name);
+        let from = noted_at_hand(objects, kept, item);
+        next = note(questions, next, Question { from, to });
     }
     next
 }
 
 /// Notes a question and those that are asked next, by lists of this name, as far as there is room.
-fn note_ahead(questions: &mut [Question], asked: &str, item: Node, ahead: Ahead) -> usize
+fn note_ahead(
+    objects: Node,
+    questions: &mut [Question],
+    asked: &str,
+    item: Node,
+    ahead: Ahead,
+) -> usize
     ensures { result ≤ length questions.new }
 {
-    let first = note(questions, 0, item, ahead.name);
-    let mut count = note_items(questions, first, ahead.items, ahead.name);
+    let mut kept = [NOTHING; KEPT];
+    let (from, to) = (Noted::of(item), ahead.name);
+    let first = note(questions, 0, Question { from, to });
+    let mut count = note_items(objects, questions, first, &mut kept, ahead.items, to);
     for (name, object) in ahead.later {
+        count = make_room(objects, questions, count);
         if count == questions.len() {
             return count;
         }
         if let Some(value) = object.get(asked) {
-            count = note_items(questions, count, value.items(), name);
+            let name = Noted::of(name);
+            count = note_items(objects, questions, count, &mut kept, value.items(), name);
         }
     }
     count
@@ -245,6 +493,22 @@ fn clear(marks: &mut [bool])
     }
 }
 
+/// Where it is known of a text whether it is asked about as a second one: by its end, and not by its tag, so that texts
+/// of one tag have places of their own.
+fn wanted_at(node: Node) -> usize
+    ensures { result < 8_191 }
+{
+    (node.text_tail() % WANTED as u64) as usize
+}
+
+/// Marks the second texts of questions as asked about.
+fn mark_wanted(objects: Node, questions: &[Question], wanted: &mut [bool; WANTED]) {
+    clear(wanted);
+    for question in questions {
+        wanted[wanted_at(question.to.node(objects))] = true;
+    }
+}
+
 impl Questions {
     /// No questions.
     pub fn new() -> Questions
@@ -252,13 +516,14 @@ impl Questions {
     {
         Questions {
             questions: [Question {
-                word: 0,
-                from: 0,
-                to: 0,
+                from: NOTHING,
+                to: NOTHING,
             }; ROOM],
             count: 0,
             known: [false; ROOM],
             listed: [false; ROOM],
+            runs: [NO_RUN; KEPT],
+            wanted: [false; WANTED],
         }
     }
 
@@ -269,22 +534,32 @@ impl Questions {
         self.count = 0;
     }
 
-    /// Marks the first question on these texts, of which a city object of the one lists the other.
-    fn answer_item(&mut self, list: &str, objects: Node, pair: Pair, later: Members)
+    /// Marks the question in a run on these texts, of which a city object of the one lists the other.
+    fn answer_item(&mut self, list: &str, objects: Node, pair: Pair, run: Run, later: Members)
         requires answered { AreAnswered (chars list.now) objects (members_left later) self.old }
-        requires listed { (from to : Tree) → same_text (tree pair.from) from ≡ true → same_text (tree pair.to) to ≡ true
+        requires listed { (from to : Tree) → same_text (tree pair.from.node) from ≡ true
+            → same_text (tree pair.to.node) to ≡ true
             → lists_of (chars list.now) (members_of (tree objects)) from to ≡ true }
         ensures { AreAnswered (chars list.now) objects.entry (members_left later.entry) self.new }
     {
-        if let Some(place) = find(objects, &self.questions[..self.count], pair) {
+        let questions = &self.questions[..self.count];
+        if let Some(place) = find_unmarked(objects, questions, &self.listed, run, pair) {
             mark(&mut self.listed, place);
         }
     }
 
-    /// Marks the questions that the list of a city object of this name answers.
-    fn answer_items(&mut self, list: &str, objects: Node, name: Node, object: Node, later: Members)
+    /// Marks the questions in a run on this name that the list of a city object of the name answers.
+    fn answer_items(
+        &mut self,
+        list: &str,
+        objects: Node,
+        name: Text,
+        object: Node,
+        run: Run,
+        later: Members,
+    )
         requires answered { AreAnswered (chars list.now) objects (members_left later) self.old }
-        requires listed { (from to : Tree) → same_text (tree name) from ≡ true
+        requires listed { (from to : Tree) → same_text (tree name.node) from ≡ true
             → has_item_of (listed_in (chars list.now) (tree object)) to ≡ true
             → lists_of (chars list.now) (members_of (tree objects)) from to ≡ true }
         ensures { AreAnswered (chars list.now) objects.entry (members_left later.entry) self.new }
@@ -292,14 +567,15 @@ impl Questions {
         let Some(value) = object.get(list) else {
             return;
         };
-        let word = name.text_word();
         for item in value.items() {
+            if !self.wanted[wanted_at(item)] {
+                continue;
+            }
             let pair = Pair {
-                word,
                 from: name,
-                to: item,
+                to: Text::of(item),
             };
-            self.answer_item(list, objects, pair, later);
+            self.answer_item(list, objects, pair, run, later);
         }
     }
 
@@ -312,11 +588,14 @@ impl Questions {
             → lists_of (chars list.now) (members_of (tree objects)) from to ≡ true }
         ensures { AreAnswered (chars list.now) objects.entry (members_left later.entry) self.new }
     {
-        let Some(place) = first_on(objects, &self.questions[..self.count], name) else {
+        let questions = &self.questions[..self.count];
+        let Some(place) = first_on(objects, questions, name) else {
             return;
         };
+        let from = Text::of(name);
+        let run = run_on(objects, questions, from, place);
         mark(&mut self.known, place);
-        self.answer_items(list, objects, name, object, later);
+        self.answer_items(list, objects, from, object, run, later);
     }
 
     /// Answers the questions in one walk over the city objects.
@@ -334,26 +613,47 @@ impl Questions {
     fn ask(&mut self, list: &str, asked: &str, objects: Node, item: Node, ahead: Ahead)
         ensures { AreAnswered (chars list.now) objects.entry [] self.new }
     {
-        self.count = note_ahead(&mut self.questions, asked, item, ahead);
+        let count = note_ahead(objects, &mut self.questions, asked, item, ahead);
+        self.count = gather(objects, &mut self.questions[..count]);
         sort(objects, &mut self.questions[..self.count]);
         clear(&mut self.known);
         clear(&mut self.listed);
+        mark_wanted(objects, &self.questions[..self.count], &mut self.wanted);
         self.answer_all(list, objects);
     }
 
-    /// What was found for a question; None where it is not noted.
-    fn found(&self, list: &str, objects: Node, pair: Pair) -> Option<Answer>
+    /// Whether a city object of the first text lists the second one, where that is asked in a run.
+    fn is_listed(&self, list: &str, objects: Node, run: Run, from: Text, to: Noted) -> Option<bool>
         requires { AreAnswered (chars list.now) objects [] self.now }
-        ensures { IfSome result (IsAnswer (chars list.now) objects.entry (tree pair.entry.from) (tree pair.entry.to)) }
+        ensures { result ≡ Some true → lists_of (chars list.now) (members_of (tree objects.entry))
+            (tree from.entry.node) (noted_in objects.entry to) ≡ true }
     {
-        let questions = &self.questions[..self.count];
-        let place = find(objects, questions, pair)?;
-        if self.listed[place] {
+        let place = find_noted(objects, &self.questions[..self.count], run, from, to)?;
+        Some(self.listed[place])
+    }
+
+    /// What was found for a question; None where it is not noted.
+    fn found(&mut self, list: &str, objects: Node, from: Text, to: Noted) -> Option<Answer>
+        requires answered { AreAnswered (chars list.now) objects [] self.old }
+        ensures answer { IfSome result
+            (IsAnswer (chars list.now) objects.entry (tree from.entry.node) (noted_in objects.entry to)) }
+        ensures answered { AreAnswered (chars list.now) objects.entry [] self.new }
+    {
+        let hand = hand_of(from.node, from.tag);
+        let run = self.runs[hand];
+        if let Some(true) = self.is_listed(list, objects, run, from, to) {
             return Some(Answer::Listed);
         }
-        match first_on(objects, questions, pair.from) {
-            Some(first) if !self.known[first] => Some(Answer::Absent),
-            _ => Some(Answer::Untold),
+        let questions = &self.questions[..self.count];
+        let first = first_on(objects, questions, from.node)?;
+        if !self.known[first] {
+            return Some(Answer::Absent);
+        }
+        let run = run_on(objects, questions, from, first);
+        self.runs[hand] = run;
+        match self.is_listed(list, objects, run, from, to)? {
+            true => Some(Answer::Listed),
+            false => Some(Answer::Untold),
         }
     }
 
@@ -368,17 +668,18 @@ impl Questions {
         ahead: Ahead,
     ) -> Answer
         requires { AreAnswered (chars list.now) objects [] self.old }
-        ensures answer { IsAnswer (chars list.now) objects.entry (tree item.entry) (tree ahead.entry.name) result }
+        ensures answer { IsAnswer (chars list.now) objects.entry (tree item.entry)
+            (noted_in objects.entry ahead.entry.name) result }
         ensures answered { AreAnswered (chars list.now) objects.entry [] self.new }
     {
         match item.kind() {
             Kind::Text => {
-                let pair = Pair::of(item, ahead.name);
-                if let Some(answer) = self.found(list, objects, pair) {
+                let from = Text::of(item);
+                if let Some(answer) = self.found(list, objects, from, ahead.name) {
                     return answer;
                 }
                 self.ask(list, asked, objects, item, ahead);
-                match self.found(list, objects, pair) {
+                match self.found(list, objects, from, ahead.name) {
                     Some(answer) => answer,
                     None => Answer::Untold,
                 }

@@ -4,7 +4,7 @@ use Rattle.std.specs.List.{flat_map}
 use Rattle.std.specs.Str.{chars}
 use Rattle.cj_spans.specs.Finding.{least}
 use Rattle.cj_spans.specs.Parts.{members_of}
-use Rattle.cj_spans.specs.View.{tree, members_left}
+use Rattle.cj_spans.specs.View.{tree, members_left, members_source, source_of}
 use Rattle.cj_feature.specs.Questions.{AreAnswered}
 use Rattle.cj_feature.proofs.Passes.{parents_and_part}
 use Rattle.cj_feature.proofs.feature.many_links.check_all_parents.Given as goal
@@ -13,6 +13,7 @@ abbrev pub invariant-loop-name : goal.invariant-loop-name
 invariant-loop-name l = record {
   found : least l.found (flat_map (parents_and_part (members_of (tree l.objects))) (members_left l.later)) ≡ least l.initial.found (flat_map (parents_and_part (members_of (tree l.objects))) (members_of (tree l.objects)));
   answered : AreAnswered (chars (codes "children")) l.objects [] l.questions;
+  source : members_source l.later ≡ source_of l.objects;
 }
 
 abbrev pub decreases-loop-name : goal.decreases-loop-name

@@ -1,5 +1,8 @@
-use Rattle.std.proofs.Common.{◌≤◌, length}
+use Rattle.std.proofs.Common.{◌≡◌, ◌≤◌, length}
 use Rattle.cj_feature.proofs.feature.questions.note_items.Given as goal
 
 abbrev pub invariant-loop-item : goal.invariant-loop-item
-invariant-loop-item l = l.next ≤ length l.questions
+invariant-loop-item l = record {
+  few : l.next ≤ length l.questions;
+  length : length l.questions ≡ length l.initial.questions;
+}
