@@ -1,6 +1,6 @@
 -- How the calls of a run add up.
-use Rattle.std.proofs.Common.{◌≡◌, inl, inr, ℕ, ◌+◌, ◌-◌, ◌⊎◌, ◌<◌, ◌≤◌, List, [], ◌∷◌, ◌++◌, cond, length, Option, Some, None, refl, sym, ap, ◌∙◌, subst, append_assoc, arith}
-use Rattle.std.specs.Prelude.{is_some}
+use Rattle.std.proofs.Common.{◌≡◌, inl, inr, ℕ, zero, suc, ◌+◌, ◌-◌, ◌⊎◌, ◌<◌, ◌≤◌, List, [], ◌∷◌, ◌++◌, cond, length, Option, Some, None, refl, sym, ap, ◌∙◌, subst, append_assoc, length-append, arith}
+use Rattle.std.specs.Prelude.{◌≢◌, is_some, IfSome}
 use Rattle.std.proofs.lemmas.List.{append-nil}
 use Rattle.std.specs.Io.KnownBytes.{Consumes, Keeps}
 use Rattle.cj_stream.specs.declared.ending.End.{End}
@@ -8,10 +8,11 @@ use Rattle.cj_stream.specs.declared.ending.End.TheVariants.{Complete, Refused, R
 use Rattle.cj_stream.specs.Lines.{Line, closed, lines, whole}
 use Rattle.cj_stream.specs.Item.{Item}
 use Rattle.cj_stream.specs.Verdict.{Rules, verdict, refusal_of, refusal_in, refusal_from, judged, ending, ending_of, kept_first}
-use Rattle.cj_stream.specs.Engine.{EngineState, StandsFor, Delivers, Faults, Concludes, Tells, rules_of, lines_of}
+use Rattle.cj_stream.specs.Engine.{EngineState, StandsFor, Counts, Delivers, Faults, Concludes, Tells, rules_of, lines_of}
 use Rattle.cj_stream.specs.Reading.{Reads}
-use Rattle.cj_stream.specs.Run.{Ends, Runs, outcome_of}
+use Rattle.cj_stream.specs.Run.{Ends, Gave, IsReadWithin, Runs, outcome_of}
 use Rattle.cj_stream.specs.Sink.{HasRisen, Took}
+use Rattle.cj_stream.specs.Cut.{IsUnread}
 use Rattle.cj_stream.proofs.PieceLemmas.{Took-append}
 use Rattle.cj_stream.proofs.EngineLemmas.{judged-front, kept_first-front}
 use Rattle.cj_stream.proofs.ReadingLemmas.{length-map_lines, zero_or}
@@ -129,3 +130,37 @@ fault-not_complete h = cc
 
 pub limit-not_complete : ReadLimit ≡ Complete → ⊥
 limit-not_complete h = cc
+
+-- the end of an engine that was finished, where a read was left to find the end of the input
+pub Gave-finished : (reads n : ℕ) (e : End) → n < reads → IsUnread e → Gave reads n e
+Gave-finished reads n Complete lt u = lt
+Gave-finished reads n (Refused number place reason) lt u = omega arith
+Gave-finished reads n ReadFault lt u = absurd u
+Gave-finished reads n ReadLimit lt u = absurd u
+Gave-finished reads n WriteFault lt u = omega arith
+Gave-finished reads n Memory lt u = omega arith
+
+-- the end by a piece, which the last of the reads may have given
+pub Gave-fed : (rules : Rules) (q : List ℕ) (m reads n : ℕ) (e : End) → n ≤ reads → Tells rules q m e → Gave reads n e
+Gave-fed rules q m reads n Complete le h = absurd h
+Gave-fed rules q m reads n (Refused number place reason) le h = le
+Gave-fed rules q m reads n ReadFault le h = absurd h
+Gave-fed rules q m reads n ReadLimit le h = absurd h
+Gave-fed rules q m reads n WriteFault le h = le
+Gave-fed rules q m reads n Memory le h = le
+
+-- where the reads ran out, each of them gave a byte
+all-gave : (reads : ℕ) (r : List ℕ) (e : End) → e ≡ ReadLimit → (w : IsReadWithin reads r e) → w.giving ≡ reads
+all-gave reads r e is w = subst (λ z. Gave reads w.giving z) is w.gave
+
+-- one read more than there are bytes is enough
+pub enough-reads : (a b : Option (List ℕ)) (reads : ℕ) (r : List ℕ) (e : End) → Consumes a b r → IsReadWithin reads r e → IfSome a (λ bytes. length bytes < reads → e ≢ ReadLimit)
+enough-reads None b reads r e c w = tt
+enough-reads (Some a) None reads r e c w = absurd c
+enough-reads (Some a) (Some b) reads r e c w = λ few is. absurd (omega (arith, all-gave reads r e is w, w.least, ap length c, length-append r b))
+
+-- by no read no line is dealt with
+pub none-counted : (rules : Rules) (reads : ℕ) (r : List ℕ) (n features : ℕ) (e : End) → reads ≡ 0 → e ≡ ReadLimit → IsReadWithin reads r e → Counts rules r n features → (n ≡ 0) × (features ≡ 0)
+none-counted rules reads [] zero features e nothing is w h = (refl, h.kept)
+none-counted rules reads [] (suc n) features e nothing is w h = let few : suc n ≤ 0 = h.few in absurd (omega arith)
+none-counted rules reads (x ∷ r) n features e nothing is w h = absurd (omega (arith, all-gave reads (x ∷ r) e is w, w.most))

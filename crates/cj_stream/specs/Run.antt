@@ -1,5 +1,5 @@
 -- What a whole run makes of the bytes that it reads.
-use Rattle.std.specs.Prelude.{◌≡◌, ◌⊎◌, ℕ, List, [], Option, Some, None, length}
+use Rattle.std.specs.Prelude.{◌≡◌, ◌⊎◌, ℕ, ◌*◌, ◌<◌, ◌≤◌, List, [], Option, Some, None, length}
 use Rattle.std.specs.Io.KnownBytes.{Appends}
 use Rattle.cj_stream.specs.declared.ending.End.{End}
 use Rattle.cj_stream.specs.declared.ending.End.TheVariants.{Complete, Refused, ReadFault, ReadLimit, WriteFault, Memory}
@@ -50,6 +50,23 @@ Puts takes leaves rules r ReadFault s t = Took takes s (kept rules (whole r)) t
 Puts takes leaves rules r ReadLimit s t = Took takes s (kept rules (whole r)) t
 Puts takes leaves rules r WriteFault s t = TookFront takes (LeavesNext leaves) (kept rules r) [] s t
 Puts takes leaves rules r Memory s t = TookFront takes (λ others a b. b ≡ a) (kept rules r) [] s t
+
+-- of so many reads n gave bytes, by the end: not the one that found the end of the input, nor the one that failed; and all,
+-- where the reads ran out
+abbrev pub Gave : ℕ → ℕ → End → Type 0
+Gave reads n Complete = n < reads
+Gave reads n (Refused number place reason) = n ≤ reads
+Gave reads n ReadFault = n < reads
+Gave reads n ReadLimit = n ≡ reads
+Gave reads n WriteFault = n ≤ reads
+Gave reads n Memory = n ≤ reads
+
+-- the bytes r came within so many reads, by this end: each of those that gave bytes gave at least one and at most 8,192
+pub record IsReadWithin (reads : ℕ) (r : List ℕ) (end : End) : Type 0 where
+  pub giving : ℕ
+  pub gave : Gave reads giving end
+  pub least : giving ≤ length r
+  pub most : length r ≤ 8192 * giving
 
 -- a run from one state of a sink to another: its account, and what the sink took, by the lines that were dealt with and
 -- by the end

@@ -21,7 +21,8 @@
 //!
 //! The modules, from the caller down:
 //!
-//! - `running`: a whole run, from a reader to a sink ([`run`]), with the reader's faults in `source`;
+//! - `running`: a whole run, from a reader to a sink ([`run`]), also within a number of reads ([`run_within`]), with the
+//!   reader's faults in `source`;
 //! - `pieces`: the same of a stream that comes in pieces ([`put_pieces`]), and the promise of the whole ([`headline`]);
 //! - `sink`: what a sink is ([`LineSink`]), one that ignores and one that counts; `output`: the one that writes
 //!   ([`Output`]); `tally`: the one that tallies ([`TallySink`]);
@@ -58,6 +59,6 @@ pub use engine::Engine;
 pub use output::{Output, WriteFault, WriteSink};
 pub use pieces::{PiecesOutcome, headline, put_pieces};
 pub use query::{Query, QueryFault};
-pub use running::{Outcome, run};
+pub use running::{Outcome, run, run_within};
 pub use sink::{CountSink, IgnoreSink, LineSink};
 pub use tally::TallySink;

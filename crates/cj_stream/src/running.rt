@@ -1,10 +1,10 @@
 //! A whole run, from a reader to a sink.
-ghost use Rattle.std.specs.Prelude.{◌≡◌, ◌↔◌, ◌≤◌, ℕ, List, length, false, IsTrue};
+ghost use Rattle.std.specs.Prelude.{◌≡◌, ◌≢◌, ◌↔◌, ◌≤◌, ◌<◌, ◌^◌, ℕ, List, length, false, IsTrue, IfSome};
 ghost use Rattle.std.specs.Io.KnownBytes.{Consumes, IsAtEnd};
 ghost use Rattle.cj_stream.specs.Sink.{HasRisen};
 ghost use Rattle.cj_stream.specs.Engine.{IsFresh, rules_of};
 ghost use Rattle.cj_stream.specs.Query.{rules_for};
-ghost use Rattle.cj_stream.specs.Run.{Runs, outcome_of};
+ghost use Rattle.cj_stream.specs.Run.{IsReadWithin, Runs, outcome_of};
 ghost use Rattle.cj_stream.specs.Source.{source_reader, source_name, reads_of, has_failed};
 
 mod source;
@@ -18,7 +18,7 @@ use source::{ReadFault, Source};
 use std::alloc::Global;
 use std::io::Read;
 
-/// The most reads of one run.
+/// The most reads of one run, and those of a run to which no number is given.
 const MOST_READS: u64 = 1_099_511_627_776;
 
 const _: () = prove!(MOST_READS == 1 << 40);
@@ -59,14 +59,16 @@ impl Outcome {
 }
 
 /// Feeds what the source gives, by pieces of at most the buffer's length, and finishes at its end. The
-/// first read that fails is the end.
+/// first read that fails is the end, and so is the last of the reads, if none of them gave one.
 fn drive<R: Read, S: LineSink>(
     engine: &mut Engine,
     buffer: &mut [u8],
     source: &mut Source<'_, R>,
     sink: &mut S,
+    reads: u64,
 ) -> End
     requires piece { length buffer.old ≡ PIECE_LENGTH }
+    requires few { reads ≤ MOST_READS }
     requires unread { reads_of source.old ≡ 0 }
     requires unfailed { has_failed source.old ≡ false }
     requires fresh { IsFresh engine.old }
@@ -74,15 +76,18 @@ fn drive<R: Read, S: LineSink>(
     ensures same_reference { source_name source.new ≡ source_name source.old }
     ensures runs { (r : List ℕ)
         × Consumes (R.remaining (source_reader source.old)) (R.remaining (source_reader source.new)) r
+        × IsReadWithin reads r result
         × Runs S.takes S.leaves
         (record { rules = rules_of engine.old; read = r; outcome = outcome_of engine.new result })
         (IsAtEnd (R.remaining (source_reader source.new))) sink.old sink.new }
     ensures cause { result ≡ End.WriteFault → HasRisen (S.failures sink.old) (S.failures sink.new) }
-    ensures reads { reads_of source.new ≤ MOST_READS }
-    ensures limit { result ≡ End.ReadLimit → reads_of source.new ≡ MOST_READS }
+    ensures none { reads ≡ 0 → (source_reader source.new ≡ source_reader source.old) × (sink.new ≡ sink.old)
+        × (result ≡ End.ReadLimit) }
+    ensures reads { reads_of source.new ≤ reads }
+    ensures limit { result ≡ End.ReadLimit → reads_of source.new ≡ reads }
     ensures failed { IsTrue (has_failed source.new) ↔ (result ≡ End.ReadFault) }
 {
-    for _i in 0..MOST_READS {
+    for _i in 0..reads {
         match source.read(buffer) {
             Err(ReadFault) => return End::ReadFault,
             Ok(0) => return engine.finish(sink),
@@ -97,6 +102,8 @@ fn drive<R: Read, S: LineSink>(
 }
 
 /// Puts the kept lines of what the reader gives to the sink, until its end or a fault.
+///
+/// It makes at most 2^40 reads, as [`run_within`] says.
 pub fn run<R: Read, S: LineSink>(
     alloc: Global,
     reader: &mut R,
@@ -108,6 +115,34 @@ pub fn run<R: Read, S: LineSink>(
         × Runs S.takes S.leaves (record { rules = rules_for limits query.now; read = r; outcome = result })
         (IsAtEnd (R.remaining reader.new)) sink.old sink.new }
     ensures cause { result.ended ≡ End.WriteFault → HasRisen (S.failures sink.old) (S.failures sink.new) }
+    ensures enough { IfSome (R.remaining reader.old) (λ bytes. length bytes < 2 ^ 40 → result.ended ≢ End.ReadLimit) }
+{
+    run_within(alloc, reader, sink, limits, query, MOST_READS)
+}
+
+/// Does what [`run`] does, with at most `reads` reads, of at most 8,192 bytes each.
+///
+/// The read that finds the end of the input counts, and so does one that fails. An end or a fault that comes with a read,
+/// the last one too, is the end. Where none came, the end is [`End::ReadLimit`]: the whole lines were dealt with, and the
+/// line that had begun was not judged. So with no read that is the end of each input, also of an empty one, and the reader
+/// and the sink stay as they are. One read more than the input has bytes is always enough, even if each gives one byte.
+pub fn run_within<R: Read, S: LineSink>(
+    alloc: Global,
+    reader: &mut R,
+    sink: &mut S,
+    limits: Limits,
+    query: &Query,
+    reads: u64,
+) -> Outcome
+    requires few { reads ≤ 2 ^ 40 }
+    ensures runs { (r : List ℕ) × Consumes (R.remaining reader.old) (R.remaining reader.new) r
+        × IsReadWithin reads r result.ended
+        × Runs S.takes S.leaves (record { rules = rules_for limits query.now; read = r; outcome = result })
+        (IsAtEnd (R.remaining reader.new)) sink.old sink.new }
+    ensures cause { result.ended ≡ End.WriteFault → HasRisen (S.failures sink.old) (S.failures sink.new) }
+    ensures enough { IfSome (R.remaining reader.old) (λ bytes. length bytes < reads → result.ended ≢ End.ReadLimit) }
+    ensures none { reads ≡ 0 → (reader.new ≡ reader.old) × (sink.new ≡ sink.old) × (result.ended ≡ End.ReadLimit)
+        × (result.lines ≡ 0) × (result.kept ≡ 0) }
 {
     let mut engine = match Engine::open(alloc, limits, query) {
         Ok(engine) => engine,
@@ -115,7 +150,7 @@ pub fn run<R: Read, S: LineSink>(
     };
     let mut buffer = [0u8; PIECE_LENGTH];
     let mut source = Source::new(reader);
-    let ended = drive(&mut engine, &mut buffer, &mut source, sink);
+    let ended = drive(&mut engine, &mut buffer, &mut source, sink, reads);
     Outcome {
         lines: engine.lines(),
         kept: engine.kept(),

@@ -38,6 +38,28 @@ impl Read for SlowReader<'_> {
     }
 }
 
+/// Gives a byte a read: those of the front, and then spaces without end.
+#[derive(Drop)]
+pub struct EndlessReader<'a> {
+    pub front: &'a [u8],
+    pub reads: u64,
+}
+
+impl Read for EndlessReader<'_> {
+    fn read(&mut self, buf: &mut [u8]) -> Result<usize> {
+        self.reads = self.reads.saturating_add(1);
+        let Some(place) = buf.first_mut() else {
+            return Ok(0);
+        };
+        *place = b' ';
+        if let Some((byte, others)) = self.front.split_first() {
+            *place = *byte;
+            self.front = others;
+        }
+        Ok(1)
+    }
+}
+
 /// Gives the bytes before a cut by one read, if there is room, and those behind it by the next.
 #[derive(Drop)]
 pub struct CutReader<'a> {
@@ -59,23 +81,25 @@ impl Read for CutReader<'_> {
     }
 }
 
-/// Takes at most `step` bytes a write, and fails at the write number `fails_at`, from 1.
+/// Takes at most `step` bytes a write, none by the write number `stops_at`, and fails at that number `fails_at`, from 1.
 #[derive(Drop)]
 pub struct SlowWriter {
     pub bytes: Vec<u8>,
     pub step: usize,
     pub writes: u64,
+    pub stops_at: u64,
     pub fails_at: u64,
     pub fault: ErrorKind,
 }
 
 impl SlowWriter {
-    /// A writer that never fails.
+    /// A writer that never stops or fails.
     pub fn new(bytes: Vec<u8>, step: usize) -> SlowWriter {
         SlowWriter {
             bytes,
             step,
             writes: 0,
+            stops_at: 0,
             fails_at: 0,
             fault: ErrorKind::Other,
         }
@@ -87,6 +111,9 @@ impl Write for SlowWriter {
         self.writes = self.writes.saturating_add(1);
         if self.writes == self.fails_at {
             return Err(Error::from(self.fault));
+        }
+        if self.writes == self.stops_at {
+            return Ok(0);
         }
         let n = self.step.min(buf.len());
         self.bytes.extend_from_slice(&buf[..n])?;

@@ -180,6 +180,46 @@ fn a_write_fault_stays_the_end(rt: HostRuntime) -> Result<(), Fail> {
     Ok(())
 }
 
+fn check_told_again<S: LineSink>(rt: &impl Abort, engine: &mut Engine, text: &[u8], sink: &mut S) {
+    check_feed(rt, engine, text, sink, Err(End::WriteFault));
+    check_feed(rt, engine, text, sink, Err(End::WriteFault));
+    check_finish(rt, engine, sink, End::WriteFault);
+}
+
+/// Feeds a stream to an engine whose writer takes a byte a write before the one that fails, or that takes none: the
+/// writer is not asked again.
+fn check_fault_told_again(
+    rt: &impl Abort,
+    alloc: Global,
+    text: &[u8],
+    writer: &mut SlowWriter,
+    at: u64,
+) -> Result<(), Fail> {
+    let query = Query::all(alloc);
+    let mut engine = Engine::open(alloc, Limits::new(8_388_608, 64)?, &query)?;
+    check_told_again(rt, &mut engine, text, &mut Output::new(&mut *writer));
+    let written = writer.bytes.as_slice();
+    assert!(rt; written.len() <= text.len());
+    check_number(rt, writer.writes, at, "writes", at);
+    check_number(rt, written.len() as u64 + 1, at, "bytes and one", at);
+    check_bytes(rt, written, &text[..written.len()], "write", at);
+    Ok(())
+}
+
+#[test]
+fn an_engine_tells_each_write_fault_again(rt: HostRuntime) -> Result<(), Fail> {
+    let text = joined(rt.alloc(), &[HEADER, b"\n", FEATURE, b"\n"])?;
+    for at in 1..=352u64 {
+        let mut writer = SlowWriter::new(Vec::new(rt.alloc()), 1);
+        writer.fails_at = at;
+        check_fault_told_again(&rt, rt.alloc(), &text, &mut writer, at)?;
+        let mut writer = SlowWriter::new(Vec::new(rt.alloc()), 1);
+        writer.stops_at = at;
+        check_fault_told_again(&rt, rt.alloc(), &text, &mut writer, at)?;
+    }
+    Ok(())
+}
+
 /// Runs over a stream to a sink whose writer fails in it, and once more. How often a sink's writer failed
 /// is seen by contracts alone; what can be seen here is that a failure does not stay.
 fn check_one_failure<S: LineSink>(

@@ -1,9 +1,9 @@
-use Rattle.std.proofs.Common.{◌++◌, ◌∙◌, length-take, take, refl, ap, arith, Err}
+use Rattle.std.proofs.Common.{◌≡◌, ◌+◌, ◌++◌, ◌∙◌, length, length-append, length-take, take, refl, sym, ap, arith, Err}
 use Rattle.std.proofs.lemmas.List.{append-nil}
 use Rattle.cj_stream.specs.declared.ending.End.TheVariants.{ReadFault, ReadLimit}
 use Rattle.cj_stream.specs.Engine.{rules_of, lines_of}
 use Rattle.cj_stream.specs.Run.{outcome_of}
-use Rattle.cj_stream.proofs.RunLemmas.{Consumes-then, Consumes-kept, Delivers-then, Runs-left, kept_first-same, Ends-finished, Ends-fed, whole-good, HasRisen-after, told-not_complete, fault-not_complete, limit-not_complete}
+use Rattle.cj_stream.proofs.RunLemmas.{Consumes-then, Consumes-kept, Delivers-then, Runs-left, kept_first-same, Ends-finished, Ends-fed, whole-good, HasRisen-after, told-not_complete, fault-not_complete, limit-not_complete, Gave-finished, Gave-fed}
 use Rattle.std.specs.Prelude.{is_err}
 use Rattle.cj_stream.proofs.CutLemmas.{unread-told, unread-concludes}
 use Rattle.cj_stream.proofs.OutputLemmas.{Runs-told}
@@ -17,6 +17,7 @@ returns-in-Err-clause-runs g c =
     let stands = i.5.2 in (
       r,
       Consumes-kept _ _ _ r i.5.1 c.in-Err.ensures.bytes,
+      record { giving = c.loop-i._i; gave = omega arith; least = i.5.4; most = omega (arith, i.1, (stands.going i.2).2) },
       rw (← i.3) (let k = rw (← i.3) at i.5.3 in Runs-left _ _ c.loop-i.engine r _ _ _ ReadFault fault-not_complete (whole-good c.loop-i.engine r (stands.going i.2).0) (λ m u e. e) stands k),
     )
 
@@ -27,6 +28,7 @@ returns-in-Ok-eq0-clause-runs g c =
     let stands = c.finish.ensures.stands r i.5.2 in (
       r,
       let k = Consumes-then _ _ _ r (take c.in-Ok-eq0.field-0 c.read.new.buffer) i.5.1 c.in-Ok-eq0.ensures.bytes.0 in rw (c.in-Ok-eq0.field-0-test, append-nil r) at k,
+      record { giving = c.loop-i._i; gave = Gave-finished _ _ c.finish.result (omega arith) (unread-concludes _ r _ c.finish.result (c.finish.ensures.answer r i.5.2 i.2)); least = i.5.4; most = omega (arith, i.1, (i.5.2.going i.2).2) },
       Runs-told g.S.LineSink.takes g.S.LineSink.leaves (record { rules = rules_of c.args.engine.now; read = r; outcome = outcome_of c.finish.new.self c.finish.result }) _ c.args.sink.now c.finish.new.sink
           (record {
             bounded = let k = stands.bounded in rw (c.finish.ensures.rules, i.3) at k;
@@ -48,9 +50,11 @@ returns-in-Err-feed-clause-runs g c =
     let r = i.5.0 in
     let piece = take c.in-Ok.n c.read.new.buffer in
     let e = c.loop-i.engine in
+    let grown : length (r ++ piece) ≡ length r + c.in-Ok.n = length-append r piece ∙ ap (λ n. length r + n) (sym c.in-Ok.ensures.bound.1) in
     let stands = c.feed.ensures.stands r i.5.2 in (
       r ++ piece,
       Consumes-then _ _ _ r piece i.5.1 c.in-Ok.ensures.bytes.0,
+      record { giving = c.loop-i._i + 1; gave = Gave-fed _ (r ++ piece) _ _ _ c.in-Err-feed.end (omega arith) (c.in-Err-feed.ensures.told r i.5.2 i.2); least = omega (arith, i.5.4, grown); most = omega (arith, i.1, (i.5.2.going i.2).2, grown, c.in-Ok.ensures.bound.0, c.read.auto.buffer, i.0) },
       Runs-told g.S.LineSink.takes g.S.LineSink.leaves (record { rules = rules_of c.args.engine.now; read = r ++ piece; outcome = outcome_of c.feed.new.self c.in-Err-feed.end }) _ c.args.sink.now c.feed.new.sink
           (record {
             bounded = let k = stands.bounded in rw (i.2, c.feed.ensures.rules, i.3) at k;
@@ -71,7 +75,8 @@ loop-i-preserved g c =
     let i = c.loop-i.invariant in
     let r = i.5.0 in
     let piece = take c.in-Ok.n c.read.new.buffer in
-    let e = c.loop-i.engine in (
+    let e = c.loop-i.engine in
+    let grown : length (r ++ piece) ≡ length r + c.in-Ok.n = length-append r piece ∙ ap (λ n. length r + n) (sym c.in-Ok.ensures.bound.1) in (
       c.read.auto.buffer ∙ i.0,
       omega (arith, c.in_default.ensures.taken, length-take c.in-Ok.n c.read.new.buffer, c.read.auto.buffer, i.0, i.1),
       c.in_default.ensures.open,
@@ -84,10 +89,12 @@ loop-i-preserved g c =
         let k = c.feed.ensures.sink r i.5.2 i.2 in
             let j = rw (i.3, c.in_default.ensures.open) at k in
             Delivers-then g.S.LineSink.takes g.S.LineSink.leaves _ r (r ++ piece) _ _ _ _ _ _ (kept_first-same _ (lines_of e) r piece (i.5.2.going i.2).0.lines) i.5.3 j,
+        omega (arith, i.5.4, grown),
       ),
       c.read.ensures.failed ∙ ap is_err c.in-Ok.is,
       c.read.ensures.same_reference ∙ i.7,
       omega (arith, c.read.ensures.counted, i.8),
+      λ none. absurd (omega arith),
     )
 
 -- neither the engine's end nor the end of a piece is a read fault
@@ -111,6 +118,7 @@ returns-clause-runs g c =
     let stands = i.5.2 in (
       r,
       i.5.1,
+      record { giving = c.args.reads; gave = refl; least = omega (arith, i.5.4); most = omega (arith, i.1, (stands.going i.2).2) },
       rw (← i.3) (let k = rw (← i.3) at i.5.3 in Runs-left _ _ c.loop-i.engine r _ _ _ ReadLimit limit-not_complete (whole-good c.loop-i.engine r (stands.going i.2).0) (λ m u e. e) stands k),
     )
 

@@ -1,0 +1,163 @@
+//! Runs within a number of reads: how often the reader is read, what is written, and how they end.
+use super::calls::{check_bytes, check_ended, check_number, joined, refused};
+use super::devices::{EndlessReader, SlowReader};
+use super::rows::{FEATURE, HEADER};
+use crate::{End, Outcome, Query, WriteSink, run_within};
+use cj_budget::Limits;
+use cj_spans::Reason;
+use std::alloc::Global;
+use std::io::Read;
+use std::process::Abort;
+use std::test::Fail;
+
+/// Runs within so many reads: the outcome, and what was written.
+fn run_by<R: Read>(
+    rt: &impl Abort,
+    alloc: Global,
+    reader: &mut R,
+    limits: Limits,
+    reads: u64,
+) -> (Outcome, Vec<u8>) {
+    let mut sink = WriteSink::new(Vec::new(alloc));
+    assert!(rt; reads <= 1_000_000);
+    let outcome = run_within(alloc, reader, &mut sink, limits, &Query::all(alloc), reads);
+    (outcome, sink.into_inner())
+}
+
+/// How a run within a number of reads has to go.
+#[derive(Clone, Copy)]
+struct Wanted {
+    ended: End,
+    lines: u64,
+    kept: u64,
+    reads: u64,
+}
+
+/// Compares a run by so many reads: its end, its counts, what was written, and how often its reader was read.
+fn check_went(
+    rt: &impl Abort,
+    went: &(Outcome, Vec<u8>),
+    made: u64,
+    wanted: &Wanted,
+    written: &[u8],
+    reads: u64,
+) {
+    let (outcome, bytes) = went;
+    check_ended(rt, outcome.ended, wanted.ended, "end", reads);
+    check_number(rt, outcome.lines, wanted.lines, "lines", reads);
+    check_number(rt, outcome.kept, wanted.kept, "kept", reads);
+    check_number(rt, made, wanted.reads, "reads", reads);
+    check_bytes(rt, bytes, written, "bytes", reads);
+}
+
+/// Runs by so many reads over a reader that gives a byte a read.
+fn check_reads(
+    rt: &impl Abort,
+    alloc: Global,
+    text: &[u8],
+    reads: u64,
+    wanted: &Wanted,
+    written: &[u8],
+) -> Result<(), Fail> {
+    let mut reader = SlowReader::new(text, 1);
+    let limits = Limits::new(8_388_608, 64)?;
+    let went = run_by(rt, alloc, &mut reader, limits, reads);
+    check_went(rt, &went, reader.reads, wanted, written, reads);
+    Ok(())
+}
+
+/// Too few reads for the stream of 352 bytes: what is written are its whole lines.
+fn check_too_few(rt: &impl Abort, alloc: Global, text: &[u8], reads: u64) -> Result<(), Fail> {
+    let (lines, kept, front) = match reads {
+        0..=140 => (0, 0, 0),
+        141..=351 => (1, 0, 141),
+        _ => (2, 1, 352),
+    };
+    assert!(rt; front <= text.len());
+    let wanted = Wanted {
+        ended: End::ReadLimit,
+        lines,
+        kept,
+        reads,
+    };
+    check_reads(rt, alloc, text, reads, &wanted, &text[..front])
+}
+
+/// A read for each byte is too few, as none is left to find the end.
+#[test]
+fn each_number_of_reads_that_is_too_few(rt: HostRuntime) -> Result<(), Fail> {
+    let text = joined(rt.alloc(), &[HEADER, b"\n", FEATURE, b"\n"])?;
+    for reads in 0..=352u64 {
+        check_too_few(&rt, rt.alloc(), &text, reads)?;
+    }
+    Ok(())
+}
+
+/// The read that finds the end of the input counts.
+#[test]
+fn one_read_more_than_there_are_bytes(rt: HostRuntime) -> Result<(), Fail> {
+    let text = joined(rt.alloc(), &[HEADER, b"\n", FEATURE, b"\n"])?;
+    let wanted = Wanted {
+        ended: End::Complete,
+        lines: 2,
+        kept: 1,
+        reads: 353,
+    };
+    check_reads(&rt, rt.alloc(), &text, 353, &wanted, &text)?;
+    check_reads(&rt, rt.alloc(), &text, 1_000, &wanted, &text)
+}
+
+/// The end that the last read gives is told, and not that it was the last one.
+#[test]
+fn a_line_that_the_last_read_refuses(rt: HostRuntime) -> Result<(), Fail> {
+    let wanted = Wanted {
+        ended: refused(1, 1, Reason::Syntax),
+        lines: 0,
+        kept: 0,
+        reads: 3,
+    };
+    check_reads(&rt, rt.alloc(), b"{x\n", 3, &wanted, b"")?;
+    let wanted = Wanted {
+        ended: End::ReadLimit,
+        reads: 2,
+        ..wanted
+    };
+    check_reads(&rt, rt.alloc(), b"{x\n", 2, &wanted, b"")
+}
+
+/// It takes a read to find that there is nothing.
+#[test]
+fn an_empty_input_by_no_read_and_by_one(rt: HostRuntime) -> Result<(), Fail> {
+    let wanted = Wanted {
+        ended: End::ReadLimit,
+        lines: 0,
+        kept: 0,
+        reads: 0,
+    };
+    check_reads(&rt, rt.alloc(), b"", 0, &wanted, b"")?;
+    let wanted = Wanted {
+        ended: refused(1, 0, Reason::NoHeader),
+        reads: 1,
+        ..wanted
+    };
+    check_reads(&rt, rt.alloc(), b"", 1, &wanted, b"")
+}
+
+#[test]
+fn a_reader_without_end(rt: HostRuntime) -> Result<(), Fail> {
+    let header = joined(rt.alloc(), &[HEADER, b"\n"])?;
+    let mut reader = EndlessReader {
+        front: &header,
+        reads: 0,
+    };
+    let limits = Limits::new(8_388_608, 64)?;
+    let went = run_by(&rt, rt.alloc(), &mut reader, limits, 200);
+    let wanted = Wanted {
+        ended: End::ReadLimit,
+        lines: 1,
+        kept: 0,
+        reads: 200,
+    };
+    check_went(&rt, &went, reader.reads, &wanted, &header, 200);
+    Ok(())
+}
