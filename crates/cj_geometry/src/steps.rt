@@ -129,6 +129,11 @@ impl FinerSteps {
         if number >= self.count {
             return None;
         }
-        item_behind(list, self.count / FINER_STEPS as u64 + 1, &self.sizes, number)
+        item_behind(
+            list,
+            self.count / FINER_STEPS as u64 + 1,
+            &self.sizes,
+            number,
+        )
     }
 }

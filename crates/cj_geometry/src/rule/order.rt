@@ -57,7 +57,7 @@ impl Entry {
     /// The word of its text.
     #[inline(always)]
     pub(super) fn word(self) -> u64
-        ensures { result ≡ word_in self.entry }
+        ensures { result ≡ word_in self }
     {
         self.upper as u64 * HALF + self.lower as u64
     }

@@ -1,4 +1,4 @@
-use Rattle.std.proofs.Common.{◌≡◌, ◌<◌, ◌+◌, length, arith}
+use Rattle.std.proofs.Common.{length}
 use Rattle.cj_spans.specs.Parts.{items_of}
 use Rattle.cj_spans.specs.View.{tree, items_left}
 use Rattle.cj_geometry.proofs.ListSteps.{on_then, on_else}
