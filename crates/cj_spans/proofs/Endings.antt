@@ -5,8 +5,8 @@ use Rattle.std.specs.Prelude.{option_map}
 use Rattle.std.proofs.lemmas.Grind.{common_steps}
 use Rattle.std.proofs.lemmas.List.{take-append-drop}
 use Rattle.cj_budget.specs.Bounded.{BoundedList}
-use Rattle.cj_spans.specs.declared.fault.ScanFault.{ScanFault}
-use Rattle.cj_spans.specs.declared.fault.ScanFault.TheVariants.{Syntax, TooDeep}
+use Rattle.cj_spans.specs.declared.fault.LineFault.{LineFault}
+use Rattle.cj_spans.specs.declared.fault.LineFault.TheVariants.{Syntax, TooDeep}
 use Rattle.cj_spans.specs.declared.token.Kind.{Kind}
 use Rattle.cj_spans.specs.declared.token.Kind.TheVariants.{Array, Object}
 use Rattle.cj_spans.specs.declared.token.Token.{Token}
@@ -437,9 +437,9 @@ first_too_deep b d i a =
         (t.text, omega arith)
 
 -- the clauses of the scan, under the limit that the stack had before it was emptied
-module _ (X : Type 0) (b : List ℕ) (old_stack empty_stack new_stack : BoundedList ℕ) (new : BoundedList Token) (g : Type 0) (d : Cleared old_stack empty_stack) where
-  pub answers_first_too_deep : (r : Result X ScanFault) (i : ℕ) → RunAnswers b empty_stack g r new new_stack → r ≡ Err (TooDeep i) → IsFirstTooDeep b old_stack.limit i
-  answers_first_too_deep r i a e = subst (λ n. IsFirstTooDeep b n i) d.limit (first_too_deep b empty_stack.limit i (subst (λ z. RunAnswers b empty_stack g z new new_stack) e a))
+module _ (X : Type 0) (b : List ℕ) (old_stack empty_stack new_stack : BoundedList ℕ) (new : BoundedList Token) (d : Cleared old_stack empty_stack) where
+  pub answers_first_too_deep : (r : Result X LineFault) (i : ℕ) → RunAnswers b empty_stack r new new_stack → r ≡ Err (TooDeep i) → IsFirstTooDeep b old_stack.limit i
+  answers_first_too_deep r i a e = subst (λ n. IsFirstTooDeep b n i) d.limit (first_too_deep b empty_stack.limit i (subst (λ z. RunAnswers b empty_stack z new new_stack) e a))
 
-  pub answers_first_fault : (r : Result X ScanFault) (i : ℕ) → RunAnswers b empty_stack g r new new_stack → r ≡ Err (Syntax i) → IsFirstFault b i
-  answers_first_fault r i a e = first_fault b i (run_syntax X b empty_stack g new new_stack r i a e).0
+  pub answers_first_fault : (r : Result X LineFault) (i : ℕ) → RunAnswers b empty_stack r new new_stack → r ≡ Err (Syntax i) → IsFirstFault b i
+  answers_first_fault r i a e = first_fault b i (run_syntax X b empty_stack new new_stack r i a e).0

@@ -1,5 +1,5 @@
 -- Each line is a JSON text within the depth limit, or has the place of a fault: the machine finds out which.
-use Rattle.std.proofs.Common.{◌≡◌, ℕ, zero, suc, ◌+◌, ◌<◌, ◌≤◌, List, [], ◌∷◌, length, drop, Bool, true, false, cond, nat_eq, Option, Some, None, refl, sym, ap, subst, arith, ◌∙◌, ◌⊎◌, inl, inr, ltb}
+use Rattle.std.proofs.Common.{◌≡◌, ℕ, zero, suc, ◌+◌, ◌<◌, ◌≤◌, List, [], ◌∷◌, length, drop, Bool, true, false, cond, nat_eq, Option, Some, None, refl, sym, ap, subst, arith, ◌∙◌, inl, inr, ltb}
 use Rattle.std.specs.Prelude.{IsSomeAnd, IsOk, IsErrOf, Result, option_and_then, option_map, slice_get}
 use Rattle.std.proofs.lemmas.Bool.{ltb-true}
 use Rattle.std.proofs.lemmas.Bool.Decides.{nat_tests}
@@ -13,9 +13,9 @@ use Rattle.cj_spans.specs.Spelling.{is_white_space}
 use Rattle.cj_spans.specs.Json.{byte, Json}
 use Rattle.cj_spans.specs.Tree.{Tree, nest}
 use Rattle.cj_spans.specs.Front.{SyntaxAt, DeepAt, NowhereDeep}
-use Rattle.cj_spans.specs.Judgement.{Judgement, spelled, broken, sunk, SaySame, IsAnswerOf}
-use Rattle.cj_spans.specs.declared.fault.ScanFault.{ScanFault}
-use Rattle.cj_spans.specs.declared.fault.ScanFault.TheVariants.{Syntax, TooDeep, Memory}
+use Rattle.cj_spans.specs.Judgement.{Judgement, spelled, broken, sunk, SaySame, IsReservedAnswerOf}
+use Rattle.cj_spans.specs.declared.fault.LineFault.{LineFault}
+use Rattle.cj_spans.specs.declared.fault.LineFault.TheVariants.{Syntax, TooDeep}
 use Rattle.cj_spans.specs.Machine.{open_kind, Phase, State, state, between, in_atom, start, moved, step, step_by, read, read_in, begin_value, begin_name, after_top, after_token, after_in, close_by, close_top, close_token, end_atom, go_on, settle, lex_start, lex_step, lex_kind, Reaches, here, on, Sticks}
 use Rattle.cj_spans.proofs.Spellings.{none_some, some_same}
 use Rattle.cj_spans.proofs.Facts.{next_place, lawful_reaches, goes}
@@ -196,10 +196,10 @@ say_same (sunk i s) (broken k r g) = g i s
 say_same {b} {d} (sunk i s) (sunk k r) = one_deep b d i k s r
 
 -- what is answered, from what is found
-pub answer_of : {b : List ℕ} {d : ℕ} (j : Judgement b d) (r : Result (Unit {0}) ScanFault)
-    → ((t : Tree) → Json b t → nest t ≤ d → IsOk r ⊎ IsErrOf r Memory)
-    → ((i : ℕ) → DeepAt b d i → IsErrOf r (TooDeep i) ⊎ IsErrOf r Memory)
-    → (NowhereDeep b d → (i : ℕ) → SyntaxAt b i → IsErrOf r (Syntax i) ⊎ IsErrOf r Memory) → IsAnswerOf j r
+pub answer_of : {b : List ℕ} {d : ℕ} (j : Judgement b d) (r : Result (Unit {0}) LineFault)
+    → ((t : Tree) → Json b t → nest t ≤ d → IsOk r)
+    → ((i : ℕ) → DeepAt b d i → IsErrOf r (TooDeep i))
+    → (NowhereDeep b d → (i : ℕ) → SyntaxAt b i → IsErrOf r (Syntax i)) → IsReservedAnswerOf j r
 answer_of (spelled t j n) r tree deep syntax = tree t j n
 answer_of (broken i s n) r tree deep syntax = syntax n i s
 answer_of (sunk i s) r tree deep syntax = deep i s

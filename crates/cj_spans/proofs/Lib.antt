@@ -29,4 +29,4 @@ pub mod Sizes
 pub mod Rising
 pub mod Walks
 pub mod Strings
-pub mod Reserved
+pub mod Granted

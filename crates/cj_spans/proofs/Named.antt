@@ -1,5 +1,6 @@
 -- Names and strings of an object: where the pass stands behind each of their parts.
 use Rattle.std.proofs.Common.{◌≡◌, ℕ, suc, ◌+◌, ◌<◌, List, [], ◌∷◌, ◌++◌, length, Some, inr, refl, ap, arith}
+use Rattle.std.specs.Prelude.{IsTrue}
 use Rattle.cj_budget.specs.Bounded.{BoundedList, Becomes}
 use Rattle.cj_spans.specs.declared.token.Kind.TheVariants.{Text, Object}
 use Rattle.cj_spans.specs.declared.token.Token.{Token}
@@ -78,3 +79,6 @@ module _ (b : List ℕ) (ts : BoundedList Token) where
 
   pub string_room : (i : ℕ) → StandsInObject b ts Ready i → i < length b → length ts.elements < ts.limit
   string_room i s l = standing_room b s.stands.tokens0 s.stands.stack0 ts s.stack Ready i s.stands.standing s.stands.room.room l tt
+
+  pub name_reserved : (m : Mode) (i : ℕ) → StandsInObject b ts m i → IsTrue ts.reserved
+  name_reserved m i s = s.stands.standing.kept.room s.stands.room.reserved.0

@@ -2,7 +2,7 @@
 use Rattle.std.proofs.Common.{◌≡◌, ℕ, suc, ◌+◌, ◌<◌, List, [], ◌∷◌, ◌++◌, length, Option, Some, Ok, Err, refl, sym, ap, subst, arith, ◌∙◌}
 use Rattle.std.specs.Prelude.{IsTrue}
 use Rattle.cj_budget.specs.Bounded.{BoundedList, Becomes}
-use Rattle.cj_spans.specs.declared.fault.ScanFault.{ScanFault}
+use Rattle.cj_spans.specs.declared.fault.LineFault.{LineFault}
 use Rattle.cj_spans.specs.declared.token.Kind.TheVariants.{Array}
 use Rattle.cj_spans.specs.declared.token.Token.{Token}
 use Rattle.cj_spans.specs.declared.step.Mode.{Mode}
@@ -30,6 +30,9 @@ stands_small b ts ks m i s l = standing_small b s.tokens0 s.stack0 ts ks m i s.s
 
 pub stands_room : (b : List ℕ) (ts : BoundedList Token) (ks : BoundedList ℕ) (m : Mode) (i : ℕ) → Stands b ts ks m i → i < length b → BeginsValue m → length ts.elements < ts.limit
 stands_room b ts ks m i s l v = standing_room b s.tokens0 s.stack0 ts ks m i s.standing s.room.room l v
+
+pub stands_reserved : (b : List ℕ) (ts : BoundedList Token) (ks : BoundedList ℕ) (m : Mode) (i : ℕ) → Stands b ts ks m i → IsTrue ts.reserved × IsTrue ks.reserved
+stands_reserved b ts ks m i s = (s.standing.kept.room s.room.reserved.0, s.standing.stack_room s.room.reserved.1)
 
 module _ (b : List ℕ) (t0 : BoundedList Token) (s0 : BoundedList ℕ) where
   -- behind a byte after which the mode n comes
@@ -82,9 +85,9 @@ module _ (b : List ℕ) (ts ts1 : BoundedList Token) (ks ks1 : BoundedList ℕ) 
       innermost_same Array _ ks1.elements _ ts1.elements (ap (λ u. u.stack) e) (ap (λ u. u.tokens) e) (innermost_opened Array ks.elements ts.elements i refl)
 
   -- where it is refused
-  pub standing_refused : (f : ScanFault) → ReadsByte opens i (Err f) ts ts1 ks ks1 → BeginsValue m → i < length b → byte b i ≡ 91 → (t0 : BoundedList Token) (s0 : BoundedList ℕ) → Standing b t0 s0 ts ks m i → GoesOn b t0 s0 (Err f) ts1 ks1
+  pub standing_refused : (f : LineFault) → ReadsByte opens i (Err f) ts ts1 ks ks1 → BeginsValue m → i < length b → byte b i ≡ 91 → (t0 : BoundedList Token) (s0 : BoundedList ℕ) → Standing b t0 s0 ts ks m i → GoesOn b t0 s0 (Err f) ts1 ks1
   standing_refused f r w l e t0 s0 s = (
     standing_fault (Unit {0}) b t0 s0 ts ts1 ks ks1 m i f s l
-        (λ p. subst (λ o. Answers o m i p ks.limit (IsTrue ts.reserved × IsTrue ks.reserved) (Err f) ks1.elements ts1.elements) (sym (bracket_at m (byte b i) (idle m ks.elements ts.elements i p) w e)) (r.answer m p)),
+        (λ p. subst (λ o. Answers o m i p ks.limit (Err f) ks1.elements ts1.elements) (sym (bracket_at m (byte b i) (idle m ks.elements ts.elements i p) w e)) (r.answer m p)),
     standing_law b t0 s0 ts ts1 ks ks1 m i s r.tokens r.stack r.err.0 r.err.1,
   )

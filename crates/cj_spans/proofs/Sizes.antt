@@ -5,7 +5,7 @@ use Rattle.std.proofs.lemmas.List.{length-drop}
 use Rattle.std.proofs.lemmas.Option.{slice_get_within}
 use Rattle.cj_budget.specs.Bounded.{BoundedList}
 use Rattle.cj_spans.specs.declared.token.Token.{Token}
-use Rattle.cj_spans.specs.declared.fault.ScanFault.{ScanFault}
+use Rattle.cj_spans.specs.declared.fault.LineFault.{LineFault}
 use Rattle.cj_spans.specs.Tree.{Atom, Tree, Items, no_items, item, Members, no_members, member, add_item, add_member, size, total_size, items_size, members_size}
 use Rattle.cj_spans.specs.Json.{byte, Value, atom, empty_array, full_array, empty_object, full_object, Padded, padded, LedItems, no_led, led, LedMembers, no_led_members, led_member, Named, named}
 use Rattle.cj_spans.specs.Preorder.{Span, spans_of}
@@ -87,7 +87,7 @@ are_sized b ts a = full_sized b ts (known b ts a).nested a.linked (are_full b ts
 scan_sized : (b : List ℕ) (old new : BoundedList Token) (old_stack new_stack : BoundedList ℕ) → (t : Tree) × IsScanOf b t old new old_stack new_stack → AreSized b new.elements
 scan_sized b old new old_stack new_stack s = are_sized b new.elements (record { tree = s.0; json = s.1.json; shown = s.1.shown; count = s.1.count; linked = s.1.linked })
 
-pub sized_on : (X : Type 0) (b : List ℕ) (old new : BoundedList Token) (old_stack new_stack : BoundedList ℕ) (r : Result X ScanFault) → OnOk r ((t : Tree) × IsScanOf b t old new old_stack new_stack) → OnOk r (AreSized b new.elements)
+pub sized_on : (X : Type 0) (b : List ℕ) (old new : BoundedList Token) (old_stack new_stack : BoundedList ℕ) (r : Result X LineFault) → OnOk r ((t : Tree) × IsScanOf b t old new old_stack new_stack) → OnOk r (AreSized b new.elements)
 sized_on X b old new old_stack new_stack (Ok v) h = scan_sized b old new old_stack new_stack h
 sized_on X b old new old_stack new_stack (Err e) h = search rules
 

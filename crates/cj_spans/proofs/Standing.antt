@@ -2,8 +2,8 @@
 use Rattle.std.proofs.Common.{◌≡◌, ℕ, suc, ◌+◌, ◌*◌, ◌/◌, ◌^◌, ◌<◌, ◌≤◌, List, [], ◌∷◌, ◌++◌, length, length-append, max, Bool, true, false, IsTrue, rules, Option, Some, None, Err, refl, sym, ap, subst, arith, ◌∙◌, inl, inr}
 use Rattle.std.specs.Prelude.{IsSomeAnd}
 use Rattle.cj_budget.specs.Bounded.{BoundedList, IsWithin, Becomes}
-use Rattle.cj_spans.specs.declared.fault.ScanFault.{ScanFault}
-use Rattle.cj_spans.specs.declared.fault.ScanFault.TheVariants.{NotUtf8, Syntax, TooDeep, Memory}
+use Rattle.cj_spans.specs.declared.fault.LineFault.{LineFault}
+use Rattle.cj_spans.specs.declared.fault.LineFault.TheVariants.{NotUtf8, Syntax, TooDeep}
 use Rattle.cj_spans.specs.declared.token.Token.{Token}
 use Rattle.cj_spans.specs.declared.step.Mode.{Mode}
 use Rattle.cj_spans.specs.declared.step.Mode.TheVariants.{Ready, FirstItem, After, FirstName, NextName, AfterName}
@@ -257,11 +257,10 @@ stepped_law b tokens0 stack0 tokens tokens1 stack m i v s l g e =
 shallow_at : (deepest peak limit peak0 limit0 : ℕ) → peak ≡ max peak0 deepest → peak ≤ limit → limit ≡ limit0 → deepest ≤ limit0
 shallow_at deepest peak limit peak0 limit0 e h q = omega arith
 
-pub standing_fault : (X : Type 0) (b : List ℕ) (tokens0 : BoundedList Token) (stack0 : BoundedList ℕ) (tokens tokens1 : BoundedList Token) (stack stack1 : BoundedList ℕ) (m : Mode) (i : ℕ) (f : ScanFault) → Standing b tokens0 stack0 tokens stack m i → i < length b
-    → ((p : ℕ) → Answers (read m (byte b i) (idle m stack.elements tokens.elements i p)) m i p stack.limit (IsTrue tokens.reserved × IsTrue stack.reserved) (Err f) stack1.elements tokens1.elements)
-    → RunAnswers {X = X} b stack0 (IsTrue tokens0.reserved × IsTrue stack0.reserved) (Err f) tokens1 stack1
+pub standing_fault : (X : Type 0) (b : List ℕ) (tokens0 : BoundedList Token) (stack0 : BoundedList ℕ) (tokens tokens1 : BoundedList Token) (stack stack1 : BoundedList ℕ) (m : Mode) (i : ℕ) (f : LineFault) → Standing b tokens0 stack0 tokens stack m i → i < length b
+    → ((p : ℕ) → Answers (read m (byte b i) (idle m stack.elements tokens.elements i p)) m i p stack.limit (Err f) stack1.elements tokens1.elements)
+    → RunAnswers {X = X} b stack0 (Err f) tokens1 stack1
 standing_fault X b tokens0 stack0 tokens tokens1 stack stack1 m i (NotUtf8 j) s l h = h 0
-standing_fault X b tokens0 stack0 tokens tokens1 stack stack1 m i Memory s l h = λ g. h 0 (s.kept.room g.0, s.stack_room g.1)
 standing_fault X b tokens0 stack0 tokens tokens1 stack stack1 m i (Syntax j) s l h =
     let t = idle m stack.elements tokens.elements i s.deepest in
     let e = settled s.settles.last t s.settles.settles in
@@ -293,11 +292,10 @@ standing_fault X b tokens0 stack0 tokens tokens1 stack stack1 m i (TooDeep j) s 
       deep = subst Q (sym q) (subst P s.stack_limit a.1);
     }
 
-pub stepped_fault : (X : Type 0) (b : List ℕ) (tokens0 : BoundedList Token) (stack0 : BoundedList ℕ) (tokens tokens1 : BoundedList Token) (stack : BoundedList ℕ) (m : Mode) (i : ℕ) (v : Move) (f : ScanFault) → Stepped b tokens0 stack0 tokens stack m i v
-    → ((p : ℕ) → EndAnswers b (state (phase_after m i v) stack.elements tokens.elements (suc i) p) (IsTrue tokens.reserved) (Err f) tokens1.elements)
-    → RunAnswers {X = X} b stack0 (IsTrue tokens0.reserved × IsTrue stack0.reserved) (Err f) tokens1 stack
+pub stepped_fault : (X : Type 0) (b : List ℕ) (tokens0 : BoundedList Token) (stack0 : BoundedList ℕ) (tokens tokens1 : BoundedList Token) (stack : BoundedList ℕ) (m : Mode) (i : ℕ) (v : Move) (f : LineFault) → Stepped b tokens0 stack0 tokens stack m i v
+    → ((p : ℕ) → EndAnswers b (state (phase_after m i v) stack.elements tokens.elements (suc i) p) (Err f) tokens1.elements)
+    → RunAnswers {X = X} b stack0 (Err f) tokens1 stack
 stepped_fault X b tokens0 stack0 tokens tokens1 stack m i v (NotUtf8 j) s h = h 0
-stepped_fault X b tokens0 stack0 tokens tokens1 stack m i v Memory s h = λ g. h 0 (s.kept.room g.0)
 stepped_fault X b tokens0 stack0 tokens tokens1 stack m i v (TooDeep j) s h = absurd (h 0)
 stepped_fault X b tokens0 stack0 tokens tokens1 stack m i v (Syntax j) s h =
     let a = h s.deepest in

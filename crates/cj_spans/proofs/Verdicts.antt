@@ -8,8 +8,8 @@ use Rattle.std.specs.Str.{IsValidUpTo}
 use Rattle.std.specs.Str.Lossy.{utf8_valid_len}
 use Rattle.std.proofs.lemmas.Str.{utf8_valid_len-IsValidUpTo}
 use Rattle.cj_budget.specs.Bounded.{BoundedList, Becomes}
-use Rattle.cj_spans.specs.declared.fault.ScanFault.{ScanFault}
-use Rattle.cj_spans.specs.declared.fault.ScanFault.TheVariants.{NotUtf8, Syntax, TooDeep, Memory}
+use Rattle.cj_spans.specs.declared.fault.LineFault.{LineFault}
+use Rattle.cj_spans.specs.declared.fault.LineFault.TheVariants.{NotUtf8, Syntax, TooDeep}
 use Rattle.cj_spans.specs.declared.token.Kind.{Kind}
 use Rattle.cj_spans.specs.declared.token.Token.{Token}
 use Rattle.cj_spans.specs.declared.step.Mode.{Mode}
@@ -267,69 +267,63 @@ scan_of b old empty new old_stack empty_stack new_stack c d k few_bytes a =
       },
     )
 
-module _ (X : Type 0) (b : List ℕ) (old : BoundedList ℕ) (g : Type 0) (tokens : BoundedList Token) (new : BoundedList ℕ) where
-  pub run_deep : (r : Result X ScanFault) (i : ℕ) → RunAnswers b old g r tokens new → r ≡ Err (TooDeep i) → DeepAt b old.limit i
-  run_deep r i a e = sinks_deep b old.limit i (subst (λ z. RunAnswers b old g z tokens new) e a)
+module _ (X : Type 0) (b : List ℕ) (old : BoundedList ℕ) (tokens : BoundedList Token) (new : BoundedList ℕ) where
+  pub run_deep : (r : Result X LineFault) (i : ℕ) → RunAnswers b old r tokens new → r ≡ Err (TooDeep i) → DeepAt b old.limit i
+  run_deep r i a e = sinks_deep b old.limit i (subst (λ z. RunAnswers b old z tokens new) e a)
 
-  pub run_syntax : (r : Result X ScanFault) (i : ℕ) → RunAnswers b old g r tokens new → r ≡ Err (Syntax i) → SyntaxAt b i × NowhereDeep b old.limit
-  run_syntax r i a e = let s : SticksAt b old.limit i = subst (λ z. RunAnswers b old g z tokens new) e a in (sticks_syntax b i s.sticks, sticks_nowhere b old.limit i s)
+  pub run_syntax : (r : Result X LineFault) (i : ℕ) → RunAnswers b old r tokens new → r ≡ Err (Syntax i) → SyntaxAt b i × NowhereDeep b old.limit
+  run_syntax r i a e = let s : SticksAt b old.limit i = subst (λ z. RunAnswers b old z tokens new) e a in (sticks_syntax b i s.sticks, sticks_nowhere b old.limit i s)
 
-  pub run_no_memory : (r : Result X ScanFault) → RunAnswers b old g r tokens new → g → r ≡ Err Memory → ⊥
-  run_no_memory r a h e = let s : g → ⊥ = subst (λ z. RunAnswers b old g z tokens new) e a in s h
+  pub run_utf8 : (r : Result X LineFault) (i : ℕ) → RunAnswers b old r tokens new → r ≡ Err (NotUtf8 i) → ⊥
+  run_utf8 r i a e = subst (λ z. RunAnswers b old z tokens new) e a
 
-  pub run_utf8 : (r : Result X ScanFault) (i : ℕ) → RunAnswers b old g r tokens new → r ≡ Err (NotUtf8 i) → ⊥
-  run_utf8 r i a e = subst (λ z. RunAnswers b old g z tokens new) e a
-
-  pub finds_deep : (r : Result X ScanFault) (i : ℕ) → RunAnswers b old g r tokens new → DeepAt b old.limit i → (r ≡ Err (TooDeep i)) ⊎ (r ≡ Err Memory)
+  pub finds_deep : (r : Result X LineFault) (i : ℕ) → RunAnswers b old r tokens new → DeepAt b old.limit i → r ≡ Err (TooDeep i)
   finds_deep (Ok v) i a d = absurd (accepts_nowhere b tokens old new a i d)
   finds_deep (Err (NotUtf8 j)) i a d = absurd a
   finds_deep (Err (Syntax j)) i a d = absurd (sticks_nowhere b old.limit j a i d)
-  finds_deep (Err (TooDeep j)) i a d = inl (ap (λ n. Err (TooDeep n)) (one_deep b old.limit j i (sinks_deep b old.limit j a) d))
-  finds_deep (Err Memory) i a d = inr refl
+  finds_deep (Err (TooDeep j)) i a d = ap (λ n. Err (TooDeep n)) (one_deep b old.limit j i (sinks_deep b old.limit j a) d)
 
-  pub finds_syntax : (r : Result X ScanFault) (i : ℕ) → RunAnswers b old g r tokens new → NowhereDeep b old.limit → SyntaxAt b i → (r ≡ Err (Syntax i)) ⊎ (r ≡ Err Memory)
+  pub finds_syntax : (r : Result X LineFault) (i : ℕ) → RunAnswers b old r tokens new → NowhereDeep b old.limit → SyntaxAt b i → r ≡ Err (Syntax i)
   finds_syntax (Ok v) i a n s =
       let z = spells a.settles.last (inv_reaches b a.settles.last a.settles.reached) tokens.elements a.deepest a.settles.settles in
       absurd (json_no_syntax z.tree z.json s)
   finds_syntax (Err (NotUtf8 j)) i a n s = absurd a
-  finds_syntax (Err (Syntax j)) i a n s = inl (ap (λ k. Err (Syntax k)) (one_syntax b j i (sticks_syntax b j a.sticks) s))
+  finds_syntax (Err (Syntax j)) i a n s = ap (λ k. Err (Syntax k)) (one_syntax b j i (sticks_syntax b j a.sticks) s)
   finds_syntax (Err (TooDeep j)) i a n s = absurd (n j (sinks_deep b old.limit j a))
-  finds_syntax (Err Memory) i a n s = inr refl
 
-  pub finds_tree : (r : Result X ScanFault) (t : Tree) → RunAnswers b old g r tokens new → Json b t → nest t ≤ old.limit → IsOk r ⊎ (r ≡ Err Memory)
-  finds_tree (Ok v) t a j h = inl (search rules)
+  pub finds_tree : (r : Result X LineFault) (t : Tree) → RunAnswers b old r tokens new → Json b t → nest t ≤ old.limit → IsOk r
+  finds_tree (Ok v) t a j h = search rules
   finds_tree (Err (NotUtf8 i)) t a j h = absurd a
   finds_tree (Err (Syntax i)) t a j h = absurd (json_no_syntax t j (sticks_syntax b i a.sticks))
   finds_tree (Err (TooDeep i)) t a j h = absurd (json_nowhere b old.limit t j h i (sinks_deep b old.limit i a))
-  finds_tree (Err Memory) t a j h = inr refl
 
 -- the same under the limit that the stack had before it was emptied
-module _ (X : Type 0) (b : List ℕ) (old empty new : BoundedList Token) (old_stack empty_stack new_stack : BoundedList ℕ) (g : Type 0) (c : Cleared old empty) (d : Cleared old_stack empty_stack) where
-  pub answers_tree : (r : Result X ScanFault) → RunAnswers b empty_stack g r new new_stack → KeepsLaw b empty new empty_stack new_stack → length b ≤ 1073741824 → OnOk r ((t : Tree) × IsScanOf b t old new old_stack new_stack)
+module _ (X : Type 0) (b : List ℕ) (old empty new : BoundedList Token) (old_stack empty_stack new_stack : BoundedList ℕ) (c : Cleared old empty) (d : Cleared old_stack empty_stack) where
+  pub answers_tree : (r : Result X LineFault) → RunAnswers b empty_stack r new new_stack → KeepsLaw b empty new empty_stack new_stack → length b ≤ 1073741824 → OnOk r ((t : Tree) × IsScanOf b t old new old_stack new_stack)
   answers_tree (Ok v) a k few_bytes = scan_of b old empty new old_stack empty_stack new_stack c d k few_bytes a
   answers_tree (Err e) a k few_bytes = search rules
 
-  pub answers_deep : (r : Result X ScanFault) (i : ℕ) → RunAnswers b empty_stack g r new new_stack → r ≡ Err (TooDeep i) → DeepAt b old_stack.limit i
-  answers_deep r i a e = subst (λ n. DeepAt b n i) d.limit (run_deep X b empty_stack g new new_stack r i a e)
+  pub answers_deep : (r : Result X LineFault) (i : ℕ) → RunAnswers b empty_stack r new new_stack → r ≡ Err (TooDeep i) → DeepAt b old_stack.limit i
+  answers_deep r i a e = subst (λ n. DeepAt b n i) d.limit (run_deep X b empty_stack new new_stack r i a e)
 
-  pub answers_syntax : (r : Result X ScanFault) (i : ℕ) → RunAnswers b empty_stack g r new new_stack → r ≡ Err (Syntax i) → SyntaxAt b i × NowhereDeep b old_stack.limit
-  answers_syntax r i a e = subst (λ n. SyntaxAt b i × NowhereDeep b n) d.limit (run_syntax X b empty_stack g new new_stack r i a e)
+  pub answers_syntax : (r : Result X LineFault) (i : ℕ) → RunAnswers b empty_stack r new new_stack → r ≡ Err (Syntax i) → SyntaxAt b i × NowhereDeep b old_stack.limit
+  answers_syntax r i a e = subst (λ n. SyntaxAt b i × NowhereDeep b n) d.limit (run_syntax X b empty_stack new new_stack r i a e)
 
-  pub answers_finds_deep : (r : Result X ScanFault) (i : ℕ) → RunAnswers b empty_stack g r new new_stack → DeepAt b old_stack.limit i → (r ≡ Err (TooDeep i)) ⊎ (r ≡ Err Memory)
-  answers_finds_deep r i a h = finds_deep X b empty_stack g new new_stack r i a (subst (λ n. DeepAt b n i) (sym d.limit) h)
+  pub answers_finds_deep : (r : Result X LineFault) (i : ℕ) → RunAnswers b empty_stack r new new_stack → DeepAt b old_stack.limit i → r ≡ Err (TooDeep i)
+  answers_finds_deep r i a h = finds_deep X b empty_stack new new_stack r i a (subst (λ n. DeepAt b n i) (sym d.limit) h)
 
-  pub answers_finds_syntax : (r : Result X ScanFault) (i : ℕ) → RunAnswers b empty_stack g r new new_stack → NowhereDeep b old_stack.limit → SyntaxAt b i → (r ≡ Err (Syntax i)) ⊎ (r ≡ Err Memory)
-  answers_finds_syntax r i a n s = finds_syntax X b empty_stack g new new_stack r i a (subst (λ n. NowhereDeep b n) (sym d.limit) n) s
+  pub answers_finds_syntax : (r : Result X LineFault) (i : ℕ) → RunAnswers b empty_stack r new new_stack → NowhereDeep b old_stack.limit → SyntaxAt b i → r ≡ Err (Syntax i)
+  answers_finds_syntax r i a n s = finds_syntax X b empty_stack new new_stack r i a (subst (λ n. NowhereDeep b n) (sym d.limit) n) s
 
-  pub answers_finds_tree : (r : Result X ScanFault) (t : Tree) → RunAnswers b empty_stack g r new new_stack → Json b t → nest t ≤ old_stack.limit → IsOk r ⊎ (r ≡ Err Memory)
-  answers_finds_tree r t a j h = finds_tree X b empty_stack g new new_stack r t a j (subst (λ n. nest t ≤ n) (sym d.limit) h)
+  pub answers_finds_tree : (r : Result X LineFault) (t : Tree) → RunAnswers b empty_stack r new new_stack → Json b t → nest t ≤ old_stack.limit → IsOk r
+  answers_finds_tree r t a j h = finds_tree X b empty_stack new new_stack r t a j (subst (λ n. nest t ≤ n) (sym d.limit) h)
 
 -- ---- UTF-8
 
 pub utf8_whole : (b : List ℕ) (i : ℕ) → IsValidUpTo b i → IsUtf8 b → ⊥
 utf8_whole b i v u = let s = v.short in v.longest (length b) s (subst IsUtf8 (sym (take-length b)) u)
 
-fault_same : (i j : ℕ) → ◌≡◌ {A = Result (Unit {0}) ScanFault} (Err (NotUtf8 i)) (Err (NotUtf8 j)) → i ≡ j
+fault_same : (i j : ℕ) → ◌≡◌ {A = Result (Unit {0}) LineFault} (Err (NotUtf8 i)) (Err (NotUtf8 j)) → i ≡ j
 fault_same i j h = cc
 
 pub utf8_fault : (b : List ℕ) (n m : ℕ) → IsValidUpTo b m → m ≡ utf8_valid_len b → n ≡ m → (i : ℕ) → (IsErrOf {T = Unit {0}} (Err (NotUtf8 n)) (NotUtf8 i) → IsValidUpTo b i) × (IsValidUpTo b i → IsErrOf {T = Unit {0}} (Err (NotUtf8 n)) (NotUtf8 i))

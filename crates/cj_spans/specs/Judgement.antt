@@ -1,5 +1,5 @@
 -- What a line is under a depth limit: exactly one of three, as the law `one_judgement` says.
-use Rattle.std.specs.Prelude.{◌≡◌, ℕ, ◌≤◌, ◌⊎◌, List, Result, Ok, Err, IsOk, IsErrOf}
+use Rattle.std.specs.Prelude.{◌≡◌, ℕ, ◌≤◌, ◌⊎◌, List, Result, IsOk, IsErrOf}
 use Rattle.cj_spans.specs.declared.fault.ScanFault.{ScanFault}
 use Rattle.cj_spans.specs.declared.fault.ScanFault.TheVariants.{NotUtf8, Syntax, TooDeep, Memory}
 use Rattle.cj_spans.specs.declared.fault.LineFault.{LineFault}
@@ -50,9 +50,8 @@ IsReservedAnswerOf (spelled t j n) r = IsOk r
 IsReservedAnswerOf (broken i s n) r = IsErrOf r (LineSyntax i)
 IsReservedAnswerOf (sunk i s) r = IsErrOf r (LineTooDeep i)
 
--- the same answer among those of a scan that may be refused memory
-abbrev pub widened : Result (Unit {0}) LineFault → Result (Unit {0}) ScanFault
-widened (Ok v) = Ok v
-widened (Err (LineNotUtf8 i)) = Err (NotUtf8 i)
-widened (Err (LineSyntax i)) = Err (Syntax i)
-widened (Err (LineTooDeep i)) = Err (TooDeep i)
+-- the same fault among those of a scan that may be refused memory
+abbrev pub widened_fault : LineFault → ScanFault
+widened_fault (LineNotUtf8 i) = NotUtf8 i
+widened_fault (LineSyntax i) = Syntax i
+widened_fault (LineTooDeep i) = TooDeep i

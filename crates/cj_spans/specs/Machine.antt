@@ -1,8 +1,8 @@
 -- The machine that reads a line byte by byte. Only private clauses cite it.
 use Rattle.std.specs.Prelude.{◌≡◌, ℕ, suc, ◌^◌, ◌<◌, ◌≤◌, List, [], ◌∷◌, ◌++◌, length, drop, max, slice_get, slice_set, Bool, cond, ◌⊎◌, ◌||◌, ◌&&◌, nat_eq, nat_le, Option, Some, None, IsSomeAnd, option_map, option_and_then, Result, Ok, Err, OnErr, IsTrue}
 use Rattle.cj_budget.specs.Bounded.{BoundedList, IsWithin}
-use Rattle.cj_spans.specs.declared.fault.ScanFault.{ScanFault}
-use Rattle.cj_spans.specs.declared.fault.ScanFault.TheVariants.{NotUtf8, Syntax, TooDeep, Memory}
+use Rattle.cj_spans.specs.declared.fault.LineFault.{LineFault}
+use Rattle.cj_spans.specs.declared.fault.LineFault.TheVariants.{NotUtf8, Syntax, TooDeep}
 use Rattle.cj_spans.specs.declared.token.Kind.{Kind}
 use Rattle.cj_spans.specs.declared.token.Kind.TheVariants.{Null, Truth, Number, Text, Array, Object}
 use Rattle.cj_spans.specs.declared.token.Token.{Token}
@@ -314,22 +314,19 @@ abbrev pub deepest_after : Move → ℕ → ℕ → ℕ
 deepest_after (Open m) p n = max p n
 deepest_after _ p n = p
 
--- what a call answers that reads the byte at the place i in the mode m, where the machine's step gives o: under the limit d,
--- and with a refusal of memory only where not `granted`
-abbrev pub Answers : Option State → Mode → ℕ → ℕ → ℕ → Type 0 → Result Move ScanFault → List ℕ → List Token → Type 0
-Answers o m i p d granted (Ok v) ks ts = o ≡ Some (state (phase_after m i v) ks ts (suc i) (deepest_after v p (length ks)))
-Answers o m i p d granted (Err (Syntax j)) ks ts = (j ≡ i) × (o ≡ None)
-Answers o m i p d granted (Err (TooDeep j)) ks ts = (j ≡ i) × IsSomeAnd o (λ u. length u.stack ≡ suc d)
-Answers o m i p d granted (Err Memory) ks ts = granted → ⊥
-Answers o m i p d granted (Err (NotUtf8 j)) ks ts = ⊥
+-- what a call answers that reads the byte at the place i in the mode m, where the machine's step gives o, under the limit d
+abbrev pub Answers : Option State → Mode → ℕ → ℕ → ℕ → Result Move LineFault → List ℕ → List Token → Type 0
+Answers o m i p d (Ok v) ks ts = o ≡ Some (state (phase_after m i v) ks ts (suc i) (deepest_after v p (length ks)))
+Answers o m i p d (Err (Syntax j)) ks ts = (j ≡ i) × (o ≡ None)
+Answers o m i p d (Err (TooDeep j)) ks ts = (j ≡ i) × IsSomeAnd o (λ u. length u.stack ≡ suc d)
+Answers o m i p d (Err (NotUtf8 j)) ks ts = ⊥
 
 -- what a call answers that ends the scalar or the name of the state s, if it is in one
-abbrev pub EndAnswers : List ℕ → State → Type 0 → Result Next ScanFault → List Token → Type 0
-EndAnswers b s granted (Ok n) ts = ComesTo b s (state (between n.mode) s.stack ts n.place s.deepest) × (s.place ≤ n.place) × (n.place ≤ length b)
-EndAnswers b s granted (Err (Syntax j)) ts = SticksFlat b s j
-EndAnswers b s granted (Err (TooDeep j)) ts = ⊥
-EndAnswers b s granted (Err Memory) ts = granted → ⊥
-EndAnswers b s granted (Err (NotUtf8 j)) ts = ⊥
+abbrev pub EndAnswers : List ℕ → State → Result Next LineFault → List Token → Type 0
+EndAnswers b s (Ok n) ts = ComesTo b s (state (between n.mode) s.stack ts n.place s.deepest) × (s.place ≤ n.place) × (n.place ≤ length b)
+EndAnswers b s (Err (Syntax j)) ts = SticksFlat b s j
+EndAnswers b s (Err (TooDeep j)) ts = ⊥
+EndAnswers b s (Err (NotUtf8 j)) ts = ⊥
 
 -- a place and the count of the tokens are within what a token's fields hold, with a bit to spare
 abbrev pub FitsToken : ℕ → BoundedList Token → Type 0
@@ -348,8 +345,8 @@ pub record Grown (old new : BoundedList Token) : Type 0 where
   pub longer : length old.elements ≤ length new.elements
 
 -- what a call does with the lists that reads the byte at the place i, where the machine does f, from whatever mode
-pub record ReadsByte (f : State → Option State) (i : ℕ) (result : Result Move ScanFault) (old_tokens new_tokens : BoundedList Token) (old_stack new_stack : BoundedList ℕ) : Type 0 where
-  pub answer : (m : Mode) (p : ℕ) → Answers (f (state (between m) old_stack.elements old_tokens.elements i p)) m i p old_stack.limit (IsTrue old_tokens.reserved × IsTrue old_stack.reserved) result new_stack.elements new_tokens.elements
+pub record ReadsByte (f : State → Option State) (i : ℕ) (result : Result Move LineFault) (old_tokens new_tokens : BoundedList Token) (old_stack new_stack : BoundedList ℕ) : Type 0 where
+  pub answer : (m : Mode) (p : ℕ) → Answers (f (state (between m) old_stack.elements old_tokens.elements i p)) m i p old_stack.limit result new_stack.elements new_tokens.elements
   pub tokens : Grown old_tokens new_tokens
   pub stack : Kept old_stack new_stack
   pub err : OnErr result ((new_tokens ≡ old_tokens) × (length old_stack.elements ≤ length new_stack.elements))
@@ -466,9 +463,8 @@ pub record Accepts (b : List ℕ) (tokens : BoundedList Token) (old new : Bounde
   pub shallow : deepest ≤ old.limit
 
 -- what the pass over a line answers
-abbrev pub RunAnswers : {X : Type 0} → List ℕ → BoundedList ℕ → Type 0 → Result X ScanFault → BoundedList Token → BoundedList ℕ → Type 0
-RunAnswers b old granted (Ok v) tokens new = Accepts b tokens old new
-RunAnswers b old granted (Err (Syntax i)) tokens new = SticksAt b old.limit i
-RunAnswers b old granted (Err (TooDeep i)) tokens new = SinksAt b old.limit i
-RunAnswers b old granted (Err Memory) tokens new = granted → ⊥
-RunAnswers b old granted (Err (NotUtf8 i)) tokens new = ⊥
+abbrev pub RunAnswers : {X : Type 0} → List ℕ → BoundedList ℕ → Result X LineFault → BoundedList Token → BoundedList ℕ → Type 0
+RunAnswers b old (Ok v) tokens new = Accepts b tokens old new
+RunAnswers b old (Err (Syntax i)) tokens new = SticksAt b old.limit i
+RunAnswers b old (Err (TooDeep i)) tokens new = SinksAt b old.limit i
+RunAnswers b old (Err (NotUtf8 i)) tokens new = ⊥

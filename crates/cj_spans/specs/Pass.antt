@@ -1,7 +1,7 @@
 -- Where the pass over a line stands in the machine. Only private clauses cite it.
 use Rattle.std.specs.Prelude.{◌≡◌, ℕ, ◌+◌, ◌/◌, ◌<◌, ◌≤◌, List, length, max, Result, Ok, Err, IsTrue}
 use Rattle.cj_budget.specs.Bounded.{BoundedList, IsWithin}
-use Rattle.cj_spans.specs.declared.fault.ScanFault.{ScanFault}
+use Rattle.cj_spans.specs.declared.fault.LineFault.{LineFault}
 use Rattle.cj_spans.specs.declared.token.Token.{Token}
 use Rattle.cj_spans.specs.declared.step.Mode.{Mode}
 use Rattle.cj_spans.specs.declared.step.Next.{Next}
@@ -20,10 +20,11 @@ pub record Standing (b : List ℕ) (tokens0 : BoundedList Token) (stack0 : Bound
   pub stack_room : IsTrue stack0.reserved → IsTrue stack.reserved
   pub stack_within : IsWithin stack
 
--- the room for the tokens of a line, under a limit of open containers
+-- the room for the tokens of a line, under a limit of open containers, which both lists have reserved
 pub record HasLineRoom (b : List ℕ) (tokens0 : BoundedList Token) (stack0 : BoundedList ℕ) : Type 0 where
   pub short : length b ≤ 1073741824
   pub room : (length b + stack0.limit + 1) / 2 ≤ tokens0.limit
+  pub reserved : IsTrue tokens0.reserved × IsTrue stack0.reserved
 
 -- the same from some lists on, which have room for the line
 pub record Stands (b : List ℕ) (tokens : BoundedList Token) (stack : BoundedList ℕ) (m : Mode) (i : ℕ) : Type 0 where
@@ -33,9 +34,9 @@ pub record Stands (b : List ℕ) (tokens : BoundedList Token) (stack : BoundedLi
   pub room : HasLineRoom b tokens0 stack0
 
 -- what a call answers that goes on with the pass: where it stands, or what the pass answers
-abbrev pub GoesOn : List ℕ → BoundedList Token → BoundedList ℕ → Result Next ScanFault → BoundedList Token → BoundedList ℕ → Type 0
+abbrev pub GoesOn : List ℕ → BoundedList Token → BoundedList ℕ → Result Next LineFault → BoundedList Token → BoundedList ℕ → Type 0
 GoesOn b tokens0 stack0 (Ok n) tokens stack = Standing b tokens0 stack0 tokens stack n.mode n.place
-GoesOn b tokens0 stack0 (Err f) tokens stack = RunAnswers {X = Unit {0}} b stack0 (IsTrue tokens0.reserved × IsTrue stack0.reserved) (Err f) tokens stack × KeepsLaw b tokens0 tokens stack0 stack
+GoesOn b tokens0 stack0 (Err f) tokens stack = RunAnswers {X = Unit {0}} b stack0 (Err f) tokens stack × KeepsLaw b tokens0 tokens stack0 stack
 
 -- the comma of an array stands at the place i
 pub record IsComma (b : List ℕ) (tokens : BoundedList Token) (stack : BoundedList ℕ) (i : ℕ) : Type 0 where

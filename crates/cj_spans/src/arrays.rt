@@ -9,7 +9,7 @@ ghost use Rattle.cj_spans.specs.declared.step.Mode.TheVariants.{After};
 ghost use Rattle.cj_spans.specs.Machine.{state, between, read as read_of, Kept, Grown, InArray, BeginsValue, StaysInArrayNext, FitsToken};
 ghost use Rattle.cj_spans.specs.Pass.{Standing, Stands, GoesOn, IsComma};
 
-use crate::fault::ScanFault;
+use crate::fault::LineFault;
 use crate::numbers::read_number;
 use crate::step::{Mode, Move, Next, open};
 use crate::token::{Kind, Token};
@@ -106,13 +106,13 @@ fn end_number(line: &[u8], stop: usize, tokens: &mut Bounded<Token>, stack: &mut
 }
 
 /// Reads arrays and whole numbers from a place on where a value may begin in an array. It stops before what is
-/// no such value, behind an array that is in an object, and where no memory is granted for a number.
+/// no such value, and behind an array that is in an object.
 pub fn read_arrays(
     line: &[u8],
     from: Next,
     tokens: &mut Bounded<Token>,
     stack: &mut Stack,
-) -> Result<Next, ScanFault>
+) -> Result<Next, LineFault>
     requires stands { Stands line.now tokens.old stack.old from.mode from.place }
     requires array { InArray stack.old.elements tokens.old.elements }
     requires begins { BeginsValue from.mode }

@@ -1,4 +1,9 @@
 //! Why a line is no JSON text within the limits.
+ghost use Rattle.std.specs.Prelude.{◌≡◌};
+ghost use Rattle.cj_spans.specs.declared.fault.ScanFault.TheVariants.{Memory};
+ghost use Rattle.cj_spans.specs.Judgement.{widened_fault};
+
+use cj_budget::NoMemory;
 use thiserror::Error;
 
 /// Why [`crate::scan`] refuses a line. Places are offsets in the line, from 0.
@@ -33,4 +38,24 @@ pub enum LineFault {
     /// The least place at which more containers are open than the limit allows.
     #[error("nested too deep at byte {0}")]
     TooDeep(u64),
+}
+
+impl From<NoMemory> for ScanFault {
+    ghost from_gives = { λ _ fault. fault ≡ Memory };
+
+    fn from(_refusal: NoMemory) -> ScanFault {
+        ScanFault::Memory
+    }
+}
+
+impl From<LineFault> for ScanFault {
+    ghost from_gives = { λ cause fault. fault ≡ widened_fault cause };
+
+    fn from(cause: LineFault) -> ScanFault {
+        match cause {
+            LineFault::NotUtf8(place) => ScanFault::NotUtf8(place),
+            LineFault::Syntax(place) => ScanFault::Syntax(place),
+            LineFault::TooDeep(place) => ScanFault::TooDeep(place),
+        }
+    }
 }

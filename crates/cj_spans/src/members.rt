@@ -13,7 +13,7 @@ ghost use Rattle.cj_spans.specs.Pass.{StandsInObject, Leads};
 use crate::lex::plain_string_stop;
 use crate::step::{Mode, Move, Next};
 use crate::token::{Token, keep_atom};
-use cj_budget::{Bounded, NoMemory};
+use cj_budget::Bounded;
 
 /// Whether this byte stands at the place.
 #[inline(always)]
@@ -24,23 +24,22 @@ fn stands_at(line: &[u8], place: usize, byte: u8) -> bool
 }
 
 /// Reads the string that begins at `place` and keeps its token; where it ends. None where no string begins there
-/// whose bytes all stand for themselves, or no memory is granted.
+/// whose bytes all stand for themselves.
 #[inline(always)]
 fn read_string(line: &[u8], place: usize, tokens: &mut Bounded<Token>) -> Option<usize>
     requires short { length line.now < 2 ^ 31 }
     requires small { length tokens.old.elements < 2 ^ 31 }
     requires within { place < length line.now }
     requires room { length tokens.old.elements < tokens.old.limit }
+    requires reserved { IsTrue tokens.old.reserved }
     ensures string { IfSome result (λ k. IsQuoted line.now place k
         × Becomes tokens.old
         (tokens.old.elements ++ token_at place k (length tokens.old.elements + 1) ∷ []) tokens.new) }
     ensures none { IfNone result (tokens.new ≡ tokens.old) }
 {
     let stop = plain_string_stop(line, place)?;
-    match keep_atom(place, stop, tokens) {
-        Ok(()) => Some(stop),
-        Err(NoMemory) => None,
-    }
+    keep_atom(place, stop, tokens);
+    Some(stop)
 }
 
 /// Goes on from where a name may begin: past it and its colon, or past what of them stands there.
@@ -111,7 +110,7 @@ fn begins_name(mode: Mode) -> bool
 }
 
 /// Reads names, colons, strings and commas from a place on where a name may begin. It stops before what is no
-/// such part, and where no memory is granted.
+/// such part.
 pub fn read_members(line: &[u8], from: Next, tokens: &mut Bounded<Token>) -> Next
     requires stands { StandsInObject line.now tokens.old from.mode from.place }
     ensures leads { Leads line.now tokens.old from.mode from.place tokens.new result.mode result.place }

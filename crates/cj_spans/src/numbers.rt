@@ -8,7 +8,7 @@ ghost use Rattle.cj_spans.specs.Machine.{IsNumberItem};
 use crate::bytes::is_digit;
 use crate::lex::{Lex, skip_digits};
 use crate::token::{Token, keep_atom};
-use cj_budget::{Bounded, NoMemory};
+use cj_budget::Bounded;
 
 /// A comma, or the bracket that closes an array.
 #[inline(always)]
@@ -56,21 +56,20 @@ fn number_stop(line: &[u8], place: usize) -> Option<usize>
 }
 
 /// Reads the whole number that begins at `place` and keeps its token; where it ends. None where there is no such
-/// number with the end of an item behind it, or no memory is granted.
+/// number with the end of an item behind it.
 #[inline(always)]
 pub fn read_number(line: &[u8], place: usize, tokens: &mut Bounded<Token>) -> Option<usize>
     requires short { length line.now < 2 ^ 31 }
     requires within { place < length line.now }
     requires small { length tokens.old.elements < 2 ^ 31 }
     requires room { length tokens.old.elements < tokens.old.limit }
+    requires reserved { IsTrue tokens.old.reserved }
     ensures number { IfSome result (λ k. IsNumberItem line.now place k
         × Becomes tokens.old
         (tokens.old.elements ++ token_at place k (length tokens.old.elements + 1) ∷ []) tokens.new) }
     ensures none { IfNone result (tokens.new ≡ tokens.old) }
 {
     let stop = number_stop(line, place)?;
-    match keep_atom(place, stop, tokens) {
-        Ok(()) => Some(stop),
-        Err(NoMemory) => None,
-    }
+    keep_atom(place, stop, tokens);
+    Some(stop)
 }

@@ -13,14 +13,14 @@
 //! breaks `2 * tokens ≤ bytes + open + 1`, by which the lists are long enough.
 ghost use Rattle.std.specs.Prelude.{◌≡◌, ◌+◌, ◌*◌, ◌/◌, ◌^◌, ◌≤◌, ◌<◌, ◌↔◌, ◌⊎◌, [], length, List, ℕ, suc, OnOk, OnErr, IfOk, IsOk, IsErrOf, IsTrue, IsUtf8};
 ghost use Rattle.std.specs.Str.{IsValidUpTo};
-ghost use Rattle.cj_budget.specs.Bounded.{BoundedList, IsWithin};
+ghost use Rattle.cj_budget.specs.Bounded.{BoundedList, IsWithin, Becomes};
 ghost use Rattle.cj_spans.specs.declared.step.Mode.TheVariants.{After};
 ghost use Rattle.cj_spans.specs.Tree.{Tree, nest};
 ghost use Rattle.cj_spans.specs.Json.{Json};
 ghost use Rattle.cj_spans.specs.Front.{SyntaxAt, DeepAt, NowhereDeep};
 ghost use Rattle.cj_spans.specs.Begins.{IsFirstFault, IsFirstTooDeep};
 ghost use Rattle.cj_spans.specs.Scan.{IsScanOf, AreSized, KeepsLaw};
-ghost use Rattle.cj_spans.specs.Judgement.{Judgement, IsAnswerOf, IsReservedAnswerOf, widened};
+ghost use Rattle.cj_spans.specs.Judgement.{Judgement, IsAnswerOf, IsReservedAnswerOf};
 ghost use Rattle.cj_spans.specs.Json.{byte as byte_of};
 ghost use Rattle.cj_spans.specs.declared.token.Token.{Token as TokenOf};
 ghost use Rattle.cj_spans.specs.Machine.{State, state, between, in_atom, ComesTo, phase_after, EndAnswers, Grown, BeginsAtom, BeginsValue, BeginsValueNext, BeginsNameNext, InArray, InObject, StaysInArrayNext, StaysInObjectNext, RunAnswers};
@@ -43,28 +43,27 @@ fn end_atom(
     next: Mode,
     first: Lex,
     tokens: &mut Bounded<Token>,
-) -> Result<Next, ScanFault>
+) -> Result<Next, LineFault>
     requires small { (length line.now < 2 ^ 31) × (length tokens.old.elements < 2 ^ 31) }
     requires within { place < length line.now }
     requires lists { IsWithin tokens.old }
     requires room { length tokens.old.elements < tokens.old.limit }
+    requires reserved { IsTrue tokens.old.reserved }
     ensures answer { (ks : List ℕ) (p : ℕ) → EndAnswers line.now
         (state (in_atom next place first) ks tokens.old.elements (suc place) p)
-        (IsTrue tokens.old.reserved) result tokens.new.elements }
+        result tokens.new.elements }
     ensures tokens { Grown tokens.old tokens.new }
     ensures err { OnErr result (tokens.new ≡ tokens.old) }
 {
     let reach = read_atom(line, place, first);
     let Some(_) = lex_kind(reach.read) else {
-        return Err(ScanFault::Syntax(reach.stop as u64));
+        return Err(LineFault::Syntax(reach.stop as u64));
     };
-    match keep_atom(place, reach.stop, tokens) {
-        Ok(()) => Ok(Next {
-            mode: next,
-            place: reach.stop,
-        }),
-        Err(NoMemory) => Err(ScanFault::Memory),
-    }
+    keep_atom(place, reach.stop, tokens);
+    Ok(Next {
+        mode: next,
+        place: reach.stop,
+    })
 }
 
 /// Goes on past the colon that stands right behind a name.
@@ -99,14 +98,15 @@ fn follow(
     mode: Mode,
     taken: Move,
     tokens: &mut Bounded<Token>,
-) -> Result<Next, ScanFault>
+) -> Result<Next, LineFault>
     requires small { (length line.now < 2 ^ 31) × (length tokens.old.elements < 2 ^ 31) }
     requires within { place < length line.now }
     requires lists { IsWithin tokens.old }
     requires room { BeginsAtom taken → length tokens.old.elements < tokens.old.limit }
+    requires reserved { IsTrue tokens.old.reserved }
     ensures answer { (ks : List ℕ) (p : ℕ) → EndAnswers line.now
         (state (phase_after mode place taken) ks tokens.old.elements (suc place) p)
-        (IsTrue tokens.old.reserved) result tokens.new.elements }
+        result tokens.new.elements }
     ensures signs { BeginsValueNext taken → (tokens.new ≡ tokens.old) × IfOk result (λ n. BeginsValue n.mode) }
     ensures names { BeginsNameNext taken → tokens.new ≡ tokens.old }
     ensures tokens { Grown tokens.old tokens.new }
@@ -142,7 +142,7 @@ fn pass_parts(
     next: Next,
     tokens: &mut Bounded<Token>,
     stack: &mut Stack,
-) -> Result<Next, ScanFault>
+) -> Result<Next, LineFault>
     requires within { place < length line.now }
     requires stands { Stands line.now tokens.old stack.old next.mode next.place }
     requires array { StaysInArrayNext (byte_of line.now place) taken
@@ -174,14 +174,14 @@ fn is_end(mode: Mode, stack: &Stack) -> bool
     }
 }
 
-/// Reads the line, from empty lists.
-fn run(line: &[u8], tokens: &mut Bounded<Token>, stack: &mut Stack) -> Result<(), ScanFault>
+/// Reads the line, from empty lists that have their room.
+fn run(line: &[u8], tokens: &mut Bounded<Token>, stack: &mut Stack) -> Result<(), LineFault>
     requires short { length line.now ≤ 1073741824 }
     requires room { (length line.now + stack.old.limit + 1) / 2 ≤ tokens.old.limit }
     requires empty { (tokens.old.elements ≡ []) × (stack.old.elements ≡ []) }
     requires lists { IsWithin tokens.old × IsWithin stack.old }
-    ensures answer { RunAnswers line.now stack.old
-        (IsTrue tokens.old.reserved × IsTrue stack.old.reserved) result tokens.new stack.new }
+    requires reserved { IsTrue tokens.old.reserved × IsTrue stack.old.reserved }
+    ensures answer { RunAnswers line.now stack.old result tokens.new stack.new }
     ensures law { KeepsLaw line.now tokens.old tokens.new stack.old stack.new }
 {
     let mut mode = Mode::Ready;
@@ -206,83 +206,12 @@ fn run(line: &[u8], tokens: &mut Bounded<Token>, stack: &mut Stack) -> Result<()
     if is_end(mode, stack) {
         Ok(())
     } else {
-        Err(ScanFault::Syntax(place as u64))
-    }
-}
-
-/// Scans a line into tokens, under the stack's limit of open containers. Both lists are emptied
-/// first. At `Ok` there is one token for each value and each member name (RFC 8259).
-///
-/// A line that is not UTF-8 is refused as such, whatever else is wrong with it. A line that opens
-/// more containers than the limit allows is refused at the place of the first one too many: what
-/// comes after is not read. Else a line that is no JSON text is refused at the first place that no
-/// JSON text can have, or at its end. `Memory` comes where a list had to grow and was not granted
-/// it; whether the line has another fault is then not said.
-pub fn scan(line: &[u8], tokens: &mut Bounded<Token>, stack: &mut Stack) -> Result<(), ScanFault>
-    requires short { length line.now ≤ 1073741824 }
-    requires room { (length line.now + stack.old.limit + 1) / 2 ≤ tokens.old.limit }
-
-    // At Ok the lists show the one tree that the line spells.
-    ensures tree { OnOk result ((t : Tree)
-        × IsScanOf line.now t tokens.old tokens.new stack.old stack.new) }
-    ensures sized { OnOk result (AreSized line.now tokens.new.elements) }
-    ensures utf8 { ((i : ℕ) → IsErrOf result (ScanFault.NotUtf8 i) → ⊥) → IsUtf8 line.now }
-
-    // Each fault comes with its place.
-    ensures not_utf8 { (i : ℕ) → (IsErrOf result (ScanFault.NotUtf8 i) ↔ IsValidUpTo line.now i) }
-    ensures too_deep { (i : ℕ) → IsErrOf result (ScanFault.TooDeep i)
-        → DeepAt line.now stack.old.limit i }
-    ensures syntax { (i : ℕ) → IsErrOf result (ScanFault.Syntax i)
-        → SyntaxAt line.now i × NowhereDeep line.now stack.old.limit }
-    ensures memory { IsTrue tokens.old.reserved → IsTrue stack.old.reserved
-        → IsErrOf result ScanFault.Memory → ⊥ }
-
-    // The same places, told by the JSON texts that the line begins.
-    ensures first_too_deep { (i : ℕ) → IsErrOf result (ScanFault.TooDeep i)
-        → IsFirstTooDeep line.now stack.old.limit i }
-    ensures first_fault { (i : ℕ) → IsErrOf result (ScanFault.Syntax i) → IsFirstFault line.now i }
-
-    // And no line is answered otherwise, but for want of memory.
-    ensures finds_tree { IsUtf8 line.now → (t : Tree) → Json line.now t → nest t ≤ stack.old.limit
-        → IsOk result ⊎ IsErrOf result ScanFault.Memory }
-    ensures finds_deep { IsUtf8 line.now → (i : ℕ) → DeepAt line.now stack.old.limit i
-        → IsErrOf result (ScanFault.TooDeep i) ⊎ IsErrOf result ScanFault.Memory }
-    ensures finds_syntax { IsUtf8 line.now → NowhereDeep line.now stack.old.limit
-        → (i : ℕ) → SyntaxAt line.now i
-        → IsErrOf result (ScanFault.Syntax i) ⊎ IsErrOf result ScanFault.Memory }
-
-    // In one: each line has a judgement, by the law `one_judgement` no second one, and the answer is
-    // that judgement's.
-    ensures judgement { Judgement line.now stack.old.limit }
-    ensures judged { (j : Judgement line.now stack.old.limit) → IsUtf8 line.now → IsAnswerOf j result }
-
-    // Whatever the answer, the lists keep the law of the bound.
-    ensures law { KeepsLaw line.now tokens.old tokens.new stack.old stack.new }
-{
-    tokens.clear();
-    stack.clear();
-    match from_utf8(line) {
-        Ok(_) => run(line, tokens, stack),
-        Err(error) => Err(ScanFault::NotUtf8(error.valid_up_to() as u64)),
-    }
-}
-
-/// The answer of a pass that was not refused memory.
-fn without_memory(answer: Result<(), ScanFault>) -> Result<(), LineFault>
-    requires { IsErrOf answer ScanFault.Memory → ⊥ }
-    ensures { answer ≡ widened result }
-{
-    match answer {
-        Ok(()) => Ok(()),
-        Err(ScanFault::NotUtf8(place)) => Err(LineFault::NotUtf8(place)),
-        Err(ScanFault::Syntax(place)) => Err(LineFault::Syntax(place)),
-        Err(ScanFault::TooDeep(place)) => Err(LineFault::TooDeep(place)),
-        Err(ScanFault::Memory) => unreachable!(),
+        Err(LineFault::Syntax(place as u64))
     }
 }
 
 /// Scans a line as [`scan`] does, into lists that have their room reserved. It takes no memory, so it
-/// answers what the line is, whatever is free. The room stays reserved.
+/// answers what the line is, whatever is free. The room stays reserved, and both lists are emptied first.
 pub fn scan_reserved(
     line: &[u8],
     tokens: &mut Bounded<Token>,
@@ -328,7 +257,84 @@ pub fn scan_reserved(
     tokens.clear();
     stack.clear();
     match from_utf8(line) {
-        Ok(_) => without_memory(run(line, tokens, stack)),
+        Ok(_) => run(line, tokens, stack),
         Err(error) => Err(LineFault::NotUtf8(error.valid_up_to() as u64)),
     }
+}
+
+/// Empties both lists, and makes room in each for as many elements as its limit allows.
+fn make_room(tokens: &mut Bounded<Token>, stack: &mut Stack) -> Result<(), NoMemory>
+    ensures emptied { Becomes tokens.old [] tokens.new × Becomes stack.old [] stack.new }
+    ensures ok { OnOk result (IsTrue tokens.new.reserved × IsTrue stack.new.reserved) }
+    ensures granted { IsTrue tokens.old.reserved → IsTrue stack.old.reserved → IsOk result }
+{
+    tokens.clear();
+    stack.clear();
+    tokens.reserve_all()?;
+    stack.reserve_all()
+}
+
+/// Scans a line into tokens, under the stack's limit of open containers. Both lists are emptied
+/// first, and get room for their limits where that is not there. At `Ok` there is one token for each
+/// value and each member name (RFC 8259).
+///
+/// A line that is not UTF-8 is refused as such, whatever else is wrong with it. A line that opens
+/// more containers than the limit allows is refused at the place of the first one too many: what
+/// comes after is not read. Else a line that is no JSON text is refused at the first place that no
+/// JSON text can have, or at its end. `Memory` comes before all of these, where the room was not
+/// granted: the line is then not looked at, and both lists are empty.
+pub fn scan(line: &[u8], tokens: &mut Bounded<Token>, stack: &mut Stack) -> Result<(), ScanFault>
+    requires short { length line.now ≤ 1073741824 }
+    requires room { (length line.now + stack.old.limit + 1) / 2 ≤ tokens.old.limit }
+
+    // At Ok the lists show the one tree that the line spells.
+    ensures tree { OnOk result ((t : Tree)
+        × IsScanOf line.now t tokens.old tokens.new stack.old stack.new) }
+    ensures sized { OnOk result (AreSized line.now tokens.new.elements) }
+    ensures utf8 { (IsErrOf result ScanFault.Memory → ⊥)
+        → ((i : ℕ) → IsErrOf result (ScanFault.NotUtf8 i) → ⊥) → IsUtf8 line.now }
+
+    // Each fault comes with its place.
+    ensures not_utf8 { (i : ℕ) → IsErrOf result (ScanFault.NotUtf8 i) → IsValidUpTo line.now i }
+    ensures too_deep { (i : ℕ) → IsErrOf result (ScanFault.TooDeep i)
+        → DeepAt line.now stack.old.limit i }
+    ensures syntax { (i : ℕ) → IsErrOf result (ScanFault.Syntax i)
+        → SyntaxAt line.now i × NowhereDeep line.now stack.old.limit }
+
+    // Memory is asked for first: where it is refused both lists are empty, and else both have their room. It is
+    // not refused where that room was there.
+    ensures memory { IsTrue tokens.old.reserved → IsTrue stack.old.reserved
+        → IsErrOf result ScanFault.Memory → ⊥ }
+    ensures emptied { IsErrOf result ScanFault.Memory
+        → (tokens.new.elements ≡ []) × (stack.new.elements ≡ []) }
+    ensures reserved { (IsErrOf result ScanFault.Memory → ⊥)
+        → IsTrue tokens.new.reserved × IsTrue stack.new.reserved }
+
+    // The same places, told by the JSON texts that the line begins.
+    ensures first_too_deep { (i : ℕ) → IsErrOf result (ScanFault.TooDeep i)
+        → IsFirstTooDeep line.now stack.old.limit i }
+    ensures first_fault { (i : ℕ) → IsErrOf result (ScanFault.Syntax i) → IsFirstFault line.now i }
+
+    // And no line is answered otherwise, but for want of memory.
+    ensures finds_not_utf8 { (i : ℕ) → IsValidUpTo line.now i
+        → IsErrOf result (ScanFault.NotUtf8 i) ⊎ IsErrOf result ScanFault.Memory }
+    ensures finds_tree { IsUtf8 line.now → (t : Tree) → Json line.now t → nest t ≤ stack.old.limit
+        → IsOk result ⊎ IsErrOf result ScanFault.Memory }
+    ensures finds_deep { IsUtf8 line.now → (i : ℕ) → DeepAt line.now stack.old.limit i
+        → IsErrOf result (ScanFault.TooDeep i) ⊎ IsErrOf result ScanFault.Memory }
+    ensures finds_syntax { IsUtf8 line.now → NowhereDeep line.now stack.old.limit
+        → (i : ℕ) → SyntaxAt line.now i
+        → IsErrOf result (ScanFault.Syntax i) ⊎ IsErrOf result ScanFault.Memory }
+
+    // In one: each line has a judgement, by the law `one_judgement` no second one, and the answer is
+    // that judgement's.
+    ensures judgement { Judgement line.now stack.old.limit }
+    ensures judged { (j : Judgement line.now stack.old.limit) → IsUtf8 line.now → IsAnswerOf j result }
+
+    // Whatever the answer, the lists keep the law of the bound.
+    ensures law { KeepsLaw line.now tokens.old tokens.new stack.old stack.new }
+{
+    make_room(tokens, stack)?;
+    scan_reserved(line, tokens, stack)?;
+    Ok(())
 }

@@ -6,10 +6,10 @@ ghost use Rattle.cj_spans.specs.declared.step.Mode.{Mode as ModeOf};
 ghost use Rattle.cj_spans.specs.Machine.{state, between, read as read_of, begin_value as begin_value_of, begin_name as begin_name_of, after_value as after_value_of, after_in as after_in_of, close_token as close_token_of, close_empty as close_empty_of, colon_step as colon_step_of, open_link as open_link_of, open_kind as open_kind_of, with_opened, Answers, Grown, Kept, ReadsByte, BeginsValue, FitsToken};
 
 use crate::bytes::is_white_space;
-use crate::fault::ScanFault;
+use crate::fault::LineFault;
 use crate::lex::{Lex, lex_start};
 use crate::token::{Kind, Token};
-use cj_budget::{Bounded, Refused, Stack};
+use cj_budget::{Bounded, Stack};
 
 /// What may come next.
 #[derive(Clone, Copy)]
@@ -80,26 +80,24 @@ pub fn open(
     place: usize,
     tokens: &mut Bounded<Token>,
     stack: &mut Stack,
-) -> Result<Move, ScanFault>
+) -> Result<Move, LineFault>
     requires small { FitsToken place tokens.old }
     requires lists { IsWithin tokens.old × IsWithin stack.old }
     requires room { length tokens.old.elements < tokens.old.limit }
+    requires reserved { IsTrue tokens.old.reserved × IsTrue stack.old.reserved }
     ensures { ReadsByte (λ s. Some (with_opened kind next s)) place result tokens.old tokens.new stack.old stack.new }
 {
-    match stack.push(tokens.len() as u32) {
-        Ok(()) => {}
-        Err(Refused::Full(_)) => return Err(ScanFault::TooDeep(place as u64)),
-        Err(Refused::Memory(_)) => return Err(ScanFault::Memory),
+    if stack.len() == stack.limit() {
+        return Err(LineFault::TooDeep(place as u64));
     }
+    stack.push_reserved(tokens.len() as u32);
     let token = Token {
         start: place as u32,
         stop: 0,
         link: open_link(kind),
     };
-    match tokens.put(token) {
-        Ok(()) => Ok(Move::Open(next)),
-        Err(_) => Err(ScanFault::Memory),
-    }
+    tokens.push_reserved(token);
+    Ok(Move::Open(next))
 }
 
 /// Reads the first byte of a value.
@@ -109,10 +107,11 @@ fn begin_value(
     place: usize,
     tokens: &mut Bounded<Token>,
     stack: &mut Stack,
-) -> Result<Move, ScanFault>
+) -> Result<Move, LineFault>
     requires small { FitsToken place tokens.old }
     requires lists { IsWithin tokens.old × IsWithin stack.old }
     requires room { length tokens.old.elements < tokens.old.limit }
+    requires reserved { IsTrue tokens.old.reserved × IsTrue stack.old.reserved }
     ensures { ReadsByte (begin_value_of byte) place result tokens.old tokens.new stack.old stack.new }
 {
     if byte == b'"' {
@@ -126,7 +125,7 @@ fn begin_value(
     }
     match lex_start(byte) {
         Some(first) => Ok(Move::Atom(Mode::After, first)),
-        None => Err(ScanFault::Syntax(place as u64)),
+        None => Err(LineFault::Syntax(place as u64)),
     }
 }
 
@@ -137,7 +136,7 @@ fn close(
     place: usize,
     tokens: &mut Bounded<Token>,
     stack: &mut Stack,
-) -> Result<Move, ScanFault>
+) -> Result<Move, LineFault>
     requires small { FitsToken place tokens.old }
     requires lists { IsWithin tokens.old × IsWithin stack.old }
     ensures { ReadsByte
@@ -145,7 +144,7 @@ fn close(
         stack.old stack.new }
 {
     match token_of(tokens.as_slice(), index) {
-        None => Err(ScanFault::Syntax(place as u64)),
+        None => Err(LineFault::Syntax(place as u64)),
         Some(token) => {
             let whole = Token {
                 stop: place as u32 + 1,
@@ -164,13 +163,13 @@ fn close_empty(
     place: usize,
     tokens: &mut Bounded<Token>,
     stack: &mut Stack,
-) -> Result<Move, ScanFault>
+) -> Result<Move, LineFault>
     requires small { FitsToken place tokens.old }
     requires lists { IsWithin tokens.old × IsWithin stack.old }
     ensures { ReadsByte close_empty_of place result tokens.old tokens.new stack.old stack.new }
 {
     match stack.top() {
-        None => Err(ScanFault::Syntax(place as u64)),
+        None => Err(LineFault::Syntax(place as u64)),
         Some(index) => close(index, place, tokens, stack),
     }
 }
@@ -184,7 +183,7 @@ fn after_in(
     place: usize,
     tokens: &mut Bounded<Token>,
     stack: &mut Stack,
-) -> Result<Move, ScanFault>
+) -> Result<Move, LineFault>
     requires small { FitsToken place tokens.old }
     requires lists { IsWithin tokens.old × IsWithin stack.old }
     ensures { (t : TokenOf) → slice_get tokens.old.elements index ≡ Some t
@@ -197,7 +196,7 @@ fn after_in(
             } else if byte == b']' {
                 close(index, place, tokens, stack)
             } else {
-                Err(ScanFault::Syntax(place as u64))
+                Err(LineFault::Syntax(place as u64))
             }
         }
         Kind::Object => {
@@ -206,10 +205,10 @@ fn after_in(
             } else if byte == b'}' {
                 close(index, place, tokens, stack)
             } else {
-                Err(ScanFault::Syntax(place as u64))
+                Err(LineFault::Syntax(place as u64))
             }
         }
-        _ => Err(ScanFault::Syntax(place as u64)),
+        _ => Err(LineFault::Syntax(place as u64)),
     }
 }
 
@@ -220,15 +219,15 @@ fn after_value(
     place: usize,
     tokens: &mut Bounded<Token>,
     stack: &mut Stack,
-) -> Result<Move, ScanFault>
+) -> Result<Move, LineFault>
     requires small { FitsToken place tokens.old }
     requires lists { IsWithin tokens.old × IsWithin stack.old }
     ensures { ReadsByte (after_value_of byte) place result tokens.old tokens.new stack.old stack.new }
 {
     match stack.top() {
-        None => Err(ScanFault::Syntax(place as u64)),
+        None => Err(LineFault::Syntax(place as u64)),
         Some(index) => match token_of(tokens.as_slice(), index) {
-            None => Err(ScanFault::Syntax(place as u64)),
+            None => Err(LineFault::Syntax(place as u64)),
             Some(token) => after_in(open_kind(token), index, byte, place, tokens, stack),
         },
     }
@@ -236,27 +235,27 @@ fn after_value(
 
 /// Reads the quote that begins a name.
 #[inline(always)]
-fn begin_name(byte: u8, place: usize) -> Result<Move, ScanFault>
+fn begin_name(byte: u8, place: usize) -> Result<Move, LineFault>
     ensures { (m : ModeOf) (ks : List ℕ) (ts : List TokenOf) (p d : ℕ) → Answers
-        (begin_name_of byte (state (between m) ks ts place p)) m place p d (Unit {0}) result ks ts }
+        (begin_name_of byte (state (between m) ks ts place p)) m place p d result ks ts }
 {
     if byte == b'"' {
         Ok(Move::Atom(Mode::AfterName, Lex::InString))
     } else {
-        Err(ScanFault::Syntax(place as u64))
+        Err(LineFault::Syntax(place as u64))
     }
 }
 
 /// Reads the colon after a name.
 #[inline(always)]
-fn read_colon(byte: u8, place: usize) -> Result<Move, ScanFault>
+fn read_colon(byte: u8, place: usize) -> Result<Move, LineFault>
     ensures { (m : ModeOf) (ks : List ℕ) (ts : List TokenOf) (p d : ℕ) → Answers
-        (colon_step_of byte (state (between m) ks ts place p)) m place p d (Unit {0}) result ks ts }
+        (colon_step_of byte (state (between m) ks ts place p)) m place p d result ks ts }
 {
     if byte == b':' {
         Ok(Move::To(Mode::Ready))
     } else {
-        Err(ScanFault::Syntax(place as u64))
+        Err(LineFault::Syntax(place as u64))
     }
 }
 
@@ -268,14 +267,14 @@ pub fn read_byte(
     place: usize,
     tokens: &mut Bounded<Token>,
     stack: &mut Stack,
-) -> Result<Move, ScanFault>
+) -> Result<Move, LineFault>
     requires small { FitsToken place tokens.old }
     requires lists { IsWithin tokens.old × IsWithin stack.old }
     requires room { BeginsValue mode → length tokens.old.elements < tokens.old.limit }
+    requires reserved { IsTrue tokens.old.reserved × IsTrue stack.old.reserved }
     ensures answer { (p : ℕ) → Answers
         (read_of mode byte (state (between mode) stack.old.elements tokens.old.elements place p))
-        mode place p stack.old.limit (IsTrue tokens.old.reserved × IsTrue stack.old.reserved)
-        result stack.new.elements tokens.new.elements }
+        mode place p stack.old.limit result stack.new.elements tokens.new.elements }
     ensures tokens { Grown tokens.old tokens.new }
     ensures stack { Kept stack.old stack.new }
     ensures err { OnErr result ((tokens.new ≡ tokens.old)

@@ -8,11 +8,11 @@
 //! `open_kind`). Its top bit is free for a *mark*, as no line has 2^31 tokens: `link_of` of the definitions
 //! and `Source::after` alone read links, and leave it out. What else is put into a token must leave starts
 //! and stops as they are, since trees are told by these.
-ghost use Rattle.std.specs.Prelude.{◌≡◌, ◌+◌, ◌^◌, ◌<◌, ◌++◌, ◌∷◌, [], length, OnOk, OnErr, IsOk, IsTrue};
+ghost use Rattle.std.specs.Prelude.{◌≡◌, ◌+◌, ◌^◌, ◌<◌, ◌++◌, ◌∷◌, [], length, IsTrue};
 ghost use Rattle.cj_budget.specs.Bounded.{Becomes};
 ghost use Rattle.cj_spans.specs.Preorder.{token_at};
 
-use cj_budget::{Bounded, NoMemory};
+use cj_budget::Bounded;
 
 /// The kinds of JSON values.
 #[derive(Clone, Copy, Debug, PartialEq, Eq)]
@@ -43,23 +43,18 @@ const _: () = prove!(size_of::<Token>() == 12);
 
 /// Keeps the token of a scalar or a name. It has no parts, so it links to the token behind it.
 #[inline(always)]
-pub(crate) fn keep_atom(
-    place: usize,
-    stop: usize,
-    tokens: &mut Bounded<Token>,
-) -> Result<(), NoMemory>
+pub(crate) fn keep_atom(place: usize, stop: usize, tokens: &mut Bounded<Token>)
     requires short { (place < 2 ^ 31) × (stop < 2 ^ 31) }
     requires small { length tokens.old.elements < 2 ^ 31 }
     requires room { length tokens.old.elements < tokens.old.limit }
-    ensures ok { OnOk result (Becomes tokens.old
-        (tokens.old.elements ++ token_at place stop (length tokens.old.elements + 1) ∷ []) tokens.new) }
-    ensures err { OnErr result (tokens.new ≡ tokens.old) }
-    ensures granted { IsTrue tokens.old.reserved → IsOk result }
+    requires reserved { IsTrue tokens.old.reserved }
+    ensures { Becomes tokens.old
+        (tokens.old.elements ++ token_at place stop (length tokens.old.elements + 1) ∷ []) tokens.new }
 {
     let token = Token {
         start: place as u32,
         stop: stop as u32,
         link: tokens.len() as u32 + 1,
     };
-    tokens.put(token)
+    tokens.push_reserved(token);
 }

@@ -4,7 +4,7 @@ use Rattle.cj_budget.specs.Bounded.{BoundedList}
 use Rattle.cj_spans.specs.declared.token.Token.{Token}
 use Rattle.cj_spans.specs.declared.step.Mode.TheVariants.{Ready, FirstItem, After}
 use Rattle.cj_spans.specs.Pass.{Standing}
-use Rattle.cj_spans.proofs.Nested.{stands_on, stands_small, stands_room, standing_number, standing_comma, standing_opened, opened_in, standing_refused}
+use Rattle.cj_spans.proofs.Nested.{stands_on, stands_small, stands_room, stands_reserved, standing_number, standing_comma, standing_opened, opened_in, standing_refused}
 use Rattle.cj_spans.proofs.Signs.{innermost_more}
 use Rattle.cj_spans.proofs.arrays.read_arrays.Goals as goal
 
@@ -13,6 +13,9 @@ open-requires-clause-small c = stands_small _ _ _ _ _ c.loop-next.invariant.stan
 
 pub open-requires-clause-room : goal.open-requires-clause-room
 open-requires-clause-room c = stands_room _ _ _ _ _ c.loop-next.invariant.stands c.loop-next-test.true c.loop-next.invariant.begins
+
+pub open-requires-clause-reserved : goal.open-requires-clause-reserved
+open-requires-clause-reserved c = stands_reserved _ _ _ _ _ c.loop-next.invariant.stands
 
 pub returns-in-Err-clause-answer : goal.returns-in-Err-clause-answer
 returns-in-Err-clause-answer c = λ ts ks s.
@@ -38,6 +41,9 @@ read_number-requires-clause-small c = (stands_small _ _ _ _ _ c.loop-next.invari
 
 pub read_number-requires-clause-room : goal.read_number-requires-clause-room
 read_number-requires-clause-room c = stands_room _ _ _ _ _ c.loop-next.invariant.stands c.loop-next-test.true c.loop-next.invariant.begins
+
+pub read_number-requires-clause-reserved : goal.read_number-requires-clause-reserved
+read_number-requires-clause-reserved c = (stands_reserved _ _ _ _ _ c.loop-next.invariant.stands).0
 
 pub end_number-behind-requires-clause-stands : goal.end_number-behind-requires-clause-stands
 end_number-behind-requires-clause-stands c =

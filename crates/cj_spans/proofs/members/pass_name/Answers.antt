@@ -1,6 +1,6 @@
 use Rattle.std.proofs.Common.{◌+◌}
 use Rattle.cj_spans.specs.declared.step.Mode.TheVariants.{Ready, AfterName}
-use Rattle.cj_spans.proofs.Named.{name_leads, leads_on, leads_string, leads_colon, name_small, name_room}
+use Rattle.cj_spans.proofs.Named.{name_leads, leads_on, leads_string, leads_colon, name_small, name_room, name_reserved}
 use Rattle.cj_spans.proofs.members.pass_name.Goals as goal
 
 pub read_string-requires-clause-small : goal.read_string-requires-clause-small
@@ -8,6 +8,9 @@ read_string-requires-clause-small c = (name_small c.args.line.now c.args.tokens.
 
 pub read_string-requires-clause-room : goal.read_string-requires-clause-room
 read_string-requires-clause-room c = name_room c.args.line.now c.args.tokens.now c.args.from.mode c.args.from.place c.requires.stands c.requires.within c.requires.begins
+
+pub read_string-requires-clause-reserved : goal.read_string-requires-clause-reserved
+read_string-requires-clause-reserved c = name_reserved c.args.line.now c.args.tokens.now c.args.from.mode c.args.from.place c.requires.stands
 
 pub returns-then-stands_at-clause-leads : goal.returns-then-stands_at-clause-leads
 returns-then-stands_at-clause-leads c =

@@ -13,6 +13,9 @@ read_byte-requires-clause-small c = standing_small _ _ _ _ _ _ _ c.loop-place.in
 pub read_byte-requires-clause-room : goal.read_byte-requires-clause-room
 read_byte-requires-clause-room c = standing_room _ _ _ _ _ _ _ c.loop-place.invariant c.requires.room c.loop-place-test.true
 
+pub read_byte-requires-clause-reserved : goal.read_byte-requires-clause-reserved
+read_byte-requires-clause-reserved c = (c.loop-place.invariant.kept.room c.requires.reserved.0, c.loop-place.invariant.stack_room c.requires.reserved.1)
+
 pub returns-in-Err-clause-answer : goal.returns-in-Err-clause-answer
 returns-in-Err-clause-answer c = standing_fault (Unit {0}) c.args.line.now c.args.tokens.now c.args.stack.now c.loop-place.tokens c.read_byte.new.tokens c.loop-place.stack c.read_byte.new.stack c.loop-place.mode c.loop-place.place c.in-Err.fault c.loop-place.invariant c.loop-place-test.true c.in-Err.ensures.answer
 
@@ -31,6 +34,9 @@ follow-requires-clause-room c =
     let s = standing_step c.args.line.now c.args.tokens.now c.args.stack.now c.loop-place.tokens c.read_byte.new.tokens c.loop-place.stack c.read_byte.new.stack c.loop-place.mode c.loop-place.place c.in-Ok.taken c.loop-place.invariant c.loop-place-test.true c.in-Ok.ensures.tokens c.in-Ok.ensures.stack c.in-Ok.ensures.answer in
     stepped_room _ _ _ _ _ _ _ _ s c.requires.room c.loop-place-test.true
 
+pub follow-requires-clause-reserved : goal.follow-requires-clause-reserved
+follow-requires-clause-reserved c = c.in-Ok.ensures.tokens.kept.room (c.loop-place.invariant.kept.room c.requires.reserved.0)
+
 pub returns-in-Err-follow-clause-answer : goal.returns-in-Err-follow-clause-answer
 returns-in-Err-follow-clause-answer c =
     let s = standing_step c.args.line.now c.args.tokens.now c.args.stack.now c.loop-place.tokens c.read_byte.new.tokens c.loop-place.stack c.read_byte.new.stack c.loop-place.mode c.loop-place.place c.in-Ok.taken c.loop-place.invariant c.loop-place-test.true c.in-Ok.ensures.tokens c.in-Ok.ensures.stack c.in-Ok.ensures.answer in
@@ -47,7 +53,7 @@ pass_parts-requires-clause-stands c = record {
   tokens0 = c.args.tokens.now;
   stack0 = c.args.stack.now;
   standing = followed c.args.line.now c.args.tokens.now c.args.stack.now c.loop-place.tokens c.read_byte.new.tokens c.follow.new.tokens c.loop-place.stack c.read_byte.new.stack c.loop-place.mode c.loop-place.place c.in-Ok.taken c.in-Ok-follow.next c.loop-place.invariant c.loop-place-test.true c.in-Ok.ensures.tokens c.in-Ok.ensures.stack c.in-Ok.ensures.answer c.in-Ok-follow.ensures.tokens (λ p. c.in-Ok-follow.ensures.answer c.read_byte.new.stack.elements p);
-  room = record { short = c.requires.short; room = c.requires.room };
+  room = record { short = c.requires.short; room = c.requires.room; reserved = c.requires.reserved };
 }
 
 pub pass_parts-requires-clause-array : goal.pass_parts-requires-clause-array

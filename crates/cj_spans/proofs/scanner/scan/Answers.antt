@@ -1,72 +1,67 @@
-use Rattle.std.proofs.Common.{IsTrue, refl}
-use Rattle.cj_spans.proofs.Verdicts.{cleared, run_utf8, answers_tree, answers_deep, answers_syntax, answers_finds_deep, answers_finds_syntax, answers_finds_tree, utf8_whole, utf8_fault}
-use Rattle.cj_spans.proofs.Judgements.{judgement, answer_of}
-use Rattle.cj_spans.proofs.Endings.{answers_first_too_deep, answers_first_fault}
-use Rattle.cj_spans.proofs.Sizes.{sized_on}
+use Rattle.std.proofs.Common.{Err, sym, subst, inl}
+use Rattle.std.proofs.lemmas.Result.{err_from_is_err_and}
+use Rattle.cj_spans.specs.declared.fault.LineFault.TheVariants.{NotUtf8, Syntax, TooDeep}
+use Rattle.cj_spans.specs.Begins.{IsFirstTooDeep}
+use Rattle.cj_spans.specs.Front.{DeepAt, NowhereDeep}
+use Rattle.cj_spans.specs.Judgement.{Judgement, IsReservedAnswerOf}
+use Rattle.cj_spans.proofs.Granted.{fault_back, fault_on, fault_judged, ok_no_fault}
+use Rattle.cj_spans.proofs.Judgements.{judgement}
 use Rattle.cj_spans.proofs.scanner.scan.Goals as goal
 
-pub returns-in-Ok-clause-tree : goal.returns-in-Ok-clause-tree
-returns-in-Ok-clause-tree c =
-    let ts = c.clear.new.self in let ks = c.clear-2.new.self in
-    answers_tree (Unit {0}) c.args.line.now c.args.tokens.now ts c.run.new.tokens c.args.stack.now ks c.run.new.stack (IsTrue ts.reserved × IsTrue ks.reserved) (cleared _ _ c.clear.ensures.cleared) (cleared _ _ c.clear-2.ensures.cleared) c.run.result c.run.ensures.answer c.run.ensures.law c.requires.short
+pub returns-in_err-make_room-clause-judgement : goal.returns-in_err-make_room-clause-judgement
+returns-in_err-make_room-clause-judgement c = judgement c.args.line.now c.args.stack.now.limit
 
-pub returns-in-Ok-clause-sized : goal.returns-in-Ok-clause-sized
-returns-in-Ok-clause-sized c = sized_on (Unit {0}) c.args.line.now c.args.tokens.now c.run.new.tokens c.args.stack.now c.run.new.stack c.run.result (returns-in-Ok-clause-tree c)
+pub returns-in_err-scan_reserved-clause-judgement : goal.returns-in_err-scan_reserved-clause-judgement
+returns-in_err-scan_reserved-clause-judgement c = judgement c.args.line.now c.args.stack.now.limit
 
-pub returns-in-Ok-clause-not_utf8 : goal.returns-in-Ok-clause-not_utf8
-returns-in-Ok-clause-not_utf8 c = λ i.
-    let ts = c.clear.new.self in let ks = c.clear-2.new.self in (
-      λ e. absurd (run_utf8 (Unit {0}) c.args.line.now ks (IsTrue ts.reserved × IsTrue ks.reserved) c.run.new.tokens c.run.new.stack c.run.result i c.run.ensures.answer e),
-      λ v. absurd (utf8_whole c.args.line.now i v c.in-Ok.ensures.cases.1),
-    )
+pub returns-clause-judgement : goal.returns-clause-judgement
+returns-clause-judgement c = judgement c.args.line.now c.args.stack.now.limit
 
-pub returns-in-Ok-clause-too_deep : goal.returns-in-Ok-clause-too_deep
-returns-in-Ok-clause-too_deep c = λ i e.
-    let ts = c.clear.new.self in let ks = c.clear-2.new.self in
-    answers_deep (Unit {0}) c.args.line.now c.args.tokens.now ts c.run.new.tokens c.args.stack.now ks c.run.new.stack (IsTrue ts.reserved × IsTrue ks.reserved) (cleared _ _ c.clear.ensures.cleared) (cleared _ _ c.clear-2.ensures.cleared) c.run.result i c.run.ensures.answer e
+pub returns-in_err-scan_reserved-clause-not_utf8 : goal.returns-in_err-scan_reserved-clause-not_utf8
+returns-in_err-scan_reserved-clause-not_utf8 c = λ i h.
+    let p = err_from_is_err_and c.from_residual-in_err-scan_reserved.result c.from_residual-in_err-scan_reserved.ensures.1 in
+    let is = rw p.2 at p.1 in
+    (c.in_err-scan_reserved.ensures.not_utf8 i).0 (fault_back _ _ is (NotUtf8 i) h)
 
-pub returns-in-Ok-clause-syntax : goal.returns-in-Ok-clause-syntax
-returns-in-Ok-clause-syntax c = λ i e.
-    let ts = c.clear.new.self in let ks = c.clear-2.new.self in
-    answers_syntax (Unit {0}) c.args.line.now c.args.tokens.now ts c.run.new.tokens c.args.stack.now ks c.run.new.stack (IsTrue ts.reserved × IsTrue ks.reserved) (cleared _ _ c.clear.ensures.cleared) (cleared _ _ c.clear-2.ensures.cleared) c.run.result i c.run.ensures.answer e
+pub returns-in_err-scan_reserved-clause-too_deep : goal.returns-in_err-scan_reserved-clause-too_deep
+returns-in_err-scan_reserved-clause-too_deep c = λ i h.
+    let p = err_from_is_err_and c.from_residual-in_err-scan_reserved.result c.from_residual-in_err-scan_reserved.ensures.1 in
+    let is = rw p.2 at p.1 in
+    let limit = c.in_ok-make_room.ensures.emptied.1.limit in
+    subst (λ n. DeepAt c.args.line.now n i) limit (c.in_err-scan_reserved.ensures.too_deep i (fault_back _ _ is (TooDeep i) h))
 
-pub returns-in-Ok-clause-first_too_deep : goal.returns-in-Ok-clause-first_too_deep
-returns-in-Ok-clause-first_too_deep c = λ i e.
-    let ts = c.clear.new.self in let ks = c.clear-2.new.self in
-    answers_first_too_deep (Unit {0}) c.args.line.now c.args.stack.now ks c.run.new.stack c.run.new.tokens (IsTrue ts.reserved × IsTrue ks.reserved) (cleared _ _ c.clear-2.ensures.cleared) c.run.result i c.run.ensures.answer e
+pub returns-in_err-scan_reserved-clause-first_too_deep : goal.returns-in_err-scan_reserved-clause-first_too_deep
+returns-in_err-scan_reserved-clause-first_too_deep c = λ i h.
+    let p = err_from_is_err_and c.from_residual-in_err-scan_reserved.result c.from_residual-in_err-scan_reserved.ensures.1 in
+    let is = rw p.2 at p.1 in
+    let limit = c.in_ok-make_room.ensures.emptied.1.limit in
+    subst (λ n. IsFirstTooDeep c.args.line.now n i) limit (c.in_err-scan_reserved.ensures.first_too_deep i (fault_back _ _ is (TooDeep i) h))
 
-pub returns-in-Ok-clause-first_fault : goal.returns-in-Ok-clause-first_fault
-returns-in-Ok-clause-first_fault c = λ i e.
-    let ts = c.clear.new.self in let ks = c.clear-2.new.self in
-    answers_first_fault (Unit {0}) c.args.line.now c.args.stack.now ks c.run.new.stack c.run.new.tokens (IsTrue ts.reserved × IsTrue ks.reserved) (cleared _ _ c.clear-2.ensures.cleared) c.run.result i c.run.ensures.answer e
+pub returns-in_err-scan_reserved-clause-first_fault : goal.returns-in_err-scan_reserved-clause-first_fault
+returns-in_err-scan_reserved-clause-first_fault c = λ i h.
+    let p = err_from_is_err_and c.from_residual-in_err-scan_reserved.result c.from_residual-in_err-scan_reserved.ensures.1 in
+    let is = rw p.2 at p.1 in
+    c.in_err-scan_reserved.ensures.first_fault i (fault_back _ _ is (Syntax i) h)
 
-pub returns-in-Ok-clause-finds_tree : goal.returns-in-Ok-clause-finds_tree
-returns-in-Ok-clause-finds_tree c = λ u t j h.
-    let ts = c.clear.new.self in let ks = c.clear-2.new.self in
-    answers_finds_tree (Unit {0}) c.args.line.now c.args.tokens.now ts c.run.new.tokens c.args.stack.now ks c.run.new.stack (IsTrue ts.reserved × IsTrue ks.reserved) (cleared _ _ c.clear.ensures.cleared) (cleared _ _ c.clear-2.ensures.cleared) c.run.result t c.run.ensures.answer j h
+pub returns-in_err-scan_reserved-clause-finds_not_utf8 : goal.returns-in_err-scan_reserved-clause-finds_not_utf8
+returns-in_err-scan_reserved-clause-finds_not_utf8 c = λ i v.
+    let p = err_from_is_err_and c.from_residual-in_err-scan_reserved.result c.from_residual-in_err-scan_reserved.ensures.1 in
+    let is = rw p.2 at p.1 in
+    inl (fault_on _ _ is (NotUtf8 i) ((c.in_err-scan_reserved.ensures.not_utf8 i).1 v))
 
-pub returns-in-Ok-clause-finds_deep : goal.returns-in-Ok-clause-finds_deep
-returns-in-Ok-clause-finds_deep c = λ u i d.
-    let ts = c.clear.new.self in let ks = c.clear-2.new.self in
-    answers_finds_deep (Unit {0}) c.args.line.now c.args.tokens.now ts c.run.new.tokens c.args.stack.now ks c.run.new.stack (IsTrue ts.reserved × IsTrue ks.reserved) (cleared _ _ c.clear.ensures.cleared) (cleared _ _ c.clear-2.ensures.cleared) c.run.result i c.run.ensures.answer d
+pub returns-in_err-scan_reserved-clause-finds_syntax : goal.returns-in_err-scan_reserved-clause-finds_syntax
+returns-in_err-scan_reserved-clause-finds_syntax c = λ u n i s.
+    let p = err_from_is_err_and c.from_residual-in_err-scan_reserved.result c.from_residual-in_err-scan_reserved.ensures.1 in
+    let is = rw p.2 at p.1 in
+    let limit = c.in_ok-make_room.ensures.emptied.1.limit in
+    inl (fault_on _ _ is (Syntax i) (c.in_err-scan_reserved.ensures.finds_syntax u (subst (λ d. NowhereDeep c.args.line.now d) (sym limit) n) i s))
 
-pub returns-in-Ok-clause-finds_syntax : goal.returns-in-Ok-clause-finds_syntax
-returns-in-Ok-clause-finds_syntax c = λ u n i s.
-    let ts = c.clear.new.self in let ks = c.clear-2.new.self in
-    answers_finds_syntax (Unit {0}) c.args.line.now c.args.tokens.now ts c.run.new.tokens c.args.stack.now ks c.run.new.stack (IsTrue ts.reserved × IsTrue ks.reserved) (cleared _ _ c.clear.ensures.cleared) (cleared _ _ c.clear-2.ensures.cleared) c.run.result i c.run.ensures.answer n s
+pub returns-in_err-scan_reserved-clause-judged : goal.returns-in_err-scan_reserved-clause-judged
+returns-in_err-scan_reserved-clause-judged c = λ j u.
+    let p = err_from_is_err_and c.from_residual-in_err-scan_reserved.result c.from_residual-in_err-scan_reserved.ensures.1 in
+    let is = rw p.2 at p.1 in
+    let limit = c.in_ok-make_room.ensures.emptied.1.limit in
+    fault_judged _ _ is j (subst (λ d. (k : Judgement c.args.line.now d) → IsReservedAnswerOf k (Err c.in_err-scan_reserved.field-0.0)) limit (λ k. c.in_err-scan_reserved.ensures.judged k u) j)
 
-pub returns-in-Err-clause-utf8 : goal.returns-in-Err-clause-utf8
-returns-in-Err-clause-utf8 c = λ h. absurd (h _ refl)
-
-pub returns-in-Err-clause-not_utf8 : goal.returns-in-Err-clause-not_utf8
-returns-in-Err-clause-not_utf8 c = utf8_fault c.args.line.now c.valid_up_to.result _ c.in-Err.ensures.cases.1 c.in-Err.ensures.valid_len c.valid_up_to.ensures
-
-pub returns-in-Ok-clause-judgement : goal.returns-in-Ok-clause-judgement
-returns-in-Ok-clause-judgement c = judgement c.args.line.now c.args.stack.now.limit
-
-pub returns-in-Err-clause-judgement : goal.returns-in-Err-clause-judgement
-returns-in-Err-clause-judgement c = judgement c.args.line.now c.args.stack.now.limit
-
-pub returns-in-Ok-clause-judged : goal.returns-in-Ok-clause-judged
-returns-in-Ok-clause-judged c = λ j u.
-    answer_of j c.run.result (returns-in-Ok-clause-finds_tree c u) (returns-in-Ok-clause-finds_deep c u) (λ n i s. returns-in-Ok-clause-finds_syntax c u n i s)
+pub returns-clause-finds_not_utf8 : goal.returns-clause-finds_not_utf8
+returns-clause-finds_not_utf8 c = λ i v. absurd (ok_no_fault _ (NotUtf8 i) ((c.in_ok-scan_reserved.ensures.not_utf8 i).1 v))

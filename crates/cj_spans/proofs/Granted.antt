@@ -1,0 +1,43 @@
+-- What a scan answers to which room was granted, from what the scan in reserved room answers.
+use Rattle.std.proofs.Common.{◌≡◌, ℕ, List, inl, sym, ap, ◌∙◌, Ok, Err}
+use Rattle.std.specs.Prelude.{Result, IsOk}
+use Rattle.cj_spans.specs.declared.fault.ScanFault.{ScanFault}
+use Rattle.cj_spans.specs.declared.fault.LineFault.{LineFault}
+use Rattle.cj_spans.specs.declared.fault.LineFault.TheVariants.{NotUtf8, Syntax, TooDeep}
+use Rattle.cj_spans.specs.Judgement.{Judgement, spelled, broken, sunk, IsAnswerOf, IsReservedAnswerOf, widened_fault}
+
+one_fault : (f g : LineFault) → widened_fault f ≡ widened_fault g → f ≡ g
+one_fault (NotUtf8 i) (NotUtf8 j) h = cc
+one_fault (NotUtf8 i) (Syntax j) h = cc
+one_fault (NotUtf8 i) (TooDeep j) h = cc
+one_fault (Syntax i) (NotUtf8 j) h = cc
+one_fault (Syntax i) (Syntax j) h = cc
+one_fault (Syntax i) (TooDeep j) h = cc
+one_fault (TooDeep i) (NotUtf8 j) h = cc
+one_fault (TooDeep i) (Syntax j) h = cc
+one_fault (TooDeep i) (TooDeep j) h = cc
+
+err_same : (f g : ScanFault) → ◌≡◌ {A = Result (Unit {0}) ScanFault} (Err f) (Err g) → f ≡ g
+err_same f g h = cc
+
+line_err_same : (f g : LineFault) → ◌≡◌ {A = Result (Unit {0}) LineFault} (Err f) (Err g) → f ≡ g
+line_err_same f g h = cc
+
+no_ok : (f : LineFault) → IsOk {T = Unit {0}} (Err f) → ⊥
+no_ok f h = cc
+
+pub ok_no_fault : (v : Unit {0}) (f : LineFault) → ◌≡◌ {A = Result (Unit {0}) LineFault} (Ok v) (Err f) → ⊥
+ok_no_fault v f h = cc
+
+-- a fault of the line is answered as it is
+module _ (r : Result (Unit {0}) ScanFault) (f : LineFault) (e : r ≡ Err (widened_fault f)) where
+  pub fault_back : (g : LineFault) → r ≡ Err (widened_fault g) → ◌≡◌ {A = Result (Unit {0}) LineFault} (Err f) (Err g)
+  fault_back g h = ap Err (one_fault f g (err_same _ _ (sym e ∙ h)))
+
+  pub fault_on : (g : LineFault) → ◌≡◌ {A = Result (Unit {0}) LineFault} (Err f) (Err g) → r ≡ Err (widened_fault g)
+  fault_on g h = e ∙ ap (λ k. Err (widened_fault k)) (line_err_same f g h)
+
+  pub fault_judged : {b : List ℕ} {d : ℕ} (j : Judgement b d) → IsReservedAnswerOf j (Err f) → IsAnswerOf j r
+  fault_judged (spelled t j n) h = absurd (no_ok f h)
+  fault_judged (broken i s n) h = inl (fault_on (Syntax i) h)
+  fault_judged (sunk i s) h = inl (fault_on (TooDeep i) h)
