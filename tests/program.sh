@@ -529,7 +529,7 @@ row_a_full_standard_error() {
 # ---- memory that is refused
 
 row_less_memory_than_a_line_takes() {
-  long_line $limit | (ulimit -v 8000 && run filter)
+  long_line $limit | (ulimit -v 80000 && run filter) # room for the tokens of one line, and not of two
   lines "$header" | answered 5 'out of memory'
 }
 

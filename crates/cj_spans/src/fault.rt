@@ -19,7 +19,7 @@ pub enum ScanFault {
     /// The least place at which more containers are open than the limit allows.
     #[error("nested too deep at byte {0}")]
     TooDeep(u64),
-    /// No memory was granted.
+    /// No room for tokens or open containers was granted. Of the line nothing is said.
     #[error("out of memory")]
     Memory,
 }

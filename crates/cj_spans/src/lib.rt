@@ -3,8 +3,8 @@
 //! [`scan`] reads a line once. Where the line is a JSON text, it leaves one [`Token`] for each value
 //! and each member name, in the order in which they start; else it answers the place of the fault. It
 //! holds nothing but the two lists that it is given, a [`cj_budget::Bounded`] and a
-//! [`cj_budget::Stack`], so what it takes is bounded by the line's length and the depth limit. Where both
-//! have their room reserved, [`scan_reserved`] does the same, and is never refused memory.
+//! [`cj_budget::Stack`], so what it takes is bounded by their limits. It sees first that both have room for
+//! these, which alone may be refused, and then is [`scan_reserved`], which takes no memory.
 //! [`Reason`] is the list of all that a line can be refused for.
 //!
 //! [`Doc`] and [`Node`] view a line that was scanned: they read like its tree, and hold no more than
@@ -24,7 +24,7 @@
 //!         for (name, value) in root.members() {}
 //!     }
 //!     Err(ScanFault::Syntax(place)) => {}    // no JSON text begins with line[..=place]
-//!     Err(fault) => return Err(fault),
+//!     Err(fault) => return Err(fault),       // Memory: both lists are empty, and nothing is known of the line
 //! }
 //! ```
 #![tactic(auto)]

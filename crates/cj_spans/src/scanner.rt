@@ -9,6 +9,9 @@
 //! a line that is cut, a number that is whole at the end of the line but not before a letter. UTF-8 is judged
 //! first and of the whole line, so the grammar speaks of bytes.
 //!
+//! Memory is asked for before all of this, by `make_room` alone, and for what the limits allow. The pass pushes by
+//! the reserved forms, so what it calls has no answer for want of memory, and a path that is added must have none.
+//!
 //! Each token but the last has two bytes of its own or a container that is open. A token for anything else
 //! breaks `2 * tokens ≤ bytes + open + 1`, by which the lists are long enough.
 ghost use Rattle.std.specs.Prelude.{◌≡◌, ◌+◌, ◌*◌, ◌/◌, ◌^◌, ◌≤◌, ◌<◌, ◌↔◌, ◌⊎◌, [], length, List, ℕ, suc, OnOk, OnErr, IfOk, IsOk, IsErrOf, IsTrue, IsUtf8};

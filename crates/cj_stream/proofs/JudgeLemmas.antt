@@ -4,7 +4,7 @@ use Rattle.std.specs.Prelude.{IsUtf8}
 use Rattle.std.specs.Str.{IsValidUpTo}
 use Rattle.std.proofs.lemmas.List.{take_all}
 use Rattle.cj_spans.specs.declared.fault.ScanFault.{ScanFault}
-use Rattle.cj_spans.specs.declared.fault.ScanFault.TheVariants.{NotUtf8, Syntax, TooDeep}
+use Rattle.cj_spans.specs.declared.fault.ScanFault.TheVariants.{NotUtf8, Syntax, TooDeep, Memory}
 use Rattle.cj_spans.specs.declared.reason.Reason.TheVariants.{Syntax as SyntaxReason, TooDeep as TooDeepReason}
 use Rattle.cj_spans.specs.Tree.{Tree, size, nest}
 use Rattle.cj_spans.specs.Json.{Json}
@@ -58,3 +58,17 @@ syntax-text r k e i f = cc
 
 pub deep-text : (r : Result (Unit {0}) ScanFault) (k : ℕ) → r ≡ Err (TooDeep k) → (i : ℕ) → r ≡ Err (NotUtf8 i) → ⊥
 deep-text r k e i f = cc
+
+-- nor is it want of memory
+pub syntax-granted : (r : Result (Unit {0}) ScanFault) (k : ℕ) → r ≡ Err (Syntax k) → r ≡ Err Memory → ⊥
+syntax-granted r k e f = cc
+
+pub deep-granted : (r : Result (Unit {0}) ScanFault) (k : ℕ) → r ≡ Err (TooDeep k) → r ≡ Err Memory → ⊥
+deep-granted r k e f = cc
+
+-- and where all is well there is neither
+pub ok-text : (r : Result (Unit {0}) ScanFault) (x : Unit {0}) → r ≡ Ok x → (i : ℕ) → r ≡ Err (NotUtf8 i) → ⊥
+ok-text r x e i f = cc
+
+pub ok-granted : (r : Result (Unit {0}) ScanFault) (x : Unit {0}) → r ≡ Ok x → r ≡ Err Memory → ⊥
+ok-granted r x e f = cc

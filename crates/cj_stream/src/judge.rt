@@ -1,7 +1,8 @@
 //! What a line is as a text.
 //!
 //! `judge` knows the line's number and nothing of the header: what it tells holds beside any.
-ghost use Rattle.std.specs.Prelude.{◌≡◌, ◌≤◌, ◌+◌, ◌/◌, length, IfOk, OnErr};
+ghost use Rattle.std.specs.Prelude.{◌≡◌, ◌≤◌, ◌+◌, ◌/◌, length, IfOk, OnErr, IsUtf8};
+ghost use Rattle.std.specs.Str.{IsValidUpTo};
 ghost use Rattle.std.specs.List.{list_all};
 ghost use Rattle.cj_stream.specs.Verdict.{is_blank_byte, is_blank_line, WantsTokens};
 ghost use Rattle.cj_stream.specs.Judging.{Says, ShowsTree};
@@ -9,6 +10,7 @@ ghost use Rattle.cj_stream.specs.Scanning.{Judges};
 
 use cj_budget::{Bounded, NoMemory, Stack};
 use cj_spans::{Reason, ScanFault, Token, scan};
+use std::str::from_utf8;
 
 /// What the content of a line is as a text, before any rule is looked at.
 #[derive(Clone, Copy, Debug, PartialEq, Eq)]
@@ -37,6 +39,17 @@ fn is_blank(number: u64, content: &[u8]) -> bool
     number > 1 && is_all_blank(content)
 }
 
+/// Where a content stops being UTF-8, for whose tokens no room was granted. Nothing else is told of it.
+fn without_room(content: &[u8]) -> Result<u64, NoMemory>
+    ensures place { IfOk result (λ i. IsValidUpTo content.now i) }
+    ensures text { OnErr result (IsUtf8 content.now) }
+{
+    match from_utf8(content) {
+        Ok(_) => Err(NoMemory),
+        Err(error) => Ok(error.valid_up_to() as u64),
+    }
+}
+
 /// What a content is that is within the line limit, by the line's number. The lists take the tokens of
 /// one that is not blank.
 pub fn judge(
@@ -60,7 +73,7 @@ pub fn judge(
         Err(ScanFault::NotUtf8(place)) => (place, Reason::NotUtf8),
         Err(ScanFault::Syntax(place)) => (place, Reason::Syntax),
         Err(ScanFault::TooDeep(place)) => (place, Reason::TooDeep),
-        Err(ScanFault::Memory) => return Err(NoMemory),
+        Err(ScanFault::Memory) => (without_room(content)?, Reason::NotUtf8),
     };
     Ok(Content::Faulty { place, reason })
 }
