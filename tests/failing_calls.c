@@ -4,7 +4,7 @@
    CUT n         no read of it goes past the byte n: the stream comes in two pieces
    READ_FAILS n  the nth read of it fails, with the error READ_ERROR
    WRITE_SIZE n  a write of the standard output takes at most n bytes; with 0 it takes none
-   WRITE_FAILS n the nth write of it fails, with no room left; ERROR_FAILS n the same of the standard error
+   WRITE_FAILS n from the nth on the writes of it fail, with no room left; ERROR_FAILS n the same of the standard error
    COUNTED file  at the end the counts of reads, writes and writes of the standard error go there */
 #define _GNU_SOURCE
 #include <dlfcn.h>
@@ -55,10 +55,12 @@ ssize_t read(int from, void *into, size_t size) {
   return got;
 }
 
+static int fails(long count, long from) { return from >= 0 && count >= from; }
+
 ssize_t write(int to, const void *bytes, size_t size) {
   static ssize_t (*next)(int, const void *, size_t);
   if (!next) next = (ssize_t(*)(int, const void *, size_t))dlsym(RTLD_NEXT, "write");
-  if ((to == STDOUT_FILENO && ++writes == write_fails) || (to == STDERR_FILENO && ++errors == error_fails)) {
+  if ((to == STDOUT_FILENO && fails(++writes, write_fails)) || (to == STDERR_FILENO && fails(++errors, error_fails))) {
     errno = ENOSPC;
     return -1;
   }

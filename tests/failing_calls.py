@@ -8,11 +8,11 @@ was written until then is a front of the output. A standard error that fails cha
 bytes and in two at each place, its answer is the same. It needs a C compiler, for the calls that fail, and takes a minute or two on
 four cores. The last line is 'N passed, M failed', and the status is 0 where all passed."""
 import errno
+import multiprocessing
 import os
 import subprocess
 import sys
 import tempfile
-from concurrent.futures import ThreadPoolExecutor
 
 TOP = os.path.dirname(os.path.dirname(os.path.abspath(__file__)))
 sys.path.insert(0, os.path.join(TOP, "vectors"))
@@ -65,12 +65,12 @@ def report_trials(calls, row):
 
 
 def read_trials(calls, words, text, wanted):
-    """Each read fails in turn, or is interrupted, where reads give 50 bytes."""
-    reads = calls.count(words, text, READ_SIZE=50)[0]
+    """Each read fails in turn, or is interrupted, where reads give 7 bytes."""
+    reads = calls.count(words, text, READ_SIZE=7)[0]
     for number in range(1, reads + 1):
         for error in (errno.EIO, errno.EINTR):
             def is_right(number=number, error=error):
-                written, said, status = calls.run(words, text, READ_SIZE=50, READ_FAILS=number, READ_ERROR=error)
+                written, said, status = calls.run(words, text, READ_SIZE=7, READ_FAILS=number, READ_ERROR=error)
                 return wanted.startswith(written) and (said, status) == (b"read fault\n", READ_FAULT)
             yield f"{words} read {number} error {error}", is_right
 
@@ -91,11 +91,9 @@ def error_trials(calls, words, text, **asked):
     yield f"{words} {asked} error", lambda: calls.run(words, text, ERROR_FAILS=1, **asked) == (written, b"", status)
 
 
-def failing_trials(calls):
-    """The calls of each command that fail, over the program's sample stream and an invalid one."""
-    sample = os.path.join(TOP, "crates", "cityseq", "stdin")
-    with open(sample, "rb") as stream:
-        text = stream.read()
+def failing_trials(calls, rows_by_name):
+    """The calls of each command that fail, over a small stream."""
+    text = rows_by_name["blank-and-no-last-lf"]["text"]
     for words in (["check"], ["filter"], ["filter", "--bbox", "1,2,3,4"], ["info"]):
         wanted = run([calls.program, *words], text)[0]
         yield from read_trials(calls, words, text, wanted)
@@ -106,23 +104,28 @@ def failing_trials(calls):
     yield from error_trials(calls, ["filter", "--bbox", "1"], text)
 
 
-def passes(trial):
-    name, is_right = trial
+# What is to be tried: each with its name, and a function that tells whether it comes out right. Workers have them by a fork.
+TRIALS = []
+
+
+def passes(number):
+    name, is_right = TRIALS[number]
     right = is_right()
     if not right:
-        print(f"failed: {name}")
+        print(f"failed: {name}", flush=True)
     return right
 
 
 def main(program):
-    with tempfile.TemporaryDirectory() as scratch, ThreadPoolExecutor(os.cpu_count()) as pool:
-        calls = Calls(program, scratch)
-        trials = list(failing_trials(calls))
-        for row in rows():
-            trials += [*cut_trials(calls, row), *report_trials(calls, row)]
-        passed = sum(pool.map(passes, trials))
-    print(f"{passed} passed, {len(trials) - passed} failed")
-    return int(passed < len(trials))
+    with tempfile.TemporaryDirectory() as scratch:
+        calls, table = Calls(program, scratch), {row["name"]: row for row in rows()}
+        TRIALS.extend(failing_trials(calls, table))
+        for row in table.values():
+            TRIALS.extend([*cut_trials(calls, row), *report_trials(calls, row)])
+        with multiprocessing.get_context("fork").Pool() as pool:
+            passed = sum(pool.imap_unordered(passes, range(len(TRIALS)), chunksize=64))
+    print(f"{passed} passed, {len(TRIALS) - passed} failed")
+    return int(passed < len(TRIALS))
 
 
 if __name__ == "__main__":

@@ -379,6 +379,13 @@ alike_more p q n m s h k a =
     let x = s.within in let y = s.within_other in
     record { within = omega arith; within_other = omega arith; alike = alike_on p.bytes.now p.place q.bytes.now q.place n m s.alike a }
 
+pub alike_one_more : (p q : CodePoints) (n : ℕ) → StartAlike p q n → n < length p.bytes.now - p.place → n < length q.bytes.now - q.place → get_or p.bytes.now (p.place + n) 0 ≡ get_or q.bytes.now (q.place + n) 0 → get_or p.bytes.now (p.place + n) 0 < 128 → nat_eq (get_or p.bytes.now (p.place + n) 0) 92 ≡ false → StartAlike p q (n + 1)
+alike_one_more p q n s h k same low other = alike_more p q n 1 s (omega arith) (omega arith) (λ i l.
+    let z : i ≡ 0 = omega arith in
+    let x : p.place + n + i ≡ p.place + n = omega arith in
+    let y : q.place + n + i ≡ q.place + n = omega arith in
+    (ap (λ v. get_or p.bytes.now v 0) x ∙ same ∙ ap (λ v. get_or q.bytes.now v 0) (sym y), subst (λ v. get_or p.bytes.now v 0 < 128) (sym x) low, ap (λ v. nat_eq (get_or p.bytes.now v 0) 92) x ∙ other))
+
 -- the code points that they share
 pub shared_front : (n : ℕ) (bs : List ℕ) (i : ℕ) (ds : List ℕ) (j : ℕ) → n ≤ length bs - i → n ≤ length ds - j → AreAlike bs i ds j n → (f : List ℕ) × (code_points_from bs i ≡ f ++ code_points_from bs (i + n)) × (code_points_from ds j ≡ f ++ code_points_from ds (j + n))
 shared_front zero bs i ds j h k a = ([], ap (code_points_from bs) (omega arith), ap (code_points_from ds) (omega arith))

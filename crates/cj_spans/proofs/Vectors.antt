@@ -178,10 +178,10 @@ all_alike m b i o j few room there e k l =
     let c : length w ≡ m = length-chunk j m o there in
     let long : length (lanes m v w) ≡ m = length_lanes m v w a c in
     let marks : mask_l (map (λ y. ltb 127 y) (lanes m v w)) ≡ 0 =
-      sym (mask_l-mod (map (λ y. ltb 127 y) (lanes m v w)) 64 (omega (arith, length-map (lanes m v w) (λ y. ltb 127 y))))
-      ∙ ap (λ ms. mask_l ms % 2 ^ 64) (sym (tops_compared w8 ltb (replicate m 127) (lanes m v w) ∙ zip2_splat_left ltb 127 m (lanes m v w) long))
-      ∙ ap (λ u. mask_l (map (top 7) (zip2 (λ x y. cond (ltb x y) 255 0) (replicate m 127) u)) % 2 ^ 64) (sym (shared_is m v w a))
-      ∙ e in
+    sym (mask_l-mod (map (λ y. ltb 127 y) (lanes m v w)) 64 (omega (arith, length-map (lanes m v w) (λ y. ltb 127 y))))
+    ∙ ap (λ ms. mask_l ms % 2 ^ 64) (sym (tops_compared w8 ltb (replicate m 127) (lanes m v w) ∙ zip2_splat_left ltb 127 m (lanes m v w) long))
+    ∙ ap (λ u. mask_l (map (top 7) (zip2 (λ x y. cond (ltb x y) 255 0) (replicate m 127) u)) % 2 ^ 64) (sym (shared_is m v w a))
+    ∙ e in
     let s = lanes_shared m v w a c marks k l in
     let x : get_or v k 0 ≡ get_or b (i + k) 0 = get_or-chunk i m b k 0 l in
     let y : get_or w k 0 ≡ get_or o (j + k) 0 = get_or-chunk j m o k 0 l in

@@ -451,6 +451,17 @@ fn bytes_left(points: CodePoints) -> usize
     points.bytes.len().saturating_sub(points.place)
 }
 
+/// Whether two bytes are one that stands for itself.
+#[tactic(auto, using(std::proofs::lemmas::Bool::Decides::nat_tests))]
+#[inline(always)]
+fn is_alike(first: u8, second: u8) -> bool
+    ensures same { result ≡ true → first ≡ second }
+    ensures ascii { result ≡ true → first < 128 }
+    ensures plain { result ≡ true → nat_eq first 92 ≡ false }
+{
+    first == second && first < 128 && first != b'\\'
+}
+
 /// How many bytes of two strings are found alike from here on, by 16 and by 8.
 #[tactic(auto, using(crate::proofs::Texts::alike_none, crate::proofs::Texts::alike_more))]
 fn count_alike(left: CodePoints, right: CodePoints) -> usize
@@ -459,20 +470,64 @@ fn count_alike(left: CodePoints, right: CodePoints) -> usize
     let room = bytes_left(left).min(bytes_left(right));
     let mut count = 0;
     while room - count >= LANES
-        && are_alike(left.bytes, left.place + count, right.bytes, right.place + count)
+        && are_alike(
+            left.bytes,
+            left.place + count,
+            right.bytes,
+            right.place + count,
+        )
     {
         count += LANES;
     }
     if room - count >= FEW_LANES
-        && are_few_alike(left.bytes, left.place + count, right.bytes, right.place + count)
+        && are_few_alike(
+            left.bytes,
+            left.place + count,
+            right.bytes,
+            right.place + count,
+        )
     {
         count += FEW_LANES;
     }
     count
 }
 
-/// Passes over the code points that two strings are found to share from here on.
+/// How many bytes of two strings are alike from here on, of which so many are known to be.
+#[tactic(auto, using(crate::proofs::Texts::alike_one_more))]
+#[inline(always)]
+fn count_alike_on(left: CodePoints, right: CodePoints, known: usize) -> usize
+    requires { StartAlike left right known }
+    ensures { StartAlike left.entry right.entry result }
+{
+    let room = bytes_left(left).min(bytes_left(right));
+    let mut count = known;
+    while count < room
+        && is_alike(
+            left.bytes[left.place + count],
+            right.bytes[right.place + count],
+        )
+    {
+        count += 1;
+    }
+    count
+}
+
+/// Passes over the code points that two strings share from here on, as far as these stand for themselves.
 #[tactic(auto, using(crate::proofs::Texts::same_passed, crate::proofs::Texts::order_passed, crate::proofs::Texts::fewer_left))]
+#[inline(never)]
+fn pass_many(left: &mut CodePoints, right: &mut CodePoints)
+    ensures same { are_same (code_points_left left.new) (code_points_left right.new)
+        ≡ are_same (code_points_left left.old) (code_points_left right.old) }
+    ensures order { compare (code_points_left left.new) (code_points_left right.new)
+        ≡ compare (code_points_left left.old) (code_points_left right.old) }
+    ensures fewer { length (code_points_left left.new) ≤ length (code_points_left left.old) }
+{
+    let count = count_alike_on(*left, *right, count_alike(*left, *right));
+    left.place += count;
+    right.place += count;
+}
+
+/// Passes over code points that two strings share from here on, where there may be many.
 #[inline(always)]
 fn pass_alike(left: &mut CodePoints, right: &mut CodePoints)
     ensures same { are_same (code_points_left left.new) (code_points_left right.new)
@@ -481,9 +536,9 @@ fn pass_alike(left: &mut CodePoints, right: &mut CodePoints)
         ≡ compare (code_points_left left.old) (code_points_left right.old) }
     ensures fewer { length (code_points_left left.new) ≤ length (code_points_left left.old) }
 {
-    let count = count_alike(*left, *right);
-    left.place += count;
-    right.place += count;
+    if bytes_left(*left) >= FEW_LANES && bytes_left(*right) >= FEW_LANES {
+        pass_many(left, right);
+    }
 }
 
 /// Whether two strings have one text, by code points: for what is spelled by escapes or is not ASCII.
