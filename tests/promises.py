@@ -4,7 +4,7 @@
     tests/promises.py
 
 Of docs/PROMISES.md: each function that the second column of a table names; each clause that it names of a function, as
-`function`/clause or `function`: clause; each definition, part of a definition and file. Prose is passed over, but each
+`function`/clause or `function`: clause; each definition, part of a definition, edit and file. Prose is passed over, but each
 name between backticks has to be the name of something. Of docs/REASONS.md: each code with its name and its text, and
 each function of the last table. A name that is not there is printed. The last line is 'N passed, M failed', over the
 names, and the status is 0 where none failed.
@@ -35,6 +35,8 @@ class Code:
         for folder in 'specs', 'proofs':
             for path in sorted(ROOT.glob(f'crates/*/{folder}/**/*.antt')):
                 self.read_definitions(path)
+        for folder in 'must-fail', 'wrong-bodies':
+            self.names.update(path.stem for path in ROOT.glob(f'crates/*/{folder}/*.edit'))
         for lists in self.functions, self.types:
             self.names.update(lists, *(clauses for each in lists.values() for clauses in each))
         self.names.update(*self.fields.values())

@@ -7,39 +7,9 @@ peaks where a stream is complete and nothing is asked. The last line is 'N passe
 With `peer` another checker's command is run, which has the stream on its standard input and ends with status 0 exactly where it
 takes it for valid. It says where that differs from these vectors, those aside that ask for limits of their own or have a query,
 and always ends with status 0: what another checker means by valid may well be something else."""
-import os
-import subprocess
 import sys
 
-HERE = os.path.dirname(os.path.abspath(__file__))
-COLUMNS = ("name", "line limit", "depth", "query", "answer", "lines", "written", "peaks")
-
-
-def rows():
-    """The rows of the table, each with the bytes of its stream."""
-    with open(os.path.join(HERE, "table.tsv"), encoding="utf-8") as table:
-        names, *lines = [line.rstrip("\n").split("\t") for line in table]
-    assert tuple(names) == COLUMNS, names
-    for line in lines:
-        row = dict(zip(COLUMNS, line))
-        with open(os.path.join(HERE, row["name"] + ".jsonl"), "rb") as stream:
-            row["text"] = stream.read()
-        yield row
-
-
-def run(command, text):
-    """What a command writes, says and answers on a stream."""
-    ran = subprocess.run(command, input=text, capture_output=True, timeout=60)
-    return ran.stdout, ran.stderr, ran.returncode
-
-
-def wanted_of(row):
-    """What `filter` has to write, to say and to answer."""
-    *ended, last = row["text"].split(b"\n")
-    lines = [line + b"\n" for line in ended] + [last]
-    kept = [] if row["written"] == "-" else [int(number) for number in row["written"].split(",")]
-    complete = row["answer"] == "complete"
-    return b"".join(lines[number - 1] for number in kept), b"" if complete else row["answer"].encode() + b"\n", int(not complete)
+from table import rows, run, wanted_of
 
 
 def differences(program, row):

@@ -21,7 +21,7 @@ use Rattle.cj_spans.specs.Parts.{text_of}
 use Rattle.cj_spans.specs.Order.{compare_texts, word_of}
 use Rattle.cj_spans.proofs.Words.{less_by_words}
 use Rattle.cj_geometry.specs.Names.{compare_names, is_earlier, Ascend}
-use Rattle.cj_geometry.specs.Entries.{name_in, names_in, IsWorded, compare_entries, AreLeast}
+use Rattle.cj_geometry.specs.Entries.{name_in, names_in, word_in, IsWorded, compare_entries, AreLeast}
 use Rattle.cj_geometry.specs.declared.rule.order.Entry.{Entry}
 use Rattle.cj_geometry.proofs.Ordered.{order}
 
@@ -53,7 +53,7 @@ words_first t u v w e f =
     ]
 
 pub entries_as_names : (s : Source) (d e : Entry) → IsWorded s d → IsWorded s e → compare_entries s d e ≡ compare_names (name_in s d) (name_in s e)
-entries_as_names s d e h k = words_first (name_in s d) (name_in s e) d.word e.word h k
+entries_as_names s d e h k = words_first (name_in s d) (name_in s e) (word_in d) (word_in e) h k
 
 pub less_as_earlier : (s : Source) (d e : Entry) → IsWorded s d → IsWorded s e → is_lt (compare_entries s d e) ≡ is_earlier (name_in s d) (name_in s e)
 less_as_earlier s d e h k = ap is_lt (entries_as_names s d e h k)
@@ -61,7 +61,7 @@ less_as_earlier s d e h k = ap is_lt (entries_as_names s d e h k)
 -- ---- one order of all entries
 
 pub entries_order : (s : Source) → IsTotalOrder (compare_entries s)
-entries_order s = then_total (on_total (λ (e : Entry). e.word) nat_cmp_total) (on_total (name_in s) order)
+entries_order s = then_total (on_total word_in nat_cmp_total) (on_total (name_in s) order)
 
 -- entries that are sorted by it have names in order
 each_later : (s : Source) (e : Entry) (es : List Entry) → IsWorded s e → All (IsWorded s) es → ((k : ℕ) (d : Entry) → k < length es → is_lt (compare_entries s (get_or es k d) e) ≡ false) → All (λ u. is_earlier u (name_in s e) ≡ false) (names_in s es)

@@ -1,5 +1,5 @@
 -- What is kept of a list at even steps.
-use Rattle.std.proofs.Common.{◌≡◌, ℕ, zero, suc, ◌+◌, ◌-◌, ◌*◌, ◌/◌, ◌%◌, ◌<◌, ◌≤◌, List, [], ◌∷◌, ◌++◌, length, take, drop, get_or, slice_get, inl, inr, refl, sym, ap, subst, arith, ◌∙◌, length-append}
+use Rattle.std.proofs.Common.{◌≡◌, ℕ, zero, suc, ◌+◌, ◌-◌, ◌*◌, ◌/◌, ◌%◌, ◌<◌, ◌≤◌, List, [], ◌∷◌, ◌++◌, length, take, drop, get_or, slice_get, inl, inr, refl, sym, ap, subst, arith, ◌∙◌, length-append, mul-zero}
 use Rattle.std.proofs.Math.ListN.{set}
 use Rattle.std.proofs.lemmas.Bool.{cases_lt}
 use Rattle.std.proofs.lemmas.List.{get_or-set_same, get_or-set_other, take-append-drop, length-set}
@@ -8,9 +8,9 @@ use Rattle.cj_spans.specs.Tree.{Tree, size, total_size}
 use Rattle.cj_geometry.specs.ListSteps.{AreSizesAt}
 
 -- of a walk over a list: what is left, and what was noted before it
-pub record IsNoted (step : ℕ) (ts left : List Tree) (sizes : List ℕ) (place until sum : ℕ) : Type 0 where
-  pub room : length sizes ≡ 64
-  pub below : length ts < 64 * step
+pub record IsNoted (places step : ℕ) (ts left : List Tree) (sizes : List ℕ) (place until sum : ℕ) : Type 0 where
+  pub room : length sizes ≡ places
+  pub below : length ts < places * step
   pub small : total_size ts < 2147483648
   pub few : length left ≤ length ts
   pub rest : left ≡ drop (length ts - length left) ts
@@ -28,8 +28,8 @@ passed_is n ts left passed e h =
     let whole = ap total_size (take-append-drop n ts) in let parts = total_size-append (take n ts) (drop n ts) in let same = ap total_size e in omega arith
 
 -- before the walk
-pub begins : (step : ℕ) (ts left : List Tree) (sizes : List ℕ) → length sizes ≡ 64 → length ts < 64 * step → left ≡ ts → total_size left < 2147483648 → IsNoted step ts left sizes 0 0 0
-begins step ts left sizes room below same small =
+pub begins : (places step : ℕ) (ts left : List Tree) (sizes : List ℕ) → length sizes ≡ places → length ts < places * step → left ≡ ts → total_size left < 2147483648 → IsNoted places step ts left sizes 0 0 0
+begins places step ts left sizes room below same small =
     let count = ap length same in let sum = ap total_size same in
     let none : 0 ≡ length ts - length left = omega arith in
     record {
@@ -44,15 +44,15 @@ begins step ts left sizes room below same small =
     }
 
 -- a step is due: there is a place for it
-pub has_place : (step : ℕ) (ts left : List Tree) (t : Tree) (rest : List Tree) (sizes : List ℕ) (place until passed : ℕ) → IsNoted step ts left sizes place until passed → left ≡ t ∷ rest → until ≡ 0 → place < 64
-has_place step ts left t rest sizes place until passed w e z =
+pub has_place : (places step : ℕ) (ts left : List Tree) (t : Tree) (rest : List Tree) (sizes : List ℕ) (place until passed : ℕ) → IsNoted places step ts left sizes place until passed → left ≡ t ∷ rest → until ≡ 0 → place < places
+has_place places step ts left t rest sizes place until passed w e z =
     let more = ap length e in let at = w.next in let below = w.below in let few = w.few in
-    elim (cases_lt place 64) [ inl l ↦ l | inr g ↦ let high = mul-le 64 step place step g (omega arith) in absurd (omega arith) ]
+    elim (cases_lt place places) [ inl l ↦ l | inr g ↦ let high = mul-le places step place step g (omega arith) in absurd (omega arith) ]
 
 -- it is noted
-pub noted_one : (step : ℕ) (ts left : List Tree) (t : Tree) (rest : List Tree) (sizes : List ℕ) (place until passed : ℕ) → IsNoted step ts left sizes place until passed → left ≡ t ∷ rest → until ≡ 0 → IsNoted step ts left (set sizes place passed) (place + 1) step passed
-noted_one step ts left t rest sizes place until passed w e z =
-    let in_room = has_place step ts left t rest sizes place until passed w e z in
+pub noted_one : (places step : ℕ) (ts left : List Tree) (t : Tree) (rest : List Tree) (sizes : List ℕ) (place until passed : ℕ) → IsNoted places step ts left sizes place until passed → left ≡ t ∷ rest → until ≡ 0 → IsNoted places step ts left (set sizes place passed) (place + 1) step passed
+noted_one places step ts left t rest sizes place until passed w e z =
+    let in_room = has_place places step ts left t rest sizes place until passed w e z in
     let long = w.room in
     let at : place * step ≡ length ts - length left = (let n = w.next in omega arith) in
     record {
@@ -78,8 +78,8 @@ rest_of (suc n) [] t rest h = cc
 rest_of (suc n) (u ∷ ts) t rest h = rest_of n ts t rest h
 
 -- an item is passed
-pub passes : (step : ℕ) (ts left : List Tree) (t : Tree) (rest : List Tree) (sizes : List ℕ) (place until passed : ℕ) → IsNoted step ts left sizes place until passed → left ≡ t ∷ rest → 0 < until → IsNoted step ts rest sizes place (until - 1) (passed + size t)
-passes step ts left t rest sizes place until passed w e more =
+pub passes : (places step : ℕ) (ts left : List Tree) (t : Tree) (rest : List Tree) (sizes : List ℕ) (place until passed : ℕ) → IsNoted places step ts left sizes place until passed → left ≡ t ∷ rest → 0 < until → IsNoted places step ts rest sizes place (until - 1) (passed + size t)
+passes places step ts left t rest sizes place until passed w e more =
     let count = ap length e in let sum = ap total_size e in let few = w.few in let sums = w.passed in let n = w.next in
     let one : suc (length ts - length left) ≡ length ts - length rest = omega arith in
     record {
@@ -93,31 +93,38 @@ passes step ts left t rest sizes place until passed w e more =
       noted = w.noted;
     }
 
+steps_some : (places step n : ℕ) → n < places * step → 0 < step
+steps_some places zero n h = absurd (omega (arith, mul-zero places))
+steps_some places (suc step) n h = omega arith
+
 -- both ways of a turn
-pub on_then : (step : ℕ) (ts left : List Tree) (t : Tree) (rest : List Tree) (sizes sizes' : List ℕ) (place place' until until' sum own : ℕ) → IsNoted step ts left sizes place until sum → left ≡ t ∷ rest → until ≡ 0
-    → sizes' ≡ set sizes place sum → place' ≡ place + 1 → until' ≡ step → own ≡ size t → IsNoted step ts rest sizes' place' (until' - 1) (sum + own)
-on_then step ts left t rest sizes sizes' place place' until until' sum own w e z s p u o =
-    let low = w.below in
-    let noted = passes step ts left t rest (set sizes place sum) (place + 1) step sum (noted_one step ts left t rest sizes place until sum w e z) e (omega arith) in
+pub on_then : (places step : ℕ) (ts left : List Tree) (t : Tree) (rest : List Tree) (sizes sizes' : List ℕ) (place place' until until' sum own : ℕ) → IsNoted places step ts left sizes place until sum → left ≡ t ∷ rest → until ≡ 0
+    → sizes' ≡ set sizes place sum → place' ≡ place + 1 → until' ≡ step → own ≡ size t → IsNoted places step ts rest sizes' place' (until' - 1) (sum + own)
+on_then places step ts left t rest sizes sizes' place place' until until' sum own w e z s p u o =
+    let low = steps_some places step (length ts) w.below in
+    let noted = passes places step ts left t rest (set sizes place sum) (place + 1) step sum (noted_one places step ts left t rest sizes place until sum w e z) e (omega arith) in
     rw (s, p, u, o) noted
 
-pub on_else : (step : ℕ) (ts left : List Tree) (t : Tree) (rest : List Tree) (sizes sizes' : List ℕ) (place place' until until' sum own : ℕ) → IsNoted step ts left sizes place until sum → left ≡ t ∷ rest → (until ≡ 0 → ⊥)
-    → sizes' ≡ sizes → place' ≡ place → until' ≡ until → own ≡ size t → IsNoted step ts rest sizes' place' (until' - 1) (sum + own)
-on_else step ts left t rest sizes sizes' place place' until until' sum own w e z s p u o =
-    let noted = passes step ts left t rest sizes place until sum w e (omega arith) in
+pub on_else : (places step : ℕ) (ts left : List Tree) (t : Tree) (rest : List Tree) (sizes sizes' : List ℕ) (place place' until until' sum own : ℕ) → IsNoted places step ts left sizes place until sum → left ≡ t ∷ rest → (until ≡ 0 → ⊥)
+    → sizes' ≡ sizes → place' ≡ place → until' ≡ until → own ≡ size t → IsNoted places step ts rest sizes' place' (until' - 1) (sum + own)
+on_else places step ts left t rest sizes sizes' place place' until until' sum own w e z s p u o =
+    let noted = passes places step ts left t rest sizes place until sum w e (omega arith) in
     rw (s, p, u, o) noted
 
 -- at the end all steps are noted
-pub all_noted : (step : ℕ) (ts left : List Tree) (sizes : List ℕ) (place until passed : ℕ) → IsNoted step ts left sizes place until passed → left ≡ [] → AreSizesAt step ts sizes
-all_noted step ts left sizes place until passed w e = λ n h.
+pub all_noted : (places step : ℕ) (ts left : List Tree) (sizes : List ℕ) (place until passed : ℕ) → IsNoted places step ts left sizes place until passed → left ≡ [] → AreSizesAt step ts sizes
+all_noted places step ts left sizes place until passed w e = λ n h.
     let none = ap length e in let at = w.next in
     w.noted n (elim (cases_lt n place) [ inl l ↦ l | inr g ↦ let high = mul-le place step n step g (omega arith) in absurd (omega arith) ])
 
 -- ---- an item by its number
 
--- a step's place, and what is left behind it
+-- the place of a step, and of a finer one
 pub step_of : (count number : ℕ) → number < count → number / (count / 64 + 1) < 64
 step_of count number h = div_below number (count / 64 + 1) 64 (omega arith) (omega arith)
+
+pub finer_step_of : (count number : ℕ) → number < count → number / (count / 1024 + 1) < 1024
+finer_step_of count number h = div_below number (count / 1024 + 1) 1024 (omega arith) (omega arith)
 
 item_dropped : (n m : ℕ) (ts : List Tree) → slice_get (drop n ts) m ≡ slice_get ts (n + m)
 item_dropped zero m ts = ap (slice_get ts) (omega arith)
@@ -125,12 +132,10 @@ item_dropped (suc n) m [] = refl
 item_dropped (suc n) m (t ∷ ts) = let on : suc (n + m) ≡ suc n + m = omega arith in item_dropped n m ts ∙ ap (slice_get (t ∷ ts)) on
 
 -- the item of a number is so far behind the step before it
-pub found_item : (ts left : List Tree) (sizes : List ℕ) (count number size : ℕ) → count ≡ length ts → AreSizesAt (length ts / 64 + 1) ts sizes → number < count → size ≡ get_or sizes (number / (count / 64 + 1)) 0
-    → ((k : ℕ) → k ≤ length ts → total_size (take k ts) ≡ size → left ≡ drop k ts) → slice_get left (number % (count / 64 + 1)) ≡ slice_get ts number
-found_item ts left sizes count number size e known h s finds =
-    let step = count / 64 + 1 in
+pub found_item : (ts left : List Tree) (sizes : List ℕ) (step number size : ℕ) → AreSizesAt step ts sizes → number < length ts → size ≡ get_or sizes (number / step) 0
+    → ((k : ℕ) → k ≤ length ts → total_size (take k ts) ≡ size → left ≡ drop k ts) → slice_get left (number % step) ≡ slice_get ts number
+found_item ts left sizes step number size noted h s finds =
     let n = number / step in
-    let noted : AreSizesAt step ts sizes = subst (λ m. AreSizesAt (m / 64 + 1) ts sizes) (sym e) known in
     let whole : n * step + number % step ≡ number = div-add-mod' number step in
     let low : n * step < length ts = omega arith in
     let rest = finds (n * step) (omega arith) (sym (noted n low) ∙ sym s) in

@@ -1,5 +1,5 @@
 -- Entries of names: what each stands for, and how they are ordered.
-use Rattle.std.specs.Prelude.{◌≡◌, ◌⊎◌, List, [], ◌∷◌, ◌++◌, map, false, Option, Some, option_map, All, Contains, true}
+use Rattle.std.specs.Prelude.{◌≡◌, ◌⊎◌, ◌+◌, ◌*◌, ℕ, List, [], ◌∷◌, ◌++◌, map, false, Option, Some, option_map, All, Contains, true}
 use Rattle.std.specs.List.Sorted.{IsPermutation}
 use Rattle.std.specs.declared.cmp.Ordering.{Ordering}
 use Rattle.std.specs.Ordering.{ordering_then, nat_cmp, is_lt}
@@ -22,13 +22,17 @@ names_in s es = map (name_in s) es
 abbrev pub limit_in : Source → Option Entry → Option Tree
 limit_in s o = option_map (name_in s) o
 
--- its word is that of the name's text
+-- the word that an entry keeps in two halves
+abbrev pub word_in : Entry → ℕ
+word_in e = e.upper * 4294967296 + e.lower
+
+-- it is that of the name's text
 abbrev pub IsWorded : Source → Entry → Type 0
-IsWorded s e = e.word ≡ word_of (text_of (name_in s e))
+IsWorded s e = word_in e ≡ word_of (text_of (name_in s e))
 
 -- how two entries are ordered: by their words, and then by their names
 abbrev pub compare_entries : Source → Entry → Entry → Ordering
-compare_entries s d e = ordering_then (nat_cmp d.word e.word) (compare_names (name_in s d) (name_in s e))
+compare_entries s d e = ordering_then (nat_cmp (word_in d) (word_in e)) (compare_names (name_in s d) (name_in s e))
 
 -- the front has the least of all entries, up to the next one: none of the front is greater, and none of the others is less
 pub record AreLeast (s : Source) (all front : List Entry) (next : Entry) : Type 0 where

@@ -1,6 +1,7 @@
 -- What is kept of a list at even steps.
 use Rattle.std.specs.Prelude.{◌≡◌, ℕ, ◌+◌, ◌*◌, ◌/◌, ◌<◌, List, length, take, get_or}
 use Rattle.cj_spans.specs.Tree.{Tree, total_size}
+use Rattle.cj_geometry.specs.declared.steps.FinerSteps.{FinerSteps}
 use Rattle.cj_geometry.specs.declared.steps.Steps.{Steps}
 
 -- how many values and names stand before each item whose number is a multiple of the step
@@ -11,3 +12,8 @@ AreSizesAt step ts sizes = (n : ℕ) → n * step < length ts → get_or sizes n
 pub record AreStepsOf (ts : List Tree) (s : Steps) : Type 0 where
   pub count : s.count ≡ length ts
   pub sizes : AreSizesAt (length ts / 64 + 1) ts s.sizes
+
+-- its finer steps: the same at 1,024 places or fewer
+pub record AreFinerStepsOf (ts : List Tree) (s : FinerSteps) : Type 0 where
+  pub count : s.count ≡ length ts
+  pub sizes : AreSizesAt (length ts / 1024 + 1) ts s.sizes

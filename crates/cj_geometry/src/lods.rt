@@ -1,25 +1,29 @@
 //! Levels of detail of many geometries, one after another (CityJSON 2.0, section 3.1).
 //!
-//! An instance names its template by a number, and the list's steps find it ([`Steps`]). A template may have many members
-//! before its level of detail, so the last answers are kept.
+//! An instance names its template by a number, and the list's steps find it ([`Steps`]), or finer ones where many templates
+//! are looked for. A template may have many members before its level of detail, so the last answers are kept.
 ghost use Rattle.std.specs.Prelude.{◌≡◌, ◌<◌, ℕ, Some, IfSome, codes, option_and_then, option_map, slice_get, slice_set};
+ghost use Rattle.std.specs.Option.{ForSome};
 ghost use Rattle.std.specs.Str.{chars};
 ghost use Rattle.cj_spans.specs.Parts.{items_of, member_of};
 ghost use Rattle.cj_spans.specs.View.{tree};
 ghost use Rattle.cj_geometry.specs.Geometry.{list_of, parts_of};
 ghost use Rattle.cj_geometry.specs.Given.{given};
 ghost use Rattle.cj_geometry.specs.Answers.{AreAnswersIn};
-ghost use Rattle.cj_geometry.specs.ListSteps.{AreStepsOf};
+ghost use Rattle.cj_geometry.specs.ListSteps.{AreStepsOf, AreFinerStepsOf};
 ghost use Rattle.cj_geometry.specs.TreeSet.{options-set};
 
 use crate::lod::is_an_instance;
 use crate::rule::read_whole;
-use crate::steps::Steps;
+use crate::steps::{FinerSteps, Steps};
 use crate::templates::Templates;
 use cj_spans::Node;
 
 /// How many answers are kept.
 const ANSWERS: usize = 64;
+
+/// The search for a template of this number, from 1, pays for finer steps.
+const MANY: usize = 64;
 
 /// An answer: the level of detail of the template of this number.
 #[derive(Clone, Copy)]
@@ -64,9 +68,12 @@ fn with_answer<'a>(
 pub struct Lods<'a> {
     templates: Templates<'a>,
     steps: Steps,
+    searches: usize,
+    finer: Option<FinerSteps>,
     answers: [Option<Answer<'a>>; ANSWERS],
     oldest: usize,
     ghost stepped: { AreStepsOf (parts_of (list_of (given templates))) steps },
+    ghost stepped_finer: { ForSome finer (AreFinerStepsOf (parts_of (list_of (given templates)))) },
     ghost answered: { AreAnswersIn (parts_of (list_of (given templates))) answers } by { options-set _ _ },
 }
 
@@ -81,6 +88,8 @@ impl<'a> Lods<'a> {
         Lods {
             templates,
             steps: templates.steps(),
+            searches: 0,
+            finer: None,
             answers: [None; ANSWERS],
             oldest: 0,
         }
@@ -143,14 +152,40 @@ impl<'a> Lods<'a> {
 
     /// The same, looked for in the list.
     #[inline(never)]
-    fn lod_found(&self, list: Node<'a>, number: u64) -> Option<Node<'a>>
-        requires { Some (tree list) ≡ list_of (given_to self.now) }
-        ensures { option_map tree result
+    fn lod_found(&mut self, list: Node<'a>, number: u64) -> Option<Node<'a>>
+        requires { Some (tree list) ≡ list_of (given_to self.old) }
+        ensures lod { option_map tree result
             ≡ option_and_then (member_of (chars (codes "lod"))) (slice_get (items_of (tree list.entry)) number) }
+        ensures same { given_to self.new ≡ given_to self.old }
     {
-        match self.steps.item(list, number) {
+        self.count_search(list);
+        match self.template(list, number) {
             Some(template) => template.get("lod"),
             None => None,
+        }
+    }
+
+    /// Counts a search. Where they are many, finer steps are made for those that follow.
+    fn count_search(&mut self, list: Node)
+        requires { Some (tree list) ≡ list_of (given_to self.old) }
+        ensures { given_to self.new ≡ given_to self.old }
+    {
+        if self.searches < MANY {
+            self.searches += 1;
+            if self.searches == MANY {
+                self.finer = Some(self.steps.finer(list));
+            }
+        }
+    }
+
+    /// The template of this number.
+    fn template(&self, list: Node<'a>, number: u64) -> Option<Node<'a>>
+        requires { Some (tree list) ≡ list_of (given_to self.now) }
+        ensures { option_map tree result ≡ slice_get (items_of (tree list.entry)) number }
+    {
+        match &self.finer {
+            Some(finer) => finer.item(list, number),
+            None => self.steps.item(list, number),
         }
     }
 

@@ -3,10 +3,10 @@
 //! A list can only be walked. So it is gone over once, and at 64 even steps it is kept how many values and names stand
 //! before. That is a fact on the list alone, and finds its items in any copy of its line. Then an item is a walk over at
 //! most a 64th of the list away.
-ghost use Rattle.std.specs.Prelude.{◌≡◌, ◌<◌, ◌*◌, [], length, option_map, slice_get};
+ghost use Rattle.std.specs.Prelude.{◌≡◌, ◌<◌, ◌*◌, ◌/◌, [], length, option_map, slice_get};
 ghost use Rattle.cj_spans.specs.Parts.{items_of};
 ghost use Rattle.cj_spans.specs.View.{tree};
-ghost use Rattle.cj_geometry.specs.ListSteps.{AreSizesAt, AreStepsOf};
+ghost use Rattle.cj_geometry.specs.ListSteps.{AreSizesAt, AreStepsOf, AreFinerStepsOf};
 
 use crate::lod::item_at;
 use crate::rule::count_items;
@@ -15,6 +15,9 @@ use cj_spans::Node;
 /// How many steps are kept.
 const STEPS: usize = 64;
 
+/// How many finer steps are kept.
+const FINER_STEPS: usize = 1_024;
+
 /// The steps of a list. They borrow nothing, so that they can be kept beside a copy of its line and tokens.
 #[derive(Clone, Copy, Debug)]
 pub struct Steps {
@@ -22,12 +25,20 @@ pub struct Steps {
     sizes: [u32; STEPS],
 }
 
-/// How many values and names stand before each item whose number is a multiple of `step`.
-fn sizes_at(list: Node, step: u64) -> [u32; STEPS]
-    requires { length (items_of (tree list)) < 64 * step }
-    ensures { AreSizesAt step (items_of (tree list.entry)) result }
+/// The same at more places, for a list of which many items are asked for: an item is a walk over at most a 1,024th of the
+/// list away.
+#[derive(Clone, Copy)]
+pub(crate) struct FinerSteps {
+    count: u64,
+    sizes: [u32; FINER_STEPS],
+}
+
+/// Notes how many values and names stand before each item whose number is a multiple of `step`.
+fn note_sizes(list: Node, step: u64, sizes: &mut [u32])
+    requires { length (items_of (tree list)) < length sizes.old * step }
+    ensures room { length sizes.new ≡ length sizes.old }
+    ensures sizes { AreSizesAt step (items_of (tree list.entry)) sizes.new }
 {
-    let mut sizes = [0; STEPS];
     let mut place = 0;
     let mut until = 0;
     let mut size = 0;
@@ -40,7 +51,18 @@ fn sizes_at(list: Node, step: u64) -> [u32; STEPS]
         until -= 1;
         size += item.size();
     }
-    sizes
+}
+
+/// The item of a number below the count, where sizes are kept at each multiple of `step`.
+fn item_behind<'a>(list: Node<'a>, step: u64, sizes: &[u32], number: u64) -> Option<Node<'a>>
+    requires some { 0 < step }
+    requires sizes { AreSizesAt step (items_of (tree list)) sizes.now }
+    requires within { number < length (items_of (tree list)) }
+    requires place { number / step < length sizes.now }
+    ensures { option_map tree result ≡ slice_get (items_of (tree list.entry)) number }
+{
+    let size = sizes[(number / step) as usize];
+    item_at(list.items_behind(size), number % step)
 }
 
 impl Steps {
@@ -49,10 +71,9 @@ impl Steps {
         ensures { AreStepsOf (items_of (tree list.entry)) result }
     {
         let count = count_items(list);
-        Steps {
-            count,
-            sizes: sizes_at(list, count / STEPS as u64 + 1),
-        }
+        let mut sizes = [0; STEPS];
+        note_sizes(list, count / STEPS as u64 + 1, &mut sizes);
+        Steps { count, sizes }
     }
 
     /// Those of a list of no items.
@@ -73,6 +94,7 @@ impl Steps {
     }
 
     /// The item of this number, from 0, of the list that they are of.
+    #[tactic(auto, using(crate::proofs::ListSteps::step_of))]
     pub(crate) fn item<'a>(&self, list: Node<'a>, number: u64) -> Option<Node<'a>>
         requires { AreStepsOf (items_of (tree list)) self.now }
         ensures { option_map tree result ≡ slice_get (items_of (tree list.entry)) number }
@@ -80,8 +102,38 @@ impl Steps {
         if number >= self.count {
             return None;
         }
-        let step = self.count / STEPS as u64 + 1;
-        let size = self.sizes[(number / step) as usize];
-        item_at(list.items_behind(size), number % step)
+        item_behind(list, self.count / STEPS as u64 + 1, &self.sizes, number)
+    }
+
+    /// Finer steps of the list that they are of; it is gone over once.
+    pub(crate) fn finer(&self, list: Node) -> FinerSteps
+        requires { AreStepsOf (items_of (tree list)) self.now }
+        ensures { AreFinerStepsOf (items_of (tree list.entry)) result }
+    {
+        let mut sizes = [0; FINER_STEPS];
+        note_sizes(list, self.count / FINER_STEPS as u64 + 1, &mut sizes);
+        FinerSteps {
+            count: self.count,
+            sizes,
+        }
+    }
+}
+
+impl FinerSteps {
+    /// The item of this number, from 0, of the list that they are of.
+    #[tactic(auto, using(crate::proofs::ListSteps::finer_step_of))]
+    pub(crate) fn item<'a>(&self, list: Node<'a>, number: u64) -> Option<Node<'a>>
+        requires { AreFinerStepsOf (items_of (tree list)) self.now }
+        ensures { option_map tree result ≡ slice_get (items_of (tree list.entry)) number }
+    {
+        if number >= self.count {
+            return None;
+        }
+        item_behind(
+            list,
+            self.count / FINER_STEPS as u64 + 1,
+            &self.sizes,
+            number,
+        )
     }
 }

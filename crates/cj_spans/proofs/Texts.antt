@@ -1,15 +1,17 @@
 -- Characters and code points, read one at a time.
-use Rattle.std.proofs.Common.{◌≡◌, ℕ, zero, suc, ◌+◌, ◌-◌, ◌*◌, ◌<◌, ◌≤◌, List, [], ◌∷◌, length, take, drop, get_or, Bool, true, false, cond, not, ◌&&◌, nat_eq, nat_lt, Option, Some, None, inl, inr, refl, sym, ap, arith, ◌∙◌, add-one, drop-cons}
+use Rattle.std.proofs.Common.{◌≡◌, ℕ, zero, suc, ◌+◌, ◌-◌, ◌*◌, ◌<◌, ◌≤◌, List, [], ◌∷◌, ◌++◌, length, take, drop, get_or, Bool, true, false, cond, not, ◌&&◌, nat_eq, nat_lt, Option, Some, None, inl, inr, refl, sym, ap, subst, arith, ◌∙◌, add-one, drop-cons, length-append}
 use Rattle.std.specs.Cmp.Derive.{both_true}
 use Rattle.std.proofs.lemmas.Bool.{cases_lt}
 use Rattle.std.proofs.lemmas.List.{drop-drop, drop-take, length-take}
 use Rattle.std.proofs.lemmas.Bool.Decides.{nat_tests}
 use Rattle.std.proofs.lemmas.Grind.{common_steps}
 use Rattle.cj_spans.specs.declared.text.CodePoint.{CodePoint}
-use Rattle.cj_spans.specs.Decoding.{left, after_read, ReadsCodePoint, plain_front, code_points_from}
+use Rattle.cj_spans.specs.declared.text.CodePoints.{CodePoints}
+use Rattle.cj_spans.specs.Decoding.{left, after_read, ReadsCodePoint, plain_front, code_points_from, code_points_left, AreAlike, StartAlike}
 use Rattle.cj_spans.specs.Tail.{tail_on}
 use Rattle.cj_spans.specs.Order.{compare}
-use Rattle.std.specs.declared.cmp.Ordering.TheVariants.{Equal}
+use Rattle.std.specs.Ordering.{nat_cmp, ordering_then}
+use Rattle.std.specs.declared.cmp.Ordering.TheVariants.{Less, Equal, Greater}
 use Rattle.cj_spans.specs.Text.{char_of, four_digits, unit, is_unicode, is_escaped, is_pair, escaped, first_code_point, first_width, code_points_after, text, are_same, StandFor, done, plain, letter, single, pair}
 use Rattle.std.specs.Char.{digit_value}
 use Rattle.std.specs.Char.Utf16.{is_high_surrogate, is_low_surrogate, surrogate_pair_char}
@@ -355,3 +357,80 @@ stands_once (single h i j k cs ps e s) = points_go_on 92 (117 ∷ h ∷ i ∷ j 
 stands_once (pair h i j k l m n o cs ps e f s) =
     let cs0 = 92 ∷ 117 ∷ h ∷ i ∷ j ∷ k ∷ 92 ∷ 117 ∷ l ∷ m ∷ n ∷ o ∷ cs in
     points_go_on 92 (117 ∷ h ∷ i ∷ j ∷ k ∷ 92 ∷ 117 ∷ l ∷ m ∷ n ∷ o ∷ cs) cs ps _ 12 (first_pair cs0 (pair_shown cs0 refl e refl f)) refl (stands_once s)
+
+-- ---- bytes that two strings share
+
+alike_on : (bs : List ℕ) (i : ℕ) (ds : List ℕ) (j n m : ℕ) → AreAlike bs i ds j n → AreAlike bs (i + n) ds (j + n) m → AreAlike bs i ds j (n + m)
+alike_on bs i ds j n m a b k l =
+    elim (cases_lt k n) [
+      | inl h ↦ a k h
+      | inr g ↦
+          let e : i + n + (k - n) ≡ i + k = omega arith in
+          let f : j + n + (k - n) ≡ j + k = omega arith in
+          let s = b (k - n) (omega arith) in
+          (ap (λ x. get_or bs x 0) (sym e) ∙ s.0 ∙ ap (λ x. get_or ds x 0) f, subst (λ x. get_or bs x 0 < 128) e s.1, ap (λ x. nat_eq (get_or bs x 0) 92) (sym e) ∙ s.2)
+    ]
+
+pub alike_none : (p q : CodePoints) → StartAlike p q 0
+alike_none p q = record { within = omega arith; within_other = omega arith; alike = λ k l. absurd (omega arith) }
+
+pub alike_more : (p q : CodePoints) (n m : ℕ) → StartAlike p q n → m ≤ length p.bytes.now - p.place - n → m ≤ length q.bytes.now - q.place - n → AreAlike p.bytes.now (p.place + n) q.bytes.now (q.place + n) m → StartAlike p q (n + m)
+alike_more p q n m s h k a =
+    let x = s.within in let y = s.within_other in
+    record { within = omega arith; within_other = omega arith; alike = alike_on p.bytes.now p.place q.bytes.now q.place n m s.alike a }
+
+-- the code points that they share
+pub shared_front : (n : ℕ) (bs : List ℕ) (i : ℕ) (ds : List ℕ) (j : ℕ) → n ≤ length bs - i → n ≤ length ds - j → AreAlike bs i ds j n → (f : List ℕ) × (code_points_from bs i ≡ f ++ code_points_from bs (i + n)) × (code_points_from ds j ≡ f ++ code_points_from ds (j + n))
+shared_front zero bs i ds j h k a = ([], ap (code_points_from bs) (omega arith), ap (code_points_from ds) (omega arith))
+shared_front (suc n) bs i ds j h k a =
+    let x : i + 0 ≡ i = omega arith in
+    let y : j + 0 ≡ j = omega arith in
+    let s = a 0 (omega arith) in
+    let same : get_or bs i 0 ≡ get_or ds j 0 = ap (λ v. get_or bs v 0) (sym x) ∙ s.0 ∙ ap (λ v. get_or ds v 0) y in
+    let low : get_or bs i 0 < 128 = subst (λ v. get_or bs v 0 < 128) x s.1 in
+    let plain : nat_eq (get_or bs i 0) 92 ≡ false = ap (λ v. nat_eq (get_or bs v 0) 92) (sym x) ∙ s.2 in
+    let p = plain_code bs i (omega arith) low plain in
+    let q = plain_code ds j (omega arith) (subst (λ v. v < 128) same low) (ap (λ v. nat_eq v 92) (sym same) ∙ plain) in
+    let r = shared_front n bs (i + 1) ds (j + 1) (omega arith) (omega arith) (shifted bs i ds j n a) in
+    let e : i + 1 + n ≡ i + suc n = omega arith in
+    let f : j + 1 + n ≡ j + suc n = omega arith in
+    (get_or bs i 0 ∷ r.0, p ∙ ap (λ cs. get_or bs i 0 ∷ cs) (r.1 ∙ ap (λ v. r.0 ++ code_points_from bs v) e), q ∙ ap (λ cs. get_or ds j 0 ∷ cs) (r.2 ∙ ap (λ v. r.0 ++ code_points_from ds v) f) ∙ ap (λ c. c ∷ r.0 ++ code_points_from ds (j + suc n)) (sym same))
+  where
+    shifted : (bs : List ℕ) (i : ℕ) (ds : List ℕ) (j n : ℕ) → AreAlike bs i ds j (suc n) → AreAlike bs (i + 1) ds (j + 1) n
+    shifted bs i ds j n a l m =
+        let e : i + suc l ≡ i + 1 + l = omega arith in
+        let f : j + suc l ≡ j + 1 + l = omega arith in
+        let s = a (suc l) (omega arith) in
+        (ap (λ v. get_or bs v 0) (sym e) ∙ s.0 ∙ ap (λ v. get_or ds v 0) f, subst (λ v. get_or bs v 0 < 128) e s.1, ap (λ v. nat_eq (get_or bs v 0) 92) (sym e) ∙ s.2)
+
+-- tell nothing
+number_same : (x : ℕ) → nat_eq x x ≡ true
+number_same x = grind (arith, nat_tests)
+
+number_equal : (x : ℕ) → nat_cmp x x ≡ Equal
+number_equal x = let l : nat_lt x x ≡ false = grind (arith, nat_tests) in ap (λ b. cond b Less (cond (nat_eq x x) Equal Greater)) l ∙ ap (λ b. cond b Equal Greater) (number_same x)
+
+same_behind : (fs cs ds : List ℕ) → are_same cs ds ≡ are_same (fs ++ cs) (fs ++ ds)
+same_behind [] cs ds = refl
+same_behind (x ∷ fs) cs ds = same_behind fs cs ds ∙ sym (ap (λ v. v && are_same (fs ++ cs) (fs ++ ds)) (number_same x))
+
+order_behind : (fs cs ds : List ℕ) → compare cs ds ≡ compare (fs ++ cs) (fs ++ ds)
+order_behind [] cs ds = refl
+order_behind (x ∷ fs) cs ds = order_behind fs cs ds ∙ sym (ap (λ o. ordering_then o (compare (fs ++ cs) (fs ++ ds))) (number_equal x))
+
+pub same_passed : (p q : CodePoints) (n : ℕ) → StartAlike p q n → are_same (code_points_from p.bytes.now (p.place + n)) (code_points_from q.bytes.now (q.place + n)) ≡ are_same (code_points_left p) (code_points_left q)
+same_passed p q n s =
+    let f = shared_front n p.bytes.now p.place q.bytes.now q.place s.within s.within_other s.alike in
+    same_behind f.0 (code_points_from p.bytes.now (p.place + n)) (code_points_from q.bytes.now (q.place + n)) ∙ (λ k. are_same (sym f.1 k) (sym f.2 k))
+
+pub order_passed : (p q : CodePoints) (n : ℕ) → StartAlike p q n → compare (code_points_from p.bytes.now (p.place + n)) (code_points_from q.bytes.now (q.place + n)) ≡ compare (code_points_left p) (code_points_left q)
+order_passed p q n s =
+    let f = shared_front n p.bytes.now p.place q.bytes.now q.place s.within s.within_other s.alike in
+    order_behind f.0 (code_points_from p.bytes.now (p.place + n)) (code_points_from q.bytes.now (q.place + n)) ∙ (λ k. compare (sym f.1 k) (sym f.2 k))
+
+pub fewer_left : (p q : CodePoints) (n : ℕ) → StartAlike p q n → length (code_points_from p.bytes.now (p.place + n)) ≤ length (code_points_left p)
+fewer_left p q n s =
+    let f = shared_front n p.bytes.now p.place q.bytes.now q.place s.within s.within_other s.alike in
+    let l = ap length f.1 in
+    let a = length-append f.0 (code_points_from p.bytes.now (p.place + n)) in
+    omega arith

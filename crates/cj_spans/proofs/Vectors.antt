@@ -1,14 +1,16 @@
 -- Bytes of a line, 16 at a time: what the marks of a vector say of the bytes.
-use Rattle.std.proofs.Common.{◌≡◌, ℕ, zero, suc, ◌+◌, ◌-◌, ◌%◌, ◌^◌, ◌<◌, ◌≤◌, List, [], ◌∷◌, length, map, Bool, true, false, cond, not, eqb, ltb, replicate, refl, sym, ap, subst, arith, ◌∙◌, w8}
+use Rattle.std.proofs.Common.{◌≡◌, ℕ, zero, suc, ◌+◌, ◌-◌, ◌*◌, ◌%◌, ◌^◌, ◌<◌, ◌≤◌, List, [], ◌∷◌, length, map, get_or, nat_eq, inl, inr, Bool, true, false, cond, not, eqb, ltb, replicate, refl, sym, ap, subst, arith, ◌∙◌, w8}
+use Rattle.std.proofs.lemmas.Bool.{cases_eq}
 use Rattle.std.proofs.lemmas.Bool.Decides.{nat_tests}
 use Rattle.std.specs.Simd.Lanes.{zip2, mask_l, sel_l, top, chunk}
 use Rattle.std.specs.List.{prefix_len}
 use Rattle.std.specs.Int.Count.{count_trailing_zeros}
-use Rattle.std.proofs.lemmas.Simd.{tops_compared, bitmask_splat, zip2_splat, zip2_splat_left, mask_l-mod, map-map, length-chunk, none_from_empty_mask, trailing_mask_l, run_in_chunk_le, run_in_chunk_fails}
+use Rattle.std.proofs.lemmas.Simd.{get_or-chunk, tops_compared, bitmask_splat, zip2_splat, zip2_splat_left, mask_l-mod, map-map, length-chunk, none_from_empty_mask, trailing_mask_l, run_in_chunk_le, run_in_chunk_fails}
 use Rattle.std.proofs.lemmas.List.{length-map}
 use Rattle.cj_spans.specs.Spelling.{is_plain}
 use Rattle.cj_spans.specs.Json.{byte}
 use Rattle.cj_spans.specs.Machine.{is_digit}
+use Rattle.cj_spans.specs.Decoding.{AreAlike}
 
 -- how far a byte is above `0`, where bytes below it come last
 abbrev above : ℕ → ℕ
@@ -113,3 +115,74 @@ plain_within b i room n = run_in_chunk_le special b i 16 (count_trailing_zeros 6
 
 pub plain_before : (b : List ℕ) (i : ℕ) → i + 16 ≤ length b → (plain_marks b i ≡ 0 → ⊥) → (k : ℕ) → i ≤ k → k < i + count_trailing_zeros 64 (plain_marks b i) → is_plain (byte b k) ≡ true
 plain_before b i room n k l h = plain_from (byte b k) (run_in_chunk_fails special b i 16 (count_trailing_zeros 64 (plain_marks b i)) 0 room (plain_counted b i room n) k l h)
+
+-- ---- bytes of two strings
+
+-- the vector v with 255 in the place of a backslash, and where another vector differs
+abbrev unescaped : ℕ → List ℕ → List ℕ
+unescaped m v = sel_l (map (top 7) (zip2 (λ a c. cond (eqb a c) 255 0) v (replicate m 92))) (replicate m 255) v
+
+abbrev shared : ℕ → List ℕ → List ℕ → List ℕ
+shared m v w = sel_l (map (top 7) (zip2 (λ a c. cond (eqb a c) 255 0) v w)) (unescaped m v) (replicate m 255)
+
+-- the marks of the bytes of both that are not the same, or do not stand for themselves
+abbrev pub alike_marks : ℕ → List ℕ → ℕ → List ℕ → ℕ → ℕ
+alike_marks m b i o j = mask_l (map (top 7) (zip2 (λ a c. cond (ltb a c) 255 0) (replicate m 127) (shared m (chunk i m b) (chunk j m o)))) % 2 ^ 64
+
+-- a byte that both have and that stands for itself
+abbrev IsShared : ℕ → ℕ → Type 0
+IsShared x y = (x ≡ y) × (x < 128) × (nat_eq x 92 ≡ false)
+
+-- what a lane of the marks is
+abbrev lane : ℕ → ℕ → ℕ
+lane x y = cond (eqb x y) (cond (eqb x 92) 255 x) 255
+
+shared_lane : (x y n : ℕ) → cond (ltb 127 (lane x y)) 1 0 + 2 * n ≡ 0 → IsShared x y × (n ≡ 0)
+shared_lane x y n h =
+    elim (cases_eq x y) [
+      | inl e ↦ elim (cases_eq x 92) [
+        | inl b ↦ absurd (grind (arith, nat_tests))
+        | inr b ↦ ((e, grind (arith, nat_tests), grind (arith, nat_tests)), grind (arith, nat_tests))
+      ]
+      | inr d ↦ absurd (grind (arith, nat_tests))
+    ]
+
+-- the lanes of both
+abbrev lanes : ℕ → List ℕ → List ℕ → List ℕ
+lanes m v w = sel_l (zip2 eqb v w) (sel_l (map (λ x. eqb x 92) v) (replicate m 255) v) (replicate m 255)
+
+lanes_shared : (m : ℕ) (v w : List ℕ) → length v ≡ m → length w ≡ m → mask_l (map (λ y. ltb 127 y) (lanes m v w)) ≡ 0 → (k : ℕ) → k < m → IsShared (get_or v k 0) (get_or w k 0)
+lanes_shared zero v w a b e k l = absurd (omega arith)
+lanes_shared (suc m) [] w a b e k l = absurd (omega arith)
+lanes_shared (suc m) (x ∷ v) [] a b e k l = absurd (omega arith)
+lanes_shared (suc m) (x ∷ v) (y ∷ w) a b e zero l = (shared_lane x y (mask_l (map (λ z. ltb 127 z) (lanes m v w))) e).0
+lanes_shared (suc m) (x ∷ v) (y ∷ w) a b e (suc k) l = lanes_shared m v w (omega arith) (omega arith) (shared_lane x y (mask_l (map (λ z. ltb 127 z) (lanes m v w))) e).1 k (omega arith)
+
+length_lanes : (m : ℕ) (v w : List ℕ) → length v ≡ m → length w ≡ m → length (lanes m v w) ≡ m
+length_lanes zero [] w a b = refl
+length_lanes zero (x ∷ v) w a b = absurd (omega arith)
+length_lanes (suc m) [] w a b = absurd (omega arith)
+length_lanes (suc m) (x ∷ v) [] a b = absurd (omega arith)
+length_lanes (suc m) (x ∷ v) (y ∷ w) a b = ap suc (length_lanes m v w (omega arith) (omega arith))
+
+shared_is : (m : ℕ) (v w : List ℕ) → length v ≡ m → shared m v w ≡ lanes m v w
+shared_is m v w a =
+    ap (λ ms. sel_l ms (unescaped m v) (replicate m 255)) (tops_compared w8 eqb v w)
+    ∙ ap (λ ms. sel_l (zip2 eqb v w) (sel_l ms (replicate m 255) v) (replicate m 255)) (tops_compared w8 eqb v (replicate m 92) ∙ zip2_splat eqb v m 92 a)
+
+pub all_alike : (m : ℕ) (b : List ℕ) (i : ℕ) (o : List ℕ) (j : ℕ) → m ≤ 64 → i + m ≤ length b → j + m ≤ length o → alike_marks m b i o j ≡ 0 → AreAlike b i o j m
+all_alike m b i o j few room there e k l =
+    let v = chunk i m b in
+    let w = chunk j m o in
+    let a : length v ≡ m = length-chunk i m b room in
+    let c : length w ≡ m = length-chunk j m o there in
+    let long : length (lanes m v w) ≡ m = length_lanes m v w a c in
+    let marks : mask_l (map (λ y. ltb 127 y) (lanes m v w)) ≡ 0 =
+      sym (mask_l-mod (map (λ y. ltb 127 y) (lanes m v w)) 64 (omega (arith, length-map (lanes m v w) (λ y. ltb 127 y))))
+      ∙ ap (λ ms. mask_l ms % 2 ^ 64) (sym (tops_compared w8 ltb (replicate m 127) (lanes m v w) ∙ zip2_splat_left ltb 127 m (lanes m v w) long))
+      ∙ ap (λ u. mask_l (map (top 7) (zip2 (λ x y. cond (ltb x y) 255 0) (replicate m 127) u)) % 2 ^ 64) (sym (shared_is m v w a))
+      ∙ e in
+    let s = lanes_shared m v w a c marks k l in
+    let x : get_or v k 0 ≡ get_or b (i + k) 0 = get_or-chunk i m b k 0 l in
+    let y : get_or w k 0 ≡ get_or o (j + k) 0 = get_or-chunk j m o k 0 l in
+    (sym x ∙ s.0 ∙ y, omega arith, ap (λ z. nat_eq z 92) (sym x) ∙ s.2)

@@ -1,5 +1,5 @@
 -- What is read of a text, and what is left. Only private clauses cite it.
-use Rattle.std.specs.Prelude.{◌≡◌, ℕ, List, [], ◌∷◌, drop, cond, not, ◌&&◌, nat_eq, nat_lt, Option, Some, None}
+use Rattle.std.specs.Prelude.{◌≡◌, ◌+◌, ◌-◌, ◌<◌, ◌≤◌, ℕ, List, [], ◌∷◌, length, drop, get_or, false, cond, not, ◌&&◌, nat_eq, nat_lt, Option, Some, None}
 use Rattle.std.specs.Str.{chars, chars_after}
 use Rattle.cj_spans.specs.declared.text.CodePoint.{CodePoint}
 use Rattle.cj_spans.specs.declared.text.CodePoints.{CodePoints}
@@ -36,3 +36,13 @@ code_points_left p = code_points_from p.bytes.now p.place
 -- the characters that are left
 abbrev pub characters_left : Characters → List ℕ
 characters_left c = left c.bytes.now c.place
+
+-- the next n bytes of two strings are the same, and each of them is a character that stands for itself
+abbrev pub AreAlike : List ℕ → ℕ → List ℕ → ℕ → ℕ → Type 0
+AreAlike bs i ds j n = (k : ℕ) → k < n → (get_or bs (i + k) 0 ≡ get_or ds (j + k) 0) × (get_or bs (i + k) 0 < 128) × (nat_eq (get_or bs (i + k) 0) 92 ≡ false)
+
+-- so many of what is left of both are alike
+pub record StartAlike (p q : CodePoints) (n : ℕ) : Type 0 where
+  pub within : n ≤ length p.bytes.now - p.place
+  pub within_other : n ≤ length q.bytes.now - q.place
+  pub alike : AreAlike p.bytes.now p.place q.bytes.now q.place n

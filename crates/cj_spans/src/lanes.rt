@@ -1,5 +1,6 @@
 //! Bytes of a line, 16 at a time.
 ghost use Rattle.std.specs.Prelude.{◌≡◌, ◌+◌, ◌≤◌, ◌<◌, length, ℕ, true, IfSome, IfNone};
+ghost use Rattle.cj_spans.specs.Decoding.{AreAlike};
 ghost use Rattle.cj_spans.specs.Spelling.{is_plain as is_plain_of};
 ghost use Rattle.cj_spans.specs.Json.{byte as byte_of};
 ghost use Rattle.cj_spans.specs.Machine.{is_digit as is_digit_of};
@@ -8,6 +9,9 @@ use std::simd::prelude::*;
 
 /// How many bytes are looked at in one go: those of a vector of the baseline x86-64.
 pub const LANES: usize = 16;
+
+/// How many are looked at in one go where fewer than `LANES` are left.
+pub const FEW_LANES: usize = 8;
 
 /// The first byte that is no digit, of the 16 from `place` on.
 #[inline(always)]
@@ -46,4 +50,35 @@ pub fn find_special(line: &[u8], place: usize) -> Option<usize>
     } else {
         Some(place + others.trailing_zeros() as usize)
     }
+}
+
+/// Whether 16 bytes of each of two strings are the same, and each of them is a character that stands for itself: ASCII,
+/// and no backslash.
+#[inline(always)]
+pub fn are_alike(bytes: &[u8], place: usize, others: &[u8], other_place: usize) -> bool
+    requires first { place + 16 ≤ length bytes.now }
+    requires second { other_place + 16 ≤ length others.now }
+    ensures { result ≡ true → AreAlike bytes.now place others.now other_place 16 }
+{
+    let first = u8x16::from_slice(&bytes[place..]);
+    let second = u8x16::from_slice(&others[other_place..]);
+    let high = u8x16::splat(255);
+    let unescaped = first.simd_eq(u8x16::splat(b'\\')).select(high, first);
+    let same = first.simd_eq(second).select(unescaped, high);
+    same.simd_gt(u8x16::splat(127)).to_bitmask() == 0
+}
+
+/// The same of 8 bytes.
+#[inline(always)]
+pub fn are_few_alike(bytes: &[u8], place: usize, others: &[u8], other_place: usize) -> bool
+    requires first { place + 8 ≤ length bytes.now }
+    requires second { other_place + 8 ≤ length others.now }
+    ensures { result ≡ true → AreAlike bytes.now place others.now other_place 8 }
+{
+    let first = u8x8::from_slice(&bytes[place..]);
+    let second = u8x8::from_slice(&others[other_place..]);
+    let high = u8x8::splat(255);
+    let unescaped = first.simd_eq(u8x8::splat(b'\\')).select(high, first);
+    let same = first.simd_eq(second).select(unescaped, high);
+    same.simd_gt(u8x8::splat(127)).to_bitmask() == 0
 }

@@ -3,7 +3,7 @@ ghost use Rattle.std.specs.Prelude.{◌≡◌, ◌+◌, ◌-◌, ◌*◌, ◌<�
 ghost use Rattle.std.specs.Str.{chars, chars_after};
 ghost use Rattle.std.specs.Char.{digit_value as digit_value_of};
 ghost use Rattle.std.specs.Char.Utf16.{is_high_surrogate as is_high_of, is_low_surrogate as is_low_of};
-ghost use Rattle.cj_spans.specs.Decoding.{left, after_read, ReadsCodePoint, plain_front, code_points_from, code_points_left, characters_left};
+ghost use Rattle.cj_spans.specs.Decoding.{left, after_read, ReadsCodePoint, plain_front, code_points_from, code_points_left, characters_left, StartAlike};
 ghost use Rattle.cj_spans.specs.Tail.{tail_step, tail_on};
 ghost use Rattle.cj_spans.specs.Order.{compare, digits};
 ghost use Rattle.cj_spans.specs.Text.{char_of, four_digits, escaped as escaped_of, is_escaped, is_unicode, unit, first_code_point, first_width, text, are_same};
@@ -12,6 +12,7 @@ ghost use Rattle.cj_spans.specs.Text.{char_of, four_digits, escaped as escaped_o
 mod examples;
 mod strings;
 
+use crate::lanes::{FEW_LANES, LANES, are_alike, are_few_alike};
 use std::cmp::Ordering;
 pub use strings::{compare_strings, tail_of_string};
 
@@ -442,15 +443,59 @@ fn is_text(points: CodePoints, characters: Characters) -> bool
     is_text_slowly(left, wanted)
 }
 
+/// How many bytes are left of a string's body.
+#[inline(always)]
+fn bytes_left(points: CodePoints) -> usize
+    ensures { result ≡ length points.entry.bytes.now - points.entry.place }
+{
+    points.bytes.len().saturating_sub(points.place)
+}
+
+/// How many bytes of two strings are found alike from here on, by 16 and by 8.
+#[tactic(auto, using(crate::proofs::Texts::alike_none, crate::proofs::Texts::alike_more))]
+fn count_alike(left: CodePoints, right: CodePoints) -> usize
+    ensures { StartAlike left.entry right.entry result }
+{
+    let room = bytes_left(left).min(bytes_left(right));
+    let mut count = 0;
+    while room - count >= LANES
+        && are_alike(left.bytes, left.place + count, right.bytes, right.place + count)
+    {
+        count += LANES;
+    }
+    if room - count >= FEW_LANES
+        && are_few_alike(left.bytes, left.place + count, right.bytes, right.place + count)
+    {
+        count += FEW_LANES;
+    }
+    count
+}
+
+/// Passes over the code points that two strings are found to share from here on.
+#[tactic(auto, using(crate::proofs::Texts::same_passed, crate::proofs::Texts::order_passed, crate::proofs::Texts::fewer_left))]
+#[inline(always)]
+fn pass_alike(left: &mut CodePoints, right: &mut CodePoints)
+    ensures same { are_same (code_points_left left.new) (code_points_left right.new)
+        ≡ are_same (code_points_left left.old) (code_points_left right.old) }
+    ensures order { compare (code_points_left left.new) (code_points_left right.new)
+        ≡ compare (code_points_left left.old) (code_points_left right.old) }
+    ensures fewer { length (code_points_left left.new) ≤ length (code_points_left left.old) }
+{
+    let count = count_alike(*left, *right);
+    left.place += count;
+    right.place += count;
+}
+
 /// Whether two strings have one text, by code points: for what is spelled by escapes or is not ASCII.
 #[cold]
 #[inline(never)]
 fn is_same_text_slowly(points: CodePoints, others: CodePoints) -> bool
     ensures { result ≡ are_same (code_points_left points.entry) (code_points_left others.entry) }
 {
-    let mut later = others;
-    for point in points {
-        match later.next() {
+    let mut left = points;
+    let mut right = others;
+    while let Some(point) = left.next() {
+        match right.next() {
             Some(other) => {
                 if other != point {
                     return false;
@@ -458,8 +503,9 @@ fn is_same_text_slowly(points: CodePoints, others: CodePoints) -> bool
             }
             None => return false,
         }
+        pass_alike(&mut left, &mut right);
     }
-    later.next().is_none()
+    right.next().is_none()
 }
 
 /// Whether two strings have one text.
@@ -470,6 +516,7 @@ fn is_same_text(points: CodePoints, others: CodePoints) -> bool
 {
     let mut left = points;
     let mut right = others;
+    pass_alike(&mut left, &mut right);
     while let Some(byte) = plain_at(left.bytes, left.place) {
         if !is_at(right.bytes, right.place, byte) {
             return match plain_at(right.bytes, right.place) {
@@ -533,9 +580,10 @@ pub(crate) fn spell_one_text(spelling: &[u8], other: &[u8]) -> bool
 fn compare_slowly(points: CodePoints, others: CodePoints) -> Ordering
     ensures { result ≡ compare (code_points_left points.entry) (code_points_left others.entry) }
 {
-    let mut later = others;
-    for point in points {
-        match later.next() {
+    let mut left = points;
+    let mut right = others;
+    while let Some(point) = left.next() {
+        match right.next() {
             Some(other) => {
                 if point != other {
                     return point.cmp(&other);
@@ -543,8 +591,9 @@ fn compare_slowly(points: CodePoints, others: CodePoints) -> Ordering
             }
             None => return Ordering::Greater,
         }
+        pass_alike(&mut left, &mut right);
     }
-    if later.next().is_none() {
+    if right.next().is_none() {
         Ordering::Equal
     } else {
         Ordering::Less
@@ -559,6 +608,7 @@ fn compare_points(points: CodePoints, others: CodePoints) -> Ordering
 {
     let mut left = points;
     let mut right = others;
+    pass_alike(&mut left, &mut right);
     while let Some(byte) = plain_at(left.bytes, left.place) {
         if !is_at(right.bytes, right.place, byte) {
             return match plain_at(right.bytes, right.place) {

@@ -1,25 +1,33 @@
 //! Names of an object in order: by their texts, and of one text by where they start. So names of one text are neighbours.
 //!
-//! A name is kept as an entry of 16 bytes: the word of its text, which tells most texts apart, and its number in the line.
+//! A name is kept as an entry of 12 bytes: the word of its text, which tells most texts apart, and its number in the line.
 //! Only where two words are the same, the line is looked at.
 ghost use Rattle.std.specs.Prelude.{◌≡◌, ◌<◌, length, All};
 ghost use Rattle.std.specs.List.Sorted.{IsPermutation};
 ghost use Rattle.cj_spans.specs.View.{tree, source_of};
 ghost use Rattle.cj_geometry.specs.Names.{compare_names, is_earlier, Ascend};
-ghost use Rattle.cj_geometry.specs.Entries.{IsWorded, name_in, names_in, compare_entries, AreLeast};
+ghost use Rattle.cj_geometry.specs.Entries.{IsWorded, word_in, name_in, names_in, compare_entries, AreLeast};
 
 use cj_spans::Node;
 use std::cmp::Ordering;
 
-/// A name of a line: the word of its text and its number.
+/// A name of a line: the two halves of its text's word, so that an entry takes 12 bytes, and its number.
 #[derive(Clone, Copy)]
 pub(super) struct Entry {
-    pub(super) word: u64,
-    pub(super) number: u32,
+    upper: u32,
+    lower: u32,
+    number: u32,
 }
 
 /// What room holds before there is a name in it.
-pub(super) const NO_NAME: Entry = Entry { word: 0, number: 0 };
+pub(super) const NO_NAME: Entry = Entry {
+    upper: 0,
+    lower: 0,
+    number: 0,
+};
+
+/// What the upper half of a word counts.
+const HALF: u64 = 1 << 32;
 
 /// How two names are ordered.
 fn compare_nodes(first: Node, second: Node) -> Ordering
@@ -38,10 +46,20 @@ impl Entry {
         ensures name { name_in (source_of name.entry) result ≡ tree name.entry }
         ensures word { IsWorded (source_of name.entry) result }
     {
+        let word = name.text_word();
         Entry {
-            word: name.text_word(),
+            upper: (word / HALF) as u32,
+            lower: (word % HALF) as u32,
             number: name.number(),
         }
+    }
+
+    /// The word of its text.
+    #[inline(always)]
+    pub(super) fn word(self) -> u64
+        ensures { result ≡ word_in self }
+    {
+        self.upper as u64 * HALF + self.lower as u64
     }
 
     /// The name of the entry, in the line of an object.
@@ -57,7 +75,7 @@ impl Entry {
 fn compare(object: Node, first: Entry, second: Entry) -> Ordering
     ensures { result ≡ compare_entries (source_of object.entry) first second }
 {
-    match first.word.cmp(&second.word) {
+    match first.word().cmp(&second.word()) {
         Ordering::Equal => compare_nodes(first.name(object), second.name(object)),
         other => other,
     }

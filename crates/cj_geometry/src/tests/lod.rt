@@ -205,3 +205,34 @@ fn instances_of_a_long_list_find_their_templates(rt: HostRuntime) -> Result<(), 
     assert_eq!(&rt; found.as_str(), want);
     Ok(())
 }
+
+/// Instances of every `step`th template down from this one, and the levels of detail that `numbered` gives those.
+fn falling(alloc: Global, greatest: u32, step: u32) -> Result<(String, String), AllocError> {
+    let mut line = String::from_str(alloc, "[0")?;
+    let mut want = String::from_str(alloc, "none ")?;
+    for number in (1..=greatest).rev().step_by(step as usize) {
+        let instance = format!(in alloc;
+            ",{{\"type\":\"GeometryInstance\",\"template\":{number}}}"
+        )?;
+        line.push_str(instance.as_str())?;
+        let lod = number.saturating_sub(1);
+        want.push_str(format!(in alloc; "{lod} ")?.as_str())?;
+    }
+    line.push_str("]")?;
+    Ok((line, want))
+}
+
+#[test]
+fn many_instances_of_a_long_list_find_their_templates(rt: HostRuntime) -> Result<(), Fail> {
+    let list = numbered(rt.alloc(), 3_000)?;
+    let (line, want) = falling(rt.alloc(), 3_000, 17)?;
+    let list_tokens = tokens_of(&rt, rt.alloc(), list.as_bytes());
+    let tokens = tokens_of(&rt, rt.alloc(), line.as_bytes());
+    let geometries = Doc::of(line.as_bytes(), tokens.as_slice()).root();
+    let list = Doc::of(list.as_bytes(), list_tokens.as_slice()).root();
+    let steps = Steps::of(list);
+    let (_, stepped) = both_ways(&rt, list, &steps);
+    let found = looked_up_in_turn(&rt, rt.alloc(), geometries, stepped)?;
+    assert_eq!(&rt; found.as_str(), want.as_str());
+    Ok(())
+}

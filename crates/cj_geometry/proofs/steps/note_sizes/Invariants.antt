@@ -1,0 +1,8 @@
+use Rattle.std.proofs.Common.{length}
+use Rattle.cj_spans.specs.Parts.{items_of}
+use Rattle.cj_spans.specs.View.{tree, items_left}
+use Rattle.cj_geometry.proofs.ListSteps.{IsNoted}
+use Rattle.cj_geometry.proofs.steps.note_sizes.Given as goal
+
+abbrev pub invariant-loop-item : goal.invariant-loop-item
+invariant-loop-item l = IsNoted (length l.initial.sizes) l.step (items_of (tree l.list)) (items_left l.item-iterator) l.sizes l.place l.until l.size
