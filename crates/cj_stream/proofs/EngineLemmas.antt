@@ -224,6 +224,6 @@ LacksMemory-stops takes leaves f g s t p more e h m =
     let took = rw (none-added (kept_closed f.rules p) h.puts.0 kept) at h.puts.2 in
     (cause.1, cause.0 ∙ took)
 
-pub none_from_not_some : (o : Option End) → ((x : End) → o ≡ Some x → ⊥) → o ≡ None
+pub none_from_not_some : {T : Type 0} (o : Option T) → ((x : T) → o ≡ Some x → ⊥) → o ≡ None
 none_from_not_some None h = refl
 none_from_not_some (Some x) h = absurd (h x refl)

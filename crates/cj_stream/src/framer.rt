@@ -12,14 +12,17 @@
 //! first line is valid and LF has ended it, before the sink gets it. So the lists that the next line goes into have their room
 //! (`IsReady`), and nothing else here asks for any. A refusal by `make_room`, or a fault of the sink after it, leaves all as it
 //! was but for that room (`IsLeft`, `IsStill`).
-ghost use Rattle.std.specs.Prelude.{◌≡◌, ◌+◌, ◌^◌, ◌<◌, ◌≤◌, ℕ, List, [], ◌∷◌, ◌++◌, length, OnOk, OnErr, IfOk, IfErr, IsErrOf, IsTrue, Some};
+ghost use Rattle.std.specs.Prelude.{◌≡◌, ◌+◌, ◌^◌, ◌<◌, ◌≤◌, ℕ, List, [], ◌∷◌, ◌++◌, length, take, if◌then◌else◌, OnOk, OnErr, IfOk, IfErr, IsErrOf, IsTrue, Some};
 ghost use Rattle.cj_stream.specs.Bound.{contents};
+ghost use Rattle.cj_stream.specs.Ending.{IsFirstEnd, IsLaterEnd};
 ghost use Rattle.cj_stream.specs.Lines.{newline, NoLf, closed, first_of, first_content};
+ghost use Rattle.cj_stream.specs.Front.{IsFront};
 ghost use Rattle.cj_stream.specs.Sink.{HasRisen};
 ghost use Rattle.cj_stream.specs.Verdict.{Valid, refusal_of};
 ghost use Rattle.cj_stream.specs.Item.{tree_of};
 
 use crate::ending::End;
+use crate::header_reader::Progress;
 use crate::judge::{Content, judge};
 use crate::query::Query;
 use crate::sink::LineSink;
@@ -233,6 +236,7 @@ impl<'q> Framer<'q> {
         ensures forgets { OnOk result (Forgets (scanning self.old) (scanning self.new)) }
         ensures same { OnErr result (scanning self.new ≡ scanning self.old) }
         ensures keeps { KeepsFirst (reading self.new) (scanning self.new) self.new.parts }
+        ensures end { IfErr result (λ e. e ≡ End.WriteFault) }
     {
         let doc = Doc::of(self.header.as_slice(), self.header_tokens.as_slice());
         let header = Header::of(doc, parts);
@@ -263,6 +267,7 @@ impl<'q> Framer<'q> {
         ensures still { OnErr result (IsStill (scanning self.old) (scanning self.new)) }
         ensures ready { OnOk result (IsTrue lf → IsReady (reading self.new) (scanning self.new)) }
         ensures keeps { KeepsFirst (reading self.new) (scanning self.new) self.new.parts }
+        ensures end { IfErr result IsFirstEnd }
     {
         let parts = match self.check_first() {
             Ok(parts) => parts,
@@ -296,6 +301,7 @@ impl<'q> Framer<'q> {
         ensures same { OnErr result (scanning self.new ≡ scanning self.old) }
         ensures ready { IsReady (reading self.new) (scanning self.new) }
         ensures keeps { KeepsFirst (reading self.new) (scanning self.new) self.new.parts }
+        ensures end { IfErr result IsLaterEnd }
     {
         let Some(parts) = self.parts else {
             unreachable!()
@@ -339,6 +345,8 @@ impl<'q> Framer<'q> {
         ensures still { OnErr result (IsStill (scanning self.old) (scanning self.new)) }
         ensures ready { OnOk result (IsTrue lf → IsReady (reading self.new) (scanning self.new)) }
         ensures keeps { KeepsFirst (reading self.new) (scanning self.new) self.new.parts }
+        ensures end { IfErr result IsFirstEnd }
+        ensures late { 0 < self.old.lines → IsReady (reading self.new) (scanning self.new) × IfErr result IsLaterEnd }
     {
         if self.lines == 0 {
             self.put_header(lf, sink)
@@ -357,6 +365,8 @@ impl<'q> Framer<'q> {
         requires keeps { KeepsFirst (reading self.old) (scanning self.old) self.old.parts }
         ensures counts { S.failures sink.old ≤ S.failures sink.new }
         ensures cause { IsErrOf result End.WriteFault → HasRisen (S.failures sink.old) (S.failures sink.new) }
+        ensures one { OnOk result (self.new.lines ≡ self.old.lines + 1) }
+        ensures grows { self.old.lines ≤ self.new.lines }
         ensures settles { Settles S.takes S.leaves (next_verdict (reading self.old) (begun_of (reading self.old)))
             (next_item (reading self.old) (record { content = begun_of (reading self.old); lf = lf }))
             (reading self.old) sink.old result (reading self.new) sink.new }
@@ -369,6 +379,8 @@ impl<'q> Framer<'q> {
         ensures few { (cs : List (List ℕ)) → length cs ≡ self.old.lines → Scanned self.old.limits cs (scanning self.old)
             → HoldsFew self.old.limits (length (first_of cs (begun_of (reading self.old)))) (scanning self.new) }
         ensures keeps { KeepsFirst (reading self.new) (scanning self.new) self.new.parts }
+        ensures end { IfErr result IsFirstEnd }
+        ensures late { 0 < self.old.lines → IsReady (reading self.new) (scanning self.new) × IfErr result IsLaterEnd }
     {
         match self.judge() {
             Content::Faulty { place, reason } => Err(End::Refused {
@@ -394,7 +406,11 @@ impl<'q> Framer<'q> {
         requires one { NoLf part.now }
         ensures stays { Stays (reading self.old) (reading self.new) }
         ensures few { self.new.lines ≤ self.old.lines + 1 }
+        ensures grows { self.old.lines ≤ self.new.lines }
+        ensures one { OnOk result (self.new.lines ≡ self.old.lines + 1) }
         ensures keeps { KeepsFirst (reading self.new) (scanning self.new) self.new.parts }
+        ensures end { IfErr result IsFirstEnd }
+        ensures late { 0 < self.old.lines → IsReady (reading self.new) (scanning self.new) × IfErr result IsLaterEnd }
         ensures counts { S.failures sink.old ≤ S.failures sink.new }
         ensures cause { IsErrOf result End.WriteFault → HasRisen (S.failures sink.old) (S.failures sink.new) }
         ensures ok { OnOk result ((p : List ℕ) → Reads (reading self.old) p →
@@ -418,6 +434,50 @@ impl<'q> Framer<'q> {
         Ok(())
     }
 
+    /// Takes a piece of the stream up to and with the first LF, and deals with the line that it ends; or all of it, if there
+    /// is none.
+    pub fn take_front<S: LineSink>(&mut self, piece: &[u8], sink: &mut S) -> Result<Progress, End>
+        requires sound { IsSound (reading self.old) }
+        requires room { self.old.lines < 2 ^ 62 }
+        requires lists { HasRoom self.old.limits (scanning self.old) }
+        requires ready { IsReady (reading self.old) (scanning self.old) }
+        requires keeps { KeepsFirst (reading self.old) (scanning self.old) self.old.parts }
+        ensures front { IfOk result (λ t. IsFront piece.now t) }
+        ensures lines { IfOk result (λ t. self.new.lines ≡ (if t.accepted then self.old.lines + 1 else self.old.lines)) }
+        ensures few { self.new.lines ≤ self.old.lines + 1 }
+        ensures stays { Stays (reading self.old) (reading self.new) }
+        ensures keeps { KeepsFirst (reading self.new) (scanning self.new) self.new.parts }
+        ensures end { IfErr result IsFirstEnd }
+        ensures counts { S.failures sink.old ≤ S.failures sink.new }
+        ensures cause { IsErrOf result End.WriteFault → HasRisen (S.failures sink.old) (S.failures sink.new) }
+        ensures ok { IfOk result (λ t. (p : List ℕ) → Reads (reading self.old) p →
+            Advances S.takes (reading self.old) sink.old p (take t.used piece.now) (reading self.new) sink.new) }
+        ensures err { IfErr result (λ e. (p : List ℕ) → Reads (reading self.old) p →
+            Stops S.takes S.leaves (reading self.old) sink.old p piece.now e (reading self.new) sink.new) }
+        ensures room { HasRoom self.old.limits (scanning self.new) }
+        ensures ready { OnOk result (IsReady (reading self.new) (scanning self.new)) }
+        ensures rises { Rises (scanning self.old) (scanning self.new) }
+        ensures scanned { IfOk result (λ t.
+            (p : List ℕ) → Reads (reading self.old) p → Scanned self.old.limits (closed p) (scanning self.old)
+            → Scanned self.old.limits (closed (p ++ take t.used piece.now)) (scanning self.new)) }
+        ensures held { OnErr result
+            ((p : List ℕ) → Reads (reading self.old) p → Scanned self.old.limits (closed p) (scanning self.old)
+            → HoldsFew self.old.limits (length (first_content (p ++ piece.now))) (scanning self.new)) }
+    {
+        let Some(at) = memchr(b'\n', piece) else {
+            self.store(piece)?;
+            return Ok(Progress {
+                used: piece.len(),
+                accepted: false,
+            });
+        };
+        self.take_line(&piece[..at], sink)?;
+        Ok(Progress {
+            used: at + 1,
+            accepted: true,
+        })
+    }
+
     /// Takes a piece of the stream, and deals with each line that it ends.
     pub fn take_piece<S: LineSink>(&mut self, piece: &[u8], sink: &mut S) -> Result<(), End>
         requires sound { IsSound (reading self.old) }
@@ -427,7 +487,10 @@ impl<'q> Framer<'q> {
         requires keeps { KeepsFirst (reading self.old) (scanning self.old) self.old.parts }
         ensures stays { Stays (reading self.old) (reading self.new) }
         ensures few { self.new.lines ≤ self.old.lines + length piece.now }
+        ensures grows { self.old.lines ≤ self.new.lines }
         ensures keeps { KeepsFirst (reading self.new) (scanning self.new) self.new.parts }
+        ensures end { IfErr result IsFirstEnd }
+        ensures late { 0 < self.old.lines → IsReady (reading self.new) (scanning self.new) × IfErr result IsLaterEnd }
         ensures counts { S.failures sink.old ≤ S.failures sink.new }
         ensures cause { IsErrOf result End.WriteFault → HasRisen (S.failures sink.old) (S.failures sink.new) }
         ensures ok { OnOk result ((p : List ℕ) → Reads (reading self.old) p →
@@ -462,7 +525,10 @@ impl<'q> Framer<'q> {
         requires keeps { KeepsFirst (reading self.old) (scanning self.old) self.old.parts }
         ensures stays { Stays (reading self.old) (reading self.new) }
         ensures few { self.new.lines ≤ self.old.lines + 1 }
+        ensures grows { self.old.lines ≤ self.new.lines }
         ensures keeps { KeepsFirst (reading self.new) (scanning self.new) self.new.parts }
+        ensures end { IfErr result IsFirstEnd }
+        ensures late { 0 < self.old.lines → IsReady (reading self.new) (scanning self.new) × IfErr result IsLaterEnd }
         ensures counts { S.failures sink.old ≤ S.failures sink.new }
         ensures cause { IsErrOf result End.WriteFault → HasRisen (S.failures sink.old) (S.failures sink.new) }
         ensures memory { IsErrOf result End.Memory → ⊥ }

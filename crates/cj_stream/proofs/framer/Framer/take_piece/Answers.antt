@@ -50,6 +50,7 @@ loop-at-preserved g c =
       Rises-then _ _ _ c.loop-at.invariant.5 c.take_line.ensures.rises,
       c.take_line.ensures.keeps,
       c.in_ok-take_line.ensures.ready,
+      omega (arith, c.loop-at.invariant.8, c.take_line.ensures.grows),
     )
 
 pub returns-in_err-store-clause-err : goal.returns-in_err-store-clause-err
@@ -85,6 +86,7 @@ loop-at-init g c = (
   Rises-same (scanning c.args.self.now) (scanning c.args.self.now) refl,
   c.requires.keeps,
   c.requires.ready,
+  omega arith,
 )
 
 pub returns-in_err-take_line-clause-held : goal.returns-in_err-take_line-clause-held

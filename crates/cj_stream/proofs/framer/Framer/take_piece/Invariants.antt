@@ -10,7 +10,7 @@ invariant-loop-at g l =
     Stays (reading l.initial.self) (reading l.self) × (l.self.lines + length l.rest ≤ l.initial.self.lines + length l.piece) × (g.S.LineSink.failures l.initial.sink ≤ g.S.LineSink.failures l.sink) × ((done : List ℕ) × (l.piece ≡ done ++ l.rest) × ((p : List ℕ) → Reads (reading l.initial.self) p → Advances g.S.LineSink.takes (reading l.initial.self) l.initial.sink p done (reading l.self) l.sink)
     × ((p : List ℕ) → Reads (reading l.initial.self) p → Scanned l.initial.self.limits (closed p) (scanning l.initial.self) → Scanned l.initial.self.limits (closed (p ++ done)) (scanning l.self)))
     × HasRoom l.initial.self.limits (scanning l.self) × Rises (scanning l.initial.self) (scanning l.self) × KeepsFirst (reading l.self) (scanning l.self) l.self.parts
-    × IsReady (reading l.self) (scanning l.self)
+    × IsReady (reading l.self) (scanning l.self) × (l.initial.self.lines ≤ l.self.lines)
 
 abbrev pub decreases-loop-at : goal.decreases-loop-at
 decreases-loop-at g l = length l.rest
