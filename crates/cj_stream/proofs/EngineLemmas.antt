@@ -13,9 +13,9 @@ use Rattle.cj_budget.specs.Bounded.{IsWithin}
 use Rattle.cj_budget.specs.declared.limits.Peaks.{Peaks}
 use Rattle.cj_stream.specs.Bound.{bytes_bound, IsBelow, IsBounded}
 use Rattle.cj_stream.specs.Scanning.{Scanning, HasRoom, Scanned, HoldsFew}
-use Rattle.cj_stream.specs.Reading.{Reading, IsSound, Reads, kept_closed, begun_of, Advances, IsNext, LacksMemory, HasCause, Stops}
+use Rattle.cj_stream.specs.Reading.{Reading, IsSound, Reads, kept_closed, Advances, IsNext, LacksMemory, HasCause, Stops}
 use Rattle.cj_stream.specs.Engine.{EngineState, StandsFor, Counts, Going, Faults, Delivers, Tells, limits_of, held_by, peaks_of}
-use Rattle.cj_stream.proofs.LineLemmas.{closed-then, first_content-grows}
+use Rattle.cj_stream.proofs.LineLemmas.{closed-then, first_content-grows, none-from_length}
 use Rattle.cj_stream.proofs.IsLinesLemmas.{lines-whole}
 use Rattle.cj_stream.proofs.VerdictLemmas.{refusal-append}
 use Rattle.cj_stream.proofs.ScanningLemmas.{few-scanned, first-closed}
@@ -210,13 +210,20 @@ module _ {S : Type 0} (takes leaves : S → Item → S → Type 0) where
         going = λ none. absurd (some-none e (sym ended ∙ none));
       }
 
--- what an end for want of memory tells
+none-added : (xs ys : List Item) → ◌≡◌ {A = List Item} [] (xs ++ ys) → ys ≡ []
+none-added [] ys e = sym e
+none-added (x ∷ xs) ys e = cc
+
+-- what an end for want of memory tells: no line was dealt with, so the sink is as it was
 pub LacksMemory-stops : {S : Type 0} (takes leaves : S → Item → S → Type 0) (f g : Reading) (s t : S) (p more : List ℕ) (e : End) → Stops takes leaves f s p more e g t → e ≡ Memory
-    → LacksMemory (p ++ more) g.lines (begun_of g)
+    → LacksMemory f.rules (p ++ more) g.lines × (t ≡ s)
 LacksMemory-stops takes leaves f g s t p more e h m =
     let cause = rw m at h.cause in
-    rw h.reads.begun cause.1
+    let none : closed (p ++ h.done) ≡ [] = none-from_length (closed (p ++ h.done)) (sym h.reads.lines ∙ cause.1.none) in
+    let kept = rw none at h.puts.1 in
+    let took = rw (none-added (kept_closed f.rules p) h.puts.0 kept) at h.puts.2 in
+    (cause.1, cause.0 ∙ took)
 
-pub none_from_not_some : (o : Option End) → ((x : End) → o ≡ Some x → ⊥) → o ≡ None
+pub none_from_not_some : {T : Type 0} (o : Option T) → ((x : T) → o ≡ Some x → ⊥) → o ≡ None
 none_from_not_some None h = refl
 none_from_not_some (Some x) h = absurd (h x refl)

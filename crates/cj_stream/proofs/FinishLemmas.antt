@@ -1,6 +1,6 @@
 -- What the end of a text makes of an engine.
-use Rattle.std.proofs.Common.{◌≡◌, ℕ, ◌+◌, ◌<◌, ◌≤◌, ◌⊎◌, inl, inr, max, List, [], ◌∷◌, ◌++◌, Bool, true, false, cond, eqb, length, take, map, Some, None, Result, Ok, Err, arith, refl, sym, ap, ◌∙◌, length-append}
-use Rattle.std.specs.Prelude.{unwrap_or, OnOk, if◌then◌else◌, ◌≢◌}
+use Rattle.std.proofs.Common.{◌≡◌, ℕ, ◌+◌, ◌<◌, ◌≤◌, ◌⊎◌, inl, inr, max, List, [], ◌∷◌, ◌++◌, Bool, true, false, eqb, length, take, map, Some, None, Result, Ok, Err, arith, refl, sym, ap, ◌∙◌, length-append}
+use Rattle.std.specs.Prelude.{unwrap_or, OnOk, if◌then◌else◌}
 use Rattle.std.proofs.lemmas.List.{append-nil}
 use Rattle.std.proofs.lemmas.Bool.Decides.{nat_tests}
 use Rattle.cj_budget.specs.Limits.{LimitPair}
@@ -12,9 +12,9 @@ use Rattle.cj_stream.specs.declared.ending.End.{End}
 use Rattle.cj_stream.specs.declared.ending.End.TheVariants.{Complete, Refused, ReadFault, ReadLimit, WriteFault, Memory}
 use Rattle.cj_stream.specs.Lines.{Line, closed, begun, begun_after, first_content, ended_line, last_line, later_of, lines}
 use Rattle.cj_stream.specs.Item.{Item}
-use Rattle.cj_stream.specs.Verdict.{WantsTokens, Rules, Verdict, Refuse, Blank, Unwanted, Valid, verdict, item_after, refusal_of, is_kept, refusal_in, refusal_from, kept_from, ending, ending_of, kept_first}
+use Rattle.cj_stream.specs.Verdict.{Rules, Verdict, Refuse, Blank, Unwanted, Valid, verdict, item_after, refusal_of, is_kept, refusal_in, refusal_from, kept_from, ending, ending_of, kept_first}
 use Rattle.cj_stream.specs.Bound.{bytes_bound, greatest, contents, exact_peaks}
-use Rattle.cj_stream.specs.Reading.{Reading, begun_of, next_verdict, next_item, Deals, Settles, Reads, Finishes, FinishesWith, Passes}
+use Rattle.cj_stream.specs.Reading.{Reading, begun_of, next_verdict, next_item, IsLeft, Deals, Settles, Reads, Finishes, FinishesWith, Passes}
 use Rattle.cj_stream.specs.Scanning.{Scanning, Scanned, HasRoom, HoldsFew}
 use Rattle.cj_stream.specs.Engine.{StandsFor, Counts, Faults, Delivers, Concludes, end_of}
 use Rattle.cj_stream.proofs.LineLemmas.{none-from_length, begun_after-empty}
@@ -68,6 +68,16 @@ pub finishes-with : {S : Type 0} (takes leaves : S → Item → S → Type 0) (c
     → Settles takes leaves (next_verdict f c) (next_item f (record { content = c; lf = false })) f s r g t → FinishesWith takes leaves c f s r g t
 finishes-with takes leaves [] f g s t r some d = absurd (omega arith)
 finishes-with takes leaves (b ∷ c) f g s t r some d = d
+
+-- a line that LF has not ended is never refused memory
+pub settles-memory : {S : Type 0} (takes leaves : S → Item → S → Type 0) (v : Verdict) (i : Item) (f g : Reading) (s t : S) (r : Result (Unit {0}) End) → i.line.lf ≡ false
+    → Settles takes leaves v i f s r g t → r ≡ Err Memory → ⊥
+settles-memory takes leaves (Refuse place reason) i f g s t r open_end (inl d) m = cc
+settles-memory takes leaves Blank i f g s t r open_end (inl d) m = cc
+settles-memory takes leaves Unwanted i f g s t r open_end (inl d) m = cc
+settles-memory takes leaves Valid i f g s t (Ok x) open_end (inl d) m = cc
+settles-memory takes leaves Valid i f g s t (Err x) open_end (inl d) m = let fault : x ≡ WriteFault = d.0 in cc
+settles-memory takes leaves v i f g s t r open_end (inr m) e = let lf : i.line.lf ≡ true = m.5 in cc
 
 -- the lists after a last line was dealt with, and of a text without one
 pub scanned-last : (f : Reading) (p : List ℕ) (a b : Scanning) → Reads f p → 0 < length (begun_of f) → Scanned f.rules.limits (closed p) a
@@ -145,6 +155,9 @@ module _ {S : Type 0} (takes leaves : S → Item → S → Type 0) (f g : Readin
   counts-same : g ≡ f → Counts f.rules p g.lines g.kept
   counts-same e = let k = Counts-front f p [] reads in rw e (rw (append-nil p) at k)
 
+  counts-left : IsLeft f g → Counts f.rules p g.lines g.kept
+  counts-left left = let k = Counts-front f p [] reads in rw left.same (rw (append-nil p) at k)
+
   counts-passed : (b : ℕ) (c : List ℕ) (put : Bool) → begun p ≡ b ∷ c → Passes put f g → refusal_of (length (map ended_line (closed p)) + 1) (verdict f.rules (map ended_line (closed p)) (b ∷ c)) ≡ None
       → put ≡ is_kept (verdict f.rules (map ended_line (closed p)) (b ∷ c)) → Counts f.rules p g.lines g.kept
   counts-passed b c put e d fine k =
@@ -161,7 +174,7 @@ module _ {S : Type 0} (takes leaves : S → Item → S → Type 0) (f g : Readin
   counts-last b c Blank r e h d = counts-passed b c false e d.1 (rw h refl) (rw h refl)
   counts-last b c Unwanted r e h d = counts-passed b c false e d.1 (rw h refl) (rw h refl)
   counts-last b c Valid (Ok x) e h d = counts-passed b c true e d.0 (rw h refl) (rw h refl)
-  counts-last b c Valid (Err x) e h d = counts-same d.1
+  counts-last b c Valid (Err x) e h d = counts-left d.1
 
   Counts-finished : (r : Result (Unit {0}) End) → Finishes takes leaves f s p r g t → Counts f.rules p g.lines g.kept
   Counts-finished r d = go (begun p) refl d
@@ -169,7 +182,7 @@ module _ {S : Type 0} (takes leaves : S → Item → S → Type 0) (f g : Readin
       go : (x : List ℕ) → begun p ≡ x → FinishesWith takes leaves x f s r g t → Counts f.rules p g.lines g.kept
       go [] e d = counts-same d.1
       go (b ∷ c) e (inl d) = counts-last b c _ r e (sym (next-verdict f p reads (b ∷ c))) d
-      go (b ∷ c) e (inr m) = counts-same m.1
+      go (b ∷ c) e (inr m) = counts-left m.1
 
   -- the lists are within their peaks, and those have not changed
   record Settled : Type 0 where
@@ -180,6 +193,14 @@ module _ {S : Type 0} (takes leaves : S → Item → S → Type 0) (f g : Readin
 
   settled-same : g ≡ f → Settled
   settled-same e = rw e (record { rules = refl; header = reads.header_within; line = reads.line_within; peaks = refl })
+
+  settled-left : IsLeft f g → Settled
+  settled-left left = rw left.same (record {
+    rules = refl;
+    header = reads.header_within;
+    line = record { below_peak = reads.line_within.below_peak; below_limit = reads.line_within.below_limit };
+    peaks = refl;
+  })
 
   settled-passed : (put : Bool) → Passes put f g → Settled
   settled-passed put d = record {
@@ -194,7 +215,7 @@ module _ {S : Type 0} (takes leaves : S → Item → S → Type 0) (f g : Readin
   settled-dealt l Blank r d = settled-passed false d.1
   settled-dealt l Unwanted r d = settled-passed false d.1
   settled-dealt l Valid (Ok x) d = settled-passed true d.0
-  settled-dealt l Valid (Err x) d = settled-same d.1
+  settled-dealt l Valid (Err x) d = settled-left d.1
 
   Settled-finished : (r : Result (Unit {0}) End) → Finishes takes leaves f s p r g t → Settled
   Settled-finished r d = go (begun p) d
@@ -202,7 +223,7 @@ module _ {S : Type 0} (takes leaves : S → Item → S → Type 0) (f g : Readin
       go : (x : List ℕ) → FinishesWith takes leaves x f s r g t → Settled
       go [] d = settled-same d.1
       go (b ∷ c) (inl d) = settled-dealt (next_item f (unended b c)) _ r d
-      go (b ∷ c) (inr m) = settled-same m.1
+      go (b ∷ c) (inr m) = settled-left m.1
 
   pub StandsFor-finished : (r : Result (Unit {0}) End) (sc : Scanning) (n : ℕ) (e : End) → f.header.peak + f.line.peak ≤ bytes_bound f.rules.limits p → HasRoom f.rules.limits sc
       → HoldsFew f.rules.limits (length (first_content p)) sc → Finishes takes leaves f s p r g t → StandsFor (record { reading = g; scanning = sc; taken = n; ended = Some e }) p
@@ -284,33 +305,6 @@ module _ {S : Type 0} (takes leaves : S → Item → S → Type 0) (f g : Readin
       go (b ∷ c) r (inl d) h = dealt _ (next_item f (unended b c)) r d h
       go (b ∷ c) r (inr m) h = memory r m.0 h
 
-  -- there is a last line for whose tokens no memory was granted, and it is UTF-8 and not blank
-  pub tokens-finished : (r : Result (Unit {0}) End) → Finishes takes leaves f s p r g t → end_of r ≡ Memory → (begun p ≢ []) × WantsTokens (f.lines + 1) (begun p)
-  tokens-finished r d h = go (begun p) r d h
-    where
-      clash : (e : End) (r : Result (Unit {0}) End) → r ≡ Err e → (e ≡ Memory → ⊥) → end_of r ≡ Memory → ⊥
-      clash e r is other h = other (sym (ap end_of is) ∙ h)
-
-      fine : (r : Result (Unit {0}) End) → r ≡ Ok tt → end_of r ≡ Memory → ⊥
-      fine (Ok x) is h = cc
-      fine (Err x) is h = cc
-
-      none : (b : Bool) (r : Result (Unit {0}) End) → r ≡ cond b (Err (Refused 1 0 NoHeader)) (Ok tt) → end_of r ≡ Memory → ⊥
-      none true r e h = clash _ r e (λ x. cc) h
-      none false r e h = fine r e h
-
-      dealt : (v : Verdict) (l : Item) (r : Result (Unit {0}) End) → Deals takes leaves v l f s r g t → end_of r ≡ Memory → ⊥
-      dealt (Refuse place reason) l r d h = clash _ r d.0 (λ x. cc) h
-      dealt Blank l r d h = fine r d.0 h
-      dealt Unwanted l r d h = fine r d.0 h
-      dealt Valid l (Ok x) d h = cc
-      dealt Valid l (Err x) d h = let e : x ≡ WriteFault = d.0 in cc
-
-      go : (x : List ℕ) (r : Result (Unit {0}) End) → FinishesWith takes leaves x f s r g t → end_of r ≡ Memory → (x ≢ []) × WantsTokens (f.lines + 1) x
-      go [] r d h = absurd (none (eqb f.lines 0) r d.0 h)
-      go (b ∷ c) r (inl d) h = absurd (dealt _ (next_item f (unended b c)) r d h)
-      go (b ∷ c) r (inr m) h = (λ e. cc, m.3)
-
   -- and of all three counts
   pub peaks-finished : (r : Result (Unit {0}) End) (sc : Scanning) → Finishes takes leaves f s p r g t → end_of r ≡ Complete → Scanned f.rules.limits (contents p) sc
       → ◌≡◌ {A = Peaks} (record { bytes = g.header.peak + g.line.peak; tokens = sc.header.peak + sc.line.peak; depth = sc.opened.peak }) (exact_peaks f.rules.limits p)
@@ -355,8 +349,8 @@ module _ {S : Type 0} (takes leaves : S → Item → S → Type 0) (f g : Readin
     took = (t, rw (← next-item f p reads (unended b c)) d.1, refl);
     fault = refl;
   }
-  delivers-last b c Valid (Err x) e h d = rw d.0 (quiet WriteFault (ap (λ x. x.lines) d.1)
-      (unended b c, rw (d.1, lines-last b c e) (get-next (map ended_line (closed p)) [] (unended b c) f.lines (sym length-cs)), rw (d.1, take-closed, h) refl, rw (d.1, take-closed, ← next-item f p reads (unended b c)) d.2))
+  delivers-last b c Valid (Err x) e h d = rw d.0 (quiet WriteFault (ap (λ x. x.lines) d.1.same)
+      (unended b c, rw (d.1.same, lines-last b c e) (get-next (map ended_line (closed p)) [] (unended b c) f.lines (sym length-cs)), rw (d.1.same, take-closed, h) refl, rw (d.1.same, take-closed, ← next-item f p reads (unended b c)) d.2))
 
   delivers-none : (r : Result (Unit {0}) End) → FinishesWith takes leaves [] f s r g t → Delivers takes leaves f.rules p f.lines g.lines s t (Some (end_of r))
   delivers-none r d = go (zero_or f.lines)
@@ -371,4 +365,4 @@ module _ {S : Type 0} (takes leaves : S → Item → S → Type 0) (f g : Readin
       go : (x : List ℕ) → begun p ≡ x → FinishesWith takes leaves x f s r g t → Delivers takes leaves f.rules p f.lines g.lines s t (Some (end_of r))
       go [] e d = delivers-none r d
       go (b ∷ c) e (inl d) = delivers-last b c _ r e (sym (next-verdict f p reads (b ∷ c))) d
-      go (b ∷ c) e (inr m) = rw m.0 (quiet Memory (ap (λ x. x.lines) m.1) m.2)
+      go (b ∷ c) e (inr m) = rw m.0 (quiet Memory (ap (λ x. x.lines) m.1.same) m.2)

@@ -1,74 +1,50 @@
 -- What a scan's answer says of the judgement on a line.
-use Rattle.std.proofs.Common.{◌≡◌, ℕ, inl, inr, List, length, arith, Result, Ok, Err, refl, ap}
+use Rattle.std.proofs.Common.{◌≡◌, ℕ, List, length, arith, Result, Ok, Err, refl, ap}
 use Rattle.std.specs.Prelude.{IsUtf8}
 use Rattle.std.specs.Str.{IsValidUpTo}
 use Rattle.std.proofs.lemmas.List.{take_all}
-use Rattle.cj_spans.specs.declared.fault.ScanFault.{ScanFault}
-use Rattle.cj_spans.specs.declared.fault.ScanFault.TheVariants.{NotUtf8, Syntax, TooDeep, Memory}
+use Rattle.cj_spans.specs.declared.fault.LineFault.{LineFault}
+use Rattle.cj_spans.specs.declared.fault.LineFault.TheVariants.{NotUtf8, Syntax, TooDeep}
 use Rattle.cj_spans.specs.declared.reason.Reason.TheVariants.{Syntax as SyntaxReason, TooDeep as TooDeepReason}
 use Rattle.cj_spans.specs.Tree.{Tree, size, nest}
 use Rattle.cj_spans.specs.Json.{Json}
-use Rattle.cj_spans.specs.Judgement.{Judgement, spelled, broken, sunk, IsAnswerOf, judged_size, judged_nest}
+use Rattle.cj_spans.specs.Judgement.{Judgement, spelled, broken, sunk, IsReservedAnswerOf, judged_size, judged_nest}
 use Rattle.cj_stream.specs.Item.{judged_tree}
 use Rattle.cj_stream.specs.Verdict.{Rules, Refuse, tree_verdict, text_verdict}
 
 -- a scan that answers Ok has found the tree
-pub ok-tree : {b : List ℕ} {d : ℕ} (j : Judgement b d) (x : Unit {0}) (t : Tree) → ((u : Tree) → Json b u → u ≡ t) → IsAnswerOf j (Ok x)
+pub ok-tree : {b : List ℕ} {d : ℕ} (j : Judgement b d) (x : Unit {0}) (t : Tree) → ((u : Tree) → Json b u → u ≡ t) → IsReservedAnswerOf j (Ok x)
     → (judged_tree j ≡ t) × (judged_size j ≡ size t) × (judged_nest j ≡ nest t)
 ok-tree (spelled u json shallow) x t only h = (only u json, ap size (only u json), ap nest (only u json))
-ok-tree (broken i s n) x t only (inl e) = cc
-ok-tree (broken i s n) x t only (inr e) = cc
-ok-tree (sunk i s) x t only (inl e) = cc
-ok-tree (sunk i s) x t only (inr e) = cc
+ok-tree (broken i s n) x t only e = cc
+ok-tree (sunk i s) x t only e = cc
 
 -- and the verdict goes by that tree
-pub ok-verdict : {b : List ℕ} {d : ℕ} (rules : Rules) (n : ℕ) (header : Tree) (j : Judgement b d) (x : Unit {0}) → IsAnswerOf j (Ok x)
+pub ok-verdict : {b : List ℕ} {d : ℕ} (rules : Rules) (n : ℕ) (header : Tree) (j : Judgement b d) (x : Unit {0}) → IsReservedAnswerOf j (Ok x)
     → text_verdict rules n header j ≡ tree_verdict rules n header (judged_tree j)
 ok-verdict rules n header (spelled u json shallow) x h = refl
-ok-verdict rules n header (broken i s k) x (inl e) = cc
-ok-verdict rules n header (broken i s k) x (inr e) = cc
-ok-verdict rules n header (sunk i s) x (inl e) = cc
-ok-verdict rules n header (sunk i s) x (inr e) = cc
+ok-verdict rules n header (broken i s k) x e = cc
+ok-verdict rules n header (sunk i s) x e = cc
 
 -- and each fault the place
 module _ {b : List ℕ} {d : ℕ} (rules : Rules) (n : ℕ) (header : Tree) where
-  pub syntax-refused : (j : Judgement b d) (i : ℕ) → IsAnswerOf j (Err (Syntax i)) → text_verdict rules n header j ≡ Refuse i SyntaxReason
-  syntax-refused (spelled u json shallow) i (inl e) = cc
-  syntax-refused (spelled u json shallow) i (inr e) = cc
-  syntax-refused (broken k s m) i (inl e) = cc
-  syntax-refused (broken k s m) i (inr e) = cc
-  syntax-refused (sunk k s) i (inl e) = cc
-  syntax-refused (sunk k s) i (inr e) = cc
+  pub syntax-refused : (j : Judgement b d) (i : ℕ) → IsReservedAnswerOf j (Err (Syntax i)) → text_verdict rules n header j ≡ Refuse i SyntaxReason
+  syntax-refused (spelled u json shallow) i e = cc
+  syntax-refused (broken k s m) i e = cc
+  syntax-refused (sunk k s) i e = cc
 
-  pub deep-refused : (j : Judgement b d) (i : ℕ) → IsAnswerOf j (Err (TooDeep i)) → text_verdict rules n header j ≡ Refuse i TooDeepReason
-  deep-refused (spelled u json shallow) i (inl e) = cc
-  deep-refused (spelled u json shallow) i (inr e) = cc
-  deep-refused (broken k s m) i (inl e) = cc
-  deep-refused (broken k s m) i (inr e) = cc
-  deep-refused (sunk k s) i (inl e) = cc
-  deep-refused (sunk k s) i (inr e) = cc
+  pub deep-refused : (j : Judgement b d) (i : ℕ) → IsReservedAnswerOf j (Err (TooDeep i)) → text_verdict rules n header j ≡ Refuse i TooDeepReason
+  deep-refused (spelled u json shallow) i e = cc
+  deep-refused (broken k s m) i e = cc
+  deep-refused (sunk k s) i e = cc
 
 -- bytes that are UTF-8 up to a place are not UTF-8
 pub not_text : (b : List ℕ) (i : ℕ) → IsValidUpTo b i → IsUtf8 b → ⊥
 not_text b i h text = h.longest (length b) h.short (rw (take_all (length b) b (omega arith)) text)
 
 -- a fault in the JSON is no fault in the bytes
-pub syntax-text : (r : Result (Unit {0}) ScanFault) (k : ℕ) → r ≡ Err (Syntax k) → (i : ℕ) → r ≡ Err (NotUtf8 i) → ⊥
+pub syntax-text : (r : Result (Unit {0}) LineFault) (k : ℕ) → r ≡ Err (Syntax k) → (i : ℕ) → r ≡ Err (NotUtf8 i) → ⊥
 syntax-text r k e i f = cc
 
-pub deep-text : (r : Result (Unit {0}) ScanFault) (k : ℕ) → r ≡ Err (TooDeep k) → (i : ℕ) → r ≡ Err (NotUtf8 i) → ⊥
+pub deep-text : (r : Result (Unit {0}) LineFault) (k : ℕ) → r ≡ Err (TooDeep k) → (i : ℕ) → r ≡ Err (NotUtf8 i) → ⊥
 deep-text r k e i f = cc
-
--- nor is it want of memory
-pub syntax-granted : (r : Result (Unit {0}) ScanFault) (k : ℕ) → r ≡ Err (Syntax k) → r ≡ Err Memory → ⊥
-syntax-granted r k e f = cc
-
-pub deep-granted : (r : Result (Unit {0}) ScanFault) (k : ℕ) → r ≡ Err (TooDeep k) → r ≡ Err Memory → ⊥
-deep-granted r k e f = cc
-
--- and where all is well there is neither
-pub ok-text : (r : Result (Unit {0}) ScanFault) (x : Unit {0}) → r ≡ Ok x → (i : ℕ) → r ≡ Err (NotUtf8 i) → ⊥
-ok-text r x e i f = cc
-
-pub ok-granted : (r : Result (Unit {0}) ScanFault) (x : Unit {0}) → r ≡ Ok x → r ≡ Err Memory → ⊥
-ok-granted r x e f = cc

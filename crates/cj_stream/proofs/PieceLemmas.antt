@@ -1,5 +1,5 @@
 -- How a framer advances over a piece, and where it stops.
-use Rattle.std.proofs.Common.{◌≡◌, ℕ, ◌+◌, ◌<◌, ◌⊎◌, inl, inr, List, [], ◌∷◌, ◌++◌, Bool, true, false, ltb, length, map, Some, None, Result, Ok, Err, arith, refl, sym, ap, ◌∙◌, subst, append_assoc, length-append}
+use Rattle.std.proofs.Common.{◌≡◌, ℕ, ◌+◌, ◌<◌, inl, inr, List, [], ◌∷◌, ◌++◌, Bool, true, false, ltb, length, map, Some, None, Result, Ok, Err, arith, refl, sym, ap, ◌∙◌, subst, append_assoc, length-append}
 use Rattle.std.specs.Prelude.{if◌then◌else◌, slice_get}
 use Rattle.std.proofs.lemmas.List.{append-nil}
 use Rattle.std.proofs.lemmas.Bool.Decides.{nat_tests}
@@ -7,15 +7,15 @@ use Rattle.cj_budget.specs.Limits.{LimitPair}
 use Rattle.cj_spans.specs.declared.reason.Reason.TheVariants.{LineTooLong}
 use Rattle.cj_stream.specs.declared.ending.End.{End}
 use Rattle.cj_stream.specs.declared.ending.End.TheVariants.{Refused, WriteFault, Memory}
-use Rattle.cj_stream.specs.Lines.{lines, closed, begun, ended_line, last_line, NoLf}
+use Rattle.cj_stream.specs.Lines.{lines, closed, begun, ended_line, NoLf}
 use Rattle.cj_stream.specs.Item.{Item}
-use Rattle.cj_stream.specs.Verdict.{WantsTokens, Rules, Verdict, Refuse, Blank, Unwanted, Valid, verdict, item_after, refusal_of, is_kept, long_line}
-use Rattle.cj_stream.specs.Reading.{Reading, begun_of, next_verdict, next_item, Stores, Passes, Deals, Settles, Reads, kept_closed, Puts, Advances, IsNext, HasCause, Stops}
+use Rattle.cj_stream.specs.Verdict.{Rules, Verdict, Refuse, Blank, Unwanted, Valid, verdict, item_after, refusal_of, is_kept, long_line}
+use Rattle.cj_stream.specs.Reading.{Reading, begun_of, next_verdict, next_item, IsLeft, Stores, Passes, Deals, Settles, Reads, kept_closed, Puts, Advances, IsNext, HasCause, Stops}
 use Rattle.cj_stream.specs.Sink.{Took}
-use Rattle.cj_stream.proofs.LineLemmas.{closed-more, begun-more, closed-lf, begun-lf}
+use Rattle.cj_stream.proofs.LineLemmas.{closed-more, begun-more, closed-lf, begun-lf, none-from_length}
 use Rattle.cj_stream.proofs.VerdictLemmas.{verdict-long}
-use Rattle.cj_stream.proofs.ReadingLemmas.{Reads-stored, Reads-passed, next-verdict, next-item, kept_closed-lf, map_lines-append, length-map_lines}
-use Rattle.cj_stream.proofs.EngineLemmas.{get-next, next-line}
+use Rattle.cj_stream.proofs.ReadingLemmas.{left-same, Reads-left, Reads-stored, Reads-passed, next-verdict, next-item, kept_closed-lf, map_lines-append}
+use Rattle.cj_stream.proofs.EngineLemmas.{next-line}
 
 -- steps, and then others
 pub Took-append : {S X : Type 0} (step : S → X → S → Type 0) (a b c : S) (xs ys : List X) → Took step a xs b → Took step b ys c → Took step a (xs ++ ys) c
@@ -125,32 +125,14 @@ module _ {S : Type 0} (takes leaves : S → Item → S → Type 0) where
     rw (closed-more p part n, begun-more p part n, long_line-long limits (begun p ++ part) long) refl,
   )
 
-  last_line-some : (c : List ℕ) → 0 < length c → last_line c ≡ record { content = c; lf = false } ∷ []
-  last_line-some [] h = absurd (omega arith)
-  last_line-some (b ∷ c) h = refl
-
-  next-begun : (n : ℕ) (p part : List ℕ) → NoLf part → 0 < length part → n ≡ length (closed p) → slice_get (lines (p ++ part)) n ≡ Some (record { content = begun p ++ part; lf = false })
-  next-begun n p part plain some e =
-      rw (closed-more p part plain, begun-more p part plain, last_line-some (begun p ++ part) (omega (arith, some, length-append (begun p) part)))
-      (get-next (map ended_line (closed p)) [] (record { content = begun p ++ part; lf = false }) n (e ∙ sym (length-map_lines (closed p))))
-
   -- why a part is not stored
   abbrev pub Unstored : Reading → List ℕ → End → Type 0
-  Unstored f part e = ((e ≡ Memory) × (0 < length part)) ⊎ ((e ≡ Refused (f.lines + 1) f.rules.limits.line LineTooLong) × (f.rules.limits.line < length (begun_of f) + length part))
+  Unstored f part e = (e ≡ Refused (f.lines + 1) f.rules.limits.line LineTooLong) × (f.rules.limits.line < length (begun_of f) + length part)
 
   Unstored-cause : (f : Reading) (s : S) (p part q : List ℕ) (lf : Bool) (e : End) → Reads f p → Unstored f part e
-      → (0 < length part → slice_get (lines q) f.lines ≡ Some (record { content = begun p ++ part; lf = lf }))
       → (f.rules.limits.line < length (begun p ++ part) → IsNext f.rules.limits p q (record { content = begun p ++ part; lf = lf }))
       → HasCause leaves f.rules p q f.lines s s e
-  Unstored-cause f s p part q lf e reads (inl m) at next = rw m.0 (
-    refl,
-    record {
-      line = record { content = begun p ++ part; lf = lf };
-      next = at m.1;
-      cause = inl (omega (arith, m.1, length-append (begun p) part));
-    },
-  )
-  Unstored-cause f s p part q lf e reads (inr d) at next =
+  Unstored-cause f s p part q lf e reads d next =
       let long : f.rules.limits.line < length (begun p ++ part) = rw (length-append (begun p) part, ← reads.begun) d.1 in
       rw d.0 (record { content = begun p ++ part; lf = lf }, next long, refl, verdict-long f.rules _ _ (begun p ++ part) long, refl)
 
@@ -169,9 +151,7 @@ module _ {S : Type 0} (takes leaves : S → Item → S → Type 0) where
   -- a part that is not stored, and an LF comes after it
   pub Stops-unstored : (f : Reading) (s : S) (p part more : List ℕ) (e : End) → Reads f p → NoLf part → Unstored f part e → Stops takes leaves f s p (part ++ 10 ∷ more) e f s
   Stops-unstored f s p part more e reads n u = stopped f s p (part ++ 10 ∷ more) e reads
-      (Unstored-cause f s p part (p ++ (part ++ 10 ∷ more)) true e reads u
-      (λ _. next-line f.rules.limits f.lines p (p ++ (part ++ 10 ∷ more)) (ended_line (begun p ++ part)) next reads.lines)
-      (λ _. next))
+      (Unstored-cause f s p part (p ++ (part ++ 10 ∷ more)) true e reads u (λ _. next))
     where
       next : IsNext f.rules.limits p (p ++ (part ++ 10 ∷ more)) (ended_line (begun p ++ part))
       next = let k = IsNext-ended f.rules.limits p part more n in rw (closed-more p part n) at k
@@ -179,7 +159,7 @@ module _ {S : Type 0} (takes leaves : S → Item → S → Type 0) where
   -- the last part is not stored
   pub Stops-unstored_last : (f : Reading) (s : S) (p part : List ℕ) (e : End) → Reads f p → NoLf part → Unstored f part e → Stops takes leaves f s p part e f s
   Stops-unstored_last f s p part e reads n u = stopped f s p part e reads
-      (Unstored-cause f s p part (p ++ part) false e reads u (λ some. next-begun f.lines p part n some reads.lines) (λ long. IsNext-long f.rules.limits p part n long))
+      (Unstored-cause f s p part (p ++ part) false e reads u (λ long. IsNext-long f.rules.limits p part n long))
 
   good-bad : (r : Result (Unit {0}) End) (e : End) → r ≡ Ok tt → r ≡ Err e → ⊥
   good-bad r e x y = cc
@@ -187,11 +167,11 @@ module _ {S : Type 0} (takes leaves : S → Item → S → Type 0) where
   -- a line that has begun, and was not dealt with: g has read p, whose last bytes they are
   undealt : (g h : Reading) (s t : S) (p part more : List ℕ) (v : Verdict) (r : Result (Unit {0}) End) (e : End) → NoLf part → Reads g (p ++ part) → begun_of g ≡ begun p ++ part
       → next_verdict g (begun_of g) ≡ v → Deals takes leaves v (next_item g (ended_line (begun_of g))) g s r h t → r ≡ Err e
-      → (h ≡ g) × HasCause leaves g.rules (p ++ part) (p ++ (part ++ 10 ∷ more)) g.lines s t e
+      → IsLeft g h × HasCause leaves g.rules (p ++ part) (p ++ (part ++ 10 ∷ more)) g.lines s t e
   undealt g h s t p part more (Refuse place reason) r e n reads b is d err =
       let same : e ≡ Refused (g.lines + 1) place reason = cc in
       let told = sym (next-verdict g (p ++ part) reads (begun_of g)) ∙ is in
-      (d.1, rw same (ended_line (begun p ++ part), IsNext-ended g.rules.limits p part more n, refl, rw b at told, d.2))
+      (left-same g h d.1, rw same (ended_line (begun p ++ part), IsNext-ended g.rules.limits p part more n, refl, rw b at told, d.2))
   undealt g h s t p part more Blank r e n reads b is d err = absurd (good-bad r e d.0 err)
   undealt g h s t p part more Unwanted r e n reads b is d err = absurd (good-bad r e d.0 err)
   undealt g h s t p part more Valid (Ok x) e n reads b is d err = absurd (clash err)
@@ -207,17 +187,21 @@ module _ {S : Type 0} (takes leaves : S → Item → S → Type 0) where
 
   unsettled : (g h : Reading) (s t : S) (p part more : List ℕ) (r : Result (Unit {0}) End) (e : End) → NoLf part → Reads g (p ++ part) → begun_of g ≡ begun p ++ part
       → Settles takes leaves (next_verdict g (begun_of g)) (next_item g (ended_line (begun_of g))) g s r h t → r ≡ Err e
-      → (h ≡ g) × HasCause leaves g.rules (p ++ part) (p ++ (part ++ 10 ∷ more)) g.lines s t e
+      → IsLeft g h × HasCause leaves g.rules (p ++ part) (p ++ (part ++ 10 ∷ more)) g.lines s t e
   unsettled g h s t p part more r e n reads b (inl d) err = undealt g h s t p part more _ r e n reads b refl d err
   unsettled g h s t p part more r e n reads b (inr m) err =
-      let same : e ≡ Memory = cc in (
+      let same : e ≡ Memory = cc in
+      let none : closed (p ++ part) ≡ [] = none-from_length (closed (p ++ part)) (sym reads.lines ∙ m.3) in
+      let valid = sym (next-verdict g (p ++ part) reads (begun_of g)) ∙ m.4 in
+      let next = next-line g.rules.limits g.lines (p ++ part) (p ++ (part ++ 10 ∷ more)) (ended_line (begun p ++ part)) (IsNext-ended g.rules.limits p part more n) reads.lines in (
         m.1,
         rw same (
           m.2,
           record {
-            line = ended_line (begun p ++ part);
-            next = next-line g.rules.limits g.lines (p ++ part) (p ++ (part ++ 10 ∷ more)) (ended_line (begun p ++ part)) (IsNext-ended g.rules.limits p part more n) reads.lines;
-            cause = inr (subst (WantsTokens (g.lines + 1)) b m.3);
+            none = m.3;
+            header = begun p ++ part;
+            first = subst (λ k. slice_get (lines (p ++ (part ++ 10 ∷ more))) k ≡ Some (ended_line (begun p ++ part))) m.3 next;
+            valid = rw (none, b) at valid;
           },
         ),
       )
@@ -235,8 +219,8 @@ module _ {S : Type 0} (takes leaves : S → Item → S → Type 0) where
         left = 10 ∷ more;
         middle = s;
         cut = refl;
-        rules = ap (λ x. x.rules) u.0 ∙ st.rules;
-        reads = rw u.0 a.reads;
+        rules = ap (λ x. x.rules) u.0.same ∙ st.rules;
+        reads = Reads-left g h (p ++ part) u.0 a.reads;
         puts = a.puts;
-        cause = let k = rw st.rules at u.1 in rw u.0 k;
+        cause = let k = rw st.rules at u.1 in rw u.0.same k;
       }

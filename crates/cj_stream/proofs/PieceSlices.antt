@@ -1,6 +1,7 @@
 -- A piece, cut where a search finds an LF.
 use Rattle.std.proofs.Common.{◌≡◌, ℕ, ◌+◌, ◌-◌, ◌<◌, suc, List, [], ◌∷◌, ◌++◌, length, take, drop, get_or, Option, Some, None, arith, sym, ap, ◌∙◌, append_assoc, length-take, length-drop, drop-cons, add-one, refl}
 use Rattle.std.proofs.lemmas.List.{get_or-take, take-append-drop, take_all}
+use Rattle.std.proofs.Math.Seq.{take-suc}
 use Rattle.std.proofs.lemmas.Bool.{eqb-true}
 use Rattle.memchr.specs.Find.{IsFirstByte, is_byte}
 use Rattle.cj_stream.specs.Lines.{NoLf}
@@ -12,6 +13,10 @@ lf_found s k h =
     let d : drop k s ≡ get_or s k 0 ∷ drop (suc k) s = drop-cons s k 0 (omega (arith, h.0.high)) in
     let b : get_or s k 0 ≡ 10 = eqb-true (get_or s k 0) 10 h.1 in
     sym (take-append-drop k s) ∙ ap (λ z. take k s ++ z) (d ∙ (ap (λ z. z ∷ drop (suc k) s) b ∙ ap (λ z. 10 ∷ drop z s) (sym (add-one k))))
+
+-- up to and with it
+pub lf_front : (s : List ℕ) (k : ℕ) → IsFirstByte (is_byte 10) s (Some k) → take (k + 1) s ≡ take k s ++ 10 ∷ []
+lf_front s k h = ap (λ z. take z s) (add-one k) ∙ (take-suc s k 0 h.0.high ∙ ap (λ z. take k s ++ z ∷ []) (eqb-true (get_or s k 0) 10 h.1))
 
 pub NoLf-before : (s : List ℕ) (k : ℕ) → IsFirstByte (is_byte 10) s (Some k) → NoLf (take k s)
 NoLf-before s k h = NoLf-from_places (take k s) (λ j lt e. h.0.before j (omega arith) (omega (arith, length-take k s)) (rw (← get_or-take k s j 0 (omega (arith, length-take k s))) e))

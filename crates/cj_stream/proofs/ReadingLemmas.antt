@@ -10,7 +10,7 @@ use Rattle.cj_spans.specs.Tree.{Tree}
 use Rattle.cj_stream.specs.Item.{Item, is_feature, item_at}
 use Rattle.cj_stream.specs.Verdict.{Rules, verdict_at, verdict, header_of, item_after, refusal_of, is_kept, kept_from}
 use Rattle.cj_stream.specs.Bound.{greatest}
-use Rattle.cj_stream.specs.Reading.{Reading, begun_of, held_header, next_verdict, next_item, Stores, Passes, Reads, kept_closed}
+use Rattle.cj_stream.specs.Reading.{Reading, begun_of, held_header, next_verdict, next_item, widened, IsLeft, Stores, Passes, Reads, kept_closed}
 use Rattle.cj_stream.proofs.LineLemmas.{closed-more, begun-more, closed-lf, begun-lf, first_of-some, first_of-lf, begun_after-some, begun_after-empty, none-from_length}
 use Rattle.cj_stream.proofs.VerdictLemmas.{verdict-first, refusal-append, kept-append}
 
@@ -88,6 +88,44 @@ Reads-stored f g p part h n s = record {
     line_within : (f.lines ≡ 0) ⊎ (0 < f.lines) → IsWithin g.line
     line_within (inl z) = rw (s.first z).1 h.line_within
     line_within (inr z) = (s.later z).0.within
+
+-- ---- the same but for the room for later lines
+
+pub left-same : (f g : Reading) → g ≡ f → IsLeft f g
+left-same f g e = record { room = f.line.reserved; kept = λ x. x; same = e }
+
+-- what is dealt with after more room was made
+pub passed-left : (put : Bool) (f g h : Reading) → IsLeft f g → Passes put g h → Passes put f h
+passed-left put f g h left x = go (rw left.same at x)
+  where
+    go : Passes put (widened f left.room) h → Passes put f h
+    go x = record {
+      rules = x.rules;
+      lines = x.lines;
+      kept = x.kept;
+      header = x.header;
+      line = record { elements = x.line.elements; limit = x.line.limit; peak = x.line.peak; room = λ r. x.line.room (left.kept r); within = x.line.within };
+    }
+
+pub left-then : (f g h : Reading) → IsLeft f g → IsLeft g h → IsLeft f h
+left-then f g h a b = go (rw a.same at b)
+  where
+    go : IsLeft (widened f a.room) h → IsLeft f h
+    go b = record { room = b.room; kept = λ r. b.kept (a.kept r); same = b.same }
+
+pub Reads-left : (f g : Reading) (p : List ℕ) → IsLeft f g → Reads f p → Reads g p
+Reads-left f g p left h = rw left.same (record {
+  lines = h.lines;
+  begun = h.begun;
+  header = h.header;
+  line = h.line;
+  good = h.good;
+  kept = h.kept;
+  peak = h.peak;
+  line_peak = h.line_peak;
+  header_within = h.header_within;
+  line_within = record { below_peak = h.line_within.below_peak; below_limit = h.line_within.below_limit };
+})
 
 pub length-map_lines : (cs : List (List ℕ)) → length (map ended_line cs) ≡ length cs
 length-map_lines [] = refl

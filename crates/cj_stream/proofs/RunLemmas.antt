@@ -116,6 +116,32 @@ HasRisen-after a b c le (inr h) = go (zero_or (c - a))
     go (inl z) = inr (omega (arith, h.0, h.1), h.1)
     go (inr z) = inl (omega arith)
 
+-- a run that was refused its memory before the first read
+pub Consumes-none : (a : Option (List ℕ)) → Consumes a a []
+Consumes-none None = tt
+Consumes-none (Some a) = refl
+
+pub Runs-refused : {S : Type 0} (takes leaves : S → Item → S → Type 0) (rules : Rules) (at_end : Type 0) (s : S)
+    → Runs takes leaves (record { rules = rules; read = []; outcome = record { lines = 0; kept = 0; peaks = record { bytes = 0; tokens = 0; depth = 0 }; ended = Memory } }) at_end s s
+Runs-refused takes leaves rules at_end s = record {
+  account = record {
+    bounded = record { bytes = omega arith; tokens = omega arith; depth = omega arith };
+    exact = λ e. cc;
+    counts = record { few = omega arith; good = refl; kept = refl };
+    ends = tt;
+  };
+  sink = record { added = []; middle = s; kept = refl; took = refl; fault = refl };
+  puts = record { more = []; others = []; middle = s; front = refl; took = refl; left = refl };
+}
+
+-- where memory was refused before any line was dealt with, the sink is as it was
+pub refused-sink : {S : Type 0} (takes leaves : S → Item → S → Type 0) (rules : Rules) (q : List ℕ) (n : ℕ) (s t : S) (e : End) → e ≡ Memory → n ≡ 0
+    → Delivers takes leaves rules q 0 n s t (Some e) → t ≡ s
+refused-sink takes leaves rules q n s t e is none h = go (rw (is, none) at h)
+  where
+    go : Delivers takes leaves rules q 0 0 s t (Some Memory) → t ≡ s
+    go h = let took = rw (sym h.kept) at h.took in h.fault ∙ took
+
 -- an end by a piece, a fault or the read limit is no completion
 pub told-not_complete : (rules : Rules) (q : List ℕ) (n : ℕ) (e : End) → Tells rules q n e → e ≡ Complete → ⊥
 told-not_complete rules q n Complete c h = c
@@ -158,6 +184,20 @@ pub enough-reads : (a b : Option (List ℕ)) (reads : ℕ) (r : List ℕ) (e : E
 enough-reads None b reads r e c w = tt
 enough-reads (Some a) None reads r e c w = absurd c
 enough-reads (Some a) (Some b) reads r e c w = λ few is. absurd (omega (arith, all-gave reads r e is w, w.least, ap length c, length-append r b))
+
+-- a run that was refused memory has read nothing, has not run out of reads, nor has its sink failed
+pub memory-no_fault : Memory ≡ WriteFault → ⊥
+memory-no_fault h = cc
+
+pub unread-refused : (reads : ℕ) (e : End) → e ≡ Memory → IsReadWithin reads [] e
+unread-refused reads e is = rw is (record { giving = 0; gave = omega arith; least = omega arith; most = omega arith })
+
+pub enough-refused : (a : Option (List ℕ)) (reads : ℕ) (e : End) → e ≡ Memory → IfSome a (λ bytes. length bytes < reads → e ≢ ReadLimit)
+enough-refused None reads e is = tt
+enough-refused (Some a) reads e is = λ few limit. absurd (apart (sym is ∙ limit))
+  where
+    apart : Memory ≡ ReadLimit → ⊥
+    apart h = cc
 
 -- by no read no line is dealt with
 pub none-counted : (rules : Rules) (reads : ℕ) (r : List ℕ) (n features : ℕ) (e : End) → reads ≡ 0 → e ≡ ReadLimit → IsReadWithin reads r e → Counts rules r n features → (n ≡ 0) × (features ≡ 0)

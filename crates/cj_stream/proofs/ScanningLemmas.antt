@@ -1,10 +1,10 @@
 -- What is held of the trees of lines, from line to line.
-use Rattle.std.proofs.Common.{◌≡◌, ℕ, ◌+◌, ◌*◌, ◌<◌, ◌≤◌, ◌⊎◌, inl, inr, max, List, [], ◌∷◌, ◌++◌, true, false, ltb, length, Result, Ok, Err, arith, refl, sym, ap, ◌∙◌, append_assoc}
+use Rattle.std.proofs.Common.{◌≡◌, ℕ, ◌+◌, ◌*◌, ◌<◌, ◌≤◌, ◌⊎◌, inl, inr, max, List, [], ◌∷◌, ◌++◌, Bool, true, false, ltb, length, Result, Ok, Err, arith, refl, sym, ap, ◌∙◌, append_assoc}
+use Rattle.std.specs.Prelude.{OnErr, IsTrue}
 use Rattle.std.specs.Str.{is_utf8}
 use Rattle.std.proofs.lemmas.Bool.{ltb-true}
 use Rattle.cj_budget.specs.Bounded.{BoundedList, IsWithin}
 use Rattle.cj_budget.specs.Limits.{LimitPair}
-use Rattle.cj_budget.specs.declared.bounded.NoMemory.{NoMemory}
 use Rattle.cj_spans.specs.declared.token.Token.{Token}
 use Rattle.cj_spans.specs.Judgement.{judged_size, judged_nest}
 use Rattle.cj_spans.specs.Scan.{KeepsLaw}
@@ -13,8 +13,8 @@ use Rattle.cj_stream.specs.declared.judge.Content.{Content}
 use Rattle.cj_stream.specs.declared.judge.Content.TheVariants.{Faulty, BlankLine, Sound}
 use Rattle.cj_stream.specs.Lines.{closed, begun, first_of, first_content, NoLf}
 use Rattle.cj_stream.specs.Bound.{is_text, tree_size, tree_nest}
-use Rattle.cj_stream.specs.Scanning.{Scanning, HasRoom, Scanned, HoldsFew, Rises, Judges, JudgesLine, Forgets}
-use Rattle.cj_stream.specs.Reading.{Reading, begun_of, Stores, Reads}
+use Rattle.cj_stream.specs.Scanning.{Scanning, HasRoom, IsReady, IsStill, Scanned, HoldsFew, Rises, Judges, JudgesLine, Forgets}
+use Rattle.cj_stream.specs.Reading.{Reading, begun_of, Stores, Passes, Reads}
 use Rattle.cj_stream.proofs.LineLemmas.{not_true, closed-more, begun-more, closed-lf, first_content-grows}
 use Rattle.cj_stream.proofs.ReadingLemmas.{zero_or, greatest-append, begun_of-stored}
 
@@ -46,6 +46,65 @@ rises-forgets f g k = record {
   header = rw k.header (omega arith);
   line = omega (arith, k.line.peak);
   opened = omega (arith, k.opened.peak);
+}
+
+-- ---- lists of which nothing has changed but the room for later lines
+
+pub still-same : (f g : Scanning) → g ≡ f → IsStill f g
+still-same f g e = record { room = f.line.reserved; kept = λ r. r; same = e }
+
+pub still-err : {T E : Type 0} (f g : Scanning) (r : Result T E) → OnErr r (g ≡ f) → OnErr r (IsStill f g)
+still-err f g (Ok x) h = h
+still-err f g (Err x) h = still-same f g h
+
+pub room-still : (limits : LimitPair) (f g : Scanning) → IsStill f g → HasRoom limits f → HasRoom limits g
+room-still limits f g still r = rw still.same (record {
+  range = r.range;
+  header = r.header;
+  line = r.line;
+  opened = r.opened;
+  header_within = r.header_within;
+  line_within = record { below_peak = r.line_within.below_peak; below_limit = r.line_within.below_limit };
+  opened_within = r.opened_within;
+})
+
+pub rises-still : (f g : Scanning) → IsStill f g → Rises f g
+rises-still f g still = rw still.same (record { header = omega arith; line = omega arith; opened = omega arith })
+
+pub few-still : (limits : LimitPair) (h : ℕ) (f g : Scanning) → IsStill f g → HoldsFew limits h f → HoldsFew limits h g
+few-still limits h f g still few = rw still.same few
+
+pub forgets-still : (f g h : Scanning) → IsStill f g → Forgets g h → Forgets f h
+forgets-still f g h still k = go (rw still.same at k)
+  where
+    go : Forgets (record f { line = record f.line { reserved = still.room } }) h → Forgets f h
+    go k = record {
+      header = k.header;
+      line = record { elements = k.line.elements; limit = k.line.limit; peak = k.line.peak; room = λ r. k.line.room (still.kept r); within = k.line.within };
+      opened = k.opened;
+    }
+
+pub still-then : (f g h : Scanning) → IsStill f g → IsStill g h → IsStill f h
+still-then f g h a b = go (rw a.same at b)
+  where
+    go : IsStill (record f { line = record f.line { reserved = a.room } }) h → IsStill f h
+    go b = record { room = b.room; kept = λ r. b.kept (a.kept r); same = b.same }
+
+-- ---- room for the next line
+
+-- once a line was dealt with, where there is room for a later one
+pub ready-passed : (put : Bool) (f g : Reading) (s t : Scanning) → IsTrue f.line.reserved → IsTrue s.line.reserved → IsTrue s.opened.reserved → Passes put f g → Forgets s t → IsReady g t
+ready-passed put f g s t bytes tokens opened x k = record {
+  first = λ z. absurd (omega (arith, z, x.lines));
+  later = λ _. (x.line.room bytes, k.line.room tokens);
+  opened = k.opened.room opened;
+}
+
+pub ready-stored : (f g : Reading) (part : List ℕ) (s : Scanning) → Stores f part g → IsReady f s → IsReady g s
+ready-stored f g part s st r = record {
+  first = λ z. let now = sym st.lines ∙ z in ((st.first now).0.room (r.first now).0, (r.first now).1);
+  later = λ z. let now = rw st.lines at z in ((st.later now).0.room (r.later now).0, (r.later now).1);
+  opened = r.opened;
 }
 
 -- ---- lists that judging has changed
@@ -83,17 +142,16 @@ module _ (c : List ℕ) (a b : BoundedList Token) (x y : BoundedList ℕ) where
     few = λ w. omega arith;
   })
 
-  pub kept-judges : (r : Result Content NoMemory) → Judges c a b x y r → Kept
-  kept-judges (Ok BlankLine) h = kept-same h.0 h.1
-  kept-judges (Ok Sound) h = kept-law h.1
-  kept-judges (Ok (Faulty place reason)) h = kept-law h
-  kept-judges (Err e) h = kept-law h
+  pub kept-judges : (r : Content) → Judges c a b x y r → Kept
+  kept-judges BlankLine h = kept-same h.0 h.1
+  kept-judges Sound h = kept-law h.1
+  kept-judges (Faulty place reason) h = kept-law h
 
 -- a number of lines, told otherwise
-pub judges-at : (n m : ℕ) (c : List ℕ) (f g : Scanning) (r : Result Content NoMemory) → m ≡ n → JudgesLine n c f g r → JudgesLine m c f g r
+pub judges-at : (n m : ℕ) (c : List ℕ) (f g : Scanning) (r : Content) → m ≡ n → JudgesLine n c f g r → JudgesLine m c f g r
 judges-at n m c f g r e h = rw e h
 
-module _ (limits : LimitPair) (n : ℕ) (c : List ℕ) (f g : Scanning) (r : Result Content NoMemory) where
+module _ (limits : LimitPair) (n : ℕ) (c : List ℕ) (f g : Scanning) (r : Content) where
   pub room-judges : HasRoom limits f → JudgesLine n c f g r → HasRoom limits g
   room-judges room j = go (zero_or n)
     where
@@ -137,7 +195,7 @@ module _ (limits : LimitPair) (n : ℕ) (c : List ℕ) (f g : Scanning) (r : Res
 pub few-scanned : (limits : LimitPair) (cs : List (List ℕ)) (f : Scanning) (h : ℕ) → Scanned limits cs f → length (first_of cs []) ≤ h → HoldsFew limits h f
 few-scanned limits cs f h s le = omega (arith, s.header_law, s.line_law, le)
 
-pub few-judges : (limits : LimitPair) (cs : List (List ℕ)) (c : List ℕ) (f g : Scanning) (r : Result Content NoMemory) → HasRoom limits f → length c ≤ limits.line
+pub few-judges : (limits : LimitPair) (cs : List (List ℕ)) (c : List ℕ) (f g : Scanning) (r : Content) → HasRoom limits f → length c ≤ limits.line
     → Scanned limits cs f → JudgesLine (length cs) c f g r → HoldsFew limits (length (first_of cs c)) g
 few-judges limits [] c f g r room short s j =
     let k = kept-judges c f.header g.header f.opened g.opened r (j.first refl).0 in
@@ -166,7 +224,7 @@ module _ (limits : LimitPair) (c : List ℕ) (f g h : Scanning) (room : HasRoom 
   nest-is : is_utf8 c ≡ true → judged_nest (judgement c f.opened.limit) ≡ tree_nest limits c
   nest-is u = rw (text-is u, room.opened) refl
 
-  pub scanned-valid : (cs : List (List ℕ)) → Scanned limits cs f → JudgesLine (length cs) c f g (Ok Sound) → Scanned limits (cs ++ c ∷ []) h
+  pub scanned-valid : (cs : List (List ℕ)) → Scanned limits cs f → JudgesLine (length cs) c f g Sound → Scanned limits (cs ++ c ∷ []) h
   scanned-valid [] s j =
       let t = (j.first refl).0.0 in
       let law = (j.first refl).0.1 in
@@ -201,7 +259,7 @@ module _ (limits : LimitPair) (c : List ℕ) (f g h : Scanning) (room : HasRoom 
         line_law = omega (arith, k.line.peak, t.peak, t.count, law.law, none, s.line_law, short);
       }
 
-  pub scanned-blank : (cs : List (List ℕ)) → 0 < length cs → (tree_size limits c ≡ 0) × (tree_nest limits c ≡ 0) → Scanned limits cs f → JudgesLine (length cs) c f g (Ok BlankLine)
+  pub scanned-blank : (cs : List (List ℕ)) → 0 < length cs → (tree_size limits c ≡ 0) × (tree_nest limits c ≡ 0) → Scanned limits cs f → JudgesLine (length cs) c f g BlankLine
       → Scanned limits (cs ++ c ∷ []) h
   scanned-blank [] later zero s j = absurd (omega arith)
   scanned-blank (d ∷ ds) later zero s j =

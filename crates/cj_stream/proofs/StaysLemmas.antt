@@ -3,11 +3,19 @@ use Rattle.std.proofs.Common.{◌≡◌, ℕ, ◌+◌, ◌<◌, ◌≤◌, ◌�
 use Rattle.cj_stream.specs.declared.ending.End.{End}
 use Rattle.cj_stream.specs.Item.{Item}
 use Rattle.cj_stream.specs.Verdict.{Verdict, Refuse, Blank, Unwanted, Valid}
-use Rattle.cj_stream.specs.Reading.{Reading, begun_of, IsSound, Stays, Stores, Passes, Deals, Settles}
+use Rattle.cj_stream.specs.Reading.{Reading, begun_of, IsSound, Stays, IsLeft, Stores, Passes, Deals, Settles}
 use Rattle.cj_stream.proofs.ReadingLemmas.{begun_of-first, begun_of-later, zero_or}
 
 pub Stays-same : (f g : Reading) → IsSound f → g ≡ f → Stays f g
 Stays-same f g h e = rw e (record { sound = h; rules = refl; header_rises = omega arith; line_rises = omega arith })
+
+pub Stays-left : (f g : Reading) → IsSound f → IsLeft f g → Stays f g
+Stays-left f g h left = rw left.same (record {
+  sound = record { range = h.range; header = h.header; line = h.line; kept = h.kept };
+  rules = refl;
+  header_rises = omega arith;
+  line_rises = omega arith;
+})
 
 pub Stays-then : (f g h : Reading) → Stays f g → Stays g h → Stays f h
 Stays-then f g h a b = record {
@@ -72,7 +80,7 @@ module _ {S : Type 0} (takes leaves : S → Item → S → Type 0) (l : Item) (f
   Stays-dealt Blank r h d = Stays-passed false f g h d.1
   Stays-dealt Unwanted r h d = Stays-passed false f g h d.1
   Stays-dealt Valid (Ok x) h d = Stays-passed true f g h d.0
-  Stays-dealt Valid (Err x) h d = Stays-same f g h d.1
+  Stays-dealt Valid (Err x) h d = Stays-left f g h d.1
 
   -- one line more at most
   pub few-dealt : (v : Verdict) (r : Result (Unit {0}) End) → Deals takes leaves v l f s r g t → g.lines ≤ f.lines + 1
@@ -80,12 +88,12 @@ module _ {S : Type 0} (takes leaves : S → Item → S → Type 0) (l : Item) (f
   few-dealt Blank r d = omega (arith, d.1.lines)
   few-dealt Unwanted r d = omega (arith, d.1.lines)
   few-dealt Valid (Ok x) d = omega (arith, d.0.lines)
-  few-dealt Valid (Err x) d = rw d.1 (omega arith)
+  few-dealt Valid (Err x) d = rw d.1.same (omega arith)
 
   pub Stays-settled : (v : Verdict) (r : Result (Unit {0}) End) → IsSound f → Settles takes leaves v l f s r g t → Stays f g
   Stays-settled v r h (inl d) = Stays-dealt v r h d
-  Stays-settled v r h (inr m) = Stays-same f g h m.1
+  Stays-settled v r h (inr m) = Stays-left f g h m.1
 
   pub few-settled : (v : Verdict) (r : Result (Unit {0}) End) → Settles takes leaves v l f s r g t → g.lines ≤ f.lines + 1
   few-settled v r (inl d) = few-dealt v r d
-  few-settled v r (inr m) = rw m.1 (omega arith)
+  few-settled v r (inr m) = rw m.1.same (omega arith)

@@ -29,7 +29,12 @@ pub record ShowsTree (c : List ℕ) (depth : ℕ) (tokens : List Token) : Type 0
   pub tokens_of : AreOf c tokens
   pub json : Json c (tree_of depth c)
 
--- what is kept of the header: its tokens, and its parts, read for a box where one is asked for
+-- parts of a header of this tree, read for a box where one is asked for
+pub record IsHeaderOf (t : Tree) (rules : Rules) (known : HeaderParts) : Type 0 where
+  pub parts_of : ArePartsOf t known
+  pub for_box : parts_box known ≡ needs_box rules.criteria
+
+-- what is kept of the header: its tokens, and its parts
 pub record KeepsHeader (c : List ℕ) (rules : Rules) (tokens : List Token) (parts : Option HeaderParts) : Type 0 where
   pub shows : ShowsTree c rules.limits.depth tokens
   pub known : HeaderParts

@@ -9,8 +9,10 @@ pub mod Criteria
 pub mod Cut
 pub mod Device
 pub mod EndRows
+pub mod Ending
 pub mod Engine
 pub mod Extent
+pub mod Front
 pub mod Headline
 pub mod Ids
 pub mod IsGood

@@ -1,7 +1,7 @@
 -- What is held of a stream while its lines are read, and which bytes it stands for.
 use Rattle.std.specs.List.{filter}
 use Rattle.cj_spans.specs.Tree.{Tree}
-use Rattle.std.specs.Prelude.{◌≡◌, ◌⊎◌, ℕ, ◌+◌, ◌<◌, ◌≤◌, List, [], ◌∷◌, ◌++◌, Bool, true, false, ◌&&◌, ◌==◌, nat_lt, if◌then◌else◌, Some, None, Result, Ok, Err, length, map, max, MatchResult, slice_get}
+use Rattle.std.specs.Prelude.{◌≡◌, ◌⊎◌, ℕ, ◌+◌, ◌<◌, ◌≤◌, List, [], ◌∷◌, ◌++◌, Bool, true, false, ◌&&◌, ◌==◌, nat_lt, if◌then◌else◌, IsTrue, Some, None, Result, Ok, Err, length, map, max, MatchResult, slice_get}
 use Rattle.cj_budget.specs.Bounded.{BoundedList, IsWithin, Becomes}
 use Rattle.cj_budget.specs.Limits.{LimitPair, InLine}
 use Rattle.cj_stream.specs.declared.framer.Framer.{Framer}
@@ -11,7 +11,7 @@ use Rattle.cj_stream.specs.declared.ending.End.TheVariants.{Complete, Refused, R
 use Rattle.cj_stream.specs.Lines.{Line, lines, closed, begun, begun_later, ended_line, first_content, later_of}
 use Rattle.cj_stream.specs.Item.{Item, is_feature, tree_of, item_at}
 use Rattle.cj_stream.specs.Query.{rules_for}
-use Rattle.cj_stream.specs.Verdict.{Rules, Verdict, Refuse, Blank, Unwanted, Valid, WantsTokens, verdict_at, verdict, item_after, is_kept, refusal_in, kept_from, judged}
+use Rattle.cj_stream.specs.Verdict.{Rules, Verdict, Refuse, Blank, Unwanted, Valid, tree_verdict, verdict_at, verdict, item_after, is_kept, refusal_in, kept_from, judged}
 use Rattle.cj_stream.specs.Bound.{greatest}
 use Rattle.cj_stream.specs.Sink.{Took}
 
@@ -40,6 +40,10 @@ held_header f = tree_of f.rules.limits.depth f.header.elements
 abbrev pub next_verdict : Reading → List ℕ → Verdict
 next_verdict f content = verdict_at f.rules (f.lines + 1) (held_header f) content
 
+-- the verdict on the begun line, where it is a JSON text within the depth limit
+abbrev pub begun_verdict : Reading → Verdict
+begun_verdict f = tree_verdict f.rules (f.lines + 1) (held_header f) (tree_of f.rules.limits.depth (begun_of f))
+
 abbrev pub next_item : Reading → Line → Item
 next_item f l = item_at f.rules.limits.depth (f.lines + 1) (held_header f) l
 
@@ -66,17 +70,27 @@ pub record Passes (put : Bool) (old new : Reading) : Type 0 where
   pub header : new.header ≡ old.header
   pub line : Becomes old.line [] new.line
 
+-- the same, with more room for later lines, or not
+abbrev pub widened : Reading → Bool → Reading
+widened f room = record f { line = record f.line { reserved = room } }
+
+-- nothing has changed but that there may be more room for later lines
+pub record IsLeft (f g : Reading) : Type 0 where
+  pub room : Bool
+  pub kept : IsTrue f.line.reserved → IsTrue room
+  pub same : g ≡ widened f room
+
 -- what comes of a line with this verdict
 abbrev pub Deals : {S : Type 0} → (S → Item → S → Type 0) → (S → Item → S → Type 0) → Verdict → Item → Reading → S → Result (Unit {0}) End → Reading → S → Type 0
 Deals takes leaves (Refuse place reason) i f s r g t = (r ≡ Err (Refused (f.lines + 1) place reason)) × (g ≡ f) × (t ≡ s)
 Deals takes leaves Blank i f s r g t = (r ≡ Ok tt) × Passes false f g × (t ≡ s)
 Deals takes leaves Unwanted i f s r g t = (r ≡ Ok tt) × Passes false f g × (t ≡ s)
-Deals takes leaves Valid i f s r g t = MatchResult r (λ _. Passes true f g × takes s i t) (λ e. (e ≡ WriteFault) × (g ≡ f) × leaves s i t)
+Deals takes leaves Valid i f s r g t = MatchResult r (λ _. Passes true f g × takes s i t) (λ e. (e ≡ WriteFault) × IsLeft f g × leaves s i t)
 
--- what comes of a line with this verdict, or no memory was granted for its tokens, and nothing comes of it; so it is
--- only with a line that is UTF-8 and not blank
+-- what comes of a line with this verdict, or no memory was granted for later lines, and nothing comes of it; so it is
+-- only with a valid first line that LF ended
 abbrev pub Settles : {S : Type 0} → (S → Item → S → Type 0) → (S → Item → S → Type 0) → Verdict → Item → Reading → S → Result (Unit {0}) End → Reading → S → Type 0
-Settles takes leaves v i f s r g t = Deals takes leaves v i f s r g t ⊎ ((r ≡ Err Memory) × (g ≡ f) × (t ≡ s) × WantsTokens (f.lines + 1) i.line.content)
+Settles takes leaves v i f s r g t = Deals takes leaves v i f s r g t ⊎ ((r ≡ Err Memory) × IsLeft f g × (t ≡ s) × (f.lines ≡ 0) × (v ≡ Valid) × (i.line.lf ≡ true))
 
 -- these bytes have been read, and no line of them was refused
 pub record Reads (f : Reading) (p : List ℕ) : Type 0 where
@@ -109,12 +123,13 @@ pub record Advances {S : Type 0} (takes : S → Item → S → Type 0) (f : Read
 abbrev pub IsNext : LimitPair → List ℕ → List ℕ → Line → Type 0
 IsNext limits p q l = (others : List Line) × (judged limits q ≡ map ended_line (closed p) ++ l ∷ others)
 
--- no memory was granted for the line of q after the first n: for its bytes, of which no more than these are held, or for
--- its tokens and open containers, and then the line is UTF-8 and not blank
-pub record LacksMemory (q : List ℕ) (n : ℕ) (held : List ℕ) : Type 0 where
-  pub line : Line
-  pub next : slice_get (lines q) n ≡ Some line
-  pub cause : (length held < length line.content) ⊎ WantsTokens (n + 1) line.content
+-- no memory was granted for later lines, after n lines of q: the first line is valid and LF ended it, and no line was
+-- dealt with
+pub record LacksMemory (rules : Rules) (q : List ℕ) (n : ℕ) : Type 0 where
+  pub none : n ≡ 0
+  pub header : List ℕ
+  pub first : slice_get (lines q) 0 ≡ Some (ended_line header)
+  pub valid : verdict rules [] header ≡ Valid
 
 -- why reading stopped after the lines that LF ended in p, of q, and what the sink is then
 abbrev pub HasCause : {S : Type 0} → (S → Item → S → Type 0) → Rules → List ℕ → List ℕ → ℕ → S → S → End → Type 0
@@ -125,7 +140,7 @@ HasCause leaves rules p q n s t ReadFault = ⊥
 HasCause leaves rules p q n s t ReadLimit = ⊥
 HasCause leaves rules p q n s t WriteFault =
     (l : Line) × IsNext rules.limits p q l × (is_kept (verdict rules (map ended_line (closed p)) l.content) ≡ true) × leaves s (item_after rules (map ended_line (closed p)) l) t
-HasCause leaves rules p q n s t Memory = (t ≡ s) × LacksMemory q n (begun p)
+HasCause leaves rules p q n s t Memory = (t ≡ s) × LacksMemory rules q n
 
 -- reading stopped within these bytes
 pub record Stops {S : Type 0} (takes leaves : S → Item → S → Type 0) (f : Reading) (s : S) (p more : List ℕ) (e : End) (g : Reading) (t : S) : Type 0 where

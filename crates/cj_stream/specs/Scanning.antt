@@ -1,9 +1,8 @@
 -- What is held of the trees of a stream's lines.
-use Rattle.std.specs.Prelude.{◌≡◌, ℕ, ◌+◌, ◌*◌, ◌/◌, ◌<◌, ◌≤◌, List, [], true, length, max, min, Result, Ok, Err}
+use Rattle.std.specs.Prelude.{◌≡◌, ℕ, ◌+◌, ◌*◌, ◌/◌, ◌<◌, ◌≤◌, List, [], Bool, true, IsTrue, length, max, min}
 use Rattle.std.specs.Str.{is_utf8}
 use Rattle.cj_budget.specs.Bounded.{BoundedList, IsWithin, Becomes}
 use Rattle.cj_budget.specs.Limits.{LimitPair, InDepth}
-use Rattle.cj_budget.specs.declared.bounded.NoMemory.{NoMemory}
 use Rattle.cj_spans.specs.declared.token.Token.{Token}
 use Rattle.cj_spans.specs.Judgement.{judged_size, judged_nest}
 use Rattle.cj_spans.specs.Scan.{KeepsLaw}
@@ -12,6 +11,7 @@ use Rattle.cj_stream.specs.declared.framer.Framer.{Framer}
 use Rattle.cj_stream.specs.declared.judge.Content.{Content}
 use Rattle.cj_stream.specs.declared.judge.Content.TheVariants.{Faulty, BlankLine, Sound}
 use Rattle.cj_stream.specs.Lines.{first_of, later_of}
+use Rattle.cj_stream.specs.Reading.{Reading}
 use Rattle.cj_stream.specs.Bound.{tree_size, tree_nest, of_first, greatest}
 
 -- the tokens of the first line, those of the line that is judged, and its open containers
@@ -67,16 +67,27 @@ pub record HoldsTree (c : List ℕ) (old new : BoundedList Token) (old_open new_
 
 -- what judging a content makes of the lists: nothing where it is blank; its tree where it is JSON; and in any other
 -- case no more than the law of a scan allows
-abbrev pub Judges : List ℕ → BoundedList Token → BoundedList Token → BoundedList ℕ → BoundedList ℕ → Result Content NoMemory → Type 0
-Judges c old new old_open new_open (Ok BlankLine) = (new ≡ old) × (new_open ≡ old_open)
-Judges c old new old_open new_open (Ok Sound) = HoldsTree c old new old_open new_open × KeepsLaw c old new old_open new_open
-Judges c old new old_open new_open (Ok (Faulty place reason)) = KeepsLaw c old new old_open new_open
-Judges c old new old_open new_open (Err e) = KeepsLaw c old new old_open new_open
+abbrev pub Judges : List ℕ → BoundedList Token → BoundedList Token → BoundedList ℕ → BoundedList ℕ → Content → Type 0
+Judges c old new old_open new_open BlankLine = (new ≡ old) × (new_open ≡ old_open)
+Judges c old new old_open new_open Sound = HoldsTree c old new old_open new_open × KeepsLaw c old new old_open new_open
+Judges c old new old_open new_open (Faulty place reason) = KeepsLaw c old new old_open new_open
 
 -- the first line goes into the lists that are kept, a later one into the others
-pub record JudgesLine (lines : ℕ) (c : List ℕ) (old new : Scanning) (r : Result Content NoMemory) : Type 0 where
-  pub first : lines ≡ 0 → Judges c old.header new.header old.opened new.opened r × (new.line ≡ old.line)
-  pub later : 0 < lines → Judges c old.line new.line old.opened new.opened r × (new.header ≡ old.header)
+pub record JudgesLine (lines : ℕ) (c : List ℕ) (old new : Scanning) (x : Content) : Type 0 where
+  pub first : lines ≡ 0 → Judges c old.header new.header old.opened new.opened x × (new.line ≡ old.line)
+  pub later : 0 < lines → Judges c old.line new.line old.opened new.opened x × (new.header ≡ old.header)
+
+-- the lists that the next line goes into have room for their limits, so it takes no memory
+pub record IsReady (f : Reading) (s : Scanning) : Type 0 where
+  pub first : f.lines ≡ 0 → IsTrue f.header.reserved × IsTrue s.header.reserved
+  pub later : 0 < f.lines → IsTrue f.line.reserved × IsTrue s.line.reserved
+  pub opened : IsTrue s.opened.reserved
+
+-- nothing has changed but that there may be more room for later lines
+pub record IsStill (old new : Scanning) : Type 0 where
+  pub room : Bool
+  pub kept : IsTrue old.line.reserved → IsTrue room
+  pub same : new ≡ record old { line = record old.line { reserved = room } }
 
 -- the lists of a line that was dealt with are emptied
 pub record Forgets (old new : Scanning) : Type 0 where

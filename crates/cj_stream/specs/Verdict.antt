@@ -1,5 +1,5 @@
 -- Which lines are refused, which are blank, and what is kept of a stream.
-use Rattle.std.specs.Prelude.{◌≡◌, IsUtf8, ℕ, ◌+◌, List, [], ◌∷◌, ◌++◌, Bool, true, false, not, ◌&&◌, ◌||◌, ◌==◌, nat_lt, if◌then◌else◌, Option, Some, None, length, take, map, unwrap_or, is_some}
+use Rattle.std.specs.Prelude.{ℕ, ◌+◌, List, [], ◌∷◌, ◌++◌, Bool, true, false, not, ◌&&◌, ◌||◌, ◌==◌, nat_lt, if◌then◌else◌, Option, Some, None, length, take, map, unwrap_or, is_some}
 use Rattle.std.specs.List.{filter, flat_map, list_all}
 use Rattle.std.specs.Str.{is_utf8}
 use Rattle.std.specs.Str.Lossy.{utf8_valid_len}
@@ -39,11 +39,6 @@ is_blank_byte b = b == 32 || (b == 9 || b == 13)
 -- a later line of such bytes alone is blank
 abbrev pub is_blank_line : ℕ → List ℕ → Bool
 is_blank_line number content = nat_lt 1 number && list_all is_blank_byte content
-
--- the line of this number may want memory for its tokens: it is UTF-8, and not blank
-pub record WantsTokens (number : ℕ) (content : List ℕ) : Type 0 where
-  pub text : IsUtf8 content
-  pub not_blank : is_blank_line number content ≡ false
 
 -- the findings of the tree of a line: of a header on the first line, and of a feature beside the header on a later one
 abbrev pub findings : Rules → ℕ → Tree → Tree → List Finding

@@ -4,13 +4,11 @@
 //! of a new engine for no bytes, and carried on by each call, for every p. A new count is a new part of it; a new clause on all
 //! bytes stands under `(p : List ℕ) → StandsFor self.old p →`. The end is looked at first in `feed` and `finish`, since nothing
 //! may change after it.
-ghost use Rattle.std.specs.Prelude.{◌≡◌, ◌≢◌, ◌+◌, ◌^◌, ◌≤◌, ℕ, List, [], ◌∷◌, ◌++◌, length, OnOk, OnErr, IfOk, IfErr, IsErrOf, IsOk, Some, None, Err};
+ghost use Rattle.std.specs.Prelude.{◌≡◌, ◌≢◌, ◌+◌, ◌^◌, ◌≤◌, ℕ, List, [], ◌∷◌, ◌++◌, length, OnOk, OnErr, IfOk, IfErr, IsErrOf, Some, None, Err};
 ghost use Rattle.cj_stream.specs.Bound.{IsBelow, exact_peaks};
-ghost use Rattle.cj_stream.specs.Lines.{begun};
 ghost use Rattle.cj_stream.specs.Query.{rules_for};
-ghost use Rattle.cj_stream.specs.Reading.{begun_of, LacksMemory};
+ghost use Rattle.cj_stream.specs.Reading.{LacksMemory};
 ghost use Rattle.cj_stream.specs.Sink.{HasRisen};
-ghost use Rattle.cj_stream.specs.Verdict.{WantsTokens};
 ghost use Rattle.cj_stream.specs.Engine.{StandsFor, given, rules_of, limits_of, lines_of, held_by, peaks_of, Delivers, Going, Tells, Concludes, end_of};
 
 use crate::ending::End;
@@ -35,7 +33,7 @@ impl<'q> Model for Engine<'q> {
     ghost use Rattle.std.specs.Prelude.{◌≡◌, ◌≤◌, ◌^◌, None};
     ghost use Rattle.cj_stream.specs.Judging.{KeepsFirst};
     ghost use Rattle.cj_stream.specs.Reading.{reading, IsSound};
-    ghost use Rattle.cj_stream.specs.Scanning.{scanning, HasRoom};
+    ghost use Rattle.cj_stream.specs.Scanning.{scanning, HasRoom, IsReady};
     ghost use Rattle.cj_stream.specs.Engine.{EngineState};
 
     ghost Value = { EngineState };
@@ -44,18 +42,18 @@ impl<'q> Model for Engine<'q> {
 
     ghost invariant = { λ e. IsSound (reading e.framer) × HasRoom e.framer.limits (scanning e.framer)
         × KeepsFirst (reading e.framer) (scanning e.framer) e.framer.parts × (e.ended ≡ None → e.framer.lines ≤ e.taken)
-        × (e.taken ≤ 2 ^ 60) };
+        × (e.taken ≤ 2 ^ 60) × (e.ended ≡ None → IsReady (reading e.framer) (scanning e.framer)) };
 }
 
 impl<'q> Engine<'q> {
-    /// An engine that has read nothing. It takes no memory.
+    /// An engine that has read nothing. It takes the memory for the first line: its bytes, its tokens, and the open containers
+    /// where more than 64 may be. That for later lines is taken once, when the first line is valid and LF has ended it.
     pub fn open(alloc: Global, limits: Limits, query: &'q Query) -> Result<Engine<'q>, NoMemory>
         ensures empty { IfOk result
             (λ e. StandsFor e [] × (rules_of e ≡ rules_for limits query.now) × (e.ended ≡ None) × (e.taken ≡ 0)) }
-        ensures opens { IsOk result }
     {
         Ok(Engine {
-            framer: Framer::new(alloc, limits, query),
+            framer: Framer::open(alloc, limits, query)?,
             taken: 0,
             ended: None,
         })
@@ -88,7 +86,7 @@ impl<'q> Engine<'q> {
         ensures told { IfErr result (λ e. (p : List ℕ) → StandsFor self.old p → self.old.ended ≡ None →
             Tells (rules_of self.old) (p ++ piece.now) (lines_of self.new) e) }
         ensures memory { (p : List ℕ) → StandsFor self.old p → self.old.ended ≡ None → IsErrOf result End.Memory →
-            LacksMemory (p ++ piece.now) (lines_of self.new) (begun_of self.new.reading) }
+            LacksMemory (rules_of self.old) (p ++ piece.now) (lines_of self.new) × (sink.new ≡ sink.old) }
         ensures sink { (p : List ℕ) → StandsFor self.old p → self.old.ended ≡ None →
             Delivers S.takes S.leaves (rules_of self.old) (p ++ piece.now)
             (lines_of self.old) (lines_of self.new) sink.old sink.new self.new.ended }
@@ -127,8 +125,7 @@ impl<'q> Engine<'q> {
             Concludes (rules_of self.old) p (lines_of self.new) result }
         ensures exact { (p : List ℕ) → StandsFor self.old p → self.old.ended ≡ None →
             result ≡ End.Complete → peaks_of self.new ≡ exact_peaks (limits_of self.old) p }
-        ensures memory { (p : List ℕ) → StandsFor self.old p → self.old.ended ≡ None → result ≡ End.Memory →
-            (begun p ≢ []) × WantsTokens (lines_of self.old + 1) (begun p) }
+        ensures memory { self.old.ended ≡ None → result ≢ End.Memory }
         ensures sink { (p : List ℕ) → StandsFor self.old p → self.old.ended ≡ None →
             Delivers S.takes S.leaves (rules_of self.old) p
             (lines_of self.old) (lines_of self.new) sink.old sink.new self.new.ended }

@@ -6,19 +6,27 @@
 //! changes one of them has to show it again. The tree of a header is judged once. A view borrows the lists, so what changes
 //! them comes after the sink, and a line is counted only where the sink has taken it. A line's number is one more than the lines
 //! that were dealt with, so the header's is 1. LF is no content: it is told to the sink apart. A line that is too long is refused
-//! by the list, when the byte past the limit comes, before memory is asked for.
-ghost use Rattle.std.specs.Prelude.{◌≡◌, ◌+◌, ◌^◌, ◌<◌, ◌≤◌, ◌⊎◌, ℕ, List, [], ◌∷◌, ◌++◌, length, OnOk, OnErr, IfOk, IfErr, IsErrOf};
+//! when the byte past the limit comes.
+//!
+//! Memory is asked for twice: for the lists of the first line by `open`, and for those of later lines by `make_room`, once the
+//! first line is valid and LF has ended it, before the sink gets it. So the lists that the next line goes into have their room
+//! (`IsReady`), and nothing else here asks for any. A refusal by `make_room`, or a fault of the sink after it, leaves all as it
+//! was but for that room (`IsLeft`, `IsStill`).
+ghost use Rattle.std.specs.Prelude.{◌≡◌, ◌+◌, ◌^◌, ◌<◌, ◌≤◌, ℕ, List, [], ◌∷◌, ◌++◌, length, take, if◌then◌else◌, OnOk, OnErr, IfOk, IfErr, IsErrOf, IsTrue, Some};
 ghost use Rattle.cj_stream.specs.Bound.{contents};
+ghost use Rattle.cj_stream.specs.Ending.{IsFirstEnd, IsLaterEnd};
 ghost use Rattle.cj_stream.specs.Lines.{newline, NoLf, closed, first_of, first_content};
+ghost use Rattle.cj_stream.specs.Front.{IsFront};
 ghost use Rattle.cj_stream.specs.Sink.{HasRisen};
-ghost use Rattle.cj_stream.specs.Verdict.{WantsTokens, tree_verdict};
+ghost use Rattle.cj_stream.specs.Verdict.{Valid, refusal_of};
 ghost use Rattle.cj_stream.specs.Item.{tree_of};
 
 use crate::ending::End;
+use crate::header_reader::Progress;
 use crate::judge::{Content, judge};
 use crate::query::Query;
 use crate::sink::LineSink;
-use cj_budget::{Bounded, ExtendFault, Limits, NoMemory, Peaks, Stack};
+use cj_budget::{Bounded, Limits, NoMemory, Peaks, Stack};
 use cj_feature::{Header, HeaderParts, check_feature, check_header};
 use cj_spans::{Doc, Finding, Reason, Token};
 use memchr::memchr;
@@ -45,35 +53,43 @@ pub struct Framer<'q> {
 }
 
 impl<'q> Framer<'q> {
-    ghost use Rattle.cj_stream.specs.Judging.{Says, ShowsTree, KeepsFirst};
+    ghost use Rattle.cj_stream.specs.Judging.{Says, ShowsTree, IsHeaderOf, KeepsFirst};
     ghost use Rattle.cj_stream.specs.Query.{rules_for};
-    ghost use Rattle.cj_stream.specs.Reading.{reading, begun_of, held_header, next_verdict, next_item, IsSound, Stays, Stores, Passes, Deals, Settles, Reads, Advances, Stops, Finishes};
-    ghost use Rattle.cj_stream.specs.Scanning.{scanning, HasRoom, Scanned, HoldsFew, Rises, JudgesLine, Forgets};
+    ghost use Rattle.cj_stream.specs.Reading.{reading, begun_of, begun_verdict, next_verdict, next_item, IsSound, Stays, IsLeft, Stores, Passes, Deals, Settles, Reads, Advances, Stops, Finishes};
+    ghost use Rattle.cj_stream.specs.Scanning.{scanning, HasRoom, IsReady, IsStill, Scanned, HoldsFew, Rises, JudgesLine, Forgets};
 
-    /// A framer that has read nothing. It takes no memory.
-    pub fn new(alloc: Global, limits: Limits, query: &'q Query) -> Framer<'q>
-        ensures sound { IsSound (reading result) }
-        ensures rules { (reading result).rules ≡ rules_for limits query.now }
-        ensures fresh { result.lines ≡ 0 }
-        ensures empty { Reads (reading result) [] }
-        ensures room { HasRoom limits (scanning result) }
-        ensures scanned { Scanned limits [] (scanning result) }
+    /// A framer that has read nothing, with room for the first line. It asks for memory for its bytes and its tokens, and for
+    /// open containers where the depth limit is above 64.
+    pub fn open(alloc: Global, limits: Limits, query: &'q Query) -> Result<Framer<'q>, NoMemory>
+        ensures sound { IfOk result (λ f. IsSound (reading f)) }
+        ensures rules { IfOk result (λ f. (reading f).rules ≡ rules_for limits query.now) }
+        ensures fresh { IfOk result (λ f. f.lines ≡ 0) }
+        ensures empty { IfOk result (λ f. Reads (reading f) []) }
+        ensures room { IfOk result (λ f. HasRoom limits (scanning f)) }
+        ensures ready { IfOk result (λ f. IsReady (reading f) (scanning f)) }
+        ensures scanned { IfOk result (λ f. Scanned limits [] (scanning f)) }
     {
         let limit = limits.line() as usize;
         let depth = limits.depth() as usize;
         let tokens = (limit + depth + 1) / 2; // each but the last has two bytes or an open container
-        Framer {
+        let mut header = Bounded::new(alloc, limit);
+        let mut header_tokens = Bounded::new(alloc, tokens);
+        let mut opened = Stack::new(alloc, depth);
+        header.reserve_all()?;
+        header_tokens.reserve_all()?;
+        opened.reserve_all()?;
+        Ok(Framer {
             limits,
             query,
-            header: Bounded::new(alloc, limit),
+            header,
             line: Bounded::new(alloc, limit),
-            header_tokens: Bounded::new(alloc, tokens),
+            header_tokens,
             line_tokens: Bounded::new(alloc, tokens),
-            opened: Stack::new(alloc, depth),
+            opened,
             parts: None,
             lines: 0,
             kept: 0,
-        }
+        })
     }
 
     fn begun(&self) -> &[u8]
@@ -92,28 +108,42 @@ impl<'q> Framer<'q> {
     fn store(&mut self, part: &[u8]) -> Result<(), End>
         requires sound { IsSound (reading self.old) }
         requires room { self.old.lines < 2 ^ 62 }
+        requires ready { IsReady (reading self.old) (scanning self.old) }
         ensures ok { OnOk result (Stores (reading self.old) part.now (reading self.new)) }
         ensures err { OnErr result (self.new ≡ self.old) }
-        ensures cause { IfErr result (λ e. ((e ≡ End.Memory) × (0 < length part.now))
-            ⊎ ((e ≡ End.Refused (self.old.lines + 1) self.old.limits.line Reason.LineTooLong)
-            × (self.old.limits.line < length (begun_of (reading self.old)) + length part.now))) }
+        ensures cause { IfErr result (λ e. (e ≡ End.Refused (self.old.lines + 1) self.old.limits.line Reason.LineTooLong)
+            × (self.old.limits.line < length (begun_of (reading self.old)) + length part.now)) }
         ensures lists { scanning self.new ≡ scanning self.old }
         ensures parts { self.new.parts ≡ self.old.parts }
+        ensures ready { IsReady (reading self.new) (scanning self.new) }
     {
-        let stored = if self.lines == 0 {
-            self.header.extend_from_slice(part)
-        } else {
-            self.line.extend_from_slice(part)
-        };
-        match stored {
-            Ok(()) => Ok(()),
-            Err(ExtendFault::Full) => Err(End::Refused {
+        let left = self.limits.line() as usize - self.begun().len();
+        if part.len() > left {
+            return Err(End::Refused {
                 line: self.lines + 1,
                 place: self.limits.line(),
                 reason: Reason::LineTooLong,
-            }),
-            Err(ExtendFault::Memory) => Err(End::Memory),
+            });
         }
+        if self.lines == 0 {
+            self.header.extend_reserved(part);
+        } else {
+            self.line.extend_reserved(part);
+        }
+        Ok(())
+    }
+
+    /// Makes room for a later line.
+    fn make_room(&mut self) -> Result<(), NoMemory>
+        requires sound { IsSound (reading self.old) }
+        requires lists { HasRoom self.old.limits (scanning self.old) }
+        ensures ok { OnOk result (IsTrue self.new.line.reserved × IsTrue self.new.line_tokens.reserved) }
+        ensures left { IsLeft (reading self.old) (reading self.new) }
+        ensures still { IsStill (scanning self.old) (scanning self.new) }
+        ensures parts { self.new.parts ≡ self.old.parts }
+    {
+        self.line.reserve_all()?;
+        self.line_tokens.reserve_all()
     }
 
     /// The begun line is done with.
@@ -134,22 +164,22 @@ impl<'q> Framer<'q> {
     }
 
     /// What the begun line is as a text.
-    fn judge(&mut self) -> Result<Content, NoMemory>
+    fn judge(&mut self) -> Content
         requires sound { IsSound (reading self.old) }
         requires room { self.old.lines < 2 ^ 62 }
         requires lists { HasRoom self.old.limits (scanning self.old) }
+        requires ready { IsReady (reading self.old) (scanning self.old) }
         requires short { length (begun_of (reading self.old)) ≤ self.old.limits.line }
         ensures reading { reading self.new ≡ reading self.old }
         ensures parts { self.new.parts ≡ self.old.parts }
-        ensures says { IfOk result
-            (λ x. Says (self.old.lines + 1) (begun_of (reading self.old)) self.old.limits.depth x) }
-        ensures first { IfOk result (λ x. x ≡ Content.Sound → self.old.lines ≡ 0
-            → ShowsTree (begun_of (reading self.old)) self.old.limits.depth (scanning self.new).header.elements) }
-        ensures later { IfOk result (λ x. x ≡ Content.Sound → 0 < self.old.lines
-            → ShowsTree (begun_of (reading self.old)) self.old.limits.depth (scanning self.new).line.elements) }
+        ensures says { Says (self.old.lines + 1) (begun_of (reading self.old)) self.old.limits.depth result }
+        ensures first { result ≡ Content.Sound → self.old.lines ≡ 0
+            → ShowsTree (begun_of (reading self.old)) self.old.limits.depth (scanning self.new).header.elements }
+        ensures later { result ≡ Content.Sound → 0 < self.old.lines
+            → ShowsTree (begun_of (reading self.old)) self.old.limits.depth (scanning self.new).line.elements }
         ensures lists { JudgesLine self.old.lines (begun_of (reading self.old)) (scanning self.old)
             (scanning self.new) result }
-        ensures memory { OnErr result (WantsTokens (self.old.lines + 1) (begun_of (reading self.old))) }
+        ensures ready { IsReady (reading self.new) (scanning self.new) }
     {
         if self.lines == 0 {
             judge(
@@ -168,28 +198,48 @@ impl<'q> Framer<'q> {
         }
     }
 
-    /// Judges the tree of the first line, and puts it to the sink if it is a valid header.
-    fn put_header<S: LineSink>(&mut self, lf: bool, sink: &mut S) -> Result<(), End>
+    /// Judges the tree of the first line: what is read of a valid header once, or the end that its least finding makes.
+    fn check_first(&self) -> Result<HeaderParts, End>
+        requires sound { IsSound (reading self.now) }
+        requires first { self.now.lines ≡ 0 }
+        requires shows { ShowsTree (begun_of (reading self.now)) self.now.limits.depth (scanning self.now).header.elements }
+        ensures ok { IfOk result (λ parts. IsHeaderOf (tree_of self.now.limits.depth (begun_of (reading self.now)))
+            (reading self.now).rules parts) }
+        ensures valid { OnOk result (begun_verdict (reading self.now) ≡ Valid) }
+        ensures refused { IfErr result (λ e. refusal_of (self.now.lines + 1) (begun_verdict (reading self.now)) ≡ Some e) }
+    {
+        let doc = Doc::of(self.header.as_slice(), self.header_tokens.as_slice());
+        match check_header(doc, self.query.wants_box()) {
+            Ok(header) => Ok(header.parts()),
+            Err(finding) => Err(refused(1, finding)),
+        }
+    }
+
+    /// Puts a valid header to the sink.
+    fn put_first<S: LineSink>(
+        &mut self,
+        parts: HeaderParts,
+        lf: bool,
+        sink: &mut S,
+    ) -> Result<(), End>
         requires sound { IsSound (reading self.old) }
         requires first { self.old.lines ≡ 0 }
         requires shows { ShowsTree (begun_of (reading self.old)) self.old.limits.depth
             (scanning self.old).header.elements }
+        requires parts { IsHeaderOf (tree_of self.old.limits.depth (begun_of (reading self.old)))
+            (reading self.old).rules parts }
         ensures counts { S.failures sink.old ≤ S.failures sink.new }
         ensures cause { IsErrOf result End.WriteFault → HasRisen (S.failures sink.old) (S.failures sink.new) }
-        ensures deals { Deals S.takes S.leaves
-            (tree_verdict (reading self.old).rules (self.old.lines + 1) (held_header (reading self.old))
-            (tree_of self.old.limits.depth (begun_of (reading self.old))))
+        ensures deals { Deals S.takes S.leaves Valid
             (next_item (reading self.old) (record { content = begun_of (reading self.old); lf = lf }))
             (reading self.old) sink.old result (reading self.new) sink.new }
         ensures forgets { OnOk result (Forgets (scanning self.old) (scanning self.new)) }
         ensures same { OnErr result (scanning self.new ≡ scanning self.old) }
         ensures keeps { KeepsFirst (reading self.new) (scanning self.new) self.new.parts }
+        ensures end { IfErr result (λ e. e ≡ End.WriteFault) }
     {
         let doc = Doc::of(self.header.as_slice(), self.header_tokens.as_slice());
-        let header = match check_header(doc, self.query.wants_box()) {
-            Ok(header) => header,
-            Err(finding) => return Err(refused(1, finding)),
-        };
+        let header = Header::of(doc, parts);
         if sink.header(&header, lf).is_err() {
             return Err(End::WriteFault);
         }
@@ -199,6 +249,39 @@ impl<'q> Framer<'q> {
         Ok(())
     }
 
+    /// Judges the tree of the first line, and puts it to the sink if it is a valid header. Where LF ended it, room for later
+    /// lines is made first.
+    fn put_header<S: LineSink>(&mut self, lf: bool, sink: &mut S) -> Result<(), End>
+        requires sound { IsSound (reading self.old) }
+        requires first { self.old.lines ≡ 0 }
+        requires lists { HasRoom self.old.limits (scanning self.old) }
+        requires ready { IsReady (reading self.old) (scanning self.old) }
+        requires shows { ShowsTree (begun_of (reading self.old)) self.old.limits.depth
+            (scanning self.old).header.elements }
+        ensures counts { S.failures sink.old ≤ S.failures sink.new }
+        ensures cause { IsErrOf result End.WriteFault → HasRisen (S.failures sink.old) (S.failures sink.new) }
+        ensures settles { Settles S.takes S.leaves (begun_verdict (reading self.old))
+            (next_item (reading self.old) (record { content = begun_of (reading self.old); lf = lf }))
+            (reading self.old) sink.old result (reading self.new) sink.new }
+        ensures forgets { OnOk result (Forgets (scanning self.old) (scanning self.new)) }
+        ensures still { OnErr result (IsStill (scanning self.old) (scanning self.new)) }
+        ensures ready { OnOk result (IsTrue lf → IsReady (reading self.new) (scanning self.new)) }
+        ensures keeps { KeepsFirst (reading self.new) (scanning self.new) self.new.parts }
+        ensures end { IfErr result IsFirstEnd }
+    {
+        let parts = match self.check_first() {
+            Ok(parts) => parts,
+            Err(end) => return Err(end),
+        };
+        if !lf {
+            return self.put_first(parts, lf, sink);
+        }
+        match self.make_room() {
+            Ok(()) => self.put_first(parts, lf, sink),
+            Err(NoMemory) => Err(End::Memory),
+        }
+    }
+
     /// Judges the tree of a later line, and puts it to the sink if it is a valid feature.
     fn put_feature<S: LineSink>(&mut self, lf: bool, sink: &mut S) -> Result<(), End>
         requires sound { IsSound (reading self.old) }
@@ -206,17 +289,19 @@ impl<'q> Framer<'q> {
         requires later { 0 < self.old.lines }
         requires shows { ShowsTree (begun_of (reading self.old)) self.old.limits.depth
             (scanning self.old).line.elements }
+        requires ready { IsReady (reading self.old) (scanning self.old) }
         requires keeps { KeepsFirst (reading self.old) (scanning self.old) self.old.parts }
         ensures counts { S.failures sink.old ≤ S.failures sink.new }
         ensures cause { IsErrOf result End.WriteFault → HasRisen (S.failures sink.old) (S.failures sink.new) }
         ensures deals { Deals S.takes S.leaves
-            (tree_verdict (reading self.old).rules (self.old.lines + 1) (held_header (reading self.old))
-            (tree_of self.old.limits.depth (begun_of (reading self.old))))
+            (begun_verdict (reading self.old))
             (next_item (reading self.old) (record { content = begun_of (reading self.old); lf = lf }))
             (reading self.old) sink.old result (reading self.new) sink.new }
         ensures forgets { OnOk result (Forgets (scanning self.old) (scanning self.new)) }
         ensures same { OnErr result (scanning self.new ≡ scanning self.old) }
+        ensures ready { IsReady (reading self.new) (scanning self.new) }
         ensures keeps { KeepsFirst (reading self.new) (scanning self.new) self.new.parts }
+        ensures end { IfErr result IsLaterEnd }
     {
         let Some(parts) = self.parts else {
             unreachable!()
@@ -247,17 +332,21 @@ impl<'q> Framer<'q> {
             → ShowsTree (begun_of (reading self.old)) self.old.limits.depth (scanning self.old).header.elements }
         requires later { 0 < self.old.lines
             → ShowsTree (begun_of (reading self.old)) self.old.limits.depth (scanning self.old).line.elements }
+        requires lists { HasRoom self.old.limits (scanning self.old) }
+        requires ready { IsReady (reading self.old) (scanning self.old) }
         requires keeps { KeepsFirst (reading self.old) (scanning self.old) self.old.parts }
         ensures counts { S.failures sink.old ≤ S.failures sink.new }
         ensures cause { IsErrOf result End.WriteFault → HasRisen (S.failures sink.old) (S.failures sink.new) }
-        ensures deals { Deals S.takes S.leaves
-            (tree_verdict (reading self.old).rules (self.old.lines + 1) (held_header (reading self.old))
-            (tree_of self.old.limits.depth (begun_of (reading self.old))))
+        ensures settles { Settles S.takes S.leaves
+            (begun_verdict (reading self.old))
             (next_item (reading self.old) (record { content = begun_of (reading self.old); lf = lf }))
             (reading self.old) sink.old result (reading self.new) sink.new }
         ensures forgets { OnOk result (Forgets (scanning self.old) (scanning self.new)) }
-        ensures same { OnErr result (scanning self.new ≡ scanning self.old) }
+        ensures still { OnErr result (IsStill (scanning self.old) (scanning self.new)) }
+        ensures ready { OnOk result (IsTrue lf → IsReady (reading self.new) (scanning self.new)) }
         ensures keeps { KeepsFirst (reading self.new) (scanning self.new) self.new.parts }
+        ensures end { IfErr result IsFirstEnd }
+        ensures late { 0 < self.old.lines → IsReady (reading self.new) (scanning self.new) × IfErr result IsLaterEnd }
     {
         if self.lines == 0 {
             self.put_header(lf, sink)
@@ -271,14 +360,18 @@ impl<'q> Framer<'q> {
         requires sound { IsSound (reading self.old) }
         requires room { self.old.lines < 2 ^ 62 }
         requires lists { HasRoom self.old.limits (scanning self.old) }
+        requires ready { IsReady (reading self.old) (scanning self.old) }
         requires short { length (begun_of (reading self.old)) ≤ self.old.limits.line }
         requires keeps { KeepsFirst (reading self.old) (scanning self.old) self.old.parts }
         ensures counts { S.failures sink.old ≤ S.failures sink.new }
         ensures cause { IsErrOf result End.WriteFault → HasRisen (S.failures sink.old) (S.failures sink.new) }
+        ensures one { OnOk result (self.new.lines ≡ self.old.lines + 1) }
+        ensures grows { self.old.lines ≤ self.new.lines }
         ensures settles { Settles S.takes S.leaves (next_verdict (reading self.old) (begun_of (reading self.old)))
             (next_item (reading self.old) (record { content = begun_of (reading self.old); lf = lf }))
             (reading self.old) sink.old result (reading self.new) sink.new }
         ensures room { HasRoom self.old.limits (scanning self.new) }
+        ensures ready { OnOk result (IsTrue lf → IsReady (reading self.new) (scanning self.new)) }
         ensures rises { Rises (scanning self.old) (scanning self.new) }
         ensures scanned { OnOk result
             ((cs : List (List ℕ)) → length cs ≡ self.old.lines → Scanned self.old.limits cs (scanning self.old)
@@ -286,11 +379,10 @@ impl<'q> Framer<'q> {
         ensures few { (cs : List (List ℕ)) → length cs ≡ self.old.lines → Scanned self.old.limits cs (scanning self.old)
             → HoldsFew self.old.limits (length (first_of cs (begun_of (reading self.old)))) (scanning self.new) }
         ensures keeps { KeepsFirst (reading self.new) (scanning self.new) self.new.parts }
+        ensures end { IfErr result IsFirstEnd }
+        ensures late { 0 < self.old.lines → IsReady (reading self.new) (scanning self.new) × IfErr result IsLaterEnd }
     {
-        let Ok(content) = self.judge() else {
-            return Err(End::Memory);
-        };
-        match content {
+        match self.judge() {
             Content::Faulty { place, reason } => Err(End::Refused {
                 line: self.lines + 1,
                 place,
@@ -309,11 +401,16 @@ impl<'q> Framer<'q> {
         requires sound { IsSound (reading self.old) }
         requires room { self.old.lines < 2 ^ 62 }
         requires lists { HasRoom self.old.limits (scanning self.old) }
+        requires ready { IsReady (reading self.old) (scanning self.old) }
         requires keeps { KeepsFirst (reading self.old) (scanning self.old) self.old.parts }
         requires one { NoLf part.now }
         ensures stays { Stays (reading self.old) (reading self.new) }
         ensures few { self.new.lines ≤ self.old.lines + 1 }
+        ensures grows { self.old.lines ≤ self.new.lines }
+        ensures one { OnOk result (self.new.lines ≡ self.old.lines + 1) }
         ensures keeps { KeepsFirst (reading self.new) (scanning self.new) self.new.parts }
+        ensures end { IfErr result IsFirstEnd }
+        ensures late { 0 < self.old.lines → IsReady (reading self.new) (scanning self.new) × IfErr result IsLaterEnd }
         ensures counts { S.failures sink.old ≤ S.failures sink.new }
         ensures cause { IsErrOf result End.WriteFault → HasRisen (S.failures sink.old) (S.failures sink.new) }
         ensures ok { OnOk result ((p : List ℕ) → Reads (reading self.old) p →
@@ -322,6 +419,7 @@ impl<'q> Framer<'q> {
             Stops S.takes S.leaves (reading self.old) sink.old p (part.now ++ newline ∷ more) e
             (reading self.new) sink.new) }
         ensures room { HasRoom self.old.limits (scanning self.new) }
+        ensures ready { OnOk result (IsReady (reading self.new) (scanning self.new)) }
         ensures rises { Rises (scanning self.old) (scanning self.new) }
         ensures scanned { OnOk result
             ((p : List ℕ) → Reads (reading self.old) p → Scanned self.old.limits (closed p) (scanning self.old)
@@ -336,15 +434,63 @@ impl<'q> Framer<'q> {
         Ok(())
     }
 
+    /// Takes a piece of the stream up to and with the first LF, and deals with the line that it ends; or all of it, if there
+    /// is none.
+    pub fn take_front<S: LineSink>(&mut self, piece: &[u8], sink: &mut S) -> Result<Progress, End>
+        requires sound { IsSound (reading self.old) }
+        requires room { self.old.lines < 2 ^ 62 }
+        requires lists { HasRoom self.old.limits (scanning self.old) }
+        requires ready { IsReady (reading self.old) (scanning self.old) }
+        requires keeps { KeepsFirst (reading self.old) (scanning self.old) self.old.parts }
+        ensures front { IfOk result (λ t. IsFront piece.now t) }
+        ensures lines { IfOk result (λ t. self.new.lines ≡ (if t.accepted then self.old.lines + 1 else self.old.lines)) }
+        ensures few { self.new.lines ≤ self.old.lines + 1 }
+        ensures stays { Stays (reading self.old) (reading self.new) }
+        ensures keeps { KeepsFirst (reading self.new) (scanning self.new) self.new.parts }
+        ensures end { IfErr result IsFirstEnd }
+        ensures counts { S.failures sink.old ≤ S.failures sink.new }
+        ensures cause { IsErrOf result End.WriteFault → HasRisen (S.failures sink.old) (S.failures sink.new) }
+        ensures ok { IfOk result (λ t. (p : List ℕ) → Reads (reading self.old) p →
+            Advances S.takes (reading self.old) sink.old p (take t.used piece.now) (reading self.new) sink.new) }
+        ensures err { IfErr result (λ e. (p : List ℕ) → Reads (reading self.old) p →
+            Stops S.takes S.leaves (reading self.old) sink.old p piece.now e (reading self.new) sink.new) }
+        ensures room { HasRoom self.old.limits (scanning self.new) }
+        ensures ready { OnOk result (IsReady (reading self.new) (scanning self.new)) }
+        ensures rises { Rises (scanning self.old) (scanning self.new) }
+        ensures scanned { IfOk result (λ t.
+            (p : List ℕ) → Reads (reading self.old) p → Scanned self.old.limits (closed p) (scanning self.old)
+            → Scanned self.old.limits (closed (p ++ take t.used piece.now)) (scanning self.new)) }
+        ensures held { OnErr result
+            ((p : List ℕ) → Reads (reading self.old) p → Scanned self.old.limits (closed p) (scanning self.old)
+            → HoldsFew self.old.limits (length (first_content (p ++ piece.now))) (scanning self.new)) }
+    {
+        let Some(at) = memchr(b'\n', piece) else {
+            self.store(piece)?;
+            return Ok(Progress {
+                used: piece.len(),
+                accepted: false,
+            });
+        };
+        self.take_line(&piece[..at], sink)?;
+        Ok(Progress {
+            used: at + 1,
+            accepted: true,
+        })
+    }
+
     /// Takes a piece of the stream, and deals with each line that it ends.
     pub fn take_piece<S: LineSink>(&mut self, piece: &[u8], sink: &mut S) -> Result<(), End>
         requires sound { IsSound (reading self.old) }
         requires room { self.old.lines + length piece.now < 2 ^ 62 }
         requires lists { HasRoom self.old.limits (scanning self.old) }
+        requires ready { IsReady (reading self.old) (scanning self.old) }
         requires keeps { KeepsFirst (reading self.old) (scanning self.old) self.old.parts }
         ensures stays { Stays (reading self.old) (reading self.new) }
         ensures few { self.new.lines ≤ self.old.lines + length piece.now }
+        ensures grows { self.old.lines ≤ self.new.lines }
         ensures keeps { KeepsFirst (reading self.new) (scanning self.new) self.new.parts }
+        ensures end { IfErr result IsFirstEnd }
+        ensures late { 0 < self.old.lines → IsReady (reading self.new) (scanning self.new) × IfErr result IsLaterEnd }
         ensures counts { S.failures sink.old ≤ S.failures sink.new }
         ensures cause { IsErrOf result End.WriteFault → HasRisen (S.failures sink.old) (S.failures sink.new) }
         ensures ok { OnOk result ((p : List ℕ) → Reads (reading self.old) p →
@@ -352,6 +498,7 @@ impl<'q> Framer<'q> {
         ensures err { IfErr result (λ e. (p : List ℕ) → Reads (reading self.old) p →
             Stops S.takes S.leaves (reading self.old) sink.old p piece.now e (reading self.new) sink.new) }
         ensures room { HasRoom self.old.limits (scanning self.new) }
+        ensures ready { OnOk result (IsReady (reading self.new) (scanning self.new)) }
         ensures rises { Rises (scanning self.old) (scanning self.new) }
         ensures scanned { OnOk result
             ((p : List ℕ) → Reads (reading self.old) p → Scanned self.old.limits (closed p) (scanning self.old)
@@ -374,12 +521,17 @@ impl<'q> Framer<'q> {
         requires sound { IsSound (reading self.old) }
         requires room { self.old.lines < 2 ^ 62 }
         requires lists { HasRoom self.old.limits (scanning self.old) }
+        requires ready { IsReady (reading self.old) (scanning self.old) }
         requires keeps { KeepsFirst (reading self.old) (scanning self.old) self.old.parts }
         ensures stays { Stays (reading self.old) (reading self.new) }
         ensures few { self.new.lines ≤ self.old.lines + 1 }
+        ensures grows { self.old.lines ≤ self.new.lines }
         ensures keeps { KeepsFirst (reading self.new) (scanning self.new) self.new.parts }
+        ensures end { IfErr result IsFirstEnd }
+        ensures late { 0 < self.old.lines → IsReady (reading self.new) (scanning self.new) × IfErr result IsLaterEnd }
         ensures counts { S.failures sink.old ≤ S.failures sink.new }
         ensures cause { IsErrOf result End.WriteFault → HasRisen (S.failures sink.old) (S.failures sink.new) }
+        ensures memory { IsErrOf result End.Memory → ⊥ }
         ensures finishes { (p : List ℕ) → Reads (reading self.old) p →
             Finishes S.takes S.leaves (reading self.old) sink.old p result (reading self.new) sink.new }
         ensures room { HasRoom self.old.limits (scanning self.new) }

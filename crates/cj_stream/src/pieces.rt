@@ -40,6 +40,7 @@ fn feed_all<S: LineSink>(engine: &mut Engine, pieces: &[&[u8]], sink: &mut S) ->
     ensures taken { TookWhole S.takes S.leaves (rules_of engine.old) (map (λ piece. piece.now) pieces.now) result.taken
         (lines_of engine.new) sink.old sink.new result.ended }
     ensures cause { result.ended ≡ End.WriteFault → HasRisen (S.failures sink.old) (S.failures sink.new) }
+    ensures memory { result.ended ≡ End.Memory → (lines_of engine.new ≡ 0) × (sink.new ≡ sink.old) }
 {
     for (taken, piece) in pieces.iter().enumerate() {
         if let Err(ended) = engine.feed(piece, sink) {
@@ -70,6 +71,7 @@ pub fn put_pieces<S: LineSink>(engine: &mut Engine, pieces: &[&[u8]], sink: &mut
     ensures puts { PutsPieces S.takes S.leaves (rules_of engine.old) (map (λ piece. piece.now) pieces.now)
         result.taken result.ended sink.old sink.new }
     ensures cause { result.ended ≡ End.WriteFault → HasRisen (S.failures sink.old) (S.failures sink.new) }
+    ensures memory { result.ended ≡ End.Memory → (lines_of engine.new ≡ 0) × (sink.new ≡ sink.old) }
 {
     feed_all(engine, pieces, sink)
 }
@@ -97,6 +99,7 @@ pub fn headline<W: Write + Drop>(
     ensures fed { Fed (rules_of engine.old) (map (λ piece. piece.now) pieces.now) result engine.new }
     ensures copies { Copies (rules_of engine.old) (map (λ piece. piece.now) pieces.now) result.taken result.ended
         (W.contents (output_writer sink.old)) (W.contents (output_writer sink.new)) }
+    ensures memory { result.ended ≡ End.Memory → (lines_of engine.new ≡ 0) × (sink.new ≡ sink.old) }
 {
     put_pieces(engine, pieces, sink)
 }

@@ -1,8 +1,8 @@
 //! A whole run, from a reader to a sink.
-ghost use Rattle.std.specs.Prelude.{◌≡◌, ◌≢◌, ◌↔◌, ◌≤◌, ◌<◌, ◌^◌, ℕ, List, length, false, IsTrue, IfSome};
+ghost use Rattle.std.specs.Prelude.{◌≡◌, ◌≢◌, ◌↔◌, ◌⊎◌, ◌≤◌, ◌<◌, ◌^◌, ℕ, List, length, false, IsTrue, IfSome};
 ghost use Rattle.std.specs.Io.KnownBytes.{Consumes, IsAtEnd};
 ghost use Rattle.cj_stream.specs.Sink.{HasRisen};
-ghost use Rattle.cj_stream.specs.Engine.{IsFresh, rules_of};
+ghost use Rattle.cj_stream.specs.Engine.{IsFresh, rules_of, lines_of};
 ghost use Rattle.cj_stream.specs.Query.{rules_for};
 ghost use Rattle.cj_stream.specs.Run.{IsReadWithin, Runs, outcome_of};
 ghost use Rattle.cj_stream.specs.Source.{source_reader, source_name, reads_of, has_failed};
@@ -86,6 +86,7 @@ fn drive<R: Read, S: LineSink>(
     ensures reads { reads_of source.new ≤ reads }
     ensures limit { result ≡ End.ReadLimit → reads_of source.new ≡ reads }
     ensures failed { IsTrue (has_failed source.new) ↔ (result ≡ End.ReadFault) }
+    ensures memory { result ≡ End.Memory → lines_of engine.new ≡ 0 }
 {
     for _i in 0..reads {
         match source.read(buffer) {
@@ -103,7 +104,7 @@ fn drive<R: Read, S: LineSink>(
 
 /// Puts the kept lines of what the reader gives to the sink, until its end or a fault.
 ///
-/// It makes at most 2^40 reads, as [`run_within`] says.
+/// It makes at most 2^40 reads, as [`run_within`] says. Memory is refused before the sink has taken anything, or not at all.
 pub fn run<R: Read, S: LineSink>(
     alloc: Global,
     reader: &mut R,
@@ -116,6 +117,7 @@ pub fn run<R: Read, S: LineSink>(
         (IsAtEnd (R.remaining reader.new)) sink.old sink.new }
     ensures cause { result.ended ≡ End.WriteFault → HasRisen (S.failures sink.old) (S.failures sink.new) }
     ensures enough { IfSome (R.remaining reader.old) (λ bytes. length bytes < 2 ^ 40 → result.ended ≢ End.ReadLimit) }
+    ensures memory { result.ended ≡ End.Memory → (result.lines ≡ 0) × (sink.new ≡ sink.old) }
 {
     run_within(alloc, reader, sink, limits, query, MOST_READS)
 }
@@ -124,8 +126,8 @@ pub fn run<R: Read, S: LineSink>(
 ///
 /// The read that finds the end of the input counts, and so does one that fails. An end or a fault that comes with a read,
 /// the last one too, is the end. Where none came, the end is [`End::ReadLimit`]: the whole lines were dealt with, and the
-/// line that had begun was not judged. So with no read that is the end of each input, also of an empty one, and the reader
-/// and the sink stay as they are. One read more than the input has bytes is always enough, even if each gives one byte.
+/// line that had begun was not judged. So with no read that is the end of each input, also of an empty one, unless memory for
+/// the first line is refused, and the reader and the sink stay as they are. One read more than the input has bytes is always enough, even if each gives one byte.
 pub fn run_within<R: Read, S: LineSink>(
     alloc: Global,
     reader: &mut R,
@@ -141,8 +143,9 @@ pub fn run_within<R: Read, S: LineSink>(
         (IsAtEnd (R.remaining reader.new)) sink.old sink.new }
     ensures cause { result.ended ≡ End.WriteFault → HasRisen (S.failures sink.old) (S.failures sink.new) }
     ensures enough { IfSome (R.remaining reader.old) (λ bytes. length bytes < reads → result.ended ≢ End.ReadLimit) }
-    ensures none { reads ≡ 0 → (reader.new ≡ reader.old) × (sink.new ≡ sink.old) × (result.ended ≡ End.ReadLimit)
-        × (result.lines ≡ 0) × (result.kept ≡ 0) }
+    ensures none { reads ≡ 0 → (reader.new ≡ reader.old) × (sink.new ≡ sink.old)
+        × ((result.ended ≡ End.ReadLimit) ⊎ (result.ended ≡ End.Memory)) × (result.lines ≡ 0) × (result.kept ≡ 0) }
+    ensures memory { result.ended ≡ End.Memory → (result.lines ≡ 0) × (sink.new ≡ sink.old) }
 {
     let mut engine = match Engine::open(alloc, limits, query) {
         Ok(engine) => engine,

@@ -5,11 +5,11 @@ use Rattle.cj_spans.specs.Json.{Json}
 use Rattle.cj_spans.proofs.Judgements.{judgement}
 use Rattle.std.specs.Str.{IsValidUpTo}
 use Rattle.std.proofs.lemmas.Str.{utf8_valid_len-IsValidUpTo, is_utf8-from_IsUtf8}
-use Rattle.cj_spans.specs.declared.fault.ScanFault.TheVariants.{Syntax, TooDeep}
+use Rattle.cj_spans.specs.declared.fault.LineFault.TheVariants.{Syntax, TooDeep}
 use Rattle.cj_spans.specs.declared.reason.Reason.TheVariants.{NotUtf8}
 use Rattle.cj_stream.specs.Verdict.{Refuse, is_blank_byte}
 use Rattle.cj_stream.proofs.VerdictLemmas.{verdict-bytes, verdict-blank, verdict-json}
-use Rattle.cj_stream.proofs.JudgeLemmas.{ok-tree, ok-verdict, syntax-refused, deep-refused, not_text, syntax-text, deep-text, syntax-granted, deep-granted, ok-text, ok-granted}
+use Rattle.cj_stream.proofs.JudgeLemmas.{ok-tree, ok-verdict, syntax-refused, deep-refused, not_text, syntax-text, deep-text}
 use Rattle.cj_stream.proofs.judge.judge.Goals as goal
 
 pub returns-then-is_blank-clause-says : goal.returns-then-is_blank-clause-says
@@ -19,22 +19,22 @@ returns-then-is_blank-clause-says c = λ rules header le same.
 pub returns-in-Ok-clause-says : goal.returns-in-Ok-clause-says
 returns-in-Ok-clause-says c = λ rules header le same.
     let not_blank : nat_lt 1 c.args.number && list_all is_blank_byte c.args.content.now ≡ false = sym c.is_blank.ensures ∙ c.if-is_blank.false in
-    let text : IsUtf8 c.args.content.now = c.scan.ensures.utf8 (ok-granted c.scan.result c.in-Ok.field-0 c.in-Ok.is) (ok-text c.scan.result c.in-Ok.field-0 c.in-Ok.is) in
-    let answer = rw c.in-Ok.is at (c.scan.ensures.judged (judgement c.args.content.now c.args.opened.now.limit) text) in
+    let text : IsUtf8 c.args.content.now = c.scan_reserved.ensures.utf8 (λ i e. cc) in
+    let answer = rw c.in-Ok.is at (c.scan_reserved.ensures.judged (judgement c.args.content.now c.args.opened.now.limit) text) in
     rw (verdict-json rules c.args.number header c.args.content.now le text not_blank, same) (ok-verdict rules c.args.number header (judgement c.args.content.now c.args.opened.now.limit) c.in-Ok.field-0 answer)
 
 pub returns-in-Ok-clause-lists : goal.returns-in-Ok-clause-lists
 returns-in-Ok-clause-lists c =
-    let text : IsUtf8 c.args.content.now = c.scan.ensures.utf8 (ok-granted c.scan.result c.in-Ok.field-0 c.in-Ok.is) (ok-text c.scan.result c.in-Ok.field-0 c.in-Ok.is) in (
+    let text : IsUtf8 c.args.content.now = c.scan_reserved.ensures.utf8 (λ i e. cc) in (
       record { text = is_utf8-from_IsUtf8 c.args.content.now text; count = search rules; peak = search rules; closed = search rules; opened_peak = search rules },
       search rules,
     )
 
 pub returns-in-Ok-clause-tree : goal.returns-in-Ok-clause-tree
 returns-in-Ok-clause-tree c = λ sound.
-    let text : IsUtf8 c.args.content.now = c.scan.ensures.utf8 (ok-granted c.scan.result c.in-Ok.field-0 c.in-Ok.is) (ok-text c.scan.result c.in-Ok.field-0 c.in-Ok.is) in
+    let text : IsUtf8 c.args.content.now = c.scan_reserved.ensures.utf8 (λ i e. cc) in
     let tree = c.in-Ok.ensures.tree in
-    let answer = rw c.in-Ok.is at (c.scan.ensures.judged (judgement c.args.content.now c.args.opened.now.limit) text) in
+    let answer = rw c.in-Ok.is at (c.scan_reserved.ensures.judged (judgement c.args.content.now c.args.opened.now.limit) text) in
     let found = ok-tree (judgement c.args.content.now c.args.opened.now.limit) c.in-Ok.field-0 tree.0 tree.1.only answer in
     record {
       tokens_of = record { tree = tree.0; json = tree.1.json; shown = tree.1.shown; count = tree.1.count; linked = tree.1.linked };
@@ -43,27 +43,21 @@ returns-in-Ok-clause-tree c = λ sound.
 
 pub returns-in-Err-NotUtf8-clause-says : goal.returns-in-Err-NotUtf8-clause-says
 returns-in-Err-NotUtf8-clause-says c = λ rules header le same.
-    let place : IsValidUpTo c.args.content.now c.in-Err-NotUtf8.place = c.scan.ensures.not_utf8 c.in-Err-NotUtf8.place (c.in-Err-NotUtf8.is ∙ ap Err c.in-Err-NotUtf8.field-0-is) in
+    let place : IsValidUpTo c.args.content.now c.in-Err-NotUtf8.place = (c.scan_reserved.ensures.not_utf8 c.in-Err-NotUtf8.place).0 (c.in-Err-NotUtf8.is ∙ ap Err c.in-Err-NotUtf8.field-0-is) in
     verdict-bytes rules c.args.number header c.args.content.now le (not_text c.args.content.now c.in-Err-NotUtf8.place place) ∙ ap (λ i. Refuse i NotUtf8) (utf8_valid_len-IsValidUpTo c.args.content.now c.in-Err-NotUtf8.place place)
 
 pub returns-in-Err-Syntax-clause-says : goal.returns-in-Err-Syntax-clause-says
 returns-in-Err-Syntax-clause-says c = λ rules header le same.
     let not_blank : nat_lt 1 c.args.number && list_all is_blank_byte c.args.content.now ≡ false = sym c.is_blank.ensures ∙ c.if-is_blank.false in
-    let is : c.scan.result ≡ Err (Syntax c.in-Err-Syntax.place) = c.in-Err-Syntax.is ∙ ap Err c.in-Err-Syntax.field-0-is in
-    let text : IsUtf8 c.args.content.now = c.scan.ensures.utf8 (syntax-granted c.scan.result c.in-Err-Syntax.place is) (syntax-text c.scan.result c.in-Err-Syntax.place is) in
-    let answer = rw is at (c.scan.ensures.judged (judgement c.args.content.now c.args.opened.now.limit) text) in
+    let is : c.scan_reserved.result ≡ Err (Syntax c.in-Err-Syntax.place) = c.in-Err-Syntax.is ∙ ap Err c.in-Err-Syntax.field-0-is in
+    let text : IsUtf8 c.args.content.now = c.scan_reserved.ensures.utf8 (syntax-text c.scan_reserved.result c.in-Err-Syntax.place is) in
+    let answer = rw is at (c.scan_reserved.ensures.judged (judgement c.args.content.now c.args.opened.now.limit) text) in
     rw (verdict-json rules c.args.number header c.args.content.now le text not_blank, same) (syntax-refused rules c.args.number header (judgement c.args.content.now c.args.opened.now.limit) c.in-Err-Syntax.place answer)
 
 pub returns-in-Err-TooDeep-clause-says : goal.returns-in-Err-TooDeep-clause-says
 returns-in-Err-TooDeep-clause-says c = λ rules header le same.
     let not_blank : nat_lt 1 c.args.number && list_all is_blank_byte c.args.content.now ≡ false = sym c.is_blank.ensures ∙ c.if-is_blank.false in
-    let is : c.scan.result ≡ Err (TooDeep c.in-Err-TooDeep.place) = c.in-Err-TooDeep.is ∙ ap Err c.in-Err-TooDeep.field-0-is in
-    let text : IsUtf8 c.args.content.now = c.scan.ensures.utf8 (deep-granted c.scan.result c.in-Err-TooDeep.place is) (deep-text c.scan.result c.in-Err-TooDeep.place is) in
-    let answer = rw is at (c.scan.ensures.judged (judgement c.args.content.now c.args.opened.now.limit) text) in
+    let is : c.scan_reserved.result ≡ Err (TooDeep c.in-Err-TooDeep.place) = c.in-Err-TooDeep.is ∙ ap Err c.in-Err-TooDeep.field-0-is in
+    let text : IsUtf8 c.args.content.now = c.scan_reserved.ensures.utf8 (deep-text c.scan_reserved.result c.in-Err-TooDeep.place is) in
+    let answer = rw is at (c.scan_reserved.ensures.judged (judgement c.args.content.now c.args.opened.now.limit) text) in
     rw (verdict-json rules c.args.number header c.args.content.now le text not_blank, same) (deep-refused rules c.args.number header (judgement c.args.content.now c.args.opened.now.limit) c.in-Err-TooDeep.place answer)
-
-pub returns-in_ok-without_room-in-Err-Memory-clause-says : goal.returns-in_ok-without_room-in-Err-Memory-clause-says
-returns-in_ok-without_room-in-Err-Memory-clause-says c = λ rules header le same.
-    let place : IsValidUpTo c.args.content.now c.in_ok-without_room-in-Err-Memory.field-0 = c.in_ok-without_room-in-Err-Memory.ensures.place in
-    verdict-bytes rules c.args.number header c.args.content.now le (not_text c.args.content.now c.in_ok-without_room-in-Err-Memory.field-0 place)
-    ∙ ap (λ i. Refuse i NotUtf8) (utf8_valid_len-IsValidUpTo c.args.content.now c.in_ok-without_room-in-Err-Memory.field-0 place)

@@ -6,7 +6,7 @@ use Rattle.cj_stream.specs.Cut.{joined}
 use Rattle.cj_stream.proofs.JoinedLemmas.{joined-more, joined-short, joined-all}
 use Rattle.cj_stream.proofs.CutLemmas.{TookWhole-left, EndsAt-told, EndsAt-concludes}
 use Rattle.cj_stream.proofs.OutputLemmas.{Runs-told}
-use Rattle.cj_stream.proofs.RunLemmas.{Delivers-then, kept_first-same, Ends-finished, Ends-fed, HasRisen-after, told-not_complete}
+use Rattle.cj_stream.proofs.RunLemmas.{Delivers-then, kept_first-same, Ends-finished, Ends-fed, HasRisen-after, refused-sink, told-not_complete}
 use Rattle.cj_stream.proofs.pieces.feed_all.Goals as goal
 
 pub feed-requires : goal.feed-requires
@@ -149,3 +149,13 @@ returns-clause-taken g c =
 
 pub returns-clause-cause : goal.returns-clause-cause
 returns-clause-cause g c = λ e. HasRisen-after _ _ _ c.loop-taken.invariant.4 (c.finish-ended.ensures.cause c.loop-taken.invariant.0 e)
+
+-- memory is refused before any line was dealt with
+pub returns-in-Err-clause-memory : goal.returns-in-Err-clause-memory
+returns-in-Err-clause-memory g c = λ refused.
+    let i = c.loop-taken.invariant in
+    let none = (c.feed.ensures.memory (joined (take c.loop-taken.taken (map (λ piece. piece.now) c.args.pieces.now))) i.2 i.0 (c.in-Err.is ∙ ap Err refused)).0.none in
+    (none, refused-sink g.S.LineSink.takes g.S.LineSink.leaves _ _ _ _ _ _ refused none (returns-in-Err-clause-runs g c).sink)
+
+pub returns-clause-memory : goal.returns-clause-memory
+returns-clause-memory g c = λ refused. absurd (c.finish-ended.ensures.memory c.loop-taken.invariant.0 refused)

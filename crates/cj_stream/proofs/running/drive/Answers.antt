@@ -70,6 +70,15 @@ returns-in-Err-feed-clause-runs g c =
 pub returns-in-Err-feed-clause-cause : goal.returns-in-Err-feed-clause-cause
 returns-in-Err-feed-clause-cause g c = λ e. HasRisen-after _ _ _ c.loop-i.invariant.4 (c.feed.ensures.cause c.loop-i.invariant.2 (c.in-Err-feed.is ∙ ap Err e))
 
+-- memory is refused before any line was dealt with
+pub returns-in-Err-feed-clause-memory : goal.returns-in-Err-feed-clause-memory
+returns-in-Err-feed-clause-memory g c = λ refused.
+    let i = c.loop-i.invariant in
+    (c.feed.ensures.memory i.5.0 i.5.2 i.2 (c.in-Err-feed.is ∙ ap Err refused)).0.none
+
+pub returns-in-Ok-eq0-clause-memory : goal.returns-in-Ok-eq0-clause-memory
+returns-in-Ok-eq0-clause-memory g c = λ refused. absurd (c.finish.ensures.memory c.loop-i.invariant.2 refused)
+
 pub loop-i-preserved : goal.loop-i-preserved
 loop-i-preserved g c =
     let i = c.loop-i.invariant in

@@ -1,6 +1,6 @@
-use Rattle.std.proofs.Common.{◌≡◌, ◌∙◌, sym}
+use Rattle.std.proofs.Common.{◌≡◌, ◌∙◌, [], inl, inr, refl, ap, sym}
 use Rattle.cj_stream.specs.Source.{source_reader}
-use Rattle.cj_stream.proofs.RunLemmas.{enough-reads, none-counted}
+use Rattle.cj_stream.proofs.RunLemmas.{Consumes-none, Runs-refused, refused-sink, memory-no_fault, unread-refused, enough-refused, enough-reads, none-counted}
 use Rattle.cj_stream.proofs.running.run_within.Goals as goal
 
 -- The source holds the same loan to the end, so what is left in it is what the lender finds.
@@ -17,8 +17,25 @@ returns g c =
           let counts = none-counted _ _ runs.0 _ _ _ nothing left.2 runs.2 runs.3.account.counts in (
             back ∙ left.0 ∙ c.new-source.ensures.reader,
             left.1,
-            left.2,
+            inl left.2,
             counts.0,
             counts.1,
           );
+      memory = λ refused.
+          let none = c.lines.ensures ∙ c.drive-ended.ensures.memory refused in
+          (none, refused-sink g.S.LineSink.takes g.S.LineSink.leaves _ runs.0 _ _ _ _ refused none runs.3.sink);
     }
+
+pub returns-in-Err : goal.returns-in-Err
+returns-in-Err g c = record {
+  runs = (
+    [],
+    Consumes-none _,
+    unread-refused _ _ (ap (λ o. o.ended) c.refused.ensures),
+    rw c.refused.ensures (Runs-refused g.S.LineSink.takes g.S.LineSink.leaves _ _ c.args.sink.now),
+  );
+  cause = λ fault. absurd (memory-no_fault (sym (ap (λ o. o.ended) c.refused.ensures) ∙ fault));
+  enough = enough-refused _ _ _ (ap (λ o. o.ended) c.refused.ensures);
+  none = λ _. (refl, refl, inr (ap (λ o. o.ended) c.refused.ensures), ap (λ o. o.lines) c.refused.ensures, ap (λ o. o.kept) c.refused.ensures);
+  memory = λ _. (ap (λ o. o.lines) c.refused.ensures, refl);
+}

@@ -63,4 +63,4 @@ returns-in-Err-clause-memory g c = λ p st going memory.
     let open_now = rw (← c.self.view_is) at going in
     let reads = (stands.going open_now).0 in
     let same : c.in-Err.end ≡ Memory = cc in
-    LacksMemory-stops g.S.LineSink.takes g.S.LineSink.leaves (reading c.self.inside.framer) (reading c.take_piece.new.self) _ _ p c.args.piece.now c.in-Err.end (c.in-Err.ensures.err p reads) same
+    rw (← c.self.view_is) (LacksMemory-stops g.S.LineSink.takes g.S.LineSink.leaves (reading c.self.inside.framer) (reading c.take_piece.new.self) _ _ p c.args.piece.now c.in-Err.end (c.in-Err.ensures.err p reads) same)

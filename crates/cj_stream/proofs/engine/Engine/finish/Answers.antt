@@ -4,7 +4,7 @@ use Rattle.cj_stream.specs.Reading.{reading}
 use Rattle.cj_stream.specs.Scanning.{scanning}
 use Rattle.cj_stream.proofs.EngineLemmas.{none_from_not_some}
 use Rattle.cj_stream.specs.Engine.{end_of}
-use Rattle.cj_stream.proofs.FinishLemmas.{Finishes-concludes, Finishes-delivers, StandsFor-finished, finished-ok, tokens-finished, peaks-finished}
+use Rattle.cj_stream.proofs.FinishLemmas.{Finishes-concludes, Finishes-delivers, StandsFor-finished, finished-ok, peaks-finished}
 use Rattle.cj_stream.proofs.engine.Engine.finish.Goals as goal
 
 pub returns-clause-stands : goal.returns-clause-stands
@@ -38,10 +38,3 @@ returns-clause-exact g c = λ p st going done.
     let scanned = let k = rw (finished-ok g.S.LineSink.takes g.S.LineSink.leaves (reading c.self.inside.framer) (reading c.finish.new.self) _ _ p reads c.finish.result (c.finish.ensures.finishes p reads) complete) at c.finish.ensures.scanned in k p reads (stands.going open_now).1 in
     rw (← c.self.view_is) (peaks-finished g.S.LineSink.takes g.S.LineSink.leaves (reading c.self.inside.framer) (reading c.finish.new.self) _ _ p reads c.finish.result (scanning c.finish.new.self)
     (c.finish.ensures.finishes p reads) complete scanned)
-
-pub returns-clause-memory : goal.returns-clause-memory
-returns-clause-memory g c = λ p st going memory.
-    let stands = rw (← c.self.view_is) at st in
-    let open_now = rw (← c.self.view_is) at going in
-    let reads = (stands.going open_now).0 in
-    rw (← c.self.view_is) (tokens-finished g.S.LineSink.takes g.S.LineSink.leaves (reading c.self.inside.framer) (reading c.finish.new.self) _ _ p reads c.finish.result (c.finish.ensures.finishes p reads) (sym c.last_end-end.ensures ∙ memory))

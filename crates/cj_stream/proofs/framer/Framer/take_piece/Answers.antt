@@ -49,6 +49,8 @@ loop-at-preserved g c =
       rw (← ap (λ x. x.limits) c.loop-at.invariant.0.rules) c.take_line.ensures.room,
       Rises-then _ _ _ c.loop-at.invariant.5 c.take_line.ensures.rises,
       c.take_line.ensures.keeps,
+      c.in_ok-take_line.ensures.ready,
+      omega (arith, c.loop-at.invariant.8, c.take_line.ensures.grows),
     )
 
 pub returns-in_err-store-clause-err : goal.returns-in_err-store-clause-err
@@ -83,6 +85,8 @@ loop-at-init g c = (
   c.requires.lists,
   Rises-same (scanning c.args.self.now) (scanning c.args.self.now) refl,
   c.requires.keeps,
+  c.requires.ready,
+  omega arith,
 )
 
 pub returns-in_err-take_line-clause-held : goal.returns-in_err-take_line-clause-held

@@ -1,0 +1,43 @@
+-- The ends of the two readers, seen as ends of a stream.
+use Rattle.std.specs.Prelude.{◌≡◌, ◌<◌, None}
+use Rattle.cj_stream.specs.declared.ending.End.{End}
+use Rattle.cj_stream.specs.declared.ending.End.TheVariants.{Complete, Refused, ReadFault, ReadLimit, WriteFault, Memory}
+use Rattle.cj_stream.specs.declared.ending.HeaderEnd.{HeaderEnd}
+use Rattle.cj_stream.specs.declared.ending.HeaderEnd.TheVariants.{Complete as HeaderComplete, Refused as HeaderRefused, WriteFault as HeaderWriteFault, Memory as HeaderMemory}
+use Rattle.cj_stream.specs.declared.ending.LineEnd.{LineEnd}
+use Rattle.cj_stream.specs.declared.ending.LineEnd.TheVariants.{Complete as LineComplete, Refused as LineRefused, WriteFault as LineWriteFault}
+use Rattle.cj_stream.specs.Engine.{EngineState, lines_of}
+
+-- what ends a reader of a header, and what ends a reader of lines
+abbrev pub header_end : HeaderEnd → End
+header_end HeaderComplete = Complete
+header_end (HeaderRefused line place reason) = Refused line place reason
+header_end HeaderWriteFault = WriteFault
+header_end HeaderMemory = Memory
+
+abbrev pub line_end : LineEnd → End
+line_end LineComplete = Complete
+line_end (LineRefused line place reason) = Refused line place reason
+line_end LineWriteFault = WriteFault
+
+-- the ends that come without a reader: of the first line, and of a later one
+abbrev pub IsFirstEnd : End → Type 0
+IsFirstEnd Complete = Unit {0}
+IsFirstEnd (Refused number place reason) = Unit {0}
+IsFirstEnd ReadFault = ⊥
+IsFirstEnd ReadLimit = ⊥
+IsFirstEnd WriteFault = Unit {0}
+IsFirstEnd Memory = Unit {0}
+
+abbrev pub IsLaterEnd : End → Type 0
+IsLaterEnd Complete = Unit {0}
+IsLaterEnd (Refused number place reason) = Unit {0}
+IsLaterEnd ReadFault = ⊥
+IsLaterEnd ReadLimit = ⊥
+IsLaterEnd WriteFault = Unit {0}
+IsLaterEnd Memory = ⊥
+
+-- the first line was taken, and no end has come
+pub record IsAccepted (e : EngineState) : Type 0 where
+  pub line : 0 < lines_of e
+  pub going : e.ended ≡ None

@@ -1,0 +1,229 @@
+//! The reader of a header: the first of two states of a stream.
+//!
+//! It takes all the memory that the stream will need: for the first line when it opens, and for later lines when the header is
+//! valid and its LF has come, before the sink gets it. Then it is accepted, and turns into a [`LineReader`], to which memory
+//! is never refused. What both stand for is told by one record (`EngineState`), and their ends are seen as ends of a stream, so
+//! all that an engine promises is said of them in the same words.
+ghost use Rattle.std.specs.Prelude.{◌≡◌, ◌≢◌, ◌+◌, ◌^◌, ◌≤◌, ◌↔◌, ℕ, List, [], ◌++◌, length, take, OnOk, OnErr, IfOk, IfErr, IsErrOf, IsTrue, Some, None, Err};
+ghost use Rattle.cj_stream.specs.Bound.{IsBelow, exact_peaks};
+ghost use Rattle.cj_stream.specs.Ending.{header_end, IsAccepted};
+ghost use Rattle.cj_stream.specs.Front.{IsFront};
+ghost use Rattle.cj_stream.specs.Query.{rules_for};
+ghost use Rattle.cj_stream.specs.Reading.{LacksMemory};
+ghost use Rattle.cj_stream.specs.Sink.{HasRisen};
+ghost use Rattle.cj_stream.specs.Engine.{StandsFor, given, rules_of, limits_of, lines_of, held_by, peaks_of, Delivers, Going, Tells, Concludes};
+
+use crate::ending::HeaderEnd;
+use crate::framer::Framer;
+use crate::line_reader::LineReader;
+use crate::query::Query;
+use crate::sink::LineSink;
+use cj_budget::{Limits, NoMemory, Peaks};
+use std::alloc::Global;
+use std::marker::Model;
+
+/// How far a piece was used.
+#[derive(Clone, Copy, Debug, PartialEq, Eq)]
+pub struct Progress {
+    /// The bytes of the piece that were used: with acceptance those up to and with the first LF, and else all.
+    pub used: usize,
+    /// Whether the header was accepted.
+    pub accepted: bool,
+}
+
+/// Reads the first line of a stream, and puts a valid header to a sink.
+///
+/// After an end every call answers that end again, puts nothing and changes nothing.
+#[derive(Drop)]
+pub struct HeaderReader<'q> {
+    framer: Framer<'q>,
+    taken: u64,
+    ended: Option<HeaderEnd>,
+}
+
+impl<'q> Model for HeaderReader<'q> {
+    ghost use Rattle.std.specs.Prelude.{◌≡◌, ◌≤◌, ◌^◌, None, option_map};
+    ghost use Rattle.cj_stream.specs.Ending.{header_end};
+    ghost use Rattle.cj_stream.specs.Judging.{KeepsFirst};
+    ghost use Rattle.cj_stream.specs.Reading.{reading, IsSound};
+    ghost use Rattle.cj_stream.specs.Scanning.{scanning, HasRoom, IsReady};
+    ghost use Rattle.cj_stream.specs.Engine.{EngineState};
+
+    ghost Value = { EngineState };
+
+    ghost view = { λ e. record { reading = reading e.framer; scanning = scanning e.framer; taken = e.taken; ended = option_map header_end e.ended } };
+
+    ghost invariant = { λ e. IsSound (reading e.framer) × HasRoom e.framer.limits (scanning e.framer)
+        × KeepsFirst (reading e.framer) (scanning e.framer) e.framer.parts × (e.framer.lines ≤ 1)
+        × (e.ended ≡ None → e.framer.lines ≤ e.taken)
+        × (e.taken ≤ 2 ^ 60) × (e.ended ≡ None → IsReady (reading e.framer) (scanning e.framer)) };
+}
+
+impl<'q> HeaderReader<'q> {
+    /// A reader that has read nothing. It takes the memory for the first line: its bytes, its tokens, and the open containers
+    /// where more than 64 may be.
+    pub fn open(
+        alloc: Global,
+        limits: Limits,
+        query: &'q Query,
+    ) -> Result<HeaderReader<'q>, NoMemory>
+        ensures empty { IfOk result
+            (λ e. StandsFor e [] × (rules_of e ≡ rules_for limits query.now) × (e.ended ≡ None) × (e.taken ≡ 0)) }
+    {
+        Ok(HeaderReader {
+            framer: Framer::open(alloc, limits, query)?,
+            taken: 0,
+            ended: None,
+        })
+    }
+
+    /// Takes a piece of the stream, up to and with the first LF. An error is the end of the stream.
+    pub fn feed<S: LineSink>(&mut self, piece: &[u8], sink: &mut S) -> Result<Progress, HeaderEnd>
+        requires small { self.old.taken + length piece.now ≤ 2 ^ 60 }
+        requires unaccepted { ¬ IsAccepted self.old }
+
+        // After an end, nothing changes.
+        ensures again { (e : HeaderEnd) → self.old.ended ≡ Some (header_end e) →
+            (result ≡ Err e) × (self.new ≡ self.old) × (sink.new ≡ sink.old) }
+        ensures open { OnOk result (self.new.ended ≡ None) }
+        ensures ended { IfErr result (λ e. self.new.ended ≡ Some (header_end e)) }
+
+        // The cause of a write fault is a failure of the sink in this call.
+        ensures counts { S.failures sink.old ≤ S.failures sink.new }
+        ensures cause { self.old.ended ≡ None → IsErrOf result HeaderEnd.WriteFault →
+            HasRisen (S.failures sink.old) (S.failures sink.new) }
+
+        // What is used of the piece, and whether the header was accepted by that.
+        ensures used { IfOk result (λ t. IsFront piece.now t) }
+        ensures accepted { IfOk result (λ t. IsTrue t.accepted ↔ IsAccepted self.new) }
+        ensures taken { IfOk result (λ t. self.new.taken ≡ self.old.taken + t.used) }
+        ensures untaken { OnErr result (self.new.taken ≡ self.old.taken) }
+
+        // What the reader stands for, and what it may hold.
+        ensures rules { rules_of self.new ≡ rules_of self.old }
+        ensures stands { IfOk result (λ t.
+            (p : List ℕ) → StandsFor self.old p → StandsFor self.new (p ++ take t.used piece.now)) }
+        ensures stopped { OnErr result
+            ((p : List ℕ) → StandsFor self.old p → StandsFor self.new (given self.old p piece.now)) }
+        ensures rises { IsBelow (peaks_of self.old) (peaks_of self.new) }
+
+        // What the answer says of all bytes so far.
+        ensures going { IfOk result (λ t.
+            (p : List ℕ) → StandsFor self.old p → Going self.new (p ++ take t.used piece.now)) }
+        ensures told { IfErr result (λ e. (p : List ℕ) → StandsFor self.old p → self.old.ended ≡ None →
+            Tells (rules_of self.old) (p ++ piece.now) (lines_of self.new) (header_end e)) }
+        ensures memory { (p : List ℕ) → StandsFor self.old p → self.old.ended ≡ None → IsErrOf result HeaderEnd.Memory →
+            LacksMemory (rules_of self.old) (p ++ piece.now) (lines_of self.new) × (sink.new ≡ sink.old) }
+        ensures sink { IfOk result (λ t. (p : List ℕ) → StandsFor self.old p →
+            Delivers S.takes S.leaves (rules_of self.old) (p ++ take t.used piece.now)
+            (lines_of self.old) (lines_of self.new) sink.old sink.new None) }
+        ensures sink_stopped { IfErr result (λ e. (p : List ℕ) → StandsFor self.old p → self.old.ended ≡ None →
+            Delivers S.takes S.leaves (rules_of self.old) (p ++ piece.now)
+            (lines_of self.old) (lines_of self.new) sink.old sink.new (Some (header_end e))) }
+    {
+        if let Some(end) = self.ended {
+            return Err(end);
+        }
+        match self.framer.take_front(piece, sink) {
+            Ok(progress) => {
+                self.taken += progress.used as u64;
+                Ok(progress)
+            }
+            Err(end) => {
+                let end = HeaderEnd::of(end);
+                self.ended = Some(end);
+                Err(end)
+            }
+        }
+    }
+
+    /// Ends the stream, and deals with a first line that LF has not ended. It takes no memory.
+    pub fn finish<S: LineSink>(&mut self, sink: &mut S) -> HeaderEnd
+        requires unaccepted { ¬ IsAccepted self.old }
+        ensures again { (e : HeaderEnd) → self.old.ended ≡ Some (header_end e) →
+            (result ≡ e) × (self.new ≡ self.old) × (sink.new ≡ sink.old) }
+        ensures ended { self.new.ended ≡ Some (header_end result) }
+
+        ensures counts { S.failures sink.old ≤ S.failures sink.new }
+        ensures cause { self.old.ended ≡ None → result ≡ HeaderEnd.WriteFault →
+            HasRisen (S.failures sink.old) (S.failures sink.new) }
+
+        ensures rules { rules_of self.new ≡ rules_of self.old }
+        ensures stands { (p : List ℕ) → StandsFor self.old p → StandsFor self.new p }
+        ensures rises { IsBelow (peaks_of self.old) (peaks_of self.new) }
+        ensures untaken { self.new.taken ≡ self.old.taken }
+
+        ensures answer { (p : List ℕ) → StandsFor self.old p → self.old.ended ≡ None →
+            Concludes (rules_of self.old) p (lines_of self.new) (header_end result) }
+        ensures exact { (p : List ℕ) → StandsFor self.old p → self.old.ended ≡ None →
+            result ≡ HeaderEnd.Complete → peaks_of self.new ≡ exact_peaks (limits_of self.old) p }
+        ensures memory { self.old.ended ≡ None → result ≢ HeaderEnd.Memory }
+        ensures sink { (p : List ℕ) → StandsFor self.old p → self.old.ended ≡ None →
+            Delivers S.takes S.leaves (rules_of self.old) p
+            (lines_of self.old) (lines_of self.new) sink.old sink.new self.new.ended }
+    {
+        if let Some(end) = self.ended {
+            return end;
+        }
+        let end = HeaderEnd::after(self.framer.finish(sink));
+        self.ended = Some(end);
+        end
+    }
+
+    /// Whether `feed` has accepted the header.
+    pub fn accepted(&self) -> bool
+        ensures { IsTrue result ↔ IsAccepted self.now }
+    {
+        self.ended.is_none() && self.framer.lines() > 0
+    }
+
+    /// The reader of the lines behind an accepted header. It takes no memory.
+    pub fn into_lines(self) -> LineReader<'q>
+        requires { IsAccepted self }
+        ensures { result ≡ self.entry }
+    {
+        let HeaderReader {
+            framer,
+            taken,
+            ended: _,
+        } = self;
+        LineReader::of(framer, taken)
+    }
+
+    /// The bytes that were used by calls of `feed` that answered Ok.
+    pub fn taken(&self) -> u64
+        ensures value { result ≡ self.now.taken }
+        ensures bound { result ≤ 2 ^ 60 }
+    {
+        self.taken
+    }
+
+    /// What is held now: bytes and tokens of the first line, and the open containers of one that was refused.
+    pub fn held(&self) -> Peaks
+        ensures { result ≡ held_by self.now }
+    {
+        self.framer.held()
+    }
+
+    /// The most that was held.
+    pub fn peaks(&self) -> Peaks
+        ensures { result ≡ peaks_of self.now }
+    {
+        self.framer.peaks()
+    }
+
+    /// How many lines were dealt with: none, or the header.
+    pub fn lines(&self) -> u64
+        ensures value { result ≡ lines_of self.now }
+        ensures few { result ≤ 1 }
+    {
+        self.framer.lines()
+    }
+
+    /// How many features the sink took: none.
+    pub fn kept(&self) -> u64
+        ensures { result ≡ self.now.reading.kept }
+    {
+        self.framer.kept()
+    }
+}
