@@ -528,9 +528,15 @@ row_a_full_standard_error() {
 
 # ---- memory that is refused
 
-row_less_memory_than_a_line_takes() {
-  long_line $limit | (ulimit -v 80000 && run filter) # room for the tokens of one line, and not of two
-  lines "$header" | answered 5 'out of memory'
+row_less_memory_than_the_limits_ask_for() {
+  long_line $limit | (ulimit -v 80000 && run filter) # room for the header, and not for later lines too
+  answered 5 'out of memory' < /dev/null
+}
+
+row_no_more_memory_than_the_limits_ask_for() {
+  long_line $limit > "$scratch/stream"
+  (ulimit -v 160000 && run filter < "$scratch/stream")
+  answered 0 < "$scratch/stream"
 }
 
 row_each_allocation_refused_in_turn() {

@@ -64,7 +64,7 @@ fn check_cut(
     let mut sink = WriteSink::new(Vec::new(alloc));
     let pieces = [&text[..at], &text[at..]];
     let Ok(mut engine) = Engine::open(alloc, limits, &query) else {
-        unreachable!();
+        panic!(rt; "no memory to open");
     };
     let copied = headline(&mut engine, &pieces, &mut sink);
     check_ended(
