@@ -206,11 +206,14 @@ fn instances_of_a_long_list_find_their_templates(rt: HostRuntime) -> Result<(), 
     Ok(())
 }
 
-/// Instances of every `step`th template down from this one, and the levels of detail that `numbered` gives those.
-fn falling(alloc: Global, greatest: u32, step: u32) -> Result<(String, String), AllocError> {
+/// How far apart the templates are that instances name in turn.
+const APART: usize = 17;
+
+/// Instances of templates `APART` each, from this one down, and the levels of detail that `numbered` gives those.
+fn falling(alloc: Global, greatest: u32) -> Result<(String, String), AllocError> {
     let mut line = String::from_str(alloc, "[0")?;
     let mut want = String::from_str(alloc, "none ")?;
-    for number in (1..=greatest).rev().step_by(step as usize) {
+    for number in (1..=greatest).rev().step_by(APART) {
         let instance = format!(in alloc;
             ",{{\"type\":\"GeometryInstance\",\"template\":{number}}}"
         )?;
@@ -225,7 +228,7 @@ fn falling(alloc: Global, greatest: u32, step: u32) -> Result<(String, String), 
 #[test]
 fn many_instances_of_a_long_list_find_their_templates(rt: HostRuntime) -> Result<(), Fail> {
     let list = numbered(rt.alloc(), 3_000)?;
-    let (line, want) = falling(rt.alloc(), 3_000, 17)?;
+    let (line, want) = falling(rt.alloc(), 3_000)?;
     let list_tokens = tokens_of(&rt, rt.alloc(), list.as_bytes());
     let tokens = tokens_of(&rt, rt.alloc(), line.as_bytes());
     let geometries = Doc::of(line.as_bytes(), tokens.as_slice()).root();
