@@ -8,10 +8,11 @@
 //! let outcome = run(alloc, &mut reader, &mut tally, limits, &query);
 //! laws::puts_are_tallied();                     // so the tally is that of what is kept
 //! ```
-ghost use Rattle.std.specs.Prelude.{◌≡◌, ◌++◌, ℕ, List, Option, length};
+ghost use Rattle.std.specs.Prelude.{◌≡◌, ◌≢◌, ◌++◌, ℕ, List, Option, length};
 ghost use Rattle.std.specs.Io.KnownBytes.{IsAtEnd};
 ghost use Rattle.cj_stream.specs.CountSink.{no_counts, Counts, CountsRun, CountsPieces};
 ghost use Rattle.cj_stream.specs.Cut.{Copies, PutsPieces};
+ghost use Rattle.cj_stream.specs.Ending.{line_end};
 ghost use Rattle.cj_stream.specs.Headline.{HeadlineOfRun};
 ghost use Rattle.cj_stream.specs.IsGood.{AreGood, EndsAfter};
 ghost use Rattle.cj_stream.specs.IsLines.{IsLines, IsWhole};
@@ -22,6 +23,7 @@ ghost use Rattle.cj_stream.specs.Sink.{HasRisen};
 ghost use Rattle.cj_stream.specs.TallySink.{Tally, no_tally, Tallies, TalliesRun, TalliesPieces};
 ghost use Rattle.cj_stream.specs.Verdict.{Rules, good, kept, kept_first, ending};
 ghost use Rattle.cj_stream.specs.declared.ending.End.{End};
+ghost use Rattle.cj_stream.specs.declared.ending.LineEnd.{LineEnd};
 ghost use Rattle.cj_stream.specs.declared.output.Output.{Output};
 ghost use Rattle.cj_stream.specs.declared.sink.CountSink.{CountSink};
 
@@ -84,4 +86,9 @@ pub fn puts_are_written<W: Write + Drop>()
     ensures pieces { (rules : Rules) (pieces : List (List ℕ)) (n : ℕ) (e : End) (a b : Output W)
         → PutsPieces (WritesItem W.contents) (WritesPart W.contents) rules pieces n e a b
         → Copies rules pieces n e (W.contents (output_writer a)) (W.contents (output_writer b)) }
+{}
+
+/// No end of a reader of lines is want of memory: its end, seen as an end of the stream, is another.
+pub fn lines_are_never_refused_memory()
+    ensures { (e : LineEnd) → line_end e ≢ End.Memory }
 {}

@@ -1,0 +1,308 @@
+//! Rows through the two states, by every cut, and what both tell where one turns into the other.
+use super::calls::{
+    check_bytes, check_ended, check_feed, check_number, check_outcome, held, joined, outcome,
+    refused,
+};
+use super::rows::{FEATURE, HEADER, Wanted, with_last_index};
+use crate::{
+    End, Engine, HeaderEnd, HeaderReader, LineEnd, LineReader, LineSink, Outcome, Progress, Query,
+    WriteSink,
+};
+use cj_budget::Limits;
+use cj_spans::Reason;
+use std::alloc::Global;
+use std::process::Abort;
+use std::test::Fail;
+
+/// The end of a stream that an end of its header's reader is.
+fn of_header(end: HeaderEnd) -> End {
+    match end {
+        HeaderEnd::Complete => End::Complete,
+        HeaderEnd::Refused {
+            line,
+            place,
+            reason,
+        } => refused(line, place, reason),
+        HeaderEnd::WriteFault => End::WriteFault,
+        HeaderEnd::Memory => End::Memory,
+    }
+}
+
+/// The end of a stream that an end of its reader of lines is.
+fn of_lines(end: LineEnd) -> End {
+    match end {
+        LineEnd::Complete => End::Complete,
+        LineEnd::Refused {
+            line,
+            place,
+            reason,
+        } => refused(line, place, reason),
+        LineEnd::WriteFault => End::WriteFault,
+    }
+}
+
+/// Gives a piece to the reader of a header.
+fn feed_header<S: LineSink>(
+    rt: &impl Abort,
+    header: &mut HeaderReader,
+    piece: &[u8],
+    sink: &mut S,
+) -> Result<Progress, HeaderEnd> {
+    assert!(rt; !header.accepted());
+    assert!(rt; header.taken() <= 1_000_000 && piece.len() <= 1_000_000);
+    header.feed(piece, sink)
+}
+
+/// Gives a piece to the reader of lines.
+fn feed_lines<S: LineSink>(
+    rt: &impl Abort,
+    lines: &mut LineReader,
+    piece: &[u8],
+    sink: &mut S,
+) -> Result<(), LineEnd> {
+    assert!(rt; lines.taken() <= 1_000_000 && piece.len() <= 1_000_000);
+    lines.feed(piece, sink)
+}
+
+/// Ends a stream whose header was not accepted.
+fn finish_header<S: LineSink>(
+    rt: &impl Abort,
+    header: &mut HeaderReader,
+    sink: &mut S,
+) -> HeaderEnd {
+    assert!(rt; !header.accepted());
+    header.finish(sink)
+}
+
+/// The reader of the lines behind an accepted header, which tells what that told.
+fn turned<'q>(rt: &impl Abort, header: HeaderReader<'q>) -> LineReader<'q> {
+    assert!(rt; header.accepted());
+    header.into_lines()
+}
+
+/// Gives pieces to the reader of a header until it accepts: how many it has used before, and the bytes used of the next.
+fn until_accepted<S: LineSink>(
+    rt: &impl Abort,
+    header: &mut HeaderReader,
+    pieces: &[&[u8]],
+    sink: &mut S,
+) -> Result<Option<(usize, usize)>, HeaderEnd> {
+    for (at, piece) in pieces.iter().enumerate() {
+        let progress = feed_header(rt, header, piece, sink)?;
+        if progress.accepted {
+            return Ok(Some((at, progress.used)));
+        }
+    }
+    Ok(None)
+}
+
+/// Gives pieces to the reader of lines, and the end.
+fn to_the_end<S: LineSink>(
+    rt: &impl Abort,
+    lines: &mut LineReader,
+    pieces: &[&[u8]],
+    sink: &mut S,
+) -> LineEnd {
+    for piece in pieces {
+        if let Err(end) = feed_lines(rt, lines, piece, sink) {
+            return end;
+        }
+    }
+    lines.finish(sink)
+}
+
+/// Gives what is left of the pieces behind a header to the reader of lines, and the end.
+fn behind_header<S: LineSink>(
+    rt: &impl Abort,
+    lines: &mut LineReader,
+    pieces: &[&[u8]],
+    at: usize,
+    used: usize,
+    sink: &mut S,
+) -> LineEnd {
+    assert!(rt; at < pieces.len());
+    assert!(rt; used <= pieces[at].len());
+    let rest = &pieces[at][used..];
+    match feed_lines(rt, lines, rest, sink) {
+        Ok(()) => to_the_end(rt, lines, &pieces[at + 1..], sink),
+        Err(end) => end,
+    }
+}
+
+/// Gives pieces to both states, one after the other, and the end.
+fn by_states<S: LineSink>(
+    rt: &impl Abort,
+    header: HeaderReader,
+    pieces: &[&[u8]],
+    sink: &mut S,
+) -> Outcome {
+    let mut header = header;
+    let end = match until_accepted(rt, &mut header, pieces, sink) {
+        Ok(None) => finish_header(rt, &mut header, sink),
+        Err(end) => end,
+        Ok(Some((at, used))) => {
+            let mut lines = turned(rt, header);
+            let end = behind_header(rt, &mut lines, pieces, at, used, sink);
+            return outcome(lines.lines(), lines.kept(), lines.peaks(), of_lines(end));
+        }
+    };
+    outcome(
+        header.lines(),
+        header.kept(),
+        header.peaks(),
+        of_header(end),
+    )
+}
+
+/// Copies pieces through both states.
+fn check_pieces(
+    rt: &impl Abort,
+    alloc: Global,
+    pieces: &[&[u8]],
+    limits: Limits,
+    wanted: &Wanted,
+    at: u64,
+) -> Result<(), Fail> {
+    let query = Query::all(alloc);
+    let mut sink = WriteSink::new(Vec::new(alloc));
+    let header = HeaderReader::open(alloc, limits, &query)?;
+    let told = by_states(rt, header, pieces, &mut sink);
+    check_outcome(rt, told, wanted.outcome, wanted.name, at);
+    check_bytes(rt, &sink.into_inner(), wanted.written, wanted.name, at);
+    Ok(())
+}
+
+/// Copies the stream cut in two at each place, and by single bytes.
+fn check_states(
+    rt: &impl Abort,
+    alloc: Global,
+    text: &[u8],
+    limits: Limits,
+    wanted: &Wanted,
+) -> Result<(), Fail> {
+    for at in 0..text.len() {
+        let pieces = [&text[..at], &text[at..]];
+        check_pieces(rt, alloc, &pieces, limits, wanted, at as u64)?;
+    }
+    let mut bytes = Vec::new(alloc);
+    for byte in text.chunks(1) {
+        bytes.push(byte)?;
+    }
+    check_pieces(rt, alloc, &bytes, limits, wanted, 1_000_000)
+}
+
+#[test]
+fn a_header_and_a_feature_by_states(rt: HostRuntime) -> Result<(), Fail> {
+    let text = joined(rt.alloc(), &[HEADER, b"\n", FEATURE, b"\n"])?;
+    let wanted = Wanted {
+        name: "header and feature",
+        written: &text,
+        outcome: outcome(2, 1, held(350, 65, 8), End::Complete),
+    };
+    check_states(&rt, rt.alloc(), &text, Limits::usual(), &wanted)
+}
+
+#[test]
+fn a_refused_line_by_states(rt: HostRuntime) -> Result<(), Fail> {
+    let line = with_last_index(rt.alloc(), b"4")?;
+    let written = joined(rt.alloc(), &[HEADER, b"\n", FEATURE, b"\n"])?;
+    let text = joined(rt.alloc(), &[&written, &line, b"\n", FEATURE, b"\n"])?;
+    let wanted = Wanted {
+        name: "after a refused line",
+        written: &written,
+        outcome: outcome(2, 1, held(350, 65, 8), refused(3, 144, Reason::VertexIndex)),
+    };
+    check_states(&rt, rt.alloc(), &text, Limits::usual(), &wanted)
+}
+
+#[test]
+fn a_header_without_lf_by_states(rt: HostRuntime) -> Result<(), Fail> {
+    let wanted = Wanted {
+        name: "a header alone",
+        written: HEADER,
+        outcome: outcome(1, 0, held(140, 21, 3), End::Complete),
+    };
+    check_states(&rt, rt.alloc(), HEADER, Limits::usual(), &wanted)
+}
+
+#[test]
+fn a_first_line_that_is_no_header_by_states(rt: HostRuntime) -> Result<(), Fail> {
+    let text = joined(rt.alloc(), &[b"3\n", FEATURE])?;
+    let wanted = Wanted {
+        name: "no header",
+        written: b"",
+        outcome: outcome(0, 0, held(1, 1, 0), refused(1, 0, Reason::WrongKind)),
+    };
+    check_states(&rt, rt.alloc(), &text, Limits::usual(), &wanted)
+}
+
+#[test]
+fn a_line_too_long_by_states(rt: HostRuntime) -> Result<(), Fail> {
+    let written = joined(rt.alloc(), &[HEADER, b"\n"])?;
+    let text = joined(rt.alloc(), &[&written, FEATURE, b" \n"])?;
+    let query = Query::all(rt.alloc());
+    let mut sink = WriteSink::new(Vec::new(rt.alloc()));
+    let header = HeaderReader::open(rt.alloc(), Limits::new(210, 64)?, &query)?;
+    let told = by_states(&rt, header, &[&text], &mut sink);
+    check_ended(
+        &rt,
+        told.ended,
+        refused(2, 210, Reason::LineTooLong),
+        "too long",
+        0,
+    );
+    check_bytes(&rt, &sink.into_inner(), &written, "too long", 0);
+    Ok(())
+}
+
+/// Compares what a piece has come to.
+fn check_progress(rt: &impl Abort, got: Result<Progress, HeaderEnd>, used: usize, accepted: bool) {
+    assert_eq!(rt; got, Ok(Progress { used, accepted }));
+}
+
+#[test]
+fn a_piece_that_begins_with_lf(rt: HostRuntime) -> Result<(), Fail> {
+    let query = Query::all(rt.alloc());
+    let mut sink = WriteSink::new(Vec::new(rt.alloc()));
+    let mut header = HeaderReader::open(rt.alloc(), Limits::usual(), &query)?;
+    check_progress(
+        &rt,
+        feed_header(&rt, &mut header, HEADER, &mut sink),
+        140,
+        false,
+    );
+    check_progress(
+        &rt,
+        feed_header(&rt, &mut header, b"\n{}\n", &mut sink),
+        1,
+        true,
+    );
+    check_number(&rt, header.taken(), 141, "taken", 1);
+    let lines = turned(&rt, header);
+    check_number(&rt, lines.taken(), 141, "taken", 2);
+    check_number(&rt, lines.peaks().bytes, 140, "peak of bytes", 2);
+    Ok(())
+}
+
+#[test]
+fn a_piece_whose_rest_is_refused(rt: HostRuntime) -> Result<(), Fail> {
+    let query = Query::all(rt.alloc());
+    let text = joined(rt.alloc(), &[HEADER, b"\n{}\n"])?;
+    let mut sink = WriteSink::new(Vec::new(rt.alloc()));
+    let mut header = HeaderReader::open(rt.alloc(), Limits::usual(), &query)?;
+    check_progress(
+        &rt,
+        feed_header(&rt, &mut header, &text, &mut sink),
+        141,
+        true,
+    );
+    let mut lines = turned(&rt, header);
+    let end = to_the_end(&rt, &mut lines, &[b"{}\n"], &mut sink);
+    let wanted = refused(2, 0, Reason::MissingMember);
+    check_ended(&rt, of_lines(end), wanted, "the rest", 0);
+    check_number(&rt, lines.taken(), 141, "taken by lines", 0);
+    let mut engine = Engine::open(rt.alloc(), Limits::usual(), &query)?;
+    check_feed(&rt, &mut engine, &text, &mut sink, Err(wanted));
+    check_number(&rt, engine.taken(), 0, "taken by the engine", 0);
+    Ok(())
+}
