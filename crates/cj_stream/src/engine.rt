@@ -46,8 +46,9 @@ impl<'q> Model for Engine<'q> {
 }
 
 impl<'q> Engine<'q> {
-    /// An engine that has read nothing. It takes the memory for the first line: its bytes, its tokens, and the open containers
-    /// where more than 64 may be. That for later lines is taken once, when the first line is valid and LF has ended it.
+    /// An engine that has read nothing. It takes the memory for the first line: its bytes, its tokens, and the open
+    /// containers where more than 64 may be. That for later lines is taken once, when the first line is valid and LF
+    /// has ended it.
     pub fn open(alloc: Global, limits: Limits, query: &'q Query) -> Result<Engine<'q>, NoMemory>
         ensures empty { IfOk result
             (λ e. StandsFor e [] × (rules_of e ≡ rules_for limits query.now) × (e.ended ≡ None) × (e.taken ≡ 0)) }

@@ -8,10 +8,10 @@
 //! that were dealt with, so the header's is 1. LF is no content: it is told to the sink apart. A line that is too long is refused
 //! when the byte past the limit comes.
 //!
-//! Memory is asked for twice: for the lists of the first line by `open`, and for those of later lines by `make_room`, once the
-//! first line is valid and LF has ended it, before the sink gets it. So the lists that the next line goes into have their room
-//! (`IsReady`), and nothing else here asks for any. A refusal by `make_room`, or a fault of the sink after it, leaves all as it
-//! was but for that room (`IsLeft`, `IsStill`).
+//! Memory is asked for twice: for the lists of the first line by `open`, and for those of later lines by `make_room`,
+//! once the first line is valid and LF has ended it, before the sink gets it. So the lists that the next line goes
+//! into have their room (`IsReady`), and nothing else here asks for any. A refusal by `make_room`, or a fault of the
+//! sink after it, leaves all as it was but for that room (`IsLeft`, `IsStill`).
 ghost use Rattle.std.specs.Prelude.{◌≡◌, ◌+◌, ◌^◌, ◌<◌, ◌≤◌, ℕ, List, [], ◌∷◌, ◌++◌, length, take, if◌then◌else◌, OnOk, OnErr, IfOk, IfErr, IsErrOf, IsTrue, Some};
 ghost use Rattle.cj_stream.specs.Bound.{contents};
 ghost use Rattle.cj_stream.specs.Ending.{IsFirstEnd, IsLaterEnd};
@@ -58,8 +58,8 @@ impl<'q> Framer<'q> {
     ghost use Rattle.cj_stream.specs.Reading.{reading, begun_of, begun_verdict, next_verdict, next_item, IsSound, Stays, IsLeft, Stores, Passes, Deals, Settles, Reads, Advances, Stops, Finishes};
     ghost use Rattle.cj_stream.specs.Scanning.{scanning, HasRoom, IsReady, IsStill, Scanned, HoldsFew, Rises, JudgesLine, Forgets};
 
-    /// A framer that has read nothing, with room for the first line. It asks for memory for its bytes and its tokens, and for
-    /// open containers where the depth limit is above 64.
+    /// A framer that has read nothing, with room for the first line. It asks for memory for its bytes and its tokens,
+    /// and for open containers where the depth limit is above 64.
     pub fn open(alloc: Global, limits: Limits, query: &'q Query) -> Result<Framer<'q>, NoMemory>
         ensures sound { IfOk result (λ f. IsSound (reading f)) }
         ensures rules { IfOk result (λ f. (reading f).rules ≡ rules_for limits query.now) }
@@ -111,7 +111,8 @@ impl<'q> Framer<'q> {
         requires ready { IsReady (reading self.old) (scanning self.old) }
         ensures ok { OnOk result (Stores (reading self.old) part.now (reading self.new)) }
         ensures err { OnErr result (self.new ≡ self.old) }
-        ensures cause { IfErr result (λ e. (e ≡ End.Refused (self.old.lines + 1) self.old.limits.line Reason.LineTooLong)
+        ensures cause { IfErr result (λ e.
+            (e ≡ End.Refused (self.old.lines + 1) self.old.limits.line Reason.LineTooLong)
             × (self.old.limits.line < length (begun_of (reading self.old)) + length part.now)) }
         ensures lists { scanning self.new ≡ scanning self.old }
         ensures parts { self.new.parts ≡ self.old.parts }
@@ -202,11 +203,13 @@ impl<'q> Framer<'q> {
     fn check_first(&self) -> Result<HeaderParts, End>
         requires sound { IsSound (reading self.now) }
         requires first { self.now.lines ≡ 0 }
-        requires shows { ShowsTree (begun_of (reading self.now)) self.now.limits.depth (scanning self.now).header.elements }
+        requires shows { ShowsTree (begun_of (reading self.now)) self.now.limits.depth
+            (scanning self.now).header.elements }
         ensures ok { IfOk result (λ parts. IsHeaderOf (tree_of self.now.limits.depth (begun_of (reading self.now)))
             (reading self.now).rules parts) }
         ensures valid { OnOk result (begun_verdict (reading self.now) ≡ Valid) }
-        ensures refused { IfErr result (λ e. refusal_of (self.now.lines + 1) (begun_verdict (reading self.now)) ≡ Some e) }
+        ensures refused { IfErr result (λ e.
+            refusal_of (self.now.lines + 1) (begun_verdict (reading self.now)) ≡ Some e) }
     {
         let doc = Doc::of(self.header.as_slice(), self.header_tokens.as_slice());
         match check_header(doc, self.query.wants_box()) {
@@ -249,8 +252,8 @@ impl<'q> Framer<'q> {
         Ok(())
     }
 
-    /// Judges the tree of the first line, and puts it to the sink if it is a valid header. Where LF ended it, room for later
-    /// lines is made first.
+    /// Judges the tree of the first line, and puts it to the sink if it is a valid header. Where LF ended it, room
+    /// for later lines is made first.
     fn put_header<S: LineSink>(&mut self, lf: bool, sink: &mut S) -> Result<(), End>
         requires sound { IsSound (reading self.old) }
         requires first { self.old.lines ≡ 0 }
@@ -434,8 +437,8 @@ impl<'q> Framer<'q> {
         Ok(())
     }
 
-    /// Takes a piece of the stream up to and with the first LF, and deals with the line that it ends; or all of it, if there
-    /// is none.
+    /// Takes a piece of the stream up to and with the first LF, and deals with the line that it ends; or all of it,
+    /// if there is none.
     pub fn take_front<S: LineSink>(&mut self, piece: &[u8], sink: &mut S) -> Result<Progress, End>
         requires sound { IsSound (reading self.old) }
         requires room { self.old.lines < 2 ^ 62 }
@@ -443,7 +446,8 @@ impl<'q> Framer<'q> {
         requires ready { IsReady (reading self.old) (scanning self.old) }
         requires keeps { KeepsFirst (reading self.old) (scanning self.old) self.old.parts }
         ensures front { IfOk result (λ t. IsFront piece.now t) }
-        ensures lines { IfOk result (λ t. self.new.lines ≡ (if t.accepted then self.old.lines + 1 else self.old.lines)) }
+        ensures lines { IfOk result (λ t.
+            self.new.lines ≡ (if t.accepted then self.old.lines + 1 else self.old.lines)) }
         ensures few { self.new.lines ≤ self.old.lines + 1 }
         ensures stays { Stays (reading self.old) (reading self.new) }
         ensures keeps { KeepsFirst (reading self.new) (scanning self.new) self.new.parts }

@@ -1,9 +1,9 @@
 //! The reader of a header: the first of two states of a stream.
 //!
-//! It takes all the memory that the stream will need: for the first line when it opens, and for later lines when the header is
-//! valid and its LF has come, before the sink gets it. Then it is accepted, and turns into a [`LineReader`], to which memory
-//! is never refused. What both stand for is told by one record (`EngineState`), and their ends are seen as ends of a stream, so
-//! all that an engine promises is said of them in the same words.
+//! It takes all the memory that the stream will need: for the first line when it opens, and for later lines when the
+//! header is valid and its LF has come, before the sink gets it. Then it is accepted, and turns into a
+//! [`LineReader`], to which memory is never refused. What both stand for is told by one record (`EngineState`), and
+//! their ends are seen as ends of a stream, so all that an engine promises is said of them in the same words.
 ghost use Rattle.std.specs.Prelude.{◌≡◌, ◌≢◌, ◌+◌, ◌^◌, ◌≤◌, ◌↔◌, ℕ, List, [], ◌++◌, length, take, OnOk, OnErr, IfOk, IfErr, IsErrOf, IsTrue, Some, None, Err};
 ghost use Rattle.cj_stream.specs.Bound.{IsBelow, exact_peaks};
 ghost use Rattle.cj_stream.specs.Ending.{header_end, IsAccepted};
@@ -60,8 +60,8 @@ impl<'q> Model for HeaderReader<'q> {
 }
 
 impl<'q> HeaderReader<'q> {
-    /// A reader that has read nothing. It takes the memory for the first line: its bytes, its tokens, and the open containers
-    /// where more than 64 may be.
+    /// A reader that has read nothing. It takes the memory for the first line: its bytes, its tokens, and the open
+    /// containers where more than 64 may be.
     pub fn open(
         alloc: Global,
         limits: Limits,

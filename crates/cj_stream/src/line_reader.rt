@@ -1,7 +1,8 @@
 //! The reader of the lines behind a header: the second of two states of a stream.
 //!
-//! [`crate::HeaderReader::into_lines`] makes it of an accepted header. The lists that a line goes into have their room reserved,
-//! which is a part of what always holds of it, so none of its calls asks for memory, and its end has no variant for that.
+//! [`crate::HeaderReader::into_lines`] makes it of an accepted header. The lists that a line goes into have their
+//! room reserved, which is a part of what always holds of it, so none of its calls asks for memory, and its end has
+//! no variant for that.
 ghost use Rattle.std.specs.Prelude.{◌≡◌, ◌+◌, ◌^◌, ◌≤◌, ◌<◌, ℕ, List, ◌++◌, length, OnOk, OnErr, IfErr, IsErrOf, IsTrue, Some, None, Err};
 ghost use Rattle.cj_stream.specs.Bound.{IsBelow, exact_peaks};
 ghost use Rattle.cj_stream.specs.Ending.{line_end};
@@ -156,8 +157,8 @@ impl<'q> LineReader<'q> {
         self.taken
     }
 
-    /// What is held now: of bytes and tokens those of the header and of the line that is read, and the open containers of a
-    /// line that was refused.
+    /// What is held now: of bytes and tokens those of the header and of the line that is read, and the open
+    /// containers of a line that was refused.
     pub fn held(&self) -> Peaks
         ensures { result ≡ held_by self.now }
     {

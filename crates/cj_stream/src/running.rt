@@ -104,7 +104,8 @@ fn drive<R: Read, S: LineSink>(
 
 /// Puts the kept lines of what the reader gives to the sink, until its end or a fault.
 ///
-/// It makes at most 2^40 reads, as [`run_within`] says. Memory is refused before the sink has taken anything, or not at all.
+/// It makes at most 2^40 reads, as [`run_within`] says. Memory is refused before the sink has taken anything, or not
+/// at all.
 pub fn run<R: Read, S: LineSink>(
     alloc: Global,
     reader: &mut R,
@@ -124,10 +125,11 @@ pub fn run<R: Read, S: LineSink>(
 
 /// Does what [`run`] does, with at most `reads` reads, of at most 8,192 bytes each.
 ///
-/// The read that finds the end of the input counts, and so does one that fails. An end or a fault that comes with a read,
-/// the last one too, is the end. Where none came, the end is [`End::ReadLimit`]: the whole lines were dealt with, and the
-/// line that had begun was not judged. So with no read that is the end of each input, also of an empty one, unless memory for
-/// the first line is refused, and the reader and the sink stay as they are. One read more than the input has bytes is always enough, even if each gives one byte.
+/// The read that finds the end of the input counts, and so does one that fails. An end or a fault that comes with a
+/// read, the last one too, is the end. Where none came, the end is [`End::ReadLimit`]: the whole lines were dealt
+/// with, and the line that had begun was not judged. So with no read that is the end of each input, also of an empty
+/// one, unless memory for the first line is refused, and the reader and the sink stay as they are. One read more than
+/// the input has bytes is always enough, even if each gives one byte.
 pub fn run_within<R: Read, S: LineSink>(
     alloc: Global,
     reader: &mut R,
