@@ -6,15 +6,17 @@
 //!
 //! The limit is asked before memory is, so `Full` comes also where memory would have been refused, and
 //! only where the list is full. A refused growth must leave list, peak and room as they were: so room is
-//! asked for first, and the step after it cannot fail. Whether there is room for the limit is a part of
+//! asked for first, and the step after it cannot fail. Its answer goes through `Refusals::note`, which counts it:
+//! the count is what contracts see of want of memory (`refused`). Whether there is room for the limit is a part of
 //! what contracts see (`reserved`), so that a caller can know that a call succeeds; each call has to keep
 //! it. `Vec` may take more room than the limit: the bound speaks of lengths alone.
 //!
 //! `reserve_all` makes that room by one request for exactly what is missing, as a plain reserve may take
 //! twice of it. From then on nothing asks for memory, so the reserved forms have no answer to refuse with.
 ghost use Rattle.std.specs.Prelude.{◌≡◌, ◌+◌, ◌<◌, ◌≤◌, ◌↔◌, ◌++◌, ◌∷◌, [], length, IsTrue, IsOk, OnOk, OnErr, IsErrOf, slice_set};
-ghost use Rattle.cj_budget.specs.Bounded.{IsNew, IsWithin, Becomes, Adds, Reserves};
+ghost use Rattle.cj_budget.specs.Bounded.{IsNew, IsWithin, IsRefused, Becomes, Adds, Reserves};
 
+use crate::growth::{NoMemory, Refusals};
 use std::alloc::Global;
 use std::marker::Model;
 use thiserror::Error;
@@ -39,11 +41,6 @@ pub enum ExtendFault {
     Memory,
 }
 
-/// No memory was granted.
-#[derive(Clone, Copy, Debug, PartialEq, Eq, Error)]
-#[error("out of memory")]
-pub struct NoMemory;
-
 /// A list that never has more elements than its limit, and that keeps its peak, the greatest
 /// number of elements that it has had.
 #[derive(Drop)]
@@ -53,6 +50,7 @@ pub struct Bounded<T: Copy> {
     /// The greatest number of elements before the list was last emptied: as elements are only added
     /// in between, the peak is the greater of this and the length, and need not be kept with each.
     earlier: usize,
+    refusals: Refusals,
 }
 
 impl<T: Copy> Model for Bounded<T> {
@@ -68,6 +66,7 @@ impl<T: Copy> Model for Bounded<T> {
       limit = b.limit;
       peak = max b.earlier (vec_len b.items);
       reserved = nat_le b.limit (vec_capacity b.items);
+      refused = b.refusals;
     } };
 
     ghost invariant = { λ b. (vec_len b.items ≤ b.limit) × (b.earlier ≤ b.limit) };
@@ -82,11 +81,12 @@ impl<T: Copy> Bounded<T> {
             items: Vec::new(alloc),
             limit,
             earlier: 0,
+            refusals: Refusals::none(),
         }
     }
 
-    /// Adds an element at the end. A refusal changes nothing. Where there is room for the limit it
-    /// takes no memory.
+    /// Adds an element at the end. A refusal changes nothing, but that want of memory is counted. Where there is
+    /// room for the limit it takes no memory.
     pub fn push(&mut self, x: T) -> Result<(), Refused<T>>
         ensures { Adds self.old x (self.old.elements ++ x ∷ []) result self.new }
     {
@@ -100,28 +100,27 @@ impl<T: Copy> Bounded<T> {
     }
 
     /// Adds an element at the end of a list that is not full, for callers who know that it is not: it
-    /// costs a test of the room and a store. A refusal changes nothing. Where there is room for the limit
-    /// it takes no memory.
+    /// costs a test of the room and a store. A refusal is counted, and changes nothing else. Where there is room
+    /// for the limit it takes no memory.
     #[inline(always)]
     pub fn put(&mut self, x: T) -> Result<(), NoMemory>
         requires { length self.old.elements < self.old.limit }
         ensures ok { OnOk result (Becomes self.old (self.old.elements ++ x ∷ []) self.new) }
-        ensures err { OnErr result (self.new ≡ self.old) }
+        ensures err { OnErr result (IsRefused self.old self.new) }
         ensures room { IsTrue self.old.reserved → IsOk result }
     {
-        if self.items.try_reserve(1).is_err() {
-            return Err(NoMemory);
-        }
+        self.refusals.note(self.items.try_reserve(1))?;
         let _ = self.items.push(x);
         Ok(())
     }
 
-    /// Adds all elements of a slice at the end, or none. A refusal changes nothing. To add nothing
-    /// takes no memory, nor does it where there is room for the limit.
+    /// Adds all elements of a slice at the end, or none. A refusal changes nothing, but that want of memory is
+    /// counted. To add nothing takes no memory, nor does it where there is room for the limit.
     pub fn extend_from_slice(&mut self, xs: &[T]) -> Result<(), ExtendFault>
         ensures ok { OnOk result (Becomes self.old (self.old.elements ++ xs.now) self.new) }
         ensures full { IsErrOf result ExtendFault.Full ↔ (self.old.limit < length self.old.elements + length xs.now) }
-        ensures err { OnErr result (self.new ≡ self.old) }
+        ensures kept { IsErrOf result ExtendFault.Full → self.new ≡ self.old }
+        ensures memory { IsErrOf result ExtendFault.Memory → IsRefused self.old self.new }
         ensures nothing { length xs.now ≡ 0 → IsOk result }
         ensures room { IsTrue self.old.reserved
             → length self.old.elements + length xs.now ≤ self.old.limit → IsOk result }
@@ -129,23 +128,22 @@ impl<T: Copy> Bounded<T> {
         if self.limit - self.items.len() < xs.len() {
             return Err(ExtendFault::Full);
         }
-        if self.items.try_reserve(xs.len()).is_err() {
-            return Err(ExtendFault::Memory);
+        match self.refusals.note(self.items.try_reserve(xs.len())) {
+            Ok(()) => {
+                let _ = self.items.extend_from_slice(xs);
+                Ok(())
+            }
+            Err(NoMemory) => Err(ExtendFault::Memory),
         }
-        let _ = self.items.extend_from_slice(xs);
-        Ok(())
     }
 
     /// Makes room for as many elements as the limit allows. It asks for memory once, and not at all where
-    /// that room is there. A refusal changes nothing.
+    /// that room is there. A refusal is counted, and changes nothing else.
     pub fn reserve_all(&mut self) -> Result<(), NoMemory>
         ensures { Reserves self.old result self.new }
     {
         let missing = self.limit - self.items.len();
-        if self.items.try_reserve_exact(missing).is_err() {
-            return Err(NoMemory);
-        }
-        Ok(())
+        self.refusals.note(self.items.try_reserve_exact(missing))
     }
 
     /// Whether there is room for as many elements as the limit allows.

@@ -5,6 +5,9 @@
 //! remembers its greatest length, its peak. A [`Stack`] does so for the open containers. The layers
 //! above hold nothing that grows in any other list, so what they hold is bounded by the limits.
 //!
+//! Contracts see no call of the allocator. They see how often a growth was refused: each list counts that
+//! by a [`Refusals`], and tells want of memory only where its count has risen.
+//!
 //! Either can make room for its limit at once, by `reserve_all`. From then on it asks for no memory, and
 //! `push_reserved` and `extend_reserved` cannot fail.
 //!
@@ -17,11 +20,13 @@
 #![tactic(auto)]
 
 mod bounded;
+mod growth;
 mod limits;
 mod stack;
 #[cfg(test)]
 mod tests;
 
-pub use bounded::{Bounded, ExtendFault, NoMemory, Refused};
+pub use bounded::{Bounded, ExtendFault, Refused};
+pub use growth::{NoMemory, Refusals};
 pub use limits::{LimitFault, Limits, Peaks, USUAL_DEPTH, USUAL_LINE};
 pub use stack::Stack;

@@ -7,7 +7,8 @@
 ghost use Rattle.std.specs.Prelude.{◌≡◌, ◌<◌, ◌≤◌, ◌↔◌, ◌∷◌, [], length, drop, IsTrue, IsOk, slice_get};
 ghost use Rattle.cj_budget.specs.Bounded.{IsNew, IsWithin, Becomes, Adds, Reserves};
 
-use crate::bounded::{NoMemory, Refused};
+use crate::bounded::Refused;
+use crate::growth::{NoMemory, Refusals};
 use smallvec::SmallVec;
 use std::alloc::Global;
 use std::marker::Model;
@@ -23,6 +24,7 @@ pub struct Stack {
     items: SmallVec<u32, INLINE>,
     limit: usize,
     peak: usize,
+    refusals: Refusals,
 }
 
 impl Model for Stack {
@@ -40,6 +42,7 @@ impl Model for Stack {
       limit = s.limit;
       peak = s.peak;
       reserved = nat_le s.limit s.items.capacity;
+      refused = s.refusals;
     } };
 
     ghost invariant = { λ s. (small_vec_len s.items ≤ s.peak) × (s.peak ≤ s.limit) × (64 ≤ s.items.capacity) };
@@ -54,11 +57,12 @@ impl Stack {
             items: SmallVec::new(alloc),
             limit,
             peak: 0,
+            refusals: Refusals::none(),
         }
     }
 
-    /// Puts an item on top. A refusal changes nothing. While fewer than 64 items are there it takes
-    /// no memory, nor where there is room for the limit.
+    /// Puts an item on top. A refusal changes nothing, but that want of memory is counted. While fewer than 64 items
+    /// are there it takes no memory, nor where there is room for the limit.
     pub fn push(&mut self, item: u32) -> Result<(), Refused<u32>>
         ensures adds { Adds self.old item (item ∷ self.old.elements) result self.new }
         ensures inline { length self.old.elements < 64 → length self.old.elements < self.old.limit → IsOk result }
@@ -67,24 +71,23 @@ impl Stack {
         if length == self.limit {
             return Err(Refused::Full(item));
         }
-        if self.items.push(item).is_err() {
-            return Err(Refused::Memory(item));
+        match self.refusals.note(self.items.push(item)) {
+            Ok(()) => {
+                self.peak = self.peak.max(length + 1);
+                Ok(())
+            }
+            Err(NoMemory) => Err(Refused::Memory(item)),
         }
-        self.peak = self.peak.max(length + 1);
-        Ok(())
     }
 
     /// Makes room for as many items as the limit allows. It asks for memory once, and not at all where that
-    /// room is there, as it always is under a limit of up to 64. A refusal changes nothing.
+    /// room is there, as it always is under a limit of up to 64. A refusal is counted, and changes nothing else.
     pub fn reserve_all(&mut self) -> Result<(), NoMemory>
         ensures reserves { Reserves self.old result self.new }
         ensures inline { self.old.limit ≤ 64 → IsOk result }
     {
         let missing = self.limit - self.items.len();
-        if self.items.try_reserve_exact(missing).is_err() {
-            return Err(NoMemory);
-        }
-        Ok(())
+        self.refusals.note(self.items.try_reserve_exact(missing))
     }
 
     /// Whether there is room for as many items as the limit allows.

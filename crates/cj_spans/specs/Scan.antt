@@ -1,6 +1,6 @@
 -- What a scan leaves in its lists.
 use Rattle.std.specs.Prelude.{◌≡◌, ℕ, ◌+◌, ◌*◌, ◌≤◌, List, [], ◌∷◌, length, max, slice_get, Some, IsTrue}
-use Rattle.cj_budget.specs.Bounded.{BoundedList, IsWithin}
+use Rattle.cj_budget.specs.Bounded.{BoundedList, IsWithin, Becomes}
 use Rattle.cj_spans.specs.declared.token.Token.{Token}
 use Rattle.cj_spans.specs.Tree.{Tree, size, nest}
 use Rattle.cj_spans.specs.Json.{Json}
@@ -37,3 +37,7 @@ pub record KeepsLaw (line : List ℕ) (old_tokens new_tokens : BoundedList Token
   pub stack_peak : old_stack.peak ≤ new_stack.peak
   pub stack_room : IsTrue old_stack.reserved → IsTrue new_stack.reserved
   pub stack_within : IsWithin new_stack
+
+-- the list was emptied, and a growth of it may have been refused
+abbrev pub IsEmptied : {T : Type 0} → BoundedList T → BoundedList T → Type 0
+IsEmptied old new = Becomes old [] (record new { refused = old.refused })

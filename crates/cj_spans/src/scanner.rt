@@ -16,13 +16,14 @@
 //! breaks `2 * tokens ≤ bytes + open + 1`, by which the lists are long enough.
 ghost use Rattle.std.specs.Prelude.{◌≡◌, ◌+◌, ◌*◌, ◌/◌, ◌^◌, ◌≤◌, ◌<◌, ◌↔◌, ◌⊎◌, [], length, List, ℕ, suc, OnOk, OnErr, IfOk, IsOk, IsErrOf, IsTrue, IsUtf8};
 ghost use Rattle.std.specs.Str.{IsValidUpTo};
-ghost use Rattle.cj_budget.specs.Bounded.{BoundedList, IsWithin, Becomes};
+ghost use Rattle.cj_budget.specs.Bounded.{BoundedList, IsWithin};
+ghost use Rattle.cj_budget.specs.Counts.{HasRisen};
 ghost use Rattle.cj_spans.specs.declared.step.Mode.TheVariants.{After};
 ghost use Rattle.cj_spans.specs.Tree.{Tree, nest};
 ghost use Rattle.cj_spans.specs.Json.{Json};
 ghost use Rattle.cj_spans.specs.Front.{SyntaxAt, DeepAt, NowhereDeep};
 ghost use Rattle.cj_spans.specs.Begins.{IsFirstFault, IsFirstTooDeep};
-ghost use Rattle.cj_spans.specs.Scan.{IsScanOf, AreSized, KeepsLaw};
+ghost use Rattle.cj_spans.specs.Scan.{IsScanOf, AreSized, KeepsLaw, IsEmptied};
 ghost use Rattle.cj_spans.specs.Judgement.{Judgement, IsAnswerOf, IsReservedAnswerOf};
 ghost use Rattle.cj_spans.specs.Json.{byte as byte_of};
 ghost use Rattle.cj_spans.specs.declared.token.Token.{Token as TokenOf};
@@ -267,8 +268,10 @@ pub fn scan_reserved(
 
 /// Empties both lists, and makes room in each for as many elements as its limit allows.
 fn make_room(tokens: &mut Bounded<Token>, stack: &mut Stack) -> Result<(), NoMemory>
-    ensures emptied { Becomes tokens.old [] tokens.new × Becomes stack.old [] stack.new }
+    ensures emptied { IsEmptied tokens.old tokens.new × IsEmptied stack.old stack.new }
     ensures ok { OnOk result (IsTrue tokens.new.reserved × IsTrue stack.new.reserved) }
+    ensures cause { OnErr result (HasRisen tokens.old.refused tokens.new.refused
+        ⊎ HasRisen stack.old.refused stack.new.refused) }
     ensures granted { IsTrue tokens.old.reserved → IsTrue stack.old.reserved → IsOk result }
 {
     tokens.clear();
@@ -285,7 +288,7 @@ fn make_room(tokens: &mut Bounded<Token>, stack: &mut Stack) -> Result<(), NoMem
 /// more containers than the limit allows is refused at the place of the first one too many: what
 /// comes after is not read. Else a line that is no JSON text is refused at the first place that no
 /// JSON text can have, or at its end. `Memory` comes before all of these, where the room was not
-/// granted: the line is then not looked at, and both lists are empty.
+/// granted: the line is then not looked at, both lists are empty, and one of them has counted a refusal.
 pub fn scan(line: &[u8], tokens: &mut Bounded<Token>, stack: &mut Stack) -> Result<(), ScanFault>
     requires short { length line.now ≤ 1073741824 }
     requires room { (length line.now + stack.old.limit + 1) / 2 ≤ tokens.old.limit }
@@ -305,9 +308,11 @@ pub fn scan(line: &[u8], tokens: &mut Bounded<Token>, stack: &mut Stack) -> Resu
         → SyntaxAt line.now i × NowhereDeep line.now stack.old.limit }
 
     // Memory is asked for first: where it is refused both lists are empty, and else both have their room. It is
-    // not refused where that room was there.
+    // not refused where that room was there, and the growth of a list that was refused is its cause.
     ensures memory { IsTrue tokens.old.reserved → IsTrue stack.old.reserved
         → IsErrOf result ScanFault.Memory → ⊥ }
+    ensures cause { IsErrOf result ScanFault.Memory
+        → HasRisen tokens.old.refused tokens.new.refused ⊎ HasRisen stack.old.refused stack.new.refused }
     ensures emptied { IsErrOf result ScanFault.Memory
         → (tokens.new.elements ≡ []) × (stack.new.elements ≡ []) }
     ensures reserved { (IsErrOf result ScanFault.Memory → ⊥)
