@@ -89,29 +89,33 @@ Reads-stored f g p part h n s = record {
     line_within (inl z) = rw (s.first z).1 h.line_within
     line_within (inr z) = (s.later z).0.within
 
--- ---- the same but for the room for later lines
+-- ---- the same but for the room for later lines and its refusals
 
 pub left-same : (f g : Reading) → g ≡ f → IsLeft f g
-left-same f g e = record { room = f.line.reserved; kept = λ x. x; same = e }
+left-same f g e = rw e (record { kept = λ x. x; same = refl })
 
--- what is dealt with after more room was made
-pub passed-left : (put : Bool) (f g h : Reading) → IsLeft f g → Passes put g h → Passes put f h
-passed-left put f g h left x = go (rw left.same at x)
+-- what is dealt with after more room was made, and none refused
+pub passed-left : (put : Bool) (f g h : Reading) → IsLeft f g → g.line.refused ≡ f.line.refused → Passes put g h → Passes put f h
+passed-left put f g h left none x = go (rw left.same at x)
   where
-    go : Passes put (widened f left.room) h → Passes put f h
+    go : Passes put (widened f g.line.reserved g.line.refused) h → Passes put f h
     go x = record {
       rules = x.rules;
       lines = x.lines;
       kept = x.kept;
       header = x.header;
-      line = record { elements = x.line.elements; limit = x.line.limit; peak = x.line.peak; room = λ r. x.line.room (left.kept r); within = x.line.within };
+      line = record {
+        elements = x.line.elements;
+        limit = x.line.limit;
+        peak = x.line.peak;
+        room = λ r. x.line.room (left.kept r);
+        refused = x.line.refused ∙ none;
+        within = x.line.within;
+      };
     }
 
 pub left-then : (f g h : Reading) → IsLeft f g → IsLeft g h → IsLeft f h
-left-then f g h a b = go (rw a.same at b)
-  where
-    go : IsLeft (widened f a.room) h → IsLeft f h
-    go b = record { room = b.room; kept = λ r. b.kept (a.kept r); same = b.same }
+left-then f g h a b = record { kept = λ r. b.kept (a.kept r); same = b.same ∙ ap (λ x. widened x h.line.reserved h.line.refused) a.same }
 
 pub Reads-left : (f g : Reading) (p : List ℕ) → IsLeft f g → Reads f p → Reads g p
 Reads-left f g p left h = rw left.same (record {

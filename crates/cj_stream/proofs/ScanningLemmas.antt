@@ -48,10 +48,10 @@ rises-forgets f g k = record {
   opened = omega (arith, k.opened.peak);
 }
 
--- ---- lists of which nothing has changed but the room for later lines
+-- ---- lists of which nothing has changed but the room for later lines and its refusals
 
 pub still-same : (f g : Scanning) → g ≡ f → IsStill f g
-still-same f g e = record { room = f.line.reserved; kept = λ r. r; same = e }
+still-same f g e = rw e (record { kept = λ r. r; same = refl })
 
 pub still-err : {T E : Type 0} (f g : Scanning) (r : Result T E) → OnErr r (g ≡ f) → OnErr r (IsStill f g)
 still-err f g (Ok x) h = h
@@ -74,21 +74,28 @@ rises-still f g still = rw still.same (record { header = omega arith; line = ome
 pub few-still : (limits : LimitPair) (h : ℕ) (f g : Scanning) → IsStill f g → HoldsFew limits h f → HoldsFew limits h g
 few-still limits h f g still few = rw still.same few
 
-pub forgets-still : (f g h : Scanning) → IsStill f g → Forgets g h → Forgets f h
-forgets-still f g h still k = go (rw still.same at k)
+pub forgets-still : (f g h : Scanning) → IsStill f g → g.line.refused ≡ f.line.refused → Forgets g h → Forgets f h
+forgets-still f g h still none k = go (rw still.same at k)
   where
-    go : Forgets (record f { line = record f.line { reserved = still.room } }) h → Forgets f h
+    go : Forgets (record f { line = record f.line { reserved = g.line.reserved; refused = g.line.refused } }) h → Forgets f h
     go k = record {
       header = k.header;
-      line = record { elements = k.line.elements; limit = k.line.limit; peak = k.line.peak; room = λ r. k.line.room (still.kept r); within = k.line.within };
+      line = record {
+        elements = k.line.elements;
+        limit = k.line.limit;
+        peak = k.line.peak;
+        room = λ r. k.line.room (still.kept r);
+        refused = k.line.refused ∙ none;
+        within = k.line.within;
+      };
       opened = k.opened;
     }
 
 pub still-then : (f g h : Scanning) → IsStill f g → IsStill g h → IsStill f h
-still-then f g h a b = go (rw a.same at b)
-  where
-    go : IsStill (record f { line = record f.line { reserved = a.room } }) h → IsStill f h
-    go b = record { room = b.room; kept = λ r. b.kept (a.kept r); same = b.same }
+still-then f g h a b = record {
+  kept = λ r. b.kept (a.kept r);
+  same = b.same ∙ ap (λ (x : Scanning). record x { line = record x.line { reserved = h.line.reserved; refused = h.line.refused } }) a.same;
+}
 
 -- ---- room for the next line
 

@@ -23,6 +23,10 @@ criteria q = record {
   box = option_map box_of q.bounds;
 }
 
+-- how often a growth of a query was refused
+abbrev pub query_refusals : Query → ℕ
+query_refusals q = q.refusals
+
 -- what lines are judged by under limits and for a query
 abbrev pub rules_for : LimitPair → Query → Rules
 rules_for limits q = record { limits = limits; criteria = criteria q }

@@ -70,15 +70,14 @@ pub record Passes (put : Bool) (old new : Reading) : Type 0 where
   pub header : new.header ≡ old.header
   pub line : Becomes old.line [] new.line
 
--- the same, with more room for later lines, or not
-abbrev pub widened : Reading → Bool → Reading
-widened f room = record f { line = record f.line { reserved = room } }
+-- the same, with more room for later lines, or not, and this count of refusals of it
+abbrev pub widened : Reading → Bool → ℕ → Reading
+widened f room refused = record f { line = record f.line { reserved = room; refused = refused } }
 
--- nothing has changed but that there may be more room for later lines
+-- nothing has changed but that there may be more room for later lines, or that it was refused
 pub record IsLeft (f g : Reading) : Type 0 where
-  pub room : Bool
-  pub kept : IsTrue f.line.reserved → IsTrue room
-  pub same : g ≡ widened f room
+  pub kept : IsTrue f.line.reserved → IsTrue g.line.reserved
+  pub same : g ≡ widened f g.line.reserved g.line.refused
 
 -- what comes of a line with this verdict
 abbrev pub Deals : {S : Type 0} → (S → Item → S → Type 0) → (S → Item → S → Type 0) → Verdict → Item → Reading → S → Result (Unit {0}) End → Reading → S → Type 0

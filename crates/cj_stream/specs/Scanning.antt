@@ -1,7 +1,8 @@
 -- What is held of the trees of a stream's lines.
-use Rattle.std.specs.Prelude.{◌≡◌, ℕ, ◌+◌, ◌*◌, ◌/◌, ◌<◌, ◌≤◌, List, [], Bool, true, IsTrue, length, max, min}
+use Rattle.std.specs.Prelude.{◌≡◌, ◌⊎◌, ℕ, ◌+◌, ◌*◌, ◌/◌, ◌<◌, ◌≤◌, List, [], Bool, true, IsTrue, length, max, min}
 use Rattle.std.specs.Str.{is_utf8}
 use Rattle.cj_budget.specs.Bounded.{BoundedList, IsWithin, Becomes}
+use Rattle.cj_budget.specs.Counts.{HasRisen}
 use Rattle.cj_budget.specs.Limits.{LimitPair, InDepth}
 use Rattle.cj_spans.specs.declared.token.Token.{Token}
 use Rattle.cj_spans.specs.Judgement.{judged_size, judged_nest}
@@ -83,11 +84,14 @@ pub record IsReady (f : Reading) (s : Scanning) : Type 0 where
   pub later : 0 < f.lines → IsTrue f.line.reserved × IsTrue s.line.reserved
   pub opened : IsTrue s.opened.reserved
 
--- nothing has changed but that there may be more room for later lines
+-- nothing has changed but that there may be more room for later lines, or that it was refused
 pub record IsStill (old new : Scanning) : Type 0 where
-  pub room : Bool
-  pub kept : IsTrue old.line.reserved → IsTrue room
-  pub same : new ≡ record old { line = record old.line { reserved = room } }
+  pub kept : IsTrue old.line.reserved → IsTrue new.line.reserved
+  pub same : new ≡ record old { line = record old.line { reserved = new.line.reserved; refused = new.line.refused } }
+
+-- room for later lines was refused: the count of that has risen, of their bytes or of their tokens
+abbrev pub RefusesRoom : Reading → Scanning → Reading → Scanning → Type 0
+RefusesRoom f s g t = HasRisen f.line.refused g.line.refused ⊎ HasRisen s.line.refused t.line.refused
 
 -- the lists of a line that was dealt with are emptied
 pub record Forgets (old new : Scanning) : Type 0 where

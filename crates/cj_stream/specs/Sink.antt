@@ -1,15 +1,7 @@
 -- What calls of a sink do to it, one after another.
-use Rattle.std.specs.Prelude.{◌≡◌, ◌⊎◌, ℕ, ◌+◌, ◌<◌, ◌-◌, ◌^◌, min, List, [], ◌∷◌, ◌++◌, Option, Result, Ok, Err}
+use Rattle.std.specs.Prelude.{◌≡◌, ℕ, List, [], ◌∷◌, ◌++◌, Option, Result, Ok, Err}
 use Rattle.std.specs.Io.KnownBytes.{Appends}
-
--- a count of failures has risen, or stands at the greatest u64
-abbrev pub HasRisen : ℕ → ℕ → Type 0
-HasRisen old new = (old < new) ⊎ ((old ≡ 2 ^ 64 - 1) × (new ≡ 2 ^ 64 - 1))
-
--- a count of failures after a call that answered so: one more where it failed; at the greatest u64 it stays
-abbrev pub counted : {T E : Type 0} → ℕ → Result T E → ℕ
-counted failures (Ok x) = failures
-counted failures (Err e) = min (failures + 1) (2 ^ 64 - 1)
+pub use Rattle.cj_budget.specs.Counts.{HasRisen, counted}
 
 -- a count of failures after a call that answered so: it stays where the call succeeded, and has risen where it failed
 abbrev pub RisesOnErr : {T E : Type 0} → Result T E → ℕ → ℕ → Type 0

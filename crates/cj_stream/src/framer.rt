@@ -11,8 +11,10 @@
 //! Memory is asked for twice: for the lists of the first line by `open`, and for those of later lines by `make_room`,
 //! once the first line is valid and LF has ended it, before the sink gets it. So the lists that the next line goes
 //! into have their room (`IsReady`), and nothing else here asks for any. A refusal by `make_room`, or a fault of the
-//! sink after it, leaves all as it was but for that room (`IsLeft`, `IsStill`).
-ghost use Rattle.std.specs.Prelude.{◌≡◌, ◌+◌, ◌^◌, ◌<◌, ◌≤◌, ℕ, List, [], ◌∷◌, ◌++◌, length, take, if◌then◌else◌, OnOk, OnErr, IfOk, IfErr, IsErrOf, IsTrue, Some};
+//! sink after it, leaves all as it was but for that room and its count of refusals (`IsLeft`, `IsStill`). Each list
+//! counts the growths of it that were refused, and want of memory is told only where such a count has risen.
+ghost use Rattle.std.specs.Prelude.{◌≡◌, ◌+◌, ◌^◌, ◌<◌, ◌≤◌, ℕ, List, [], ◌∷◌, ◌++◌, ◌⊎◌, true, length, take, if◌then◌else◌, OnOk, OnErr, IfOk, IfErr, IsErrOf, IsTrue, Some};
+ghost use Rattle.cj_budget.specs.Bounded.{IsWithin};
 ghost use Rattle.cj_stream.specs.Bound.{contents};
 ghost use Rattle.cj_stream.specs.Ending.{IsFirstEnd, IsLaterEnd};
 ghost use Rattle.cj_stream.specs.Lines.{newline, NoLf, closed, first_of, first_content};
@@ -56,7 +58,7 @@ impl<'q> Framer<'q> {
     ghost use Rattle.cj_stream.specs.Judging.{Says, ShowsTree, IsHeaderOf, KeepsFirst};
     ghost use Rattle.cj_stream.specs.Query.{rules_for};
     ghost use Rattle.cj_stream.specs.Reading.{reading, begun_of, begun_verdict, next_verdict, next_item, IsSound, Stays, IsLeft, Stores, Passes, Deals, Settles, Reads, Advances, Stops, Finishes};
-    ghost use Rattle.cj_stream.specs.Scanning.{scanning, HasRoom, IsReady, IsStill, Scanned, HoldsFew, Rises, JudgesLine, Forgets};
+    ghost use Rattle.cj_stream.specs.Scanning.{scanning, HasRoom, IsReady, IsStill, RefusesRoom, Scanned, HoldsFew, Rises, JudgesLine, Forgets};
 
     /// A framer that has read nothing, with room for the first line. It asks for memory for its bytes and its tokens,
     /// and for open containers where the depth limit is above 64.
@@ -72,24 +74,46 @@ impl<'q> Framer<'q> {
         let limit = limits.line() as usize;
         let depth = limits.depth() as usize;
         let tokens = (limit + depth + 1) / 2; // each but the last has two bytes or an open container
-        let mut header = Bounded::new(alloc, limit);
-        let mut header_tokens = Bounded::new(alloc, tokens);
-        let mut opened = Stack::new(alloc, depth);
-        header.reserve_all()?;
-        header_tokens.reserve_all()?;
-        opened.reserve_all()?;
-        Ok(Framer {
+        let mut framer = Framer {
             limits,
             query,
-            header,
+            header: Bounded::new(alloc, limit),
             line: Bounded::new(alloc, limit),
-            header_tokens,
+            header_tokens: Bounded::new(alloc, tokens),
             line_tokens: Bounded::new(alloc, tokens),
-            opened,
+            opened: Stack::new(alloc, depth),
             parts: None,
             lines: 0,
             kept: 0,
-        })
+        };
+        framer.reserve_first()?;
+        Ok(framer)
+    }
+
+    /// Makes room for the first line, and for as many open containers as the depth limit allows.
+    fn reserve_first(&mut self) -> Result<(), NoMemory>
+        ensures ok { OnOk result (self.new ≡ record self.old {
+          header = record self.old.header { reserved = true };
+          header_tokens = record self.old.header_tokens { reserved = true };
+          opened = record self.old.opened { reserved = true };
+        }) }
+        ensures cause { OnErr result (HasRisen self.old.header.refused self.new.header.refused
+            ⊎ HasRisen self.old.header_tokens.refused self.new.header_tokens.refused
+            ⊎ HasRisen self.old.opened.refused self.new.opened.refused) }
+        ensures left { self.new ≡ record self.old {
+          header = record self.old.header { reserved = self.new.header.reserved; refused = self.new.header.refused };
+          header_tokens = record self.old.header_tokens {
+            reserved = self.new.header_tokens.reserved;
+            refused = self.new.header_tokens.refused;
+          };
+          opened = record self.old.opened { reserved = self.new.opened.reserved; refused = self.new.opened.refused };
+        } }
+        ensures within { OnOk result
+            (IsWithin self.new.header × IsWithin self.new.header_tokens × IsWithin self.new.opened) }
+    {
+        self.header.reserve_all()?;
+        self.header_tokens.reserve_all()?;
+        self.opened.reserve_all()
     }
 
     fn begun(&self) -> &[u8]
@@ -134,11 +158,15 @@ impl<'q> Framer<'q> {
         Ok(())
     }
 
-    /// Makes room for a later line.
+    /// Makes room for a later line. A refusal is counted, and changes nothing else.
     fn make_room(&mut self) -> Result<(), NoMemory>
         requires sound { IsSound (reading self.old) }
         requires lists { HasRoom self.old.limits (scanning self.old) }
         ensures ok { OnOk result (IsTrue self.new.line.reserved × IsTrue self.new.line_tokens.reserved) }
+        ensures counts { OnOk result ((self.new.line.refused ≡ self.old.line.refused)
+            × (self.new.line_tokens.refused ≡ self.old.line_tokens.refused)) }
+        ensures cause { OnErr result (RefusesRoom (reading self.old) (scanning self.old)
+            (reading self.new) (scanning self.new)) }
         ensures left { IsLeft (reading self.old) (reading self.new) }
         ensures still { IsStill (scanning self.old) (scanning self.new) }
         ensures parts { self.new.parts ≡ self.old.parts }
@@ -271,6 +299,8 @@ impl<'q> Framer<'q> {
         ensures ready { OnOk result (IsTrue lf → IsReady (reading self.new) (scanning self.new)) }
         ensures keeps { KeepsFirst (reading self.new) (scanning self.new) self.new.parts }
         ensures end { IfErr result IsFirstEnd }
+        ensures memory { IsErrOf result End.Memory → RefusesRoom (reading self.old) (scanning self.old)
+            (reading self.new) (scanning self.new) }
     {
         let parts = match self.check_first() {
             Ok(parts) => parts,
@@ -349,6 +379,8 @@ impl<'q> Framer<'q> {
         ensures ready { OnOk result (IsTrue lf → IsReady (reading self.new) (scanning self.new)) }
         ensures keeps { KeepsFirst (reading self.new) (scanning self.new) self.new.parts }
         ensures end { IfErr result IsFirstEnd }
+        ensures memory { IsErrOf result End.Memory → RefusesRoom (reading self.old) (scanning self.old)
+            (reading self.new) (scanning self.new) }
         ensures late { 0 < self.old.lines → IsReady (reading self.new) (scanning self.new) × IfErr result IsLaterEnd }
     {
         if self.lines == 0 {
@@ -383,6 +415,8 @@ impl<'q> Framer<'q> {
             → HoldsFew self.old.limits (length (first_of cs (begun_of (reading self.old)))) (scanning self.new) }
         ensures keeps { KeepsFirst (reading self.new) (scanning self.new) self.new.parts }
         ensures end { IfErr result IsFirstEnd }
+        ensures memory { IsErrOf result End.Memory → RefusesRoom (reading self.old) (scanning self.old)
+            (reading self.new) (scanning self.new) }
         ensures late { 0 < self.old.lines → IsReady (reading self.new) (scanning self.new) × IfErr result IsLaterEnd }
     {
         match self.judge() {
@@ -413,6 +447,8 @@ impl<'q> Framer<'q> {
         ensures one { OnOk result (self.new.lines ≡ self.old.lines + 1) }
         ensures keeps { KeepsFirst (reading self.new) (scanning self.new) self.new.parts }
         ensures end { IfErr result IsFirstEnd }
+        ensures memory { IsErrOf result End.Memory → RefusesRoom (reading self.old) (scanning self.old)
+            (reading self.new) (scanning self.new) }
         ensures late { 0 < self.old.lines → IsReady (reading self.new) (scanning self.new) × IfErr result IsLaterEnd }
         ensures counts { S.failures sink.old ≤ S.failures sink.new }
         ensures cause { IsErrOf result End.WriteFault → HasRisen (S.failures sink.old) (S.failures sink.new) }
@@ -452,6 +488,8 @@ impl<'q> Framer<'q> {
         ensures stays { Stays (reading self.old) (reading self.new) }
         ensures keeps { KeepsFirst (reading self.new) (scanning self.new) self.new.parts }
         ensures end { IfErr result IsFirstEnd }
+        ensures memory { IsErrOf result End.Memory → RefusesRoom (reading self.old) (scanning self.old)
+            (reading self.new) (scanning self.new) }
         ensures counts { S.failures sink.old ≤ S.failures sink.new }
         ensures cause { IsErrOf result End.WriteFault → HasRisen (S.failures sink.old) (S.failures sink.new) }
         ensures ok { IfOk result (λ t. (p : List ℕ) → Reads (reading self.old) p →
@@ -494,6 +532,8 @@ impl<'q> Framer<'q> {
         ensures grows { self.old.lines ≤ self.new.lines }
         ensures keeps { KeepsFirst (reading self.new) (scanning self.new) self.new.parts }
         ensures end { IfErr result IsFirstEnd }
+        ensures memory { IsErrOf result End.Memory → RefusesRoom (reading self.old) (scanning self.old)
+            (reading self.new) (scanning self.new) }
         ensures late { 0 < self.old.lines → IsReady (reading self.new) (scanning self.new) × IfErr result IsLaterEnd }
         ensures counts { S.failures sink.old ≤ S.failures sink.new }
         ensures cause { IsErrOf result End.WriteFault → HasRisen (S.failures sink.old) (S.failures sink.new) }

@@ -11,7 +11,7 @@ ghost use Rattle.cj_stream.specs.Front.{IsFront};
 ghost use Rattle.cj_stream.specs.Query.{rules_for};
 ghost use Rattle.cj_stream.specs.Reading.{LacksMemory};
 ghost use Rattle.cj_stream.specs.Sink.{HasRisen};
-ghost use Rattle.cj_stream.specs.Engine.{StandsFor, given, rules_of, limits_of, lines_of, held_by, peaks_of, Delivers, Going, Tells, Concludes};
+ghost use Rattle.cj_stream.specs.Engine.{StandsFor, IsRefusedRoom, given, rules_of, limits_of, lines_of, held_by, peaks_of, Delivers, Going, Tells, Concludes};
 
 use crate::ending::HeaderEnd;
 use crate::framer::Framer;
@@ -114,6 +114,7 @@ impl<'q> HeaderReader<'q> {
             Tells (rules_of self.old) (p ++ piece.now) (lines_of self.new) (header_end e)) }
         ensures memory { (p : List ℕ) → StandsFor self.old p → self.old.ended ≡ None → IsErrOf result HeaderEnd.Memory →
             LacksMemory (rules_of self.old) (p ++ piece.now) (lines_of self.new) × (sink.new ≡ sink.old) }
+        ensures room { self.old.ended ≡ None → IsErrOf result HeaderEnd.Memory → IsRefusedRoom self.old self.new }
         ensures sink { IfOk result (λ t. (p : List ℕ) → StandsFor self.old p →
             Delivers S.takes S.leaves (rules_of self.old) (p ++ take t.used piece.now)
             (lines_of self.old) (lines_of self.new) sink.old sink.new None) }

@@ -7,7 +7,8 @@ ghost use Rattle.cj_stream.specs.Criteria.{everything, if_set, needs_box, has_id
 ghost use Rattle.cj_geometry.specs.ObjectTypes.{row_named};
 ghost use Rattle.cj_stream.specs.Adding.{no_types, with_id, with_lod, with_type, with_box};
 ghost use Rattle.cj_stream.specs.BoxText.{box_text};
-ghost use Rattle.cj_stream.specs.Query.{criteria};
+ghost use Rattle.cj_stream.specs.Query.{criteria, query_refusals};
+ghost use Rattle.cj_stream.specs.Sink.{HasRisen, counted};
 ghost use Rattle.cj_stream.specs.declared.query.fault.QueryFault.TheVariants.{Memory, UnknownTypeName};
 
 mod bounds;
@@ -18,6 +19,7 @@ mod ids;
 mod texts;
 
 use bounds::Bounds;
+use cj_budget::{NoMemory, Refusals};
 use cj_feature::{Feature, Header};
 use cj_geometry::ObjectType;
 pub use fault::QueryFault;
@@ -36,6 +38,7 @@ pub struct Query {
     types: Option<[bool; TYPES]>,
     lods: Option<Vec<String>>,
     bounds: Option<Bounds>,
+    refusals: Refusals,
 }
 
 impl Query {
@@ -43,6 +46,7 @@ impl Query {
     #[tactic(auto, unfolding(crate::specs::Query::criteria, crate::specs::Criteria::holds))]
     pub fn all(alloc: Global) -> Query
         ensures all { criteria result ≡ everything }
+        ensures unrefused { query_refusals result ≡ 0 }
         ensures every { (header t : Tree) → satisfies (criteria result) header t ≡ true }
     {
         Query {
@@ -51,6 +55,7 @@ impl Query {
             types: None,
             lods: None,
             bounds: None,
+            refusals: Refusals::none(),
         }
     }
 
@@ -66,7 +71,8 @@ impl Query {
     /// takes no memory.
     #[tactic(auto, unfolding(crate::specs::Query::criteria))]
     pub fn start_ids(&mut self)
-        ensures { criteria self.new ≡ record (criteria self.old) { ids = Some [] } }
+        ensures asks { criteria self.new ≡ record (criteria self.old) { ids = Some [] } }
+        ensures refusals { query_refusals self.new ≡ query_refusals self.old }
     {
         self.ids = Some(Ids::new(self.alloc));
     }
@@ -75,7 +81,8 @@ impl Query {
     /// takes no memory.
     #[tactic(auto, unfolding(crate::specs::Query::criteria))]
     pub fn start_types(&mut self)
-        ensures { criteria self.new ≡ record (criteria self.old) { types = Some no_types } }
+        ensures asks { criteria self.new ≡ record (criteria self.old) { types = Some no_types } }
+        ensures refusals { query_refusals self.new ≡ query_refusals self.old }
     {
         self.types = Some([false; TYPES]);
     }
@@ -84,31 +91,38 @@ impl Query {
     /// takes no memory.
     #[tactic(auto, unfolding(crate::specs::Query::criteria))]
     pub fn start_lods(&mut self)
-        ensures { criteria self.new ≡ record (criteria self.old) { lods = Some [] } }
+        ensures asks { criteria self.new ≡ record (criteria self.old) { lods = Some [] } }
+        ensures refusals { query_refusals self.new ≡ query_refusals self.old }
     {
         self.lods = Some(Vec::new(self.alloc));
     }
 
     /// Adds an id to the part on ids: a feature holds there whose `id` is one of them. A refusal
-    /// changes nothing.
+    /// changes nothing of what is asked.
     ///
     /// # Errors
     ///
-    /// `Memory` where none was granted.
+    /// `Memory` where none was granted. The query counts that.
     #[tactic(auto, unfolding(crate::specs::Query::criteria))]
     pub fn add_id(&mut self, id: &str) -> Result<(), QueryFault>
         ensures ok { OnOk result (criteria self.new ≡ with_id id.now (criteria self.old)) }
         ensures err { OnErr result (criteria self.new ≡ criteria self.old) }
         ensures memory { IfErr result (λ fault. fault ≡ Memory) }
+        ensures cause { OnErr result (HasRisen (query_refusals self.old) (query_refusals self.new)) }
+        ensures count { query_refusals self.new ≡ counted (query_refusals self.old) result }
     {
-        add_id(self.alloc, &mut self.ids, id)
+        match add_id(self.alloc, &mut self.ids, id, &mut self.refusals) {
+            Ok(()) => Ok(()),
+            Err(NoMemory) => Err(QueryFault::Memory),
+        }
     }
 
     /// Puts the ids that were added in one order, in which each is found in fewer steps: for a query of many ids, when all
     /// are added. What it asks stays the same. It takes no memory.
     #[tactic(auto, unfolding(crate::specs::Query::criteria))]
     pub fn sort_ids(&mut self)
-        ensures { criteria self.new ≡ criteria self.old }
+        ensures asks { criteria self.new ≡ criteria self.old }
+        ensures refusals { query_refusals self.new ≡ query_refusals self.old }
     {
         if let Some(ids) = &mut self.ids {
             ids.sort();
@@ -123,9 +137,10 @@ impl Query {
     /// `UnknownTypeName` where no type has this name.
     #[tactic(auto, unfolding(crate::specs::Query::criteria))]
     pub fn add_type(&mut self, name: &str) -> Result<(), QueryFault>
-        ensures { MatchOption (row_named name.now)
+        ensures asks { MatchOption (row_named name.now)
             ((result ≡ Err UnknownTypeName) × (criteria self.new ≡ criteria self.old))
             (λ row. (result ≡ Ok tt) × (criteria self.new ≡ with_type row.number (criteria self.old))) }
+        ensures refusals { query_refusals self.new ≡ query_refusals self.old }
     {
         let Some(object_type) = ObjectType::named(name) else {
             return Err(QueryFault::UnknownTypeName);
@@ -137,18 +152,23 @@ impl Query {
     }
 
     /// Adds a level of detail to the part on LoDs: a feature holds there of which some geometry has one
-    /// of them as its `lod` (CityJSON 2.0, section 3). A refusal changes nothing.
+    /// of them as its `lod` (CityJSON 2.0, section 3). A refusal changes nothing of what is asked.
     ///
     /// # Errors
     ///
-    /// `Memory` where none was granted.
+    /// `Memory` where none was granted. The query counts that.
     #[tactic(auto, unfolding(crate::specs::Query::criteria))]
     pub fn add_lod(&mut self, lod: &str) -> Result<(), QueryFault>
         ensures ok { OnOk result (criteria self.new ≡ with_lod lod.now (criteria self.old)) }
         ensures err { OnErr result (criteria self.new ≡ criteria self.old) }
         ensures memory { IfErr result (λ fault. fault ≡ Memory) }
+        ensures cause { OnErr result (HasRisen (query_refusals self.old) (query_refusals self.new)) }
+        ensures count { query_refusals self.new ≡ counted (query_refusals self.old) result }
     {
-        add_text(self.alloc, &mut self.lods, lod)
+        match add_text(self.alloc, &mut self.lods, lod, &mut self.refusals) {
+            Ok(()) => Ok(()),
+            Err(NoMemory) => Err(QueryFault::Memory),
+        }
     }
 
     /// Sets the box, in place of an earlier one, to that of a text `minx,miny,maxx,maxy`: four numbers as
@@ -162,9 +182,10 @@ impl Query {
     /// the greatest on its axis.
     #[tactic(auto, unfolding(crate::specs::Query::criteria))]
     pub fn bbox(&mut self, text: &str) -> Result<(), QueryFault>
-        ensures { MatchResult (box_text text.now)
+        ensures asks { MatchResult (box_text text.now)
             (λ box. (result ≡ Ok tt) × (criteria self.new ≡ with_box box (criteria self.old)))
             (λ fault. (result ≡ Err fault) × (criteria self.new ≡ criteria self.old)) }
+        ensures refusals { query_refusals self.new ≡ query_refusals self.old }
     {
         self.bounds = Some(Bounds::read(text)?);
         Ok(())

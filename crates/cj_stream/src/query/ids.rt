@@ -8,7 +8,7 @@
 //! Entries are ordered by the ends of their texts, eight code points as a number, and by the texts where these are the same.
 //! Numbers stand side by side, so that a text is gone to for about one id of all, also where ids begin alike. Where ids end alike
 //! too each step of a search compares texts, and there are no more steps.
-ghost use Rattle.std.specs.Prelude.{◌≡◌, ℕ, ◌+◌, ◌-◌, ◌<◌, ◌≤◌, ◌^◌, [], ◌∷◌, ◌++◌, length, map, take, drop, sum, vec_items, vec_len, vec_capacity, string_bytes, IfErr, OnOk, OnErr, Some};
+ghost use Rattle.std.specs.Prelude.{◌≡◌, ℕ, ◌+◌, ◌-◌, ◌<◌, ◌≤◌, ◌^◌, [], ◌∷◌, ◌++◌, length, map, take, drop, sum, vec_items, vec_len, vec_capacity, string_bytes, OnOk, OnErr, Some};
 ghost use Rattle.std.specs.List.{list_any};
 ghost use Rattle.std.specs.List.Sorted.{IsPermutation};
 ghost use Rattle.std.specs.Ordering.{is_eq};
@@ -17,11 +17,12 @@ ghost use Rattle.cj_spans.specs.View.{tree};
 ghost use Rattle.cj_stream.specs.Adding.{with_text};
 ghost use Rattle.cj_stream.specs.Criteria.{is_one_of as is_one};
 ghost use Rattle.cj_stream.specs.Ids.{key_of, compare_keys, id_at, key_at, keys_at, Ascend, AreRuns, AreIndexed};
-ghost use Rattle.cj_stream.specs.declared.query.fault.QueryFault.TheVariants.{Memory};
+ghost use Rattle.cj_stream.specs.Sink.{HasRisen, counted};
 
-use crate::query::fault::QueryFault;
+use crate::query::texts::own_text;
+use cj_budget::{NoMemory, Refusals};
 use cj_spans::{Node, compare_strings, tail_of_string};
-use std::alloc::{AllocError, Global};
+use std::alloc::Global;
 use std::cmp::Ordering;
 use std::marker::Model;
 
@@ -126,22 +127,24 @@ fn join_last(runs: &mut Vec<usize>) -> usize
     count
 }
 
-/// Makes room for one id more. A refusal changes nothing.
+/// Makes room for one id more. A refusal changes no list.
 fn make_room(
     texts: &mut Vec<String>,
     entries: &mut Vec<Entry>,
     runs: &mut Vec<usize>,
-) -> Result<(), AllocError>
+    refusals: &mut Refusals,
+) -> Result<(), NoMemory>
     ensures texts { vec_items texts.new ≡ vec_items texts.old }
     ensures entries { vec_items entries.new ≡ vec_items entries.old }
     ensures runs { vec_items runs.new ≡ vec_items runs.old }
     ensures room { OnOk result ((vec_len texts.new < vec_capacity texts.new)
         × (vec_len entries.new < vec_capacity entries.new) × (vec_len runs.new < vec_capacity runs.new)) }
+    ensures cause { OnErr result (HasRisen refusals.old refusals.new) }
+    ensures count { refusals.new ≡ counted refusals.old result }
 {
-    texts.reserve(1)?;
-    entries.reserve(1)?;
-    runs.reserve(1)?;
-    Ok(())
+    refusals.note(texts.reserve(1))?;
+    refusals.note(entries.reserve(1))?;
+    refusals.note(runs.reserve(1))
 }
 
 /// Adds an id at the end, where there is room for it, and puts its entry in order.
@@ -219,12 +222,14 @@ impl Ids {
         }
     }
 
-    /// Adds an id at the end. A refusal changes nothing.
-    fn push(&mut self, text: String) -> Result<(), AllocError>
+    /// Adds an id at the end. A refusal changes nothing here.
+    fn push(&mut self, text: String, refusals: &mut Refusals) -> Result<(), NoMemory>
         ensures ok { OnOk result (self.new ≡ self.old ++ string_bytes text ∷ []) }
         ensures err { OnErr result (self.new ≡ self.old) }
+        ensures cause { OnErr result (HasRisen refusals.old refusals.new) }
+        ensures count { refusals.new ≡ counted refusals.old result }
     {
-        make_room(&mut self.texts, &mut self.entries, &mut self.runs)?;
+        make_room(&mut self.texts, &mut self.entries, &mut self.runs, refusals)?;
         add_entry(&mut self.texts, &mut self.entries, &mut self.runs, text);
         Ok(())
     }
@@ -253,29 +258,26 @@ impl Ids {
     }
 }
 
-/// Adds an id at the end of a part, which is empty before where it was not set. A refusal changes nothing.
-pub fn add_id(alloc: Global, part: &mut Option<Ids>, text: &str) -> Result<(), QueryFault>
+/// Adds an id at the end of a part, which is empty before where it was not set. A refusal changes nothing of it.
+pub fn add_id(
+    alloc: Global,
+    part: &mut Option<Ids>,
+    text: &str,
+    refusals: &mut Refusals,
+) -> Result<(), NoMemory>
     ensures ok { OnOk result (part.new ≡ with_text text.now part.old) }
     ensures err { OnErr result (part.new ≡ part.old) }
-    ensures memory { IfErr result (λ fault. fault ≡ Memory) }
+    ensures cause { OnErr result (HasRisen refusals.old refusals.new) }
+    ensures count { refusals.new ≡ counted refusals.old result }
 {
-    let Ok(text) = String::from_str(alloc, text) else {
-        return Err(QueryFault::Memory);
-    };
+    let text = own_text(alloc, text, refusals)?;
     match part {
-        Some(ids) => match ids.push(text) {
-            Ok(()) => Ok(()),
-            Err(_) => Err(QueryFault::Memory),
-        },
+        Some(ids) => ids.push(text, refusals),
         None => {
             let mut ids = Ids::new(alloc);
-            match ids.push(text) {
-                Ok(()) => {
-                    *part = Some(ids);
-                    Ok(())
-                }
-                Err(_) => Err(QueryFault::Memory),
-            }
+            ids.push(text, refusals)?;
+            *part = Some(ids);
+            Ok(())
         }
     }
 }

@@ -1,39 +1,53 @@
 //! The parts of a query that are lists of texts.
-ghost use Rattle.std.specs.Prelude.{◌≡◌, ◌++◌, ◌∷◌, [], vec_items, IfErr, OnOk, OnErr};
+ghost use Rattle.std.specs.Prelude.{◌≡◌, ◌++◌, ◌∷◌, [], vec_items, string_bytes, IfOk, OnOk, OnErr};
 ghost use Rattle.cj_stream.specs.Adding.{with_text};
 ghost use Rattle.cj_stream.specs.Query.{texts_of};
-ghost use Rattle.cj_stream.specs.declared.query.fault.QueryFault.TheVariants.{Memory};
+ghost use Rattle.cj_stream.specs.Sink.{HasRisen, counted};
 
-use crate::query::fault::QueryFault;
+use cj_budget::{NoMemory, Refusals};
 use std::alloc::Global;
 
+/// A text of one's own.
+pub fn own_text(alloc: Global, text: &str, refusals: &mut Refusals) -> Result<String, NoMemory>
+    ensures ok { IfOk result (λ own. string_bytes own ≡ text.now) }
+    ensures cause { OnErr result (HasRisen refusals.old refusals.new) }
+    ensures count { refusals.new ≡ counted refusals.old result }
+{
+    let mut own = String::new(alloc);
+    refusals.note(own.try_reserve_exact(text.len()))?;
+    let _never_fails = own.push_str(text);
+    Ok(own)
+}
+
 /// Adds a text at the end of a list. A refusal changes nothing.
-fn push_text(texts: &mut Vec<String>, text: String) -> Result<(), QueryFault>
+fn push_text(texts: &mut Vec<String>, text: String, refusals: &mut Refusals) -> Result<(), NoMemory>
     ensures ok { OnOk result (vec_items texts.new ≡ vec_items texts.old ++ text ∷ []) }
     ensures err { OnErr result (vec_items texts.new ≡ vec_items texts.old) }
-    ensures memory { IfErr result (λ fault. fault ≡ Memory) }
+    ensures cause { OnErr result (HasRisen refusals.old refusals.new) }
+    ensures count { refusals.new ≡ counted refusals.old result }
 {
-    match texts.push(text) {
-        Ok(()) => Ok(()),
-        Err(_) => Err(QueryFault::Memory),
-    }
+    refusals.note(texts.push(text))
 }
 
 /// Adds a text at the end of a part, which is empty before where it was not set. A refusal changes
 /// nothing.
-pub fn add_text(alloc: Global, part: &mut Option<Vec<String>>, text: &str) -> Result<(), QueryFault>
+pub fn add_text(
+    alloc: Global,
+    part: &mut Option<Vec<String>>,
+    text: &str,
+    refusals: &mut Refusals,
+) -> Result<(), NoMemory>
     ensures ok { OnOk result (texts_of part.new ≡ with_text text.now (texts_of part.old)) }
     ensures err { OnErr result (texts_of part.new ≡ texts_of part.old) }
-    ensures memory { IfErr result (λ fault. fault ≡ Memory) }
+    ensures cause { OnErr result (HasRisen refusals.old refusals.new) }
+    ensures count { refusals.new ≡ counted refusals.old result }
 {
-    let Ok(text) = String::from_str(alloc, text) else {
-        return Err(QueryFault::Memory);
-    };
+    let text = own_text(alloc, text, refusals)?;
     match part {
-        Some(texts) => push_text(texts, text),
+        Some(texts) => push_text(texts, text, refusals),
         None => {
             let mut texts = Vec::new(alloc);
-            push_text(&mut texts, text)?;
+            push_text(&mut texts, text, refusals)?;
             *part = Some(texts);
             Ok(())
         }

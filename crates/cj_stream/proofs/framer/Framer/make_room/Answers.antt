@@ -2,4 +2,4 @@ use Rattle.std.proofs.Common.{refl}
 use Rattle.cj_stream.proofs.framer.Framer.make_room.Goals as goal
 
 pub returns-in_err-reserve_all-clause-still : goal.returns-in_err-reserve_all-clause-still
-returns-in_err-reserve_all-clause-still c = record { room = c.args.self.now.line_tokens.reserved; kept = λ r. r; same = refl }
+returns-in_err-reserve_all-clause-still c = record { kept = λ r. r; same = refl }

@@ -51,6 +51,7 @@ loop-at-preserved g c =
       c.take_line.ensures.keeps,
       c.in_ok-take_line.ensures.ready,
       omega (arith, c.loop-at.invariant.8, c.take_line.ensures.grows),
+      λ z. absurd (omega (arith, z, c.in_ok-take_line.ensures.one)),
     )
 
 pub returns-in_err-store-clause-err : goal.returns-in_err-store-clause-err
@@ -87,6 +88,7 @@ loop-at-init g c = (
   c.requires.keeps,
   c.requires.ready,
   omega arith,
+  λ z. (refl, refl),
 )
 
 pub returns-in_err-take_line-clause-held : goal.returns-in_err-take_line-clause-held

@@ -11,6 +11,7 @@ invariant-loop-at g l =
     × ((p : List ℕ) → Reads (reading l.initial.self) p → Scanned l.initial.self.limits (closed p) (scanning l.initial.self) → Scanned l.initial.self.limits (closed (p ++ done)) (scanning l.self)))
     × HasRoom l.initial.self.limits (scanning l.self) × Rises (scanning l.initial.self) (scanning l.self) × KeepsFirst (reading l.self) (scanning l.self) l.self.parts
     × IsReady (reading l.self) (scanning l.self) × (l.initial.self.lines ≤ l.self.lines)
+    × (l.self.lines ≡ 0 → (l.self.line.refused ≡ l.initial.self.line.refused) × (l.self.line_tokens.refused ≡ l.initial.self.line_tokens.refused))
 
 abbrev pub decreases-loop-at : goal.decreases-loop-at
 decreases-loop-at g l = length l.rest
