@@ -63,10 +63,10 @@ loop-name-preserved c =
     let new = criteria c.add_type.new.self in
     let row = row_named name.now in
     record {
-      set = others-stay old new c.add_type.result (criteria c.args.query.now) row c.add_type.ensures c.in_ok-add_type.was c.loop-name.invariant.set;
+      set = others-stay old new c.add_type.result (criteria c.args.query.now) row c.add_type.ensures.asks c.in_ok-add_type.was c.loop-name.invariant.set;
       left =
           ap (λ n. flags_with (drop n all) (flags_of new)) (length_push yielded name)
-          ∙ flags-added old new c.add_type.result (drop (length yielded + 1) all) row c.add_type.ensures c.in_ok-add_type.was
+          ∙ flags-added old new c.add_type.result (drop (length yielded + 1) all) row c.add_type.ensures.asks c.in_ok-add_type.was
           ∙ flags-here all (length yielded) name.now (flags_of old) next c.loop-name.invariant.left;
     }
 
@@ -79,7 +79,7 @@ returns-in_err-add_type c =
     let next = YieldsList-turn texts yielded _ c.loop-name.yielded_by _ _ name c.in-Some.is c.next.ensures.steps in
     let all = fields c.args.types.now in
     let old = criteria c.loop-name.query in
-    let refused = flags-refused old (criteria c.add_type.new.self) c.add_type.result (drop (length yielded + 1) all) _ (row_named name.now) c.add_type.ensures c.in_err-add_type.was in
+    let refused = flags-refused old (criteria c.add_type.new.self) c.add_type.result (drop (length yielded + 1) all) _ (row_named name.now) c.add_type.ensures.asks c.in_err-add_type.was in
     let none : flags_with all no_types ≡ None = sym (flags-here all (length yielded) name.now (flags_of old) next c.loop-name.invariant.left) ∙ refused.1 in
     let returned = err_from_is_err_and c.from_residual.result c.from_residual.ensures.1 in
     rw (none, returned.1, returned.2, refused.0) refl

@@ -69,7 +69,7 @@ returns-clause-ok c =
     ] in
     let box : (box_wanted texts.box ≡ Ok last.box) × (last ≡ record third { box = last.box }) =
     elim c.match-texts-4.branch [
-      | in-Some-bbox+in_ok-bbox w ↦ rw (w.query-is, w.in-Some-bbox.is) (box-set w.bbox.result third (criteria w.bbox.new.self) _ w.bbox.ensures w.in_ok-bbox.was)
+      | in-Some-bbox+in_ok-bbox w ↦ rw (w.query-is, w.in-Some-bbox.is) (box-set w.bbox.result third (criteria w.bbox.new.self) _ w.bbox.ensures.asks w.in_ok-bbox.was)
       | in_default-bbox w ↦ rw (w.query-is, w.in_default-bbox.is, lods, types.1, ids) (refl, refl)
     ] in
     rw (types.0, box.0, box.1, lods, types.1, ids) refl
@@ -116,7 +116,7 @@ returns-in_err-bbox-clause-err c =
       | in_default-types w ↦ rw w.in_default-types.is (None, refl)
     ] in
     let fault = c.in_err-bbox.field-0.0 in
-    let box = box-refused c.bbox.result (criteria c.match-texts-3.query) (criteria c.bbox.new.self) fault (box_text c.in-Some-bbox.bbox.now) c.bbox.ensures c.in_err-bbox.was in
+    let box = box-refused c.bbox.result (criteria c.match-texts-3.query) (criteria c.bbox.new.self) fault (box_text c.in-Some-bbox.bbox.now) c.bbox.ensures.asks c.in_err-bbox.was in
     let asks : criteria_by texts ≡ Err fault = rw (types.1, c.in-Some-bbox.is, box) refl in
     let returned = err_from_is_err_and c.from_residual-in_err-bbox.result c.from_residual-in_err-bbox.ensures.1 in
     rw (returned.1, returned.2) (refused texts fault asks (λ same. box-takes-none c.in-Some-bbox.bbox.now (box ∙ ap Err same)))
