@@ -9,6 +9,7 @@ pub mod Counted
 pub mod CutLemmas
 pub mod DeviceLemmas
 pub mod EngineLemmas
+pub mod FeedingLemmas
 pub mod FinishLemmas
 pub mod GoodLemmas
 pub mod HeadlineLemmas
@@ -20,8 +21,10 @@ pub mod JudgeLemmas
 pub mod JudgingLemmas
 pub mod KnownLemmas
 pub mod LineLemmas
+pub mod LinePieceLemmas
 pub mod LineRowLemmas
 pub mod OutputLemmas
+pub mod PhaseLemmas
 pub mod PieceLemmas
 pub mod PieceSlices
 pub mod QueryRowLemmas

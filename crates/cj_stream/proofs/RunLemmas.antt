@@ -33,15 +33,21 @@ Consumes-kept (Some a) None c x p q = absurd p
 Consumes-kept (Some a) (Some b) None x p q = absurd q
 Consumes-kept (Some a) (Some b) (Some c) x p q = p ∙ ap (λ z. x ++ z) (sym q)
 
-pub Delivers-then : {S : Type 0} (takes leaves : S → Item → S → Type 0) (rules : Rules) (r q : List ℕ) (n m : ℕ) (s t u : S) (e : Option End)
-    → kept_first rules n q ≡ kept_first rules n r → Delivers takes leaves rules r 0 n s t None → Delivers takes leaves rules q n m t u e → Delivers takes leaves rules q 0 m s u e
-Delivers-then takes leaves rules r q n m s t u e same h k = record {
+-- what a sink takes of two steps, one after the other
+pub Delivers-join : {S : Type 0} (takes leaves : S → Item → S → Type 0) (rules : Rules) (r q : List ℕ) (from n m : ℕ) (s t u : S) (e : Option End)
+    → kept_first rules from q ≡ kept_first rules from r → kept_first rules n q ≡ kept_first rules n r
+    → Delivers takes leaves rules r from n s t None → Delivers takes leaves rules q n m t u e → Delivers takes leaves rules q from m s u e
+Delivers-join takes leaves rules r q from n m s t u e first same h k = record {
   added = h.added ++ k.added;
   middle = k.middle;
-  kept = k.kept ∙ ap (λ z. z ++ k.added) (same ∙ h.kept);
+  kept = k.kept ∙ (ap (λ z. z ++ k.added) (same ∙ (h.kept ∙ ap (λ z. z ++ h.added) (sym first))) ∙ append_assoc (kept_first rules from q) h.added k.added);
   took = Took-append takes s t k.middle h.added k.added (subst (λ z. Took takes s h.added z) (sym h.fault) h.took) k.took;
   fault = k.fault;
 }
+
+pub Delivers-then : {S : Type 0} (takes leaves : S → Item → S → Type 0) (rules : Rules) (r q : List ℕ) (n m : ℕ) (s t u : S) (e : Option End)
+    → kept_first rules n q ≡ kept_first rules n r → Delivers takes leaves rules r 0 n s t None → Delivers takes leaves rules q n m t u e → Delivers takes leaves rules q 0 m s u e
+Delivers-then takes leaves rules r q n m s t u e same h k = Delivers-join takes leaves rules r q 0 n m s t u e refl same h k
 
 pub Ends-finished : (rules : Rules) (r : List ℕ) (n : ℕ) (at_end : Type 0) (e : End) → at_end → Concludes rules r n e → Ends rules r n at_end e
 Ends-finished rules r n at_end Complete h c = (c.0, c.1, h)

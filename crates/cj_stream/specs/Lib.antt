@@ -12,6 +12,7 @@ pub mod EndRows
 pub mod Ending
 pub mod Engine
 pub mod Extent
+pub mod Feeding
 pub mod Front
 pub mod Headline
 pub mod Ids
@@ -19,9 +20,11 @@ pub mod IsGood
 pub mod IsLines
 pub mod Item
 pub mod Judging
+pub mod LinePieces
 pub mod LineRows
 pub mod Lines
 pub mod Output
+pub mod Phase
 pub mod Query
 pub mod QueryRows
 pub mod Reading

@@ -126,3 +126,44 @@ impl LineEnd {
         }
     }
 }
+
+impl From<HeaderEnd> for End {
+    ghost from_gives = { λ answered end. end ≡ header_end answered };
+
+    fn from(answered: HeaderEnd) -> End {
+        match answered {
+            HeaderEnd::Complete => End::Complete,
+            HeaderEnd::Refused {
+                line,
+                place,
+                reason,
+            } => End::Refused {
+                line,
+                place,
+                reason,
+            },
+            HeaderEnd::WriteFault => End::WriteFault,
+            HeaderEnd::Memory => End::Memory,
+        }
+    }
+}
+
+impl From<LineEnd> for End {
+    ghost from_gives = { λ answered end. end ≡ line_end answered };
+
+    fn from(answered: LineEnd) -> End {
+        match answered {
+            LineEnd::Complete => End::Complete,
+            LineEnd::Refused {
+                line,
+                place,
+                reason,
+            } => End::Refused {
+                line,
+                place,
+                reason,
+            },
+            LineEnd::WriteFault => End::WriteFault,
+        }
+    }
+}

@@ -1,48 +1,84 @@
 //! The engine: it takes a stream in pieces, and puts each kept line to a sink.
 //!
-//! It keeps one line and counts, and promises something of all bytes so far. What ties the two is `StandsFor engine p`: true
-//! of a new engine for no bytes, and carried on by each call, for every p. A new count is a new part of it; a new clause on all
-//! bytes stands under `(p : List ℕ) → StandsFor self.old p →`. The end is looked at first in `feed` and `finish`, since nothing
-//! may change after it.
-ghost use Rattle.std.specs.Prelude.{◌≡◌, ◌≢◌, ◌+◌, ◌^◌, ◌≤◌, ℕ, List, [], ◌∷◌, ◌++◌, length, OnOk, OnErr, IfOk, IfErr, IsErrOf, Some, None, Err};
-ghost use Rattle.cj_stream.specs.Bound.{IsBelow, exact_peaks};
+//! It holds one of the two states of a stream, the reader of its header or that of its lines, and gives each piece on. A
+//! piece whose LF makes the header accepted goes on with the reader of lines. What either promises of a piece and of the
+//! end is one record each (`Feeds`, `IsFinished`), and the engine promises the same. It keeps a count of its own of the
+//! bytes taken: a piece that ended the stream in its second part was not taken, though its first part was by the
+//! reader of the header.
+ghost use Rattle.std.specs.Prelude.{◌≡◌, ◌≢◌, ◌+◌, ◌^◌, ◌≤◌, [], length, OnOk, OnErr, IfOk, Some, None, Err};
+ghost use Rattle.cj_stream.specs.Ending.{header_end, line_end, IsAccepted};
+ghost use Rattle.cj_stream.specs.Feeding.{Feeds, IsFinished};
+ghost use Rattle.cj_stream.specs.Phase.{state_of, IsUnderWay};
 ghost use Rattle.cj_stream.specs.Query.{rules_for};
-ghost use Rattle.cj_stream.specs.Reading.{LacksMemory};
-ghost use Rattle.cj_stream.specs.Sink.{HasRisen};
-ghost use Rattle.cj_stream.specs.Engine.{StandsFor, given, rules_of, limits_of, lines_of, held_by, peaks_of, Delivers, Going, Tells, Concludes, end_of};
+ghost use Rattle.cj_stream.specs.Engine.{StandsFor, rules_of, lines_of, held_by, peaks_of};
 
 use crate::ending::End;
-use crate::framer::Framer;
+use crate::header_reader::HeaderReader;
+use crate::line_reader::LineReader;
 use crate::query::Query;
 use crate::sink::LineSink;
 use cj_budget::{Limits, NoMemory, Peaks};
 use std::alloc::Global;
 use std::marker::Model;
 
+/// The state that a stream is in.
+#[derive(Drop)]
+enum Phase<'q> {
+    /// Its header is read.
+    Header(HeaderReader<'q>),
+    /// Its later lines are read.
+    Lines(LineReader<'q>),
+}
+
+impl<'q> Phase<'q> {
+    /// Gives a piece to it, and tells the state that the stream is in then.
+    fn feed<S: LineSink>(self, piece: &[u8], sink: &mut S) -> (Phase<'q>, Result<(), End>)
+        requires going { IsUnderWay self (state_of self).taken }
+        requires small { (state_of self).taken + length piece.now ≤ 2 ^ 60 }
+        ensures going { OnOk result.1 (IsUnderWay result.0 ((state_of self.entry).taken + length piece.now)) }
+        ensures feeds { Feeds S.takes S.leaves S.failures (state_of self.entry) piece.now result.1 (state_of result.0)
+            sink.old sink.new }
+    {
+        match self {
+            Phase::Header(header) => feed_header(header, piece, sink),
+            Phase::Lines(lines) => feed_lines(lines, piece, sink),
+        }
+    }
+
+    /// Ends the stream.
+    fn finish<S: LineSink>(&mut self, sink: &mut S) -> End
+        requires going { IsUnderWay self.old (state_of self.old).taken }
+        ensures finished { IsFinished S.takes S.leaves S.failures (state_of self.old) result (state_of self.new)
+            sink.old sink.new }
+    {
+        match self {
+            Phase::Header(header) => End::from(header.finish(sink)),
+            Phase::Lines(lines) => End::from(lines.finish(sink)),
+        }
+    }
+}
+
 /// Reads a stream once, within a bound, and puts its kept lines to a sink.
 ///
 /// After an end every call answers that end again, puts nothing and changes nothing.
 #[derive(Drop)]
 pub struct Engine<'q> {
-    framer: Framer<'q>,
+    /// Taken out while it is given a piece, since the reader of a header may become one of lines.
+    phase: Option<Phase<'q>>,
     taken: u64,
     ended: Option<End>,
 }
 
 impl<'q> Model for Engine<'q> {
     ghost use Rattle.std.specs.Prelude.{◌≡◌, ◌≤◌, ◌^◌, None};
-    ghost use Rattle.cj_stream.specs.Judging.{KeepsFirst};
-    ghost use Rattle.cj_stream.specs.Reading.{reading, IsSound};
-    ghost use Rattle.cj_stream.specs.Scanning.{scanning, HasRoom, IsReady};
     ghost use Rattle.cj_stream.specs.Engine.{EngineState};
+    ghost use Rattle.cj_stream.specs.Phase.{seen, IsHeld, GoesOn};
 
     ghost Value = { EngineState };
 
-    ghost view = { λ e. record { reading = reading e.framer; scanning = scanning e.framer; taken = e.taken; ended = e.ended } };
+    ghost view = { λ e. seen e.phase e.taken e.ended };
 
-    ghost invariant = { λ e. IsSound (reading e.framer) × HasRoom e.framer.limits (scanning e.framer)
-        × KeepsFirst (reading e.framer) (scanning e.framer) e.framer.parts × (e.ended ≡ None → e.framer.lines ≤ e.taken)
-        × (e.taken ≤ 2 ^ 60) × (e.ended ≡ None → IsReady (reading e.framer) (scanning e.framer)) };
+    ghost invariant = { λ e. IsHeld e.phase × (e.ended ≡ None → GoesOn e.phase e.taken) × (e.taken ≤ 2 ^ 60) };
 }
 
 impl<'q> Engine<'q> {
@@ -54,7 +90,7 @@ impl<'q> Engine<'q> {
             (λ e. StandsFor e [] × (rules_of e ≡ rules_for limits query.now) × (e.ended ≡ None) × (e.taken ≡ 0)) }
     {
         Ok(Engine {
-            framer: Framer::open(alloc, limits, query)?,
+            phase: Some(Phase::Header(HeaderReader::open(alloc, limits, query)?)),
             taken: 0,
             ended: None,
         })
@@ -67,35 +103,21 @@ impl<'q> Engine<'q> {
         // After an end, nothing changes.
         ensures again { (e : End) → self.old.ended ≡ Some e →
             (result ≡ Err e) × (self.new ≡ self.old) × (sink.new ≡ sink.old) }
-        ensures open { OnOk result (self.new.ended ≡ None) }
-        ensures ended { IfErr result (λ e. self.new.ended ≡ Some e) }
-
-        // The cause of a write fault is a failure of the sink in this call.
-        ensures counts { S.failures sink.old ≤ S.failures sink.new }
-        ensures cause { self.old.ended ≡ None → IsErrOf result End.WriteFault →
-            HasRisen (S.failures sink.old) (S.failures sink.new) }
-
-        // What the engine stands for, and what it may hold.
-        ensures rules { rules_of self.new ≡ rules_of self.old }
-        ensures stands { (p : List ℕ) → StandsFor self.old p → StandsFor self.new (given self.old p piece.now) }
-        ensures rises { IsBelow (peaks_of self.old) (peaks_of self.new) }
         ensures taken { OnOk result (self.new.taken ≡ self.old.taken + length piece.now) }
         ensures untaken { OnErr result (self.new.taken ≡ self.old.taken) }
 
-        // What the answer says of all bytes so far.
-        ensures going { OnOk result ((p : List ℕ) → StandsFor self.old p → Going self.new (p ++ piece.now)) }
-        ensures told { IfErr result (λ e. (p : List ℕ) → StandsFor self.old p → self.old.ended ≡ None →
-            Tells (rules_of self.old) (p ++ piece.now) (lines_of self.new) e) }
-        ensures memory { (p : List ℕ) → StandsFor self.old p → self.old.ended ≡ None → IsErrOf result End.Memory →
-            LacksMemory (rules_of self.old) (p ++ piece.now) (lines_of self.new) × (sink.new ≡ sink.old) }
-        ensures sink { (p : List ℕ) → StandsFor self.old p → self.old.ended ≡ None →
-            Delivers S.takes S.leaves (rules_of self.old) (p ++ piece.now)
-            (lines_of self.old) (lines_of self.new) sink.old sink.new self.new.ended }
+        // What the answer says of all bytes so far, and of the sink.
+        ensures feeds { Feeds S.takes S.leaves S.failures self.old piece.now result self.new sink.old sink.new }
     {
         if let Some(end) = self.ended {
             return Err(end);
         }
-        match self.framer.take_piece(piece, sink) {
+        let Some(phase) = self.phase.take() else {
+            unreachable!()
+        };
+        let (phase, answer) = phase.feed(piece, sink);
+        self.phase = Some(phase);
+        match answer {
             Ok(()) => {
                 self.taken += piece.len() as u64;
                 Ok(())
@@ -111,30 +133,16 @@ impl<'q> Engine<'q> {
     pub fn finish<S: LineSink>(&mut self, sink: &mut S) -> End
         ensures again { (e : End) → self.old.ended ≡ Some e →
             (result ≡ e) × (self.new ≡ self.old) × (sink.new ≡ sink.old) }
-        ensures ended { self.new.ended ≡ Some result }
-
-        ensures counts { S.failures sink.old ≤ S.failures sink.new }
-        ensures cause { self.old.ended ≡ None → result ≡ End.WriteFault →
-            HasRisen (S.failures sink.old) (S.failures sink.new) }
-
-        ensures rules { rules_of self.new ≡ rules_of self.old }
-        ensures stands { (p : List ℕ) → StandsFor self.old p → StandsFor self.new p }
-        ensures rises { IsBelow (peaks_of self.old) (peaks_of self.new) }
         ensures untaken { self.new.taken ≡ self.old.taken }
-
-        ensures answer { (p : List ℕ) → StandsFor self.old p → self.old.ended ≡ None →
-            Concludes (rules_of self.old) p (lines_of self.new) result }
-        ensures exact { (p : List ℕ) → StandsFor self.old p → self.old.ended ≡ None →
-            result ≡ End.Complete → peaks_of self.new ≡ exact_peaks (limits_of self.old) p }
-        ensures memory { self.old.ended ≡ None → result ≢ End.Memory }
-        ensures sink { (p : List ℕ) → StandsFor self.old p → self.old.ended ≡ None →
-            Delivers S.takes S.leaves (rules_of self.old) p
-            (lines_of self.old) (lines_of self.new) sink.old sink.new self.new.ended }
+        ensures finished { IsFinished S.takes S.leaves S.failures self.old result self.new sink.old sink.new }
     {
         if let Some(end) = self.ended {
             return end;
         }
-        let end = last_end(self.framer.finish(sink));
+        let Some(phase) = &mut self.phase else {
+            unreachable!()
+        };
+        let end = phase.finish(sink);
         self.ended = Some(end);
         end
     }
@@ -152,37 +160,84 @@ impl<'q> Engine<'q> {
     pub fn held(&self) -> Peaks
         ensures { result ≡ held_by self.now }
     {
-        self.framer.held()
+        match &self.phase {
+            Some(Phase::Header(header)) => header.held(),
+            Some(Phase::Lines(lines)) => lines.held(),
+            None => unreachable!(),
+        }
     }
 
     /// The most that was held.
     pub fn peaks(&self) -> Peaks
         ensures { result ≡ peaks_of self.now }
     {
-        self.framer.peaks()
+        match &self.phase {
+            Some(Phase::Header(header)) => header.peaks(),
+            Some(Phase::Lines(lines)) => lines.peaks(),
+            None => unreachable!(),
+        }
     }
 
     /// How many lines were dealt with: the header, features and blank lines.
     pub fn lines(&self) -> u64
         ensures { result ≡ lines_of self.now }
     {
-        self.framer.lines()
+        match &self.phase {
+            Some(Phase::Header(header)) => header.lines(),
+            Some(Phase::Lines(lines)) => lines.lines(),
+            None => unreachable!(),
+        }
     }
 
     /// How many features the sink took.
     pub fn kept(&self) -> u64
         ensures { result ≡ self.now.reading.kept }
     {
-        self.framer.kept()
+        match &self.phase {
+            Some(Phase::Header(header)) => header.kept(),
+            Some(Phase::Lines(lines)) => lines.kept(),
+            None => unreachable!(),
+        }
     }
 }
 
-/// The end of a stream, by what came of its last line.
-fn last_end(answer: Result<(), End>) -> End
-    ensures { result ≡ end_of answer }
+/// Gives a piece to the reader of a header, and the rest of a piece that makes the header accepted to the reader of
+/// lines that it becomes.
+fn feed_header<'q, S: LineSink>(
+    mut header: HeaderReader<'q>,
+    piece: &[u8],
+    sink: &mut S,
+) -> (Phase<'q>, Result<(), End>)
+    requires small { header.taken + length piece.now ≤ 2 ^ 60 }
+    requires going { header.ended ≡ None }
+    requires unaccepted { ¬ IsAccepted header }
+    ensures going { OnOk result.1 (IsUnderWay result.0 (header.entry.taken + length piece.now)) }
+    ensures feeds { Feeds S.takes S.leaves S.failures header.entry piece.now result.1 (state_of result.0)
+        sink.old sink.new }
 {
-    match answer {
-        Ok(()) => End::Complete,
-        Err(end) => end,
+    let used = match header.feed(piece, sink) {
+        Err(end) => return (Phase::Header(header), Err(End::from(end))),
+        Ok(progress) if !progress.accepted => return (Phase::Header(header), Ok(())),
+        Ok(progress) => progress.used,
+    };
+    feed_lines(header.into_lines(), &piece[used..], sink)
+}
+
+/// Gives a piece to the reader of lines.
+fn feed_lines<'q, S: LineSink>(
+    mut lines: LineReader<'q>,
+    piece: &[u8],
+    sink: &mut S,
+) -> (Phase<'q>, Result<(), End>)
+    requires small { lines.taken + length piece.now ≤ 2 ^ 60 }
+    requires going { lines.ended ≡ None }
+    ensures going { OnOk result.1 (IsUnderWay result.0 (lines.entry.taken + length piece.now)) }
+    ensures feeds { Feeds S.takes S.leaves S.failures lines.entry piece.now result.1 (state_of result.0)
+        sink.old sink.new }
+    ensures granted { result.1 ≢ Err End.Memory }
+{
+    match lines.feed(piece, sink) {
+        Ok(()) => (Phase::Lines(lines), Ok(())),
+        Err(end) => (Phase::Lines(lines), Err(End::from(end))),
     }
 }

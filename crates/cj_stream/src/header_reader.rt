@@ -4,14 +4,12 @@
 //! header is valid and its LF has come, before the sink gets it. Then it is accepted, and turns into a
 //! [`LineReader`], to which memory is never refused. What both stand for is told by one record (`EngineState`), and
 //! their ends are seen as ends of a stream, so all that an engine promises is said of them in the same words.
-ghost use Rattle.std.specs.Prelude.{◌≡◌, ◌≢◌, ◌+◌, ◌^◌, ◌≤◌, ◌↔◌, ℕ, List, [], ◌++◌, length, take, OnOk, OnErr, IfOk, IfErr, IsErrOf, IsTrue, Some, None, Err};
-ghost use Rattle.cj_stream.specs.Bound.{IsBelow, exact_peaks};
+ghost use Rattle.std.specs.Prelude.{◌≡◌, ◌+◌, ◌^◌, ◌≤◌, ◌↔◌, [], length, take, OnErr, IfOk, IsTrue, MatchResult, Some, None, Ok, Err};
 ghost use Rattle.cj_stream.specs.Ending.{header_end, IsAccepted};
+ghost use Rattle.cj_stream.specs.Feeding.{Feeds, IsFinished};
 ghost use Rattle.cj_stream.specs.Front.{IsFront};
 ghost use Rattle.cj_stream.specs.Query.{rules_for};
-ghost use Rattle.cj_stream.specs.Reading.{LacksMemory};
-ghost use Rattle.cj_stream.specs.Sink.{HasRisen};
-ghost use Rattle.cj_stream.specs.Engine.{StandsFor, IsRefusedRoom, given, rules_of, limits_of, lines_of, held_by, peaks_of, Delivers, Going, Tells, Concludes};
+ghost use Rattle.cj_stream.specs.Engine.{StandsFor, rules_of, lines_of, held_by, peaks_of};
 
 use crate::ending::HeaderEnd;
 use crate::framer::Framer;
@@ -85,13 +83,6 @@ impl<'q> HeaderReader<'q> {
         // After an end, nothing changes.
         ensures again { (e : HeaderEnd) → self.old.ended ≡ Some (header_end e) →
             (result ≡ Err e) × (self.new ≡ self.old) × (sink.new ≡ sink.old) }
-        ensures open { OnOk result (self.new.ended ≡ None) }
-        ensures ended { IfErr result (λ e. self.new.ended ≡ Some (header_end e)) }
-
-        // The cause of a write fault is a failure of the sink in this call.
-        ensures counts { S.failures sink.old ≤ S.failures sink.new }
-        ensures cause { self.old.ended ≡ None → IsErrOf result HeaderEnd.WriteFault →
-            HasRisen (S.failures sink.old) (S.failures sink.new) }
 
         // What is used of the piece, and whether the header was accepted by that.
         ensures used { IfOk result (λ t. IsFront piece.now t) }
@@ -99,28 +90,12 @@ impl<'q> HeaderReader<'q> {
         ensures taken { IfOk result (λ t. self.new.taken ≡ self.old.taken + t.used) }
         ensures untaken { OnErr result (self.new.taken ≡ self.old.taken) }
 
-        // What the reader stands for, and what it may hold.
-        ensures rules { rules_of self.new ≡ rules_of self.old }
-        ensures stands { IfOk result (λ t.
-            (p : List ℕ) → StandsFor self.old p → StandsFor self.new (p ++ take t.used piece.now)) }
-        ensures stopped { OnErr result
-            ((p : List ℕ) → StandsFor self.old p → StandsFor self.new (given self.old p piece.now)) }
-        ensures rises { IsBelow (peaks_of self.old) (peaks_of self.new) }
-
-        // What the answer says of all bytes so far.
-        ensures going { IfOk result (λ t.
-            (p : List ℕ) → StandsFor self.old p → Going self.new (p ++ take t.used piece.now)) }
-        ensures told { IfErr result (λ e. (p : List ℕ) → StandsFor self.old p → self.old.ended ≡ None →
-            Tells (rules_of self.old) (p ++ piece.now) (lines_of self.new) (header_end e)) }
-        ensures memory { (p : List ℕ) → StandsFor self.old p → self.old.ended ≡ None → IsErrOf result HeaderEnd.Memory →
-            LacksMemory (rules_of self.old) (p ++ piece.now) (lines_of self.new) × (sink.new ≡ sink.old) }
-        ensures room { self.old.ended ≡ None → IsErrOf result HeaderEnd.Memory → IsRefusedRoom self.old self.new }
-        ensures sink { IfOk result (λ t. (p : List ℕ) → StandsFor self.old p →
-            Delivers S.takes S.leaves (rules_of self.old) (p ++ take t.used piece.now)
-            (lines_of self.old) (lines_of self.new) sink.old sink.new None) }
-        ensures sink_stopped { IfErr result (λ e. (p : List ℕ) → StandsFor self.old p → self.old.ended ≡ None →
-            Delivers S.takes S.leaves (rules_of self.old) (p ++ piece.now)
-            (lines_of self.old) (lines_of self.new) sink.old sink.new (Some (header_end e))) }
+        // What the answer says of all bytes so far, and of the sink: of those that were used, or of the whole piece
+        // where it ended in them.
+        ensures feeds { MatchResult result
+            (λ t. Feeds S.takes S.leaves S.failures self.old (take t.used piece.now) (Ok tt) self.new sink.old sink.new)
+            (λ e. Feeds S.takes S.leaves S.failures self.old piece.now (Err (header_end e)) self.new
+            sink.old sink.new) }
     {
         if let Some(end) = self.ended {
             return Err(end);
@@ -143,25 +118,9 @@ impl<'q> HeaderReader<'q> {
         requires unaccepted { ¬ IsAccepted self.old }
         ensures again { (e : HeaderEnd) → self.old.ended ≡ Some (header_end e) →
             (result ≡ e) × (self.new ≡ self.old) × (sink.new ≡ sink.old) }
-        ensures ended { self.new.ended ≡ Some (header_end result) }
-
-        ensures counts { S.failures sink.old ≤ S.failures sink.new }
-        ensures cause { self.old.ended ≡ None → result ≡ HeaderEnd.WriteFault →
-            HasRisen (S.failures sink.old) (S.failures sink.new) }
-
-        ensures rules { rules_of self.new ≡ rules_of self.old }
-        ensures stands { (p : List ℕ) → StandsFor self.old p → StandsFor self.new p }
-        ensures rises { IsBelow (peaks_of self.old) (peaks_of self.new) }
         ensures untaken { self.new.taken ≡ self.old.taken }
-
-        ensures answer { (p : List ℕ) → StandsFor self.old p → self.old.ended ≡ None →
-            Concludes (rules_of self.old) p (lines_of self.new) (header_end result) }
-        ensures exact { (p : List ℕ) → StandsFor self.old p → self.old.ended ≡ None →
-            result ≡ HeaderEnd.Complete → peaks_of self.new ≡ exact_peaks (limits_of self.old) p }
-        ensures memory { self.old.ended ≡ None → result ≢ HeaderEnd.Memory }
-        ensures sink { (p : List ℕ) → StandsFor self.old p → self.old.ended ≡ None →
-            Delivers S.takes S.leaves (rules_of self.old) p
-            (lines_of self.old) (lines_of self.new) sink.old sink.new self.new.ended }
+        ensures finished { IsFinished S.takes S.leaves S.failures self.old (header_end result) self.new
+            sink.old sink.new }
     {
         if let Some(end) = self.ended {
             return end;

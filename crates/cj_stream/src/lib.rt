@@ -24,10 +24,12 @@
 //! - `running`: a whole run, from a reader to a sink ([`run`]), also within a number of reads ([`run_within`]), with the
 //!   reader's faults in `source`;
 //! - `pieces`: the same of a stream that comes in pieces ([`put_pieces`]), and the promise of the whole ([`headline`]);
+//!   `line_pieces`: both of what comes after a header ([`put_lines`], [`headline_of_lines`]);
 //! - `sink`: what a sink is ([`LineSink`]), one that ignores and one that counts; `output`: the one that writes
 //!   ([`Output`]); `tally`: the one that tallies ([`TallySink`]);
 //! - `query`: what is asked of features ([`Query`]);
-//! - `engine`: the stream so far ([`Engine`]), and `ending`: how it ended ([`End`]);
+//! - `engine`: the stream so far ([`Engine`]), in one of its two states, `header_reader` ([`HeaderReader`]) and
+//!   `line_reader` ([`LineReader`]); `ending`: how it ended ([`End`]);
 //! - `framer`: the lists, and each line cut and dealt with; `judge`: what a line is as a text;
 //! - [`laws`]: what follows of what a sink took, and of the definitions; [`row_laws`]: these on worked rows.
 //!
@@ -40,6 +42,7 @@ mod framer;
 mod header_reader;
 mod judge;
 pub mod laws;
+mod line_pieces;
 mod line_reader;
 mod output;
 mod pieces;
@@ -59,6 +62,7 @@ pub use cj_spans::{Node, Reason};
 pub use ending::{End, HeaderEnd, LineEnd};
 pub use engine::Engine;
 pub use header_reader::{HeaderReader, Progress};
+pub use line_pieces::{LinesOutcome, headline_of_lines, put_lines};
 pub use line_reader::LineReader;
 pub use output::{Output, WriteFault, WriteSink};
 pub use pieces::{PiecesOutcome, headline, put_pieces};

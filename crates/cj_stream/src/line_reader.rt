@@ -3,14 +3,13 @@
 //! [`crate::HeaderReader::into_lines`] makes it of an accepted header. The lists that a line goes into have their
 //! room reserved, which is a part of what always holds of it, so none of its calls asks for memory, and its end has
 //! no variant for that.
-ghost use Rattle.std.specs.Prelude.{◌≡◌, ◌+◌, ◌^◌, ◌≤◌, ◌<◌, ℕ, List, ◌++◌, length, OnOk, OnErr, IfErr, IsErrOf, IsTrue, Some, None, Err};
-ghost use Rattle.cj_stream.specs.Bound.{IsBelow, exact_peaks};
+ghost use Rattle.std.specs.Prelude.{◌≡◌, ◌+◌, ◌^◌, ◌≤◌, ◌<◌, length, OnOk, OnErr, MatchResult, Some, None, Ok, Err};
 ghost use Rattle.cj_stream.specs.Ending.{line_end};
+ghost use Rattle.cj_stream.specs.Feeding.{Feeds, IsFinished};
 ghost use Rattle.cj_stream.specs.Judging.{KeepsFirst};
 ghost use Rattle.cj_stream.specs.Reading.{reading, IsSound};
 ghost use Rattle.cj_stream.specs.Scanning.{scanning, HasRoom, IsReady};
-ghost use Rattle.cj_stream.specs.Sink.{HasRisen};
-ghost use Rattle.cj_stream.specs.Engine.{EngineState, StandsFor, given, rules_of, limits_of, lines_of, held_by, peaks_of, Delivers, Going, Tells, Concludes};
+ghost use Rattle.cj_stream.specs.Engine.{EngineState, lines_of, held_by, peaks_of};
 
 use crate::ending::LineEnd;
 use crate::framer::Framer;
@@ -77,29 +76,14 @@ impl<'q> LineReader<'q> {
         // After an end, nothing changes.
         ensures again { (e : LineEnd) → self.old.ended ≡ Some (line_end e) →
             (result ≡ Err e) × (self.new ≡ self.old) × (sink.new ≡ sink.old) }
-        ensures open { OnOk result (self.new.ended ≡ None) }
-        ensures ended { IfErr result (λ e. self.new.ended ≡ Some (line_end e)) }
-
-        // The cause of a write fault is a failure of the sink in this call.
-        ensures counts { S.failures sink.old ≤ S.failures sink.new }
-        ensures cause { self.old.ended ≡ None → IsErrOf result LineEnd.WriteFault →
-            HasRisen (S.failures sink.old) (S.failures sink.new) }
-
-        // What the reader stands for, and what it may hold.
-        ensures rules { rules_of self.new ≡ rules_of self.old }
-        ensures stands { (p : List ℕ) → StandsFor self.old p → StandsFor self.new (given self.old p piece.now) }
-        ensures rises { IsBelow (peaks_of self.old) (peaks_of self.new) }
         ensures taken { OnOk result (self.new.taken ≡ self.old.taken + length piece.now) }
         ensures untaken { OnErr result (self.new.taken ≡ self.old.taken) }
         ensures reserved { IsReady self.new.reading self.new.scanning × (0 < lines_of self.new) }
 
-        // What the answer says of all bytes so far.
-        ensures going { OnOk result ((p : List ℕ) → StandsFor self.old p → Going self.new (p ++ piece.now)) }
-        ensures told { IfErr result (λ e. (p : List ℕ) → StandsFor self.old p → self.old.ended ≡ None →
-            Tells (rules_of self.old) (p ++ piece.now) (lines_of self.new) (line_end e)) }
-        ensures sink { (p : List ℕ) → StandsFor self.old p → self.old.ended ≡ None →
-            Delivers S.takes S.leaves (rules_of self.old) (p ++ piece.now)
-            (lines_of self.old) (lines_of self.new) sink.old sink.new self.new.ended }
+        // What the answer says of all bytes so far, and of the sink.
+        ensures feeds { MatchResult result
+            (λ _. Feeds S.takes S.leaves S.failures self.old piece.now (Ok tt) self.new sink.old sink.new)
+            (λ e. Feeds S.takes S.leaves S.failures self.old piece.now (Err (line_end e)) self.new sink.old sink.new) }
     {
         if let Some(end) = self.ended {
             return Err(end);
@@ -121,25 +105,10 @@ impl<'q> LineReader<'q> {
     pub fn finish<S: LineSink>(&mut self, sink: &mut S) -> LineEnd
         ensures again { (e : LineEnd) → self.old.ended ≡ Some (line_end e) →
             (result ≡ e) × (self.new ≡ self.old) × (sink.new ≡ sink.old) }
-        ensures ended { self.new.ended ≡ Some (line_end result) }
-
-        ensures counts { S.failures sink.old ≤ S.failures sink.new }
-        ensures cause { self.old.ended ≡ None → result ≡ LineEnd.WriteFault →
-            HasRisen (S.failures sink.old) (S.failures sink.new) }
-
-        ensures rules { rules_of self.new ≡ rules_of self.old }
-        ensures stands { (p : List ℕ) → StandsFor self.old p → StandsFor self.new p }
-        ensures rises { IsBelow (peaks_of self.old) (peaks_of self.new) }
         ensures untaken { self.new.taken ≡ self.old.taken }
         ensures reserved { IsReady self.new.reading self.new.scanning × (0 < lines_of self.new) }
-
-        ensures answer { (p : List ℕ) → StandsFor self.old p → self.old.ended ≡ None →
-            Concludes (rules_of self.old) p (lines_of self.new) (line_end result) }
-        ensures exact { (p : List ℕ) → StandsFor self.old p → self.old.ended ≡ None →
-            result ≡ LineEnd.Complete → peaks_of self.new ≡ exact_peaks (limits_of self.old) p }
-        ensures sink { (p : List ℕ) → StandsFor self.old p → self.old.ended ≡ None →
-            Delivers S.takes S.leaves (rules_of self.old) p
-            (lines_of self.old) (lines_of self.new) sink.old sink.new self.new.ended }
+        ensures finished { IsFinished S.takes S.leaves S.failures self.old (line_end result) self.new
+            sink.old sink.new }
     {
         if let Some(end) = self.ended {
             return end;

@@ -64,7 +64,7 @@ fn has_lod_alone(lods: &[String], feature: &Feature, header: &Header) -> bool
     false
 }
 
-/// The same, with what is kept of earlier look-ups. It takes 12 KiB of the stack, and some time for that.
+/// The same, with what is kept of earlier look-ups. It takes some 8 KiB of the stack, and some time for that.
 #[inline(never)]
 fn has_lod_together(lods: &[String], feature: &Feature, header: &Header) -> bool
     ensures { result ≡ lod_holds (map string_bytes lods.now) (header_tree header.now) (feature_tree feature.now) }

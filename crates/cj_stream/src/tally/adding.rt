@@ -53,7 +53,7 @@ fn count_alone(counts: &mut [u64; CLASSES], feature: &Feature)
     }
 }
 
-/// The same, with what is kept of earlier look-ups. It takes 12 KiB of the stack, and some time for that.
+/// The same, with what is kept of earlier look-ups. It takes some 8 KiB of the stack, and some time for that.
 #[inline(never)]
 fn count_together(counts: &mut [u64; CLASSES], feature: &Feature)
     ensures { RisesBy CLASSES counts.old (lod_classes (feature_header feature.now) (feature_tree feature.now)) counts.new }

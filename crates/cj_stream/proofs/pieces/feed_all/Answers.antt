@@ -22,18 +22,18 @@ returns-in-Err-clause-fed g c =
     let piece = get_or c.args.pieces.now c.loop-taken.taken (record { ref_ptr = (0, 0); now = [] }) in
     let r = joined (take k (map (λ piece. piece.now) c.args.pieces.now)) in
     let more = joined-more (λ piece. piece.now) c.args.pieces.now k (record { ref_ptr = (0, 0); now = [] }) (omega arith) in
-    let stands = c.feed.ensures.stands r i.2 in
-    let told = c.in-Err.ensures.told r i.2 i.0 in
+    let stands = c.feed.ensures.feeds.stands r i.2 in
+    let told = c.in-Err.ensures.feeds.told r i.2 i.0 in
     record {
-      under = c.feed.ensures.rules ∙ i.1;
-      ended = c.in-Err.ensures.ended;
+      under = c.feed.ensures.feeds.rules ∙ i.1;
+      ended = c.in-Err.ensures.feeds.ended;
       few = omega (arith, length-map c.args.pieces.now (λ piece. piece.now));
       good = i.5;
       at = EndsAt-told _ pieces k (lines_of c.feed.new.self) c.in-Err.ended (rw more (rw i.1 at told));
       peaks = c.peaks.ensures;
       held = rw c.peaks.ensures stands.held;
-      bounded = rw (more, c.peaks.ensures) (let x = stands.bounded in rw (i.0, c.feed.ensures.rules, i.1) at x);
-      exact = λ h. absurd (told-not_complete (rules_of c.loop-taken.engine) (r ++ piece.now) (lines_of c.feed.new.self) c.in-Err.ended (c.in-Err.ensures.told r i.2 i.0) h);
+      bounded = rw (more, c.peaks.ensures) (let x = stands.bounded in rw (i.0, c.feed.ensures.feeds.rules, i.1) at x);
+      exact = λ h. absurd (told-not_complete (rules_of c.loop-taken.engine) (r ++ piece.now) (lines_of c.feed.new.self) c.in-Err.ended (c.in-Err.ensures.feeds.told r i.2 i.0) h);
     }
 
 pub returns-in-Err-clause-runs : goal.returns-in-Err-clause-runs
@@ -43,16 +43,16 @@ returns-in-Err-clause-runs g c =
     let piece = get_or c.args.pieces.now c.loop-taken.taken (record { ref_ptr = (0, 0); now = [] }) in
     let r = joined (take k (map (λ piece. piece.now) c.args.pieces.now)) in
     let more = joined-more (λ piece. piece.now) c.args.pieces.now k (record { ref_ptr = (0, 0); now = [] }) (omega arith) in
-    let stands = c.feed.ensures.stands r i.2 in
+    let stands = c.feed.ensures.feeds.stands r i.2 in
     rw more (Runs-told g.S.LineSink.takes g.S.LineSink.leaves (record { rules = rules_of c.args.engine.now; read = r ++ piece.now; outcome = outcome_of c.feed.new.self c.in-Err.ended }) _ c.args.sink.now c.feed.new.sink
     (record {
-      bounded = let x = stands.bounded in rw (i.0, c.feed.ensures.rules, i.1) at x;
-      exact = λ h. absurd (told-not_complete (rules_of c.loop-taken.engine) (r ++ piece.now) (lines_of c.feed.new.self) c.in-Err.ended (c.in-Err.ensures.told r i.2 i.0) h);
-      counts = let x = stands.counts in rw (i.0, c.feed.ensures.rules, i.1) at x;
-      ends = Ends-fed _ (r ++ piece.now) _ _ c.in-Err.ended (let x = c.in-Err.ensures.told r i.2 i.0 in rw i.1 at x);
+      bounded = let x = stands.bounded in rw (i.0, c.feed.ensures.feeds.rules, i.1) at x;
+      exact = λ h. absurd (told-not_complete (rules_of c.loop-taken.engine) (r ++ piece.now) (lines_of c.feed.new.self) c.in-Err.ended (c.in-Err.ensures.feeds.told r i.2 i.0) h);
+      counts = let x = stands.counts in rw (i.0, c.feed.ensures.feeds.rules, i.1) at x;
+      ends = Ends-fed _ (r ++ piece.now) _ _ c.in-Err.ended (let x = c.in-Err.ensures.feeds.told r i.2 i.0 in rw i.1 at x);
     })
-    (let x = c.feed.ensures.sink r i.2 i.0 in
-    let y = rw (i.1, c.in-Err.ensures.ended) at x in
+    (let x = c.feed.ensures.feeds.sink r i.2 i.0 in
+    let y = rw (i.1, c.in-Err.ensures.feeds.ended) at x in
     Delivers-then g.S.LineSink.takes g.S.LineSink.leaves _ r (r ++ piece.now) _ _ _ _ _ _ (kept_first-same _ (lines_of c.loop-taken.engine) r piece.now (i.2.going i.0).0.lines) i.3 y))
 
 pub returns-in-Err-clause-taken : goal.returns-in-Err-clause-taken
@@ -62,12 +62,12 @@ returns-in-Err-clause-taken g c =
     let piece = get_or c.args.pieces.now c.loop-taken.taken (record { ref_ptr = (0, 0); now = [] }) in
     let r = joined (take k (map (λ piece. piece.now) c.args.pieces.now)) in
     let more = joined-more (λ piece. piece.now) c.args.pieces.now k (record { ref_ptr = (0, 0); now = [] }) (omega arith) in
-    let x = c.feed.ensures.sink r i.2 i.0 in
-    let y = rw (i.1, c.in-Err.ensures.ended) at x in
+    let x = c.feed.ensures.feeds.sink r i.2 i.0 in
+    let y = rw (i.1, c.in-Err.ensures.feeds.ended) at x in
     TookWhole-left g.S.LineSink.takes g.S.LineSink.leaves c.loop-taken.engine (rules_of c.args.engine.now) (map (λ piece. piece.now) c.args.pieces.now) k (lines_of c.feed.new.self) c.args.sink.now c.loop-taken.sink c.feed.new.sink c.in-Err.ended i.1 (i.2.going i.0).0 i.3 (rw more y)
 
 pub returns-in-Err-clause-cause : goal.returns-in-Err-clause-cause
-returns-in-Err-clause-cause g c = λ e. HasRisen-after _ _ _ c.loop-taken.invariant.4 (c.feed.ensures.cause c.loop-taken.invariant.0 (c.in-Err.is ∙ ap Err e))
+returns-in-Err-clause-cause g c = λ e. HasRisen-after _ _ _ c.loop-taken.invariant.4 (c.feed.ensures.feeds.cause c.loop-taken.invariant.0 (c.in-Err.is ∙ ap Err e))
 
 pub loop-taken-preserved : goal.loop-taken-preserved
 loop-taken-preserved g c =
@@ -76,14 +76,14 @@ loop-taken-preserved g c =
     let piece = get_or c.args.pieces.now c.loop-taken.taken (record { ref_ptr = (0, 0); now = [] }) in
     let r = joined (take k (map (λ piece. piece.now) c.args.pieces.now)) in
     let more = joined-more (λ piece. piece.now) c.args.pieces.now k (record { ref_ptr = (0, 0); now = [] }) (omega arith) in (
-      c.in_default.ensures.open,
-      c.feed.ensures.rules ∙ i.1,
-      let x = c.feed.ensures.stands r i.2 in rw more (rw i.0 at x),
-      let x = c.feed.ensures.sink r i.2 i.0 in
-          let y = rw (i.1, c.in_default.ensures.open) at x in
+      c.in_default.ensures.feeds.unended,
+      c.feed.ensures.feeds.rules ∙ i.1,
+      let x = c.feed.ensures.feeds.stands r i.2 in rw more (rw i.0 at x),
+      let x = c.feed.ensures.feeds.sink r i.2 i.0 in
+          let y = rw (i.1, c.in_default.ensures.feeds.unended) at x in
           rw more (Delivers-then g.S.LineSink.takes g.S.LineSink.leaves _ r (r ++ piece.now) _ _ _ _ _ _ (kept_first-same _ (lines_of c.loop-taken.engine) r piece.now (i.2.going i.0).0.lines) i.3 y),
-      omega (arith, i.4, c.feed.ensures.counts),
-      let x = (c.in_default.ensures.going r i.2).good in rw more (rw (c.feed.ensures.rules, i.1) at x),
+      omega (arith, i.4, c.feed.ensures.feeds.counts),
+      let x = (c.in_default.ensures.feeds.going r i.2).good in rw more (rw (c.feed.ensures.feeds.rules, i.1) at x),
     )
 
 pub returns-clause-fed : goal.returns-clause-fed
@@ -97,18 +97,18 @@ returns-clause-fed g c =
     let whole = joined-all (length c.args.pieces.now) pieces (omega (arith, length-map c.args.pieces.now (λ piece. piece.now))) in
     let same : joined (take (length c.args.pieces.now + 1) (map (λ piece. piece.now) c.args.pieces.now)) ≡ joined (take k (map (λ piece. piece.now) c.args.pieces.now)) = given ∙ sym all in
     let taken : joined (take (length c.args.pieces.now) (map (λ piece. piece.now) c.args.pieces.now)) ≡ joined (take k (map (λ piece. piece.now) c.args.pieces.now)) = whole ∙ sym all in
-    let stands = c.finish-ended.ensures.stands r i.2 in
-    let answer = c.finish-ended.ensures.answer r i.2 i.0 in
+    let stands = c.finish-ended.ensures.finished.stands r i.2 in
+    let answer = c.finish-ended.ensures.finished.concludes r i.2 i.0 in
     record {
-      under = c.finish-ended.ensures.rules ∙ i.1;
-      ended = c.finish-ended.ensures.ended;
+      under = c.finish-ended.ensures.finished.rules ∙ i.1;
+      ended = c.finish-ended.ensures.finished.ended;
       few = omega (arith, length-map c.args.pieces.now (λ piece. piece.now));
       good = rw taken i.5;
       at = EndsAt-concludes _ pieces (length c.args.pieces.now) r (lines_of c.finish-ended.new.self) c.finish-ended.result (omega (arith, length-map c.args.pieces.now (λ piece. piece.now))) (rw i.1 at answer);
       peaks = c.peaks-2.ensures;
       held = rw c.peaks-2.ensures stands.held;
-      bounded = rw (same, c.peaks-2.ensures) (let x = stands.bounded in rw (c.finish-ended.ensures.rules, i.1) at x);
-      exact = λ h. let x = c.finish-ended.ensures.exact r i.2 i.0 h in rw (c.peaks-2.ensures, ← all) (rw i.1 at x);
+      bounded = rw (same, c.peaks-2.ensures) (let x = stands.bounded in rw (c.finish-ended.ensures.finished.rules, i.1) at x);
+      exact = λ h. let x = c.finish-ended.ensures.finished.exact r i.2 i.0 h in rw (c.peaks-2.ensures, ← all) (rw i.1 at x);
     }
 
 pub returns-clause-runs : goal.returns-clause-runs
@@ -120,16 +120,16 @@ returns-clause-runs g c =
     let all = joined-all k pieces (omega (arith, length-map c.args.pieces.now (λ piece. piece.now))) in
     let given = joined-all (length c.args.pieces.now + 1) pieces (omega (arith, length-map c.args.pieces.now (λ piece. piece.now))) in
     let same : joined (take (length c.args.pieces.now + 1) (map (λ piece. piece.now) c.args.pieces.now)) ≡ joined (take k (map (λ piece. piece.now) c.args.pieces.now)) = given ∙ sym all in
-    let stands = c.finish-ended.ensures.stands r i.2 in
+    let stands = c.finish-ended.ensures.finished.stands r i.2 in
     rw same (Runs-told g.S.LineSink.takes g.S.LineSink.leaves (record { rules = rules_of c.args.engine.now; read = r; outcome = outcome_of c.finish-ended.new.self c.finish-ended.result }) _ c.args.sink.now c.finish-ended.new.sink
     (record {
-      bounded = let x = stands.bounded in rw (c.finish-ended.ensures.rules, i.1) at x;
-      exact = λ h. let x = c.finish-ended.ensures.exact r i.2 i.0 h in rw i.1 at x;
-      counts = let x = stands.counts in rw (c.finish-ended.ensures.rules, i.1) at x;
-      ends = Ends-finished _ r _ _ c.finish-ended.result all (let x = c.finish-ended.ensures.answer r i.2 i.0 in rw i.1 at x);
+      bounded = let x = stands.bounded in rw (c.finish-ended.ensures.finished.rules, i.1) at x;
+      exact = λ h. let x = c.finish-ended.ensures.finished.exact r i.2 i.0 h in rw i.1 at x;
+      counts = let x = stands.counts in rw (c.finish-ended.ensures.finished.rules, i.1) at x;
+      ends = Ends-finished _ r _ _ c.finish-ended.result all (let x = c.finish-ended.ensures.finished.concludes r i.2 i.0 in rw i.1 at x);
     })
-    (let x = c.finish-ended.ensures.sink r i.2 i.0 in
-    let y = rw (i.1, c.finish-ended.ensures.ended) at x in
+    (let x = c.finish-ended.ensures.finished.sink r i.2 i.0 in
+    let y = rw (i.1, c.finish-ended.ensures.finished.ended) at x in
     Delivers-then g.S.LineSink.takes g.S.LineSink.leaves _ r r _ _ _ _ _ _ refl i.3 y))
 
 pub returns-clause-taken : goal.returns-clause-taken
@@ -143,19 +143,19 @@ returns-clause-taken g c =
     let whole = joined-all (length c.args.pieces.now) pieces (omega (arith, length-map c.args.pieces.now (λ piece. piece.now))) in
     let same : joined (take (length c.args.pieces.now + 1) (map (λ piece. piece.now) c.args.pieces.now)) ≡ joined (take k (map (λ piece. piece.now) c.args.pieces.now)) = given ∙ sym all in
     let taken : joined (take (length c.args.pieces.now) (map (λ piece. piece.now) c.args.pieces.now)) ≡ joined (take k (map (λ piece. piece.now) c.args.pieces.now)) = whole ∙ sym all in
-    let x = c.finish-ended.ensures.sink r i.2 i.0 in
-    let y = rw (i.1, c.finish-ended.ensures.ended) at x in
+    let x = c.finish-ended.ensures.finished.sink r i.2 i.0 in
+    let y = rw (i.1, c.finish-ended.ensures.finished.ended) at x in
     TookWhole-left g.S.LineSink.takes g.S.LineSink.leaves c.loop-taken.engine (rules_of c.args.engine.now) (map (λ piece. piece.now) c.args.pieces.now) (length c.args.pieces.now) (lines_of c.finish-ended.new.self) c.args.sink.now c.loop-taken.sink c.finish-ended.new.sink c.finish-ended.result i.1 (rw taken (i.2.going i.0).0) (rw taken i.3) (rw same y)
 
 pub returns-clause-cause : goal.returns-clause-cause
-returns-clause-cause g c = λ e. HasRisen-after _ _ _ c.loop-taken.invariant.4 (c.finish-ended.ensures.cause c.loop-taken.invariant.0 e)
+returns-clause-cause g c = λ e. HasRisen-after _ _ _ c.loop-taken.invariant.4 (c.finish-ended.ensures.finished.cause c.loop-taken.invariant.0 e)
 
 -- memory is refused before any line was dealt with
 pub returns-in-Err-clause-memory : goal.returns-in-Err-clause-memory
 returns-in-Err-clause-memory g c = λ refused.
     let i = c.loop-taken.invariant in
-    let none = (c.feed.ensures.memory (joined (take c.loop-taken.taken (map (λ piece. piece.now) c.args.pieces.now))) i.2 i.0 (c.in-Err.is ∙ ap Err refused)).0.none in
+    let none = (c.feed.ensures.feeds.memory (joined (take c.loop-taken.taken (map (λ piece. piece.now) c.args.pieces.now))) i.2 i.0 (c.in-Err.is ∙ ap Err refused)).0.none in
     (none, refused-sink g.S.LineSink.takes g.S.LineSink.leaves _ _ _ _ _ _ refused none (returns-in-Err-clause-runs g c).sink)
 
 pub returns-clause-memory : goal.returns-clause-memory
-returns-clause-memory g c = λ refused. absurd (c.finish-ended.ensures.memory c.loop-taken.invariant.0 refused)
+returns-clause-memory g c = λ refused. absurd (c.finish-ended.ensures.finished.memory c.loop-taken.invariant.0 refused)

@@ -25,24 +25,24 @@ pub returns-in-Ok-eq0-clause-runs : goal.returns-in-Ok-eq0-clause-runs
 returns-in-Ok-eq0-clause-runs g c =
     let i = c.loop-i.invariant in
     let r = i.5.0 in
-    let stands = c.finish.ensures.stands r i.5.2 in (
+    let stands = c.finish.ensures.finished.stands r i.5.2 in (
       r,
       let k = Consumes-then _ _ _ r (take c.in-Ok-eq0.field-0 c.read.new.buffer) i.5.1 c.in-Ok-eq0.ensures.bytes.0 in rw (c.in-Ok-eq0.field-0-test, append-nil r) at k,
-      record { giving = c.loop-i._i; gave = Gave-finished _ _ c.finish.result (omega arith) (unread-concludes _ r _ c.finish.result (c.finish.ensures.answer r i.5.2 i.2)); least = i.5.4; most = omega (arith, i.1, (i.5.2.going i.2).2) },
+      record { giving = c.loop-i._i; gave = Gave-finished _ _ c.finish.result (omega arith) (unread-concludes _ r _ c.finish.result (c.finish.ensures.finished.concludes r i.5.2 i.2)); least = i.5.4; most = omega (arith, i.1, (i.5.2.going i.2).2) },
       Runs-told g.S.LineSink.takes g.S.LineSink.leaves (record { rules = rules_of c.args.engine.now; read = r; outcome = outcome_of c.finish.new.self c.finish.result }) _ c.args.sink.now c.finish.new.sink
           (record {
-            bounded = let k = stands.bounded in rw (c.finish.ensures.rules, i.3) at k;
-            exact = λ h. let k = c.finish.ensures.exact r i.5.2 i.2 h in rw i.3 at k;
-            counts = let k = stands.counts in rw (c.finish.ensures.rules, i.3) at k;
-            ends = Ends-finished _ r _ _ c.finish.result (c.in-Ok-eq0.ensures.bytes.1 c.in-Ok-eq0.field-0-test (omega (arith, c.read.auto.buffer, i.0))) (let k = c.finish.ensures.answer r i.5.2 i.2 in rw i.3 at k);
+            bounded = let k = stands.bounded in rw (c.finish.ensures.finished.rules, i.3) at k;
+            exact = λ h. let k = c.finish.ensures.finished.exact r i.5.2 i.2 h in rw i.3 at k;
+            counts = let k = stands.counts in rw (c.finish.ensures.finished.rules, i.3) at k;
+            ends = Ends-finished _ r _ _ c.finish.result (c.in-Ok-eq0.ensures.bytes.1 c.in-Ok-eq0.field-0-test (omega (arith, c.read.auto.buffer, i.0))) (let k = c.finish.ensures.finished.concludes r i.5.2 i.2 in rw i.3 at k);
           })
-          (let k = c.finish.ensures.sink r i.5.2 i.2 in
-          let j = rw (i.3, c.finish.ensures.ended) at k in
+          (let k = c.finish.ensures.finished.sink r i.5.2 i.2 in
+          let j = rw (i.3, c.finish.ensures.finished.ended) at k in
           Delivers-then g.S.LineSink.takes g.S.LineSink.leaves _ r r _ _ _ _ _ _ refl i.5.3 j),
     )
 
 pub returns-in-Ok-eq0-clause-cause : goal.returns-in-Ok-eq0-clause-cause
-returns-in-Ok-eq0-clause-cause g c = λ e. HasRisen-after _ _ _ c.loop-i.invariant.4 (c.finish.ensures.cause c.loop-i.invariant.2 e)
+returns-in-Ok-eq0-clause-cause g c = λ e. HasRisen-after _ _ _ c.loop-i.invariant.4 (c.finish.ensures.finished.cause c.loop-i.invariant.2 e)
 
 pub returns-in-Err-feed-clause-runs : goal.returns-in-Err-feed-clause-runs
 returns-in-Err-feed-clause-runs g c =
@@ -51,33 +51,33 @@ returns-in-Err-feed-clause-runs g c =
     let piece = take c.in-Ok.n c.read.new.buffer in
     let e = c.loop-i.engine in
     let grown : length (r ++ piece) ≡ length r + c.in-Ok.n = length-append r piece ∙ ap (λ n. length r + n) (sym c.in-Ok.ensures.bound.1) in
-    let stands = c.feed.ensures.stands r i.5.2 in (
+    let stands = c.feed.ensures.feeds.stands r i.5.2 in (
       r ++ piece,
       Consumes-then _ _ _ r piece i.5.1 c.in-Ok.ensures.bytes.0,
-      record { giving = c.loop-i._i + 1; gave = Gave-fed _ (r ++ piece) _ _ _ c.in-Err-feed.end (omega arith) (c.in-Err-feed.ensures.told r i.5.2 i.2); least = omega (arith, i.5.4, grown); most = omega (arith, i.1, (i.5.2.going i.2).2, grown, c.in-Ok.ensures.bound.0, c.read.auto.buffer, i.0) },
+      record { giving = c.loop-i._i + 1; gave = Gave-fed _ (r ++ piece) _ _ _ c.in-Err-feed.end (omega arith) (c.in-Err-feed.ensures.feeds.told r i.5.2 i.2); least = omega (arith, i.5.4, grown); most = omega (arith, i.1, (i.5.2.going i.2).2, grown, c.in-Ok.ensures.bound.0, c.read.auto.buffer, i.0) },
       Runs-told g.S.LineSink.takes g.S.LineSink.leaves (record { rules = rules_of c.args.engine.now; read = r ++ piece; outcome = outcome_of c.feed.new.self c.in-Err-feed.end }) _ c.args.sink.now c.feed.new.sink
           (record {
-            bounded = let k = stands.bounded in rw (i.2, c.feed.ensures.rules, i.3) at k;
-            exact = λ h. absurd (told-not_complete (rules_of e) (r ++ piece) (lines_of c.feed.new.self) c.in-Err-feed.end (c.in-Err-feed.ensures.told r i.5.2 i.2) h);
-            counts = let k = stands.counts in rw (i.2, c.feed.ensures.rules, i.3) at k;
-            ends = Ends-fed _ (r ++ piece) _ _ c.in-Err-feed.end (let k = c.in-Err-feed.ensures.told r i.5.2 i.2 in rw i.3 at k);
+            bounded = let k = stands.bounded in rw (i.2, c.feed.ensures.feeds.rules, i.3) at k;
+            exact = λ h. absurd (told-not_complete (rules_of e) (r ++ piece) (lines_of c.feed.new.self) c.in-Err-feed.end (c.in-Err-feed.ensures.feeds.told r i.5.2 i.2) h);
+            counts = let k = stands.counts in rw (i.2, c.feed.ensures.feeds.rules, i.3) at k;
+            ends = Ends-fed _ (r ++ piece) _ _ c.in-Err-feed.end (let k = c.in-Err-feed.ensures.feeds.told r i.5.2 i.2 in rw i.3 at k);
           })
-          (let k = c.feed.ensures.sink r i.5.2 i.2 in
-          let j = rw (i.3, c.in-Err-feed.ensures.ended) at k in
+          (let k = c.feed.ensures.feeds.sink r i.5.2 i.2 in
+          let j = rw (i.3, c.in-Err-feed.ensures.feeds.ended) at k in
           Delivers-then g.S.LineSink.takes g.S.LineSink.leaves _ r (r ++ piece) _ _ _ _ _ _ (kept_first-same _ (lines_of e) r piece (i.5.2.going i.2).0.lines) i.5.3 j),
     )
 
 pub returns-in-Err-feed-clause-cause : goal.returns-in-Err-feed-clause-cause
-returns-in-Err-feed-clause-cause g c = λ e. HasRisen-after _ _ _ c.loop-i.invariant.4 (c.feed.ensures.cause c.loop-i.invariant.2 (c.in-Err-feed.is ∙ ap Err e))
+returns-in-Err-feed-clause-cause g c = λ e. HasRisen-after _ _ _ c.loop-i.invariant.4 (c.feed.ensures.feeds.cause c.loop-i.invariant.2 (c.in-Err-feed.is ∙ ap Err e))
 
 -- memory is refused before any line was dealt with
 pub returns-in-Err-feed-clause-memory : goal.returns-in-Err-feed-clause-memory
 returns-in-Err-feed-clause-memory g c = λ refused.
     let i = c.loop-i.invariant in
-    (c.feed.ensures.memory i.5.0 i.5.2 i.2 (c.in-Err-feed.is ∙ ap Err refused)).0.none
+    (c.feed.ensures.feeds.memory i.5.0 i.5.2 i.2 (c.in-Err-feed.is ∙ ap Err refused)).0.none
 
 pub returns-in-Ok-eq0-clause-memory : goal.returns-in-Ok-eq0-clause-memory
-returns-in-Ok-eq0-clause-memory g c = λ refused. absurd (c.finish.ensures.memory c.loop-i.invariant.2 refused)
+returns-in-Ok-eq0-clause-memory g c = λ refused. absurd (c.finish.ensures.finished.memory c.loop-i.invariant.2 refused)
 
 pub loop-i-preserved : goal.loop-i-preserved
 loop-i-preserved g c =
@@ -88,15 +88,15 @@ loop-i-preserved g c =
     let grown : length (r ++ piece) ≡ length r + c.in-Ok.n = length-append r piece ∙ ap (λ n. length r + n) (sym c.in-Ok.ensures.bound.1) in (
       c.read.auto.buffer ∙ i.0,
       omega (arith, c.in_default.ensures.taken, length-take c.in-Ok.n c.read.new.buffer, c.read.auto.buffer, i.0, i.1),
-      c.in_default.ensures.open,
-      c.feed.ensures.rules ∙ i.3,
-      omega (arith, i.4, c.feed.ensures.counts),
+      c.in_default.ensures.feeds.unended,
+      c.feed.ensures.feeds.rules ∙ i.3,
+      omega (arith, i.4, c.feed.ensures.feeds.counts),
       (
         r ++ piece,
         Consumes-then _ _ _ r piece i.5.1 c.in-Ok.ensures.bytes.0,
-        let k = c.feed.ensures.stands r i.5.2 in rw i.2 at k,
-        let k = c.feed.ensures.sink r i.5.2 i.2 in
-            let j = rw (i.3, c.in_default.ensures.open) at k in
+        let k = c.feed.ensures.feeds.stands r i.5.2 in rw i.2 at k,
+        let k = c.feed.ensures.feeds.sink r i.5.2 i.2 in
+            let j = rw (i.3, c.in_default.ensures.feeds.unended) at k in
             Delivers-then g.S.LineSink.takes g.S.LineSink.leaves _ r (r ++ piece) _ _ _ _ _ _ (kept_first-same _ (lines_of e) r piece (i.5.2.going i.2).0.lines) i.5.3 j,
         omega (arith, i.5.4, grown),
       ),
@@ -110,12 +110,12 @@ loop-i-preserved g c =
 pub returns-in-Ok-eq0-clause-failed : goal.returns-in-Ok-eq0-clause-failed
 returns-in-Ok-eq0-clause-failed g c =
     let i = c.loop-i.invariant in
-    unfailed-end _ c.finish.result (c.read.ensures.failed ∙ ap is_err c.in-Ok-eq0.is) (unread-concludes _ i.5.0 _ c.finish.result (c.finish.ensures.answer i.5.0 i.5.2 i.2))
+    unfailed-end _ c.finish.result (c.read.ensures.failed ∙ ap is_err c.in-Ok-eq0.is) (unread-concludes _ i.5.0 _ c.finish.result (c.finish.ensures.finished.concludes i.5.0 i.5.2 i.2))
 
 pub returns-in-Err-feed-clause-failed : goal.returns-in-Err-feed-clause-failed
 returns-in-Err-feed-clause-failed g c =
     let i = c.loop-i.invariant in
-    unfailed-end _ c.in-Err-feed.end (c.read.ensures.failed ∙ ap is_err c.in-Ok.is) (unread-told _ (i.5.0 ++ take c.in-Ok.n c.read.new.buffer) _ c.in-Err-feed.end (c.in-Err-feed.ensures.told i.5.0 i.5.2 i.2))
+    unfailed-end _ c.in-Err-feed.end (c.read.ensures.failed ∙ ap is_err c.in-Ok.is) (unread-told _ (i.5.0 ++ take c.in-Ok.n c.read.new.buffer) _ c.in-Err-feed.end (c.in-Err-feed.ensures.feeds.told i.5.0 i.5.2 i.2))
 
 pub returns-clause-failed : goal.returns-clause-failed
 returns-clause-failed g c = unfailed-limit _ c.loop-i.invariant.6
@@ -134,9 +134,9 @@ returns-clause-runs g c =
 pub returns-in-Ok-eq0-clause-limit : goal.returns-in-Ok-eq0-clause-limit
 returns-in-Ok-eq0-clause-limit g c =
     let i = c.loop-i.invariant in
-    unread-limit c.finish.result (unread-concludes _ i.5.0 _ c.finish.result (c.finish.ensures.answer i.5.0 i.5.2 i.2))
+    unread-limit c.finish.result (unread-concludes _ i.5.0 _ c.finish.result (c.finish.ensures.finished.concludes i.5.0 i.5.2 i.2))
 
 pub returns-in-Err-feed-clause-limit : goal.returns-in-Err-feed-clause-limit
 returns-in-Err-feed-clause-limit g c =
     let i = c.loop-i.invariant in
-    unread-limit c.in-Err-feed.end (unread-told _ (i.5.0 ++ take c.in-Ok.n c.read.new.buffer) _ c.in-Err-feed.end (c.in-Err-feed.ensures.told i.5.0 i.5.2 i.2))
+    unread-limit c.in-Err-feed.end (unread-told _ (i.5.0 ++ take c.in-Ok.n c.read.new.buffer) _ c.in-Err-feed.end (c.in-Err-feed.ensures.feeds.told i.5.0 i.5.2 i.2))

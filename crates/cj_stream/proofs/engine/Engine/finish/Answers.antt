@@ -1,40 +1,9 @@
-use Rattle.std.proofs.Common.{◌≡◌, ◌∙◌, sym, None}
-use Rattle.cj_stream.specs.declared.ending.End.TheVariants.{Complete}
-use Rattle.cj_stream.specs.Reading.{reading}
-use Rattle.cj_stream.specs.Scanning.{scanning}
-use Rattle.cj_stream.proofs.EngineLemmas.{none_from_not_some}
-use Rattle.cj_stream.specs.Engine.{end_of}
-use Rattle.cj_stream.proofs.FinishLemmas.{Finishes-concludes, Finishes-delivers, StandsFor-finished, finished-ok, peaks-finished}
+use Rattle.std.proofs.Common.{◌≡◌, sym}
+use Rattle.cj_stream.proofs.PhaseLemmas.{IsFinished-ends}
 use Rattle.cj_stream.proofs.engine.Engine.finish.Goals as goal
 
-pub returns-clause-stands : goal.returns-clause-stands
-returns-clause-stands g c = λ p st.
-    let stands = rw (← c.self.view_is) at st in
-    let open_now : c.self.inside.ended ≡ None = none_from_not_some c.self.inside.ended c.in_default.not-Some in
-    let reads = (stands.going open_now).0 in
-    StandsFor-finished g.S.LineSink.takes g.S.LineSink.leaves (reading c.self.inside.framer) (reading c.finish.new.self) _ _ p reads c.finish.result (scanning c.finish.new.self) _ _ stands.bounded.bytes
-    c.finish.ensures.room (c.finish.ensures.held p reads (stands.going open_now).1) (c.finish.ensures.finishes p reads)
-
-pub returns-clause-answer : goal.returns-clause-answer
-returns-clause-answer g c = λ p st going.
-    let stands = rw (← c.self.view_is) at st in
-    let open_now = rw (← c.self.view_is) at going in
-    let reads = (stands.going open_now).0 in
-    rw (← c.self.view_is, c.last_end-end.ensures) (Finishes-concludes g.S.LineSink.takes g.S.LineSink.leaves (reading c.self.inside.framer) (reading c.finish.new.self) _ _ p reads c.finish.result (c.finish.ensures.finishes p reads))
-
-pub returns-clause-sink : goal.returns-clause-sink
-returns-clause-sink g c = λ p st going.
-    let stands = rw (← c.self.view_is) at st in
-    let open_now = rw (← c.self.view_is) at going in
-    let reads = (stands.going open_now).0 in
-    rw (← c.self.view_is, c.last_end-end.ensures) (Finishes-delivers g.S.LineSink.takes g.S.LineSink.leaves (reading c.self.inside.framer) (reading c.finish.new.self) _ _ p reads c.finish.result (c.finish.ensures.finishes p reads))
-
-pub returns-clause-exact : goal.returns-clause-exact
-returns-clause-exact g c = λ p st going done.
-    let stands = rw (← c.self.view_is) at st in
-    let open_now = rw (← c.self.view_is) at going in
-    let reads = (stands.going open_now).0 in
-    let complete : end_of c.finish.result ≡ Complete = sym c.last_end-end.ensures ∙ done in
-    let scanned = let k = rw (finished-ok g.S.LineSink.takes g.S.LineSink.leaves (reading c.self.inside.framer) (reading c.finish.new.self) _ _ p reads c.finish.result (c.finish.ensures.finishes p reads) complete) at c.finish.ensures.scanned in k p reads (stands.going open_now).1 in
-    rw (← c.self.view_is) (peaks-finished g.S.LineSink.takes g.S.LineSink.leaves (reading c.self.inside.framer) (reading c.finish.new.self) _ _ p reads c.finish.result (scanning c.finish.new.self)
-    (c.finish.ensures.finishes p reads) complete scanned)
+pub returns-clause-finished : goal.returns-clause-finished
+returns-clause-finished g c =
+    let going = let k = c.self.invariant.1 c.in_default.is in rw c.in-Some-phase.is at k in
+    IsFinished-ends g.S.LineSink.takes g.S.LineSink.leaves g.S.LineSink.failures c.args.self.now c.self.inside.phase c.in-Some-phase.phase c.finish-end.new.self c.self.inside.taken c.self.inside.ended c.args.sink.now c.finish-end.new.sink
+    (sym c.self.view_is) c.in-Some-phase.is c.in_default.is going c.finish-end.result c.finish-end.ensures.finished

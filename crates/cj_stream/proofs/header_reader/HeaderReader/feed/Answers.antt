@@ -1,55 +1,33 @@
-use Rattle.std.proofs.Common.{◌≡◌, ap, ◌+◌, ◌++◌, length, take, length-append, length-take, arith, None, Some}
+use Rattle.std.proofs.Common.{◌≡◌, ap, ◌+◌, length, take, length-take, arith, refl, ◌∙◌, Some, None, Err}
 use Rattle.std.specs.Prelude.{option_map}
 use Rattle.cj_stream.specs.Ending.{header_end}
-use Rattle.cj_stream.specs.Lines.{closed}
 use Rattle.cj_stream.specs.Reading.{reading}
 use Rattle.cj_stream.specs.Scanning.{scanning}
-use Rattle.cj_stream.proofs.EngineLemmas.{Tells-stops, Delivers-stops, StandsFor-reads, StandsFor-stops, Going-reads, none_from_not_some}
-use Rattle.cj_stream.proofs.ScanningLemmas.{scanned-under}
+use Rattle.cj_stream.proofs.EngineLemmas.{none_from_not_some}
+use Rattle.cj_stream.proofs.FeedingLemmas.{Feeds-again, Feeds-advances, Feeds-stops}
 use Rattle.cj_stream.proofs.header_reader.HeaderReader.feed.Goals as goal
 
-pub returns-in-Ok-clause-going : goal.returns-in-Ok-clause-going
-returns-in-Ok-clause-going g c = λ p st.
-    let stands = rw (← c.self.view_is) at st in
+pub returns-in-Some-clause-feeds : goal.returns-in-Some-clause-feeds
+returns-in-Some-clause-feeds g c =
+    Feeds-again g.S.LineSink.takes g.S.LineSink.leaves g.S.LineSink.failures c.args.self.now c.args.sink.now c.args.piece.now (header_end c.in-Some.end) _ _ (rw (← c.self.view_is) (ap (option_map header_end) c.in-Some.is)) refl refl
+
+pub returns-in-Ok-clause-feeds : goal.returns-in-Ok-clause-feeds
+returns-in-Ok-clause-feeds g c =
     let not_ended : c.self.inside.ended ≡ None = none_from_not_some c.self.inside.ended c.in_default.not-Some in
-    let open_now : option_map header_end c.self.inside.ended ≡ None = ap (option_map header_end) not_ended in
-    let reads = (stands.going open_now).0 in
-    let limits = ap (λ x. x.limits) c.take_front.ensures.stays.rules in
-    Going-reads _ (p ++ take c.in-Ok.progress.used c.args.piece.now) c.take_front.ensures.stays.sound (c.in-Ok.ensures.ok p reads).reads
-    (scanned-under c.self.inside.framer.limits c.take_front.new.self.limits (closed (p ++ take c.in-Ok.progress.used c.args.piece.now)) (scanning c.take_front.new.self) limits (c.in-Ok.ensures.scanned p reads (stands.going open_now).1))
+    let going : option_map header_end c.self.inside.ended ≡ None = ap (option_map header_end) not_ended in
+    let used = c.in-Ok.progress.used in
+    rw (← c.self.view_is) (Feeds-advances g.S.LineSink.takes g.S.LineSink.leaves g.S.LineSink.failures
+    (record { reading = reading c.self.inside.framer; scanning = scanning c.self.inside.framer; taken = c.self.inside.taken; ended = option_map header_end c.self.inside.ended }) _
+    (record { reading = reading c.take_front.new.self; scanning = scanning c.take_front.new.self; taken = c.self.inside.taken + c.in-Ok.progress.used; ended = option_map header_end c.self.inside.ended }) _
+    going c.take_front.ensures.counts c.take_front.ensures.stays c.take_front.ensures.room c.take_front.ensures.rises
+    (take c.in-Ok.progress.used c.args.piece.now) going (omega (arith, length-take c.in-Ok.progress.used c.args.piece.now, c.in-Ok.ensures.front.within)) c.in-Ok.ensures.ok c.in-Ok.ensures.scanned)
 
-pub returns-in-Ok-clause-stands : goal.returns-in-Ok-clause-stands
-returns-in-Ok-clause-stands g c = λ p st.
-    let stands = rw (← c.self.view_is) at st in
+pub returns-in-Err-clause-feeds : goal.returns-in-Err-clause-feeds
+returns-in-Err-clause-feeds g c =
     let not_ended : c.self.inside.ended ≡ None = none_from_not_some c.self.inside.ended c.in_default.not-Some in
-    let open_now : option_map header_end c.self.inside.ended ≡ None = ap (option_map header_end) not_ended in
-    let reads = (stands.going open_now).0 in
-    let limits = ap (λ x. x.limits) c.take_front.ensures.stays.rules in
-    let taken : c.self.inside.taken + c.in-Ok.progress.used ≡ length (p ++ take c.in-Ok.progress.used c.args.piece.now) = omega (arith, (stands.going open_now).2, length-append p (take c.in-Ok.progress.used c.args.piece.now), length-take c.in-Ok.progress.used c.args.piece.now, c.in-Ok.ensures.front.within) in
-    rw not_ended (StandsFor-reads (record { reading = reading c.take_front.new.self; scanning = scanning c.take_front.new.self; taken = c.self.inside.taken + c.in-Ok.progress.used; ended = None }) (p ++ take c.in-Ok.progress.used c.args.piece.now) taken c.take_front.ensures.stays.sound (rw limits c.take_front.ensures.room) (c.in-Ok.ensures.ok p reads).reads
-    (scanned-under c.self.inside.framer.limits c.take_front.new.self.limits (closed (p ++ take c.in-Ok.progress.used c.args.piece.now)) (scanning c.take_front.new.self) limits (c.in-Ok.ensures.scanned p reads (stands.going open_now).1)))
-
-pub returns-in-Err-clause-stopped : goal.returns-in-Err-clause-stopped
-returns-in-Err-clause-stopped g c = λ p st.
-    let stands = rw (← c.self.view_is) at st in
-    let limits = ap (λ x. x.limits) c.take_front.ensures.stays.rules in
-    let not_ended : c.self.inside.ended ≡ None = none_from_not_some c.self.inside.ended c.in_default.not-Some in
-    let open_now : option_map header_end c.self.inside.ended ≡ None = ap (option_map header_end) not_ended in
-    let reads = (stands.going open_now).0 in
-    rw (← c.self.view_is, not_ended) (StandsFor-stops g.S.LineSink.takes g.S.LineSink.leaves (record { reading = reading c.self.inside.framer; scanning = scanning c.self.inside.framer; taken = c.self.inside.taken; ended = option_map header_end c.self.inside.ended })
-    (record { reading = reading c.take_front.new.self; scanning = scanning c.take_front.new.self; taken = c.self.inside.taken; ended = Some (header_end c.of-end.result) }) _ _ p c.args.piece.now c.in-Err.end (ap Some c.of-end.ensures) c.take_front.ensures.stays.sound
-    (rw limits c.take_front.ensures.room) (rw limits (c.in-Err.ensures.held p reads (stands.going open_now).1)) (c.in-Err.ensures.err p reads))
-
-pub returns-in-Err-clause-told : goal.returns-in-Err-clause-told
-returns-in-Err-clause-told g c = λ p st going.
-    let stands = rw (← c.self.view_is) at st in
-    let open_now : option_map header_end c.self.inside.ended ≡ None = rw (← c.self.view_is) at going in
-    let reads = (stands.going open_now).0 in
-    rw (← c.self.view_is, c.of-end.ensures) (Tells-stops g.S.LineSink.takes g.S.LineSink.leaves (reading c.self.inside.framer) (reading c.take_front.new.self) _ _ p c.args.piece.now _ (c.in-Err.ensures.err p reads))
-
-pub returns-in-Err-clause-sink_stopped : goal.returns-in-Err-clause-sink_stopped
-returns-in-Err-clause-sink_stopped g c = λ p st going.
-    let stands = rw (← c.self.view_is) at st in
-    let open_now : option_map header_end c.self.inside.ended ≡ None = rw (← c.self.view_is) at going in
-    let reads = (stands.going open_now).0 in
-    rw (← c.self.view_is, c.of-end.ensures) (Delivers-stops g.S.LineSink.takes g.S.LineSink.leaves (reading c.self.inside.framer) (reading c.take_front.new.self) _ _ p c.args.piece.now c.in-Err.end reads (c.in-Err.ensures.err p reads))
+    let going : option_map header_end c.self.inside.ended ≡ None = ap (option_map header_end) not_ended in
+    rw (← c.self.view_is, c.of-end.ensures) (Feeds-stops g.S.LineSink.takes g.S.LineSink.leaves g.S.LineSink.failures
+    (record { reading = reading c.self.inside.framer; scanning = scanning c.self.inside.framer; taken = c.self.inside.taken; ended = option_map header_end c.self.inside.ended }) _
+    (record { reading = reading c.take_front.new.self; scanning = scanning c.take_front.new.self; taken = c.self.inside.taken; ended = Some c.in-Err.end }) _
+    going c.take_front.ensures.counts c.take_front.ensures.stays c.take_front.ensures.room c.take_front.ensures.rises
+    c.args.piece.now c.in-Err.end refl (λ fault. c.take_front.ensures.cause (c.in-Err.is ∙ ap Err fault)) (λ refused. c.take_front.ensures.memory (c.in-Err.is ∙ ap Err refused)) c.in-Err.ensures.err c.in-Err.ensures.held)

@@ -1,0 +1,76 @@
+-- An engine by the state that it holds.
+use Rattle.std.proofs.Common.{◌≡◌, ℕ, Bool, true, false, List, Option, Some, None, Result, Ok, Err, refl, sym, ◌∙◌, inl, inr, ◌⊎◌, ◌<◌}
+use Rattle.std.specs.Prelude.{not}
+use Rattle.cj_stream.specs.declared.engine.Phase.{Phase}
+use Rattle.cj_stream.specs.declared.engine.Phase.TheVariants.{Header, Lines}
+use Rattle.cj_stream.specs.declared.ending.End.{End}
+use Rattle.cj_stream.specs.Ending.{IsAccepted}
+use Rattle.cj_stream.specs.Engine.{EngineState, lines_of}
+use Rattle.cj_stream.specs.Feeding.{Feeds, IsFinished}
+use Rattle.cj_stream.specs.Item.{Item}
+use Rattle.cj_stream.specs.Phase.{state_of, seen, IsUnderWay}
+use Rattle.cj_stream.proofs.Apart.{some-none, false-true}
+use Rattle.cj_stream.proofs.FeedingLemmas.{Feeds-untaken}
+use Rattle.cj_stream.proofs.ReadingLemmas.{zero_or}
+
+pub not-true : (b : Bool) → not b ≡ true → b ≡ false
+not-true false h = refl
+not-true true h = absurd (false-true h)
+
+-- a reader that has not accepted a header, and not ended, has dealt with no line
+pub none-accepted : (e : EngineState) → e.ended ≡ None → ¬ IsAccepted e → lines_of e ≡ 0
+none-accepted e going unaccepted = go (zero_or (lines_of e))
+  where
+    go : (lines_of e ≡ 0) ⊎ (0 < lines_of e) → lines_of e ≡ 0
+    go (inl z) = z
+    go (inr z) = absurd (unaccepted (record { line = z; going = going }))
+
+pub is-going : (phase : Phase) (n : ℕ) → IsUnderWay phase n → (state_of phase).ended ≡ None
+is-going (Header h) n going = going.0
+is-going (Lines l) n going = going.0
+
+pub has-taken : (phase : Phase) (n : ℕ) → IsUnderWay phase n → (state_of phase).taken ≡ n
+has-taken (Header h) n going = going.2
+has-taken (Lines l) n going = going.1
+
+-- a state with its own count and its own end
+same-state : (e : EngineState) (n : ℕ) (o : Option End) → e.taken ≡ n → e.ended ≡ o → record e { taken = n; ended = o } ≡ e
+same-state e n o taken ended = rw (← taken, ← ended) refl
+
+-- what is seen of an engine that goes on is what is seen of the state that it holds
+pub seen-going : (phase : Phase) (n : ℕ) (ended : Option End) → IsUnderWay phase n → ended ≡ None → record (state_of phase) { taken = n; ended = ended } ≡ state_of phase
+seen-going phase n ended going none = same-state (state_of phase) n ended (has-taken phase n going) (is-going phase n going ∙ sym none)
+
+pub seen-taken : (held : Option Phase) (n : ℕ) (ended : Option End) → (seen held n ended).taken ≡ n
+seen-taken (Some phase) n ended = refl
+seen-taken None n ended = refl
+
+module _ {S : Type 0} (takes leaves : S → Item → S → Type 0) (failures : S → ℕ) (self : EngineState) (held : Option Phase) (phase next : Phase) (n : ℕ) (ended : Option End) (s t : S)
+    (seen_is : self ≡ seen held n ended) (held_is : held ≡ Some phase) (none : ended ≡ None) (going : IsUnderWay phase n) where
+  self-is : self ≡ state_of phase
+  self-is = seen_is ∙ (rw held_is (seen-going phase n ended going none))
+
+  pub Feeds-goes_on : (bytes : List ℕ) (m : ℕ) → IsUnderWay next m → Feeds takes leaves failures (state_of phase) bytes (Ok tt) (state_of next) s t
+      → Feeds takes leaves failures self bytes (Ok tt) (record (state_of next) { taken = m; ended = ended }) s t
+  Feeds-goes_on bytes m later h = rw (self-is, seen-going next m ended later none) h
+
+  pub Feeds-ends : (bytes : List ℕ) (e : End) → Feeds takes leaves failures (state_of phase) bytes (Err e) (state_of next) s t
+      → Feeds takes leaves failures self bytes (Err e) (record (state_of next) { taken = n; ended = Some e }) s t
+  Feeds-ends bytes e h = rw (self-is, ← h.ended) (Feeds-untaken takes leaves failures (state_of phase) s bytes e (state_of next) t n h)
+
+  pub IsFinished-ends : (e : End) → IsFinished takes leaves failures (state_of phase) e (state_of next) s t
+      → IsFinished takes leaves failures self e (record (state_of next) { taken = n; ended = Some e }) s t
+  IsFinished-ends e h = rw self-is (record {
+    ended = refl;
+    counts = h.counts;
+    cause = h.cause;
+    rules = h.rules;
+    stands = λ p st.
+        let k = h.stands p st in
+        record { held = k.held; bounded = k.bounded; counts = k.counts; going = λ going. absurd (some-none e going) };
+    rises = h.rises;
+    concludes = h.concludes;
+    exact = h.exact;
+    memory = h.memory;
+    sink = λ p st still. rw (← h.ended) (h.sink p st still);
+  })

@@ -1,0 +1,81 @@
+//! Pieces for a reader of lines: the promise of the whole for a stream whose header was accepted.
+//!
+//! It says of what comes after the header what `pieces` says of a whole stream, and has no case for want of memory.
+ghost use Rattle.std.specs.Prelude.{◌≡◌, ◌+◌, ◌++◌, ◌≤◌, ◌^◌, ℕ, List, None, length, map, take};
+ghost use Rattle.cj_stream.specs.Cut.{joined};
+ghost use Rattle.cj_stream.specs.Engine.{StandsFor, rules_of, lines_of};
+ghost use Rattle.cj_stream.specs.LinePieces.{PutsLines, HeadlineOfLines};
+ghost use Rattle.cj_stream.specs.Output.{channel};
+ghost use Rattle.cj_stream.specs.Sink.{HasRisen};
+
+use crate::ending::LineEnd;
+use crate::line_reader::LineReader;
+use crate::output::Output;
+use crate::sink::LineSink;
+use cj_budget::Peaks;
+use std::io::Write;
+
+/// How it went to give pieces to a reader of lines.
+#[derive(Clone, Copy, Debug, PartialEq, Eq)]
+pub struct LinesOutcome {
+    /// The pieces that were wholly taken. Where a line was the end, it is the next one that made it so,
+    /// if there is one.
+    pub taken: usize,
+    /// The most that was held.
+    pub peaks: Peaks,
+    /// How it ended.
+    pub ended: LineEnd,
+}
+
+/// Gives all pieces to a reader of lines that has not ended, and then the end, until it ends. However they are
+/// cut, the sink takes what is kept of the stream after the lines that were dealt with, one after another, and the
+/// end is the ending of the whole stream, unless a step of the sink fails: then it took a prefix of that. It takes no
+/// memory.
+pub fn put_lines<S: LineSink>(
+    reader: &mut LineReader,
+    pieces: &[&[u8]],
+    sink: &mut S,
+) -> LinesOutcome
+    requires going { reader.old.ended ≡ None }
+    requires short { reader.old.taken + length (joined (map (λ piece. piece.now) pieces.now)) ≤ 2 ^ 60 }
+    ensures puts { (p : List ℕ) → StandsFor reader.old p → PutsLines S.takes S.leaves (rules_of reader.old) p
+        (map (λ piece. piece.now) pieces.now) (lines_of reader.old) result sink.old sink.new }
+    ensures cause { result.ended ≡ LineEnd.WriteFault → HasRisen (S.failures sink.old) (S.failures sink.new) }
+{
+    for (taken, piece) in pieces.iter().enumerate() {
+        if let Err(ended) = reader.feed(piece, sink) {
+            return LinesOutcome {
+                taken,
+                peaks: reader.peaks(),
+                ended,
+            };
+        }
+    }
+    let ended = reader.finish(sink);
+    LinesOutcome {
+        taken: pieces.len(),
+        peaks: reader.peaks(),
+        ended,
+    }
+}
+
+/// Writes what comes after the lines that were dealt with: for every stream however it is cut, exactly the valid
+/// features that satisfy the query, byte for byte, in order, up to the first invalid line, and refuses that line
+/// with its number, place and reason, unless a write fails. No memory is taken, so no end tells that it lacks.
+///
+/// The stream is one that the reader stands for, with these pieces after it: where the header came to it through
+/// [`crate::HeaderReader`], that begins with the first line.
+pub fn headline_of_lines<W: Write + Drop>(
+    reader: &mut LineReader,
+    pieces: &[&[u8]],
+    sink: &mut Output<W>,
+) -> LinesOutcome
+    requires going { reader.old.ended ≡ None }
+    requires short { reader.old.taken + length (joined (map (λ piece. piece.now) pieces.now)) ≤ 2 ^ 60 }
+    ensures headline { let cut = map (λ piece. piece.now) pieces.now in
+        (p : List ℕ) → StandsFor reader.old p → HeadlineOfLines (rules_of reader.old) (p ++ joined cut)
+        (p ++ joined (take (result.taken + 1) cut)) (lines_of reader.old) result.ended result.peaks
+        (channel W.contents sink.old) (channel W.contents sink.new) }
+{
+    put_lines(reader, pieces, sink)
+}
