@@ -240,7 +240,7 @@ fn take_refused_third<S: LineSink>(
 #[test]
 fn an_end_of_lines_stays_the_end(rt: HostRuntime) -> Result<(), Fail> {
     let text = third_refused(rt.alloc())?;
-    check_number(&rt, text.len() as u64, 774, "bytes of the text", 0);
+    assert_eq!(rt; text.len(), 774);
     let query = Query::all(rt.alloc());
     let mut sink = WriteSink::new(Vec::new(rt.alloc()));
     let mut header = HeaderReader::open(rt.alloc(), Limits::usual(), &query)?;
@@ -284,7 +284,7 @@ fn take_lines_by_bytes<S: LineSink>(
 #[test]
 fn an_end_of_lines_stays_by_single_bytes(rt: HostRuntime) -> Result<(), Fail> {
     let text = third_refused(rt.alloc())?;
-    check_number(&rt, text.len() as u64, 774, "bytes of the text", 1);
+    assert_eq!(rt; text.len(), 774);
     let query = Query::all(rt.alloc());
     let mut sink = WriteSink::new(Vec::new(rt.alloc()));
     let mut header = HeaderReader::open(rt.alloc(), Limits::usual(), &query)?;
