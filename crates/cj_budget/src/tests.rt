@@ -86,21 +86,31 @@ fn the_usual_limits(rt: HostRuntime) {
     assert_eq!(rt; Limits::new(USUAL_LINE, USUAL_DEPTH), Ok(usual));
 }
 
+/// Compares how many elements a list has, and has had at most.
+fn check_lengths(rt: &impl Abort, list: &Bounded<u8>, length: usize, peak: usize) {
+    assert_eq!(rt; list.len(), length);
+    assert_eq!(rt; list.peak(), peak);
+}
+
+/// Adds an element and a slice to a list that is full.
+fn check_full(rt: &impl Abort, list: &mut Bounded<u8>) {
+    assert_eq!(rt; list.push(3), Err(Refused::Full(3)));
+    assert_eq!(rt; list.extend_from_slice(&[4]), Err(ExtendFault::Full));
+}
+
 #[test]
 fn a_list_of_two(rt: HostRuntime) -> Result<(), Fail> {
     let mut list: Bounded<u8> = Bounded::new(rt.alloc(), 2);
     assert!(rt; list.is_empty());
     assert_eq!(rt; list.push(1), Ok(()));
     assert_eq!(rt; list.push(2), Ok(()));
-    assert_eq!(rt; list.push(3), Err(Refused::Full(3)));
-    assert_eq!(rt; list.len(), 2);
-    assert_eq!(rt; list.peak(), 2);
-    assert_eq!(rt; list.extend_from_slice(&[4]), Err(ExtendFault::Full));
+    check_full(&rt, &mut list);
+    check_lengths(&rt, &list, 2, 2);
     assert_eq!(rt; list.as_slice(), [1u8, 2].as_slice());
     list.clear();
-    assert_eq!(rt; list.len(), 0);
-    assert_eq!(rt; list.peak(), 2);
+    check_lengths(&rt, &list, 0, 2);
     assert_eq!(rt; list.limit(), 2);
+    assert_eq!(rt; list.reserve_all(), Ok(()));
     assert_eq!(rt; list.extend_from_slice(&[5, 6]), Ok(()));
     assert_eq!(rt; list.as_slice(), [5u8, 6].as_slice());
     assert!(rt; !list.is_empty());
@@ -148,6 +158,23 @@ fn a_list_that_is_reserved_after_use(rt: HostRuntime) -> Result<(), Fail> {
     assert_eq!(rt; list.reserve_all(), Ok(()));
     assert_eq!(rt; list.extend_from_slice(&[3, 4]), Ok(()));
     assert_eq!(rt; list.as_slice(), [3u8, 4].as_slice());
+    Ok(())
+}
+
+#[test]
+fn a_list_of_two_that_is_reserved_first(rt: HostRuntime) -> Result<(), Fail> {
+    let mut list: Bounded<u8> = Bounded::new(rt.alloc(), 2);
+    reserve(&rt, &mut list);
+    push_reserved(&rt, &mut list, 1);
+    push_reserved(&rt, &mut list, 2);
+    check_full(&rt, &mut list);
+    check_lengths(&rt, &list, 2, 2);
+    list.clear();
+    check_lengths(&rt, &list, 0, 2);
+    assert_eq!(rt; list.reserve_all(), Ok(()));
+    extend_reserved(&rt, &mut list, &[5, 6]);
+    check_full(&rt, &mut list);
+    assert_eq!(rt; list.as_slice(), [5u8, 6].as_slice());
     Ok(())
 }
 
@@ -256,6 +283,7 @@ fn a_stack_that_needs_no_room(rt: HostRuntime) -> Result<(), Fail> {
     assert_eq!(rt; one.reserve_all(), Ok(()));
     push_item_reserved(&rt, &mut one, 4);
     assert_eq!(rt; one.push(5), Err(Refused::Full(5)));
+    assert_eq!(rt; one.reserve_all(), Ok(()));
     assert_eq!(rt; one.pop(), Some(4));
     assert_eq!(rt; one.peak(), 1);
     let usual = Stack::new(rt.alloc(), 64);

@@ -3,8 +3,9 @@
 //! `rows`, `engine_rows`, `blank_lines`, `long_lines`, `large`, `lines`, `order`, `queries` and `ids` have inputs
 //! with their answers, `vectors` two families of them, by every cut, `lent` and `tally` what sinks see of them,
 //! `faults` and `long_devices` what comes of readers and writers that fail, which are in `devices`, `reads` what
-//! comes of few reads, `states` and `line_pieces` rows through the two states, and `calls` what all tests share. A body of many asserts
-//! is dear to prove, and a call is not: a row is one call of a function that checks it.
+//! comes of few reads, `states` rows through the two states, `turns` what these tell call by call, `line_pieces` what
+//! comes behind a header, and `calls` what all tests share. A body of many asserts is dear to prove, and a call is
+//! not: a row is one call of a function that checks it.
 mod blank_lines;
 mod calls;
 mod devices;
@@ -23,4 +24,5 @@ mod reads;
 mod rows;
 mod states;
 mod tally;
+mod turns;
 mod vectors;

@@ -23,7 +23,7 @@ const SPACED: &[u8] =
     b"{ \"type\":\"CityJSONFeature\",\"id\":\"b1\",\"CityObjects\":{\"b1\":{\"type\":\"Building\",\"geometry\":[{\"type\":\"MultiSurface\",\"lod\":\"2.2\",\"boundaries\":[[[0,1,2,3]]]}]}},\"vertices\":[[0,0,0],[1000,0,0],[1000,1000,0],[0,1000,0]]}";
 
 /// A feature of 89 bytes, with 13 values and names, nested 3 deep.
-const SMALL: &[u8] =
+pub const SMALL: &[u8] =
     b"{\"type\":\"CityJSONFeature\",\"id\":\"b\",\"CityObjects\":{\"b\":{\"type\":\"Building\"}},\"vertices\":[]}";
 
 /// What a run has to make of a stream.
@@ -67,13 +67,8 @@ fn check_cut(
         panic!(rt; "no memory to open");
     };
     let copied = headline(&mut engine, &pieces, &mut sink);
-    check_ended(
-        rt,
-        copied.ended,
-        wanted.outcome.ended,
-        wanted.name,
-        at as u64,
-    );
+    let told = outcome(engine.lines(), engine.kept(), copied.peaks, copied.ended);
+    check_outcome(rt, told, wanted.outcome, wanted.name, at as u64);
     let written = sink.into_inner();
     check_bytes(rt, &written, wanted.written, wanted.name, at as u64);
 }

@@ -3,7 +3,7 @@ use super::calls::{
     check_bytes, check_ended, check_feed, check_number, check_outcome, held, joined, outcome,
     refused,
 };
-use super::rows::{FEATURE, HEADER, Wanted, with_last_index};
+use super::rows::{FEATURE, HEADER, SMALL, Wanted, with_last_index};
 use crate::{
     End, Engine, HeaderEnd, HeaderReader, LineEnd, LineReader, LineSink, Outcome, Progress, Query,
     WriteSink,
@@ -42,7 +42,7 @@ fn of_lines(end: LineEnd) -> End {
 }
 
 /// Gives a piece to the reader of a header.
-fn feed_header<S: LineSink>(
+pub fn feed_header<S: LineSink>(
     rt: &impl Abort,
     header: &mut HeaderReader,
     piece: &[u8],
@@ -54,7 +54,7 @@ fn feed_header<S: LineSink>(
 }
 
 /// Gives a piece to the reader of lines.
-fn feed_lines<S: LineSink>(
+pub fn feed_lines<S: LineSink>(
     rt: &impl Abort,
     lines: &mut LineReader,
     piece: &[u8],
@@ -65,7 +65,7 @@ fn feed_lines<S: LineSink>(
 }
 
 /// Ends a stream whose header was not accepted.
-fn finish_header<S: LineSink>(
+pub fn finish_header<S: LineSink>(
     rt: &impl Abort,
     header: &mut HeaderReader,
     sink: &mut S,
@@ -75,13 +75,13 @@ fn finish_header<S: LineSink>(
 }
 
 /// The reader of the lines behind an accepted header, which tells what that told.
-fn turned<'q>(rt: &impl Abort, header: HeaderReader<'q>) -> LineReader<'q> {
+pub fn turned<'q>(rt: &impl Abort, header: HeaderReader<'q>) -> LineReader<'q> {
     assert!(rt; header.accepted());
     header.into_lines()
 }
 
 /// Gives pieces to the reader of a header until it accepts: how many it has used before, and the bytes used of the next.
-fn until_accepted<S: LineSink>(
+pub fn until_accepted<S: LineSink>(
     rt: &impl Abort,
     header: &mut HeaderReader,
     pieces: &[&[u8]],
@@ -112,7 +112,7 @@ fn to_the_end<S: LineSink>(
 }
 
 /// Gives what is left of the pieces behind a header to the reader of lines, and the end.
-fn behind_header<S: LineSink>(
+pub fn behind_header<S: LineSink>(
     rt: &impl Abort,
     lines: &mut LineReader,
     pieces: &[&[u8]],
@@ -216,6 +216,17 @@ fn a_refused_line_by_states(rt: HostRuntime) -> Result<(), Fail> {
 }
 
 #[test]
+fn a_small_feature_and_a_greater_one_by_states(rt: HostRuntime) -> Result<(), Fail> {
+    let text = joined(rt.alloc(), &[HEADER, b"\n", SMALL, b"\n", FEATURE, b"\n"])?;
+    let wanted = Wanted {
+        name: "two features",
+        written: &text,
+        outcome: outcome(3, 2, held(350, 65, 8), End::Complete),
+    };
+    check_states(&rt, rt.alloc(), &text, Limits::usual(), &wanted)
+}
+
+#[test]
 fn a_header_without_lf_by_states(rt: HostRuntime) -> Result<(), Fail> {
     let wanted = Wanted {
         name: "a header alone",
@@ -256,7 +267,12 @@ fn a_line_too_long_by_states(rt: HostRuntime) -> Result<(), Fail> {
 }
 
 /// Compares what a piece has come to.
-fn check_progress(rt: &impl Abort, got: Result<Progress, HeaderEnd>, used: usize, accepted: bool) {
+pub fn check_progress(
+    rt: &impl Abort,
+    got: Result<Progress, HeaderEnd>,
+    used: usize,
+    accepted: bool,
+) {
     assert_eq!(rt; got, Ok(Progress { used, accepted }));
 }
 

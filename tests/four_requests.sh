@@ -1,0 +1,76 @@
+#!/usr/bin/env bash
+# Runs over a stream of a header and a feature with a sink that counts, at the usual limits, with each request for memory
+# refused in turn: that run makes four. Each of these refused ends it as out of memory, with no line dealt with and nothing
+# put to the sink. A fifth is never made, so to refuse it changes nothing. The last line is 'N passed, M failed'.
+#
+#     tests/four_requests.sh
+#
+# It copies the crates beside a small program (four_requests/main.rattle) into a folder of its own, and proves nothing
+# (`rt try`). Each of the six runs takes some 30 s. It is no part of the gate.
+set -uo pipefail
+cd "$(dirname "$0")/.." || exit
+
+scratch=$(mktemp -d)
+trap 'rm -rf "$scratch"' EXIT
+passed=0 failed=0
+
+for crate in cj_budget cj_decimal cj_spans cj_geometry cj_feature cj_stream; do
+  mkdir -p "$scratch/crates/$crate"
+  for part in src specs proofs; do
+    [ ! -d "crates/$crate/$part" ] || cp -r "crates/$crate/$part" "$scratch/crates/$crate/"
+  done
+done
+mkdir -p "$scratch/crates/four_requests/src"
+cp tests/four_requests/main.rattle "$scratch/crates/four_requests/src/main.rt"
+grep -E '^(cj_budget|cj_decimal|cj_spans|cj_geometry|cj_feature|cj_stream):' crates.txt > "$scratch/crates.txt"
+echo "four_requests: cj_stream" >> "$scratch/crates.txt"
+
+# has LINE: whether the last run printed this line
+has() {
+  if grep -qxF "$1" "$scratch/printed"; then
+    passed=$((passed + 1))
+  else
+    echo "request ${refused:-none} refused: no line '$1'"
+    failed=$((failed + 1))
+  fi
+}
+
+# run_once [N]: runs the program, with the Nth request refused
+run_once() {
+  refused=${1-}
+  (cd "$scratch/crates/four_requests" && rt try ${refused:+--fail-alloc "$refused"} < /dev/null) > "$scratch/printed" 2>&1
+  has "run=ended status=0 runners=2 proved=no"
+}
+
+# goes_well: the last run went over the whole stream
+goes_well() {
+  has "lines 2 kept 1 end Complete"
+  has "headers 1 features 1"
+  has "peaks 350 65 8"
+}
+
+# lacks_memory PEAKS: the last run ended as out of memory, with nothing put, after it had held so much
+lacks_memory() {
+  has "lines 0 kept 0 end Memory"
+  has "headers 0 features 0"
+  has "peaks $1"
+  has "allocations: $refused"
+}
+
+run_once
+goes_well
+# The first two are asked for by `open`, and so before a byte is read; the others when the header is valid.
+for request in 1 2; do
+  run_once "$request"
+  lacks_memory "0 0 0"
+done
+for request in 3 4; do
+  run_once "$request"
+  lacks_memory "140 21 3"
+done
+run_once 5
+goes_well
+has "allocations: 4"
+
+echo "$passed passed, $failed failed"
+[ "$failed" = 0 ]
