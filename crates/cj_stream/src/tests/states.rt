@@ -14,33 +14,6 @@ use std::alloc::Global;
 use std::process::Abort;
 use std::test::Fail;
 
-/// The end of a stream that an end of its header's reader is.
-fn of_header(end: HeaderEnd) -> End {
-    match end {
-        HeaderEnd::Complete => End::Complete,
-        HeaderEnd::Refused {
-            line,
-            place,
-            reason,
-        } => refused(line, place, reason),
-        HeaderEnd::WriteFault => End::WriteFault,
-        HeaderEnd::Memory => End::Memory,
-    }
-}
-
-/// The end of a stream that an end of its reader of lines is.
-fn of_lines(end: LineEnd) -> End {
-    match end {
-        LineEnd::Complete => End::Complete,
-        LineEnd::Refused {
-            line,
-            place,
-            reason,
-        } => refused(line, place, reason),
-        LineEnd::WriteFault => End::WriteFault,
-    }
-}
-
 /// Gives a piece to the reader of a header.
 pub fn feed_header<S: LineSink>(
     rt: &impl Abort,
@@ -143,14 +116,14 @@ fn by_states<S: LineSink>(
         Ok(Some((at, used))) => {
             let mut lines = turned(rt, header);
             let end = behind_header(rt, &mut lines, pieces, at, used, sink);
-            return outcome(lines.lines(), lines.kept(), lines.peaks(), of_lines(end));
+            return outcome(lines.lines(), lines.kept(), lines.peaks(), End::from(end));
         }
     };
     outcome(
         header.lines(),
         header.kept(),
         header.peaks(),
-        of_header(end),
+        End::from(end),
     )
 }
 
@@ -315,7 +288,7 @@ fn a_piece_whose_rest_is_refused(rt: HostRuntime) -> Result<(), Fail> {
     let mut lines = turned(&rt, header);
     let end = to_the_end(&rt, &mut lines, &[b"{}\n"], &mut sink);
     let wanted = refused(2, 0, Reason::MissingMember);
-    check_ended(&rt, of_lines(end), wanted, "the rest", 0);
+    check_ended(&rt, End::from(end), wanted, "the rest", 0);
     check_number(&rt, lines.taken(), 141, "taken by lines", 0);
     let mut engine = Engine::open(rt.alloc(), Limits::usual(), &query)?;
     check_feed(&rt, &mut engine, &text, &mut sink, Err(wanted));
