@@ -96,9 +96,6 @@ impl<'q> HeaderReader<'q> {
             (λ t. Feeds S.takes S.leaves S.failures self.old (take t.used piece.now) (Ok tt) self.new sink.old sink.new)
             (λ e. Feeds S.takes S.leaves S.failures self.old piece.now (Err (header_end e)) self.new
             sink.old sink.new) }
-
-        // The cause of want of memory is a growth for later lines that was refused in this call.
-        ensures room { self.old.ended ≡ None → IsErrOf result HeaderEnd.Memory → IsRefusedRoom self.old self.new }
     {
         if let Some(end) = self.ended {
             return Err(end);
