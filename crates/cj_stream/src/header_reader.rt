@@ -88,10 +88,12 @@ impl<'q> HeaderReader<'q> {
         ensures open { OnOk result (self.new.ended ≡ None) }
         ensures ended { IfErr result (λ e. self.new.ended ≡ Some (header_end e)) }
 
-        // The cause of a write fault is a failure of the sink in this call.
+        // The cause of a write fault is a failure of the sink in this call, and that of want of memory a growth for
+        // later lines that was refused in it.
         ensures counts { S.failures sink.old ≤ S.failures sink.new }
         ensures cause { self.old.ended ≡ None → IsErrOf result HeaderEnd.WriteFault →
             HasRisen (S.failures sink.old) (S.failures sink.new) }
+        ensures room { self.old.ended ≡ None → IsErrOf result HeaderEnd.Memory → IsRefusedRoom self.old self.new }
 
         // What is used of the piece, and whether the header was accepted by that.
         ensures used { IfOk result (λ t. IsFront piece.now t) }
@@ -114,7 +116,6 @@ impl<'q> HeaderReader<'q> {
             Tells (rules_of self.old) (p ++ piece.now) (lines_of self.new) (header_end e)) }
         ensures memory { (p : List ℕ) → StandsFor self.old p → self.old.ended ≡ None → IsErrOf result HeaderEnd.Memory →
             LacksMemory (rules_of self.old) (p ++ piece.now) (lines_of self.new) × (sink.new ≡ sink.old) }
-        ensures room { self.old.ended ≡ None → IsErrOf result HeaderEnd.Memory → IsRefusedRoom self.old self.new }
         ensures sink { IfOk result (λ t. (p : List ℕ) → StandsFor self.old p →
             Delivers S.takes S.leaves (rules_of self.old) (p ++ take t.used piece.now)
             (lines_of self.old) (lines_of self.new) sink.old sink.new None) }
