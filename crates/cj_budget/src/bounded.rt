@@ -42,7 +42,7 @@ pub enum ExtendFault {
 }
 
 /// A list that never has more elements than its limit, and that keeps its peak, the greatest
-/// number of elements that it has had.
+/// number of elements that it has had. It counts the growths of it that were refused.
 #[derive(Drop)]
 pub struct Bounded<T: Copy> {
     items: Vec<T>,

@@ -17,8 +17,8 @@ use std::marker::Model;
 const INLINE: usize = 64;
 
 /// A stack of numbers that never holds more than its limit, and that keeps its peak, the greatest
-/// number of items that it has had. Its first 64 items need no memory. Contracts see its items from
-/// the top on.
+/// number of items that it has had. Its first 64 items need no memory. It counts the growths of it that
+/// were refused. Contracts see its items from the top on.
 #[derive(Drop)]
 pub struct Stack {
     items: SmallVec<u32, INLINE>,

@@ -1,7 +1,7 @@
 //! Rows on limits and lists.
 use crate::{
-    Bounded, ExtendFault, LimitFault, Limits, NoMemory, Peaks, Refused, Stack, USUAL_DEPTH,
-    USUAL_LINE,
+    Bounded, ExtendFault, LimitFault, Limits, NoMemory, Peaks, Refusals, Refused, Stack,
+    USUAL_DEPTH, USUAL_LINE,
 };
 use std::process::Abort;
 use std::test::Fail;
@@ -308,6 +308,16 @@ fn a_stack_that_is_reserved(rt: HostRuntime) -> Result<(), Fail> {
     }
     stack.clear();
     assert!(rt; stack.is_reserved());
+    Ok(())
+}
+
+#[test]
+fn answers_of_growths_are_noted(rt: HostRuntime) -> Result<(), Fail> {
+    let mut refusals = Refusals::none();
+    let granted: Result<(), NoMemory> = Ok(());
+    assert_eq!(rt; refusals.note(granted), Ok(()));
+    let refused: Result<(), NoMemory> = Err(NoMemory);
+    assert_eq!(rt; refusals.note(refused), Err(NoMemory));
     Ok(())
 }
 

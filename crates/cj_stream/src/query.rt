@@ -30,7 +30,8 @@ use texts::add_text;
 /// How many types of city objects there are.
 const TYPES: usize = 33;
 
-/// What a feature has to be, to be put to a sink: each part that is set has to hold.
+/// What a feature has to be, to be put to a sink: each part that is set has to hold. It counts the growths of it
+/// that were refused.
 #[derive(Drop)]
 pub struct Query {
     alloc: Global,
