@@ -3,6 +3,7 @@ pub mod Bound
 pub mod BoundRows
 pub mod BoxRows
 pub mod BoxText
+pub mod Carrying
 pub mod CountRows
 pub mod CountSink
 pub mod Criteria

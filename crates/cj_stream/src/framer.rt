@@ -55,6 +55,7 @@ pub struct Framer<'q> {
 }
 
 impl<'q> Framer<'q> {
+    ghost use Rattle.cj_stream.specs.Carrying.{IsUnended, Carries};
     ghost use Rattle.cj_stream.specs.Judging.{Says, ShowsTree, IsHeaderOf, KeepsFirst};
     ghost use Rattle.cj_stream.specs.Query.{rules_for};
     ghost use Rattle.cj_stream.specs.Reading.{reading, begun_of, begun_verdict, next_verdict, next_item, IsSound, Stays, IsLeft, Stores, Passes, Deals, Settles, Reads, Advances, Stops, Finishes};
@@ -435,31 +436,20 @@ impl<'q> Framer<'q> {
 
     /// Takes the last part of a line that LF ends.
     fn take_line<S: LineSink>(&mut self, part: &[u8], sink: &mut S) -> Result<(), End>
-        requires sound { IsSound (reading self.old) }
+        requires unended { IsUnended (reading self.old) (scanning self.old) self.old.parts }
         requires room { self.old.lines < 2 ^ 62 }
-        requires lists { HasRoom self.old.limits (scanning self.old) }
-        requires ready { IsReady (reading self.old) (scanning self.old) }
-        requires keeps { KeepsFirst (reading self.old) (scanning self.old) self.old.parts }
         requires one { NoLf part.now }
-        ensures stays { Stays (reading self.old) (reading self.new) }
+        ensures carries { Carries S.failures (reading self.old) (scanning self.old) (reading self.new)
+            (scanning self.new) self.new.parts result sink.old sink.new }
         ensures few { self.new.lines ≤ self.old.lines + 1 }
         ensures grows { self.old.lines ≤ self.new.lines }
         ensures one { OnOk result (self.new.lines ≡ self.old.lines + 1) }
-        ensures keeps { KeepsFirst (reading self.new) (scanning self.new) self.new.parts }
-        ensures end { IfErr result IsFirstEnd }
-        ensures memory { IsErrOf result End.Memory → RefusesRoom (reading self.old) (scanning self.old)
-            (reading self.new) (scanning self.new) }
-        ensures late { 0 < self.old.lines → IsReady (reading self.new) (scanning self.new) × IfErr result IsLaterEnd }
-        ensures counts { S.failures sink.old ≤ S.failures sink.new }
-        ensures cause { IsErrOf result End.WriteFault → HasRisen (S.failures sink.old) (S.failures sink.new) }
         ensures ok { OnOk result ((p : List ℕ) → Reads (reading self.old) p →
             Advances S.takes (reading self.old) sink.old p (part.now ++ newline ∷ []) (reading self.new) sink.new) }
         ensures err { IfErr result (λ e. (p more : List ℕ) → Reads (reading self.old) p →
             Stops S.takes S.leaves (reading self.old) sink.old p (part.now ++ newline ∷ more) e
             (reading self.new) sink.new) }
-        ensures room { HasRoom self.old.limits (scanning self.new) }
         ensures ready { OnOk result (IsReady (reading self.new) (scanning self.new)) }
-        ensures rises { Rises (scanning self.old) (scanning self.new) }
         ensures scanned { OnOk result
             ((p : List ℕ) → Reads (reading self.old) p → Scanned self.old.limits (closed p) (scanning self.old)
             → Scanned self.old.limits (closed (p ++ (part.now ++ newline ∷ []))) (scanning self.new)) }
@@ -476,29 +466,19 @@ impl<'q> Framer<'q> {
     /// Takes a piece of the stream up to and with the first LF, and deals with the line that it ends; or all of it,
     /// if there is none.
     pub fn take_front<S: LineSink>(&mut self, piece: &[u8], sink: &mut S) -> Result<Progress, End>
-        requires sound { IsSound (reading self.old) }
+        requires unended { IsUnended (reading self.old) (scanning self.old) self.old.parts }
         requires room { self.old.lines < 2 ^ 62 }
-        requires lists { HasRoom self.old.limits (scanning self.old) }
-        requires ready { IsReady (reading self.old) (scanning self.old) }
-        requires keeps { KeepsFirst (reading self.old) (scanning self.old) self.old.parts }
         ensures front { IfOk result (λ t. IsFront piece.now t) }
         ensures lines { IfOk result (λ t.
             self.new.lines ≡ (if t.accepted then self.old.lines + 1 else self.old.lines)) }
         ensures few { self.new.lines ≤ self.old.lines + 1 }
-        ensures stays { Stays (reading self.old) (reading self.new) }
-        ensures keeps { KeepsFirst (reading self.new) (scanning self.new) self.new.parts }
-        ensures end { IfErr result IsFirstEnd }
-        ensures memory { IsErrOf result End.Memory → RefusesRoom (reading self.old) (scanning self.old)
-            (reading self.new) (scanning self.new) }
-        ensures counts { S.failures sink.old ≤ S.failures sink.new }
-        ensures cause { IsErrOf result End.WriteFault → HasRisen (S.failures sink.old) (S.failures sink.new) }
+        ensures carries { Carries S.failures (reading self.old) (scanning self.old) (reading self.new)
+            (scanning self.new) self.new.parts result sink.old sink.new }
         ensures ok { IfOk result (λ t. (p : List ℕ) → Reads (reading self.old) p →
             Advances S.takes (reading self.old) sink.old p (take t.used piece.now) (reading self.new) sink.new) }
         ensures err { IfErr result (λ e. (p : List ℕ) → Reads (reading self.old) p →
             Stops S.takes S.leaves (reading self.old) sink.old p piece.now e (reading self.new) sink.new) }
-        ensures room { HasRoom self.old.limits (scanning self.new) }
         ensures ready { OnOk result (IsReady (reading self.new) (scanning self.new)) }
-        ensures rises { Rises (scanning self.old) (scanning self.new) }
         ensures scanned { IfOk result (λ t.
             (p : List ℕ) → Reads (reading self.old) p → Scanned self.old.limits (closed p) (scanning self.old)
             → Scanned self.old.limits (closed (p ++ take t.used piece.now)) (scanning self.new)) }
@@ -522,28 +502,17 @@ impl<'q> Framer<'q> {
 
     /// Takes a piece of the stream, and deals with each line that it ends.
     pub fn take_piece<S: LineSink>(&mut self, piece: &[u8], sink: &mut S) -> Result<(), End>
-        requires sound { IsSound (reading self.old) }
+        requires unended { IsUnended (reading self.old) (scanning self.old) self.old.parts }
         requires room { self.old.lines + length piece.now < 2 ^ 62 }
-        requires lists { HasRoom self.old.limits (scanning self.old) }
-        requires ready { IsReady (reading self.old) (scanning self.old) }
-        requires keeps { KeepsFirst (reading self.old) (scanning self.old) self.old.parts }
-        ensures stays { Stays (reading self.old) (reading self.new) }
+        ensures carries { Carries S.failures (reading self.old) (scanning self.old) (reading self.new)
+            (scanning self.new) self.new.parts result sink.old sink.new }
         ensures few { self.new.lines ≤ self.old.lines + length piece.now }
         ensures grows { self.old.lines ≤ self.new.lines }
-        ensures keeps { KeepsFirst (reading self.new) (scanning self.new) self.new.parts }
-        ensures end { IfErr result IsFirstEnd }
-        ensures memory { IsErrOf result End.Memory → RefusesRoom (reading self.old) (scanning self.old)
-            (reading self.new) (scanning self.new) }
-        ensures late { 0 < self.old.lines → IsReady (reading self.new) (scanning self.new) × IfErr result IsLaterEnd }
-        ensures counts { S.failures sink.old ≤ S.failures sink.new }
-        ensures cause { IsErrOf result End.WriteFault → HasRisen (S.failures sink.old) (S.failures sink.new) }
         ensures ok { OnOk result ((p : List ℕ) → Reads (reading self.old) p →
             Advances S.takes (reading self.old) sink.old p piece.now (reading self.new) sink.new) }
         ensures err { IfErr result (λ e. (p : List ℕ) → Reads (reading self.old) p →
             Stops S.takes S.leaves (reading self.old) sink.old p piece.now e (reading self.new) sink.new) }
-        ensures room { HasRoom self.old.limits (scanning self.new) }
         ensures ready { OnOk result (IsReady (reading self.new) (scanning self.new)) }
-        ensures rises { Rises (scanning self.old) (scanning self.new) }
         ensures scanned { OnOk result
             ((p : List ℕ) → Reads (reading self.old) p → Scanned self.old.limits (closed p) (scanning self.old)
             → Scanned self.old.limits (closed (p ++ piece.now)) (scanning self.new)) }
@@ -562,24 +531,15 @@ impl<'q> Framer<'q> {
 
     /// Deals with a last line that LF has not ended, and with a stream that has no line.
     pub fn finish<S: LineSink>(&mut self, sink: &mut S) -> Result<(), End>
-        requires sound { IsSound (reading self.old) }
+        requires unended { IsUnended (reading self.old) (scanning self.old) self.old.parts }
         requires room { self.old.lines < 2 ^ 62 }
-        requires lists { HasRoom self.old.limits (scanning self.old) }
-        requires ready { IsReady (reading self.old) (scanning self.old) }
-        requires keeps { KeepsFirst (reading self.old) (scanning self.old) self.old.parts }
-        ensures stays { Stays (reading self.old) (reading self.new) }
+        ensures carries { Carries S.failures (reading self.old) (scanning self.old) (reading self.new)
+            (scanning self.new) self.new.parts result sink.old sink.new }
         ensures few { self.new.lines ≤ self.old.lines + 1 }
         ensures grows { self.old.lines ≤ self.new.lines }
-        ensures keeps { KeepsFirst (reading self.new) (scanning self.new) self.new.parts }
-        ensures end { IfErr result IsFirstEnd }
-        ensures late { 0 < self.old.lines → IsReady (reading self.new) (scanning self.new) × IfErr result IsLaterEnd }
-        ensures counts { S.failures sink.old ≤ S.failures sink.new }
-        ensures cause { IsErrOf result End.WriteFault → HasRisen (S.failures sink.old) (S.failures sink.new) }
         ensures memory { IsErrOf result End.Memory → ⊥ }
         ensures finishes { (p : List ℕ) → Reads (reading self.old) p →
             Finishes S.takes S.leaves (reading self.old) sink.old p result (reading self.new) sink.new }
-        ensures room { HasRoom self.old.limits (scanning self.new) }
-        ensures rises { Rises (scanning self.old) (scanning self.new) }
         ensures scanned { OnOk result
             ((p : List ℕ) → Reads (reading self.old) p → Scanned self.old.limits (closed p) (scanning self.old)
             → Scanned self.old.limits (contents p) (scanning self.new)) }

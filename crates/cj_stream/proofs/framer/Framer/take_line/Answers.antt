@@ -1,4 +1,4 @@
-use Rattle.std.proofs.Common.{◌∷◌, ◌++◌}
+use Rattle.std.proofs.Common.{rules, ◌∷◌, ◌++◌}
 use Rattle.std.proofs.lemmas.Result.{err_from_is_err_and}
 use Rattle.cj_stream.specs.Lines.{closed}
 use Rattle.cj_stream.specs.Reading.{reading}
@@ -36,7 +36,17 @@ pub returns-clause-scanned : goal.returns-clause-scanned
 returns-clause-scanned g c = λ q reads s. scanned-line (reading c.args.self.now) (reading c.store.new.self) q c.args.part.now (scanning c.args.self.now) (scanning c.store.new.self) (scanning c.deal.new.self)
     reads c.requires.one c.in_ok-store.ensures.ok c.store.ensures.lists s c.in_ok-deal.ensures.scanned
 
-pub returns-in_err-deal-clause-stays : goal.returns-in_err-deal-clause-stays
-returns-in_err-deal-clause-stays g c =
-    let stored = Stays-stored (reading c.args.self.now) (reading c.store.new.self) c.args.part.now c.requires.sound c.in_ok-store.ensures.ok in
-    Stays-then _ _ _ stored (Stays-settled g.S.LineSink.takes g.S.LineSink.leaves _ (reading c.store.new.self) (reading c.deal.new.self) _ _ _ _ stored.sound c.deal.ensures.settles)
+pub returns-in_err-deal-clause-carries : goal.returns-in_err-deal-clause-carries
+returns-in_err-deal-clause-carries g c =
+    let stored = Stays-stored (reading c.args.self.now) (reading c.store.new.self) c.args.part.now c.requires.unended.sound c.in_ok-store.ensures.ok in
+    record {
+      stays = Stays-then _ _ _ stored (Stays-settled g.S.LineSink.takes g.S.LineSink.leaves _ (reading c.store.new.self) (reading c.deal.new.self) _ _ _ _ stored.sound c.deal.ensures.settles);
+      rises = search rules;
+      room = search rules;
+      keeps = search rules;
+      counts = search rules;
+      cause = search rules;
+      first = search rules;
+      memory = search rules;
+      late = search rules;
+    }

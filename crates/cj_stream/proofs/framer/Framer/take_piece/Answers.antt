@@ -29,9 +29,9 @@ loop-at-preserved g c =
     let i = c.loop-at.invariant.3 in
     let rest = c.loop-at.rest.now in
     let k = c.in-Some.at in (
-      Stays-then _ _ _ c.loop-at.invariant.0 c.take_line.ensures.stays,
+      Stays-then _ _ _ c.loop-at.invariant.0 c.take_line.ensures.carries.stays,
       omega (arith, left_length rest k c.in-Some.ensures, c.take_line.ensures.few, c.loop-at.invariant.1),
-      omega (arith, c.take_line.ensures.counts, c.loop-at.invariant.2),
+      omega (arith, c.take_line.ensures.carries.counts, c.loop-at.invariant.2),
       (
         i.0 ++ (take k rest ++ 10 ∷ []),
         piece_more c.args.piece.now i.0 rest k i.1 c.in-Some.ensures,
@@ -46,9 +46,9 @@ loop-at-preserved g c =
             scanned-then limits c.loop-at.self.limits q i.0 (take k rest ++ 10 ∷ []) (scanning c.take_line.new.self) same
             (c.in_ok-take_line.ensures.scanned (q ++ i.0) a.reads (scanned-under limits c.loop-at.self.limits (closed (q ++ i.0)) (scanning c.loop-at.self) same (i.3 q reads s))),
       ),
-      rw (← ap (λ x. x.limits) c.loop-at.invariant.0.rules) c.take_line.ensures.room,
-      Rises-then _ _ _ c.loop-at.invariant.5 c.take_line.ensures.rises,
-      c.take_line.ensures.keeps,
+      rw (← ap (λ x. x.limits) c.loop-at.invariant.0.rules) c.take_line.ensures.carries.room,
+      Rises-then _ _ _ c.loop-at.invariant.5 c.take_line.ensures.carries.rises,
+      c.take_line.ensures.carries.keeps,
       c.in_ok-take_line.ensures.ready,
       omega (arith, c.loop-at.invariant.8, c.take_line.ensures.grows),
       λ z. absurd (omega (arith, z, c.in_ok-take_line.ensures.one)),
@@ -74,7 +74,7 @@ returns-clause-ok g c = λ q reads.
 
 pub loop-at-init : goal.loop-at-init
 loop-at-init g c = (
-  Stays-same (reading c.args.self.now) (reading c.args.self.now) c.requires.sound refl,
+  Stays-same (reading c.args.self.now) (reading c.args.self.now) c.requires.unended.sound refl,
   omega arith,
   omega arith,
   (
@@ -83,10 +83,10 @@ loop-at-init g c = (
     λ q reads. Advances-none g.S.LineSink.takes g.S.LineSink.leaves (reading c.args.self.now) c.args.sink.now q reads,
     λ q reads s. rw (append-nil q) s,
   ),
-  c.requires.lists,
+  c.requires.unended.lists,
   Rises-same (scanning c.args.self.now) (scanning c.args.self.now) refl,
-  c.requires.keeps,
-  c.requires.ready,
+  c.requires.unended.keeps,
+  c.requires.unended.ready,
   omega arith,
   λ z. (refl, refl),
 )

@@ -19,7 +19,7 @@ returns-in-Ok-clause-feeds g c =
     rw (← c.self.view_is) (Feeds-advances g.S.LineSink.takes g.S.LineSink.leaves g.S.LineSink.failures
     (record { reading = reading c.self.inside.framer; scanning = scanning c.self.inside.framer; taken = c.self.inside.taken; ended = option_map header_end c.self.inside.ended }) _
     (record { reading = reading c.take_front.new.self; scanning = scanning c.take_front.new.self; taken = c.self.inside.taken + c.in-Ok.progress.used; ended = option_map header_end c.self.inside.ended }) _
-    going c.take_front.ensures.counts c.take_front.ensures.stays c.take_front.ensures.room c.take_front.ensures.rises
+    going c.take_front.ensures.carries.counts c.take_front.ensures.carries.stays c.take_front.ensures.carries.room c.take_front.ensures.carries.rises
     (take c.in-Ok.progress.used c.args.piece.now) going (omega (arith, length-take c.in-Ok.progress.used c.args.piece.now, c.in-Ok.ensures.front.within)) c.in-Ok.ensures.ok c.in-Ok.ensures.scanned)
 
 pub returns-in-Err-clause-feeds : goal.returns-in-Err-clause-feeds
@@ -29,5 +29,5 @@ returns-in-Err-clause-feeds g c =
     rw (← c.self.view_is, c.of-end.ensures) (Feeds-stops g.S.LineSink.takes g.S.LineSink.leaves g.S.LineSink.failures
     (record { reading = reading c.self.inside.framer; scanning = scanning c.self.inside.framer; taken = c.self.inside.taken; ended = option_map header_end c.self.inside.ended }) _
     (record { reading = reading c.take_front.new.self; scanning = scanning c.take_front.new.self; taken = c.self.inside.taken; ended = Some c.in-Err.end }) _
-    going c.take_front.ensures.counts c.take_front.ensures.stays c.take_front.ensures.room c.take_front.ensures.rises
-    c.args.piece.now c.in-Err.end refl (λ fault. c.take_front.ensures.cause (c.in-Err.is ∙ ap Err fault)) (λ refused. c.take_front.ensures.memory (c.in-Err.is ∙ ap Err refused)) c.in-Err.ensures.err c.in-Err.ensures.held)
+    going c.take_front.ensures.carries.counts c.take_front.ensures.carries.stays c.take_front.ensures.carries.room c.take_front.ensures.carries.rises
+    c.args.piece.now c.in-Err.end refl (λ fault. c.take_front.ensures.carries.cause (c.in-Err.is ∙ ap Err fault)) (λ refused. c.take_front.ensures.carries.memory (c.in-Err.is ∙ ap Err refused)) c.in-Err.ensures.err c.in-Err.ensures.held)

@@ -18,5 +18,5 @@ returns-clause-finished g c =
     rw (← c.self.view_is) (IsFinished-finishes g.S.LineSink.takes g.S.LineSink.leaves g.S.LineSink.failures
     (record { reading = reading c.self.inside.framer; scanning = scanning c.self.inside.framer; taken = c.self.inside.taken; ended = option_map header_end c.self.inside.ended }) _
     (record { reading = reading c.finish.new.self; scanning = scanning c.finish.new.self; taken = c.self.inside.taken; ended = Some (header_end c.after-end.result) }) _
-    going c.finish.ensures.counts c.finish.ensures.stays c.finish.ensures.room c.finish.ensures.rises
-    (header_end c.after-end.result) c.finish.result refl c.after-end.ensures c.finish.ensures.cause c.finish.ensures.memory c.finish.ensures.finishes c.finish.ensures.scanned c.finish.ensures.held)
+    going c.finish.ensures.carries.counts c.finish.ensures.carries.stays c.finish.ensures.carries.room c.finish.ensures.carries.rises
+    (header_end c.after-end.result) c.finish.result refl c.after-end.ensures c.finish.ensures.carries.cause c.finish.ensures.memory c.finish.ensures.finishes c.finish.ensures.scanned c.finish.ensures.held)

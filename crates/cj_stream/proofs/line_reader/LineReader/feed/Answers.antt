@@ -18,7 +18,7 @@ returns-in-Ok-clause-feeds g c =
     rw (← c.self.view_is) (Feeds-advances g.S.LineSink.takes g.S.LineSink.leaves g.S.LineSink.failures
     (record { reading = reading c.self.inside.framer; scanning = scanning c.self.inside.framer; taken = c.self.inside.taken; ended = option_map line_end c.self.inside.ended }) _
     (record { reading = reading c.take_piece.new.self; scanning = scanning c.take_piece.new.self; taken = c.self.inside.taken + length c.args.piece.now; ended = option_map line_end c.self.inside.ended }) _
-    going c.take_piece.ensures.counts c.take_piece.ensures.stays c.take_piece.ensures.room c.take_piece.ensures.rises
+    going c.take_piece.ensures.carries.counts c.take_piece.ensures.carries.stays c.take_piece.ensures.carries.room c.take_piece.ensures.carries.rises
     c.args.piece.now going refl c.in-Ok.ensures.ok c.in-Ok.ensures.scanned)
 
 pub returns-in-Err-clause-feeds : goal.returns-in-Err-clause-feeds
@@ -28,5 +28,5 @@ returns-in-Err-clause-feeds g c =
     rw (← c.self.view_is, c.of-end.ensures) (Feeds-stops g.S.LineSink.takes g.S.LineSink.leaves g.S.LineSink.failures
     (record { reading = reading c.self.inside.framer; scanning = scanning c.self.inside.framer; taken = c.self.inside.taken; ended = option_map line_end c.self.inside.ended }) _
     (record { reading = reading c.take_piece.new.self; scanning = scanning c.take_piece.new.self; taken = c.self.inside.taken; ended = Some c.in-Err.end }) _
-    going c.take_piece.ensures.counts c.take_piece.ensures.stays c.take_piece.ensures.room c.take_piece.ensures.rises
-    c.args.piece.now c.in-Err.end refl (λ fault. c.take_piece.ensures.cause (c.in-Err.is ∙ ap Err fault)) (λ refused. c.take_piece.ensures.memory (c.in-Err.is ∙ ap Err refused)) c.in-Err.ensures.err c.in-Err.ensures.held)
+    going c.take_piece.ensures.carries.counts c.take_piece.ensures.carries.stays c.take_piece.ensures.carries.room c.take_piece.ensures.carries.rises
+    c.args.piece.now c.in-Err.end refl (λ fault. c.take_piece.ensures.carries.cause (c.in-Err.is ∙ ap Err fault)) (λ refused. c.take_piece.ensures.carries.memory (c.in-Err.is ∙ ap Err refused)) c.in-Err.ensures.err c.in-Err.ensures.held)
