@@ -61,7 +61,7 @@ kept_at_most : (b : Bool) (n m : ℕ) → n ≤ m → cond b (n + 1) n ≤ m + 1
 kept_at_most true n m h = omega arith
 kept_at_most false n m h = omega arith
 
-Stays-passed : (put : Bool) (f g : Reading) → IsSound f → Passes put f g → Stays f g
+pub Stays-passed : (put : Bool) (f g : Reading) → IsSound f → Passes put f g → Stays f g
 Stays-passed put f g h s = record {
   sound = record {
     range = rw s.rules h.range;

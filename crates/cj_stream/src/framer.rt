@@ -360,15 +360,12 @@ impl<'q> Framer<'q> {
 
     /// Judges the tree of the begun line, and puts it to the sink if it is valid.
     fn put<S: LineSink>(&mut self, lf: bool, sink: &mut S) -> Result<(), End>
-        requires sound { IsSound (reading self.old) }
+        requires unended { IsUnended (reading self.old) (scanning self.old) self.old.parts }
         requires room { self.old.lines < 2 ^ 62 }
         requires first { self.old.lines ≡ 0
             → ShowsTree (begun_of (reading self.old)) self.old.limits.depth (scanning self.old).header.elements }
         requires later { 0 < self.old.lines
             → ShowsTree (begun_of (reading self.old)) self.old.limits.depth (scanning self.old).line.elements }
-        requires lists { HasRoom self.old.limits (scanning self.old) }
-        requires ready { IsReady (reading self.old) (scanning self.old) }
-        requires keeps { KeepsFirst (reading self.old) (scanning self.old) self.old.parts }
         ensures counts { S.failures sink.old ≤ S.failures sink.new }
         ensures cause { IsErrOf result End.WriteFault → HasRisen (S.failures sink.old) (S.failures sink.new) }
         ensures settles { Settles S.takes S.leaves
@@ -393,32 +390,22 @@ impl<'q> Framer<'q> {
 
     /// Judges the begun line, and puts it to the sink if it is kept.
     fn deal<S: LineSink>(&mut self, lf: bool, sink: &mut S) -> Result<(), End>
-        requires sound { IsSound (reading self.old) }
+        requires unended { IsUnended (reading self.old) (scanning self.old) self.old.parts }
         requires room { self.old.lines < 2 ^ 62 }
-        requires lists { HasRoom self.old.limits (scanning self.old) }
-        requires ready { IsReady (reading self.old) (scanning self.old) }
         requires short { length (begun_of (reading self.old)) ≤ self.old.limits.line }
-        requires keeps { KeepsFirst (reading self.old) (scanning self.old) self.old.parts }
-        ensures counts { S.failures sink.old ≤ S.failures sink.new }
-        ensures cause { IsErrOf result End.WriteFault → HasRisen (S.failures sink.old) (S.failures sink.new) }
+        ensures carries { Carries S.failures (reading self.old) (scanning self.old) (reading self.new)
+            (scanning self.new) self.new.parts result sink.old sink.new }
         ensures one { OnOk result (self.new.lines ≡ self.old.lines + 1) }
         ensures grows { self.old.lines ≤ self.new.lines }
         ensures settles { Settles S.takes S.leaves (next_verdict (reading self.old) (begun_of (reading self.old)))
             (next_item (reading self.old) (record { content = begun_of (reading self.old); lf = lf }))
             (reading self.old) sink.old result (reading self.new) sink.new }
-        ensures room { HasRoom self.old.limits (scanning self.new) }
         ensures ready { OnOk result (IsTrue lf → IsReady (reading self.new) (scanning self.new)) }
-        ensures rises { Rises (scanning self.old) (scanning self.new) }
         ensures scanned { OnOk result
             ((cs : List (List ℕ)) → length cs ≡ self.old.lines → Scanned self.old.limits cs (scanning self.old)
             → Scanned self.old.limits (cs ++ begun_of (reading self.old) ∷ []) (scanning self.new)) }
         ensures few { (cs : List (List ℕ)) → length cs ≡ self.old.lines → Scanned self.old.limits cs (scanning self.old)
             → HoldsFew self.old.limits (length (first_of cs (begun_of (reading self.old)))) (scanning self.new) }
-        ensures keeps { KeepsFirst (reading self.new) (scanning self.new) self.new.parts }
-        ensures end { IfErr result IsFirstEnd }
-        ensures memory { IsErrOf result End.Memory → RefusesRoom (reading self.old) (scanning self.old)
-            (reading self.new) (scanning self.new) }
-        ensures late { 0 < self.old.lines → IsReady (reading self.new) (scanning self.new) × IfErr result IsLaterEnd }
     {
         match self.judge() {
             Content::Faulty { place, reason } => Err(End::Refused {

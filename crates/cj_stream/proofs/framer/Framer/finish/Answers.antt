@@ -1,11 +1,10 @@
-use Rattle.std.proofs.Common.{rules, ◌≡◌, ◌<◌, length, ap, sym, subst, ◌∙◌, arith}
+use Rattle.std.proofs.Common.{◌≡◌, ◌<◌, length, ap, sym, subst, ◌∙◌, arith}
 use Rattle.std.proofs.lemmas.Bool.Decides.{nat_tests}
 use Rattle.cj_stream.specs.Lines.{begun}
 use Rattle.cj_stream.specs.Reading.{reading, begun_of, FinishesWith}
 use Rattle.cj_stream.specs.Scanning.{scanning}
 use Rattle.cj_stream.proofs.LineLemmas.{none-from_length}
 use Rattle.cj_stream.proofs.FinishLemmas.{ok-then, finishes-with, scanned-last, scanned-closed}
-use Rattle.cj_stream.proofs.StaysLemmas.{Stays-settled}
 use Rattle.cj_stream.proofs.framer.Framer.finish.Goals as goal
 
 pub returns-then-not-is_empty-clause-scanned : goal.returns-then-not-is_empty-clause-scanned
@@ -17,19 +16,6 @@ pub returns-clause-scanned : goal.returns-clause-scanned
 returns-clause-scanned g c = λ p reads s.
     let none : length c.begun.result.now ≡ 0 = grind (arith, nat_tests) in
     scanned-closed c.args.self.now.limits p (scanning c.args.self.now) (none-from_length (begun p) (ap length (sym (c.begun.ensures.value ∙ reads.begun)) ∙ none)) s
-
-pub returns-then-not-is_empty-clause-carries : goal.returns-then-not-is_empty-clause-carries
-returns-then-not-is_empty-clause-carries g c = record {
-  stays = Stays-settled g.S.LineSink.takes g.S.LineSink.leaves _ (reading c.args.self.now) (reading c.deal.new.self) _ _ _ _ c.requires.unended.sound c.deal.ensures.settles;
-  rises = search rules;
-  room = search rules;
-  keeps = search rules;
-  counts = search rules;
-  cause = search rules;
-  first = search rules;
-  memory = search rules;
-  late = search rules;
-}
 
 pub returns-then-not-is_empty-clause-finishes : goal.returns-then-not-is_empty-clause-finishes
 returns-then-not-is_empty-clause-finishes g c = λ p reads.

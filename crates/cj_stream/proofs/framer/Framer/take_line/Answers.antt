@@ -5,7 +5,7 @@ use Rattle.cj_stream.specs.Reading.{reading}
 use Rattle.cj_stream.specs.Scanning.{scanning}
 use Rattle.cj_stream.proofs.PieceLemmas.{Stops-unstored, Stops-undealt, Advances-line}
 use Rattle.cj_stream.proofs.ScanningLemmas.{few-scanned, first-closed, few-line, scanned-line}
-use Rattle.cj_stream.proofs.StaysLemmas.{Stays-stored, Stays-then, Stays-settled}
+use Rattle.cj_stream.proofs.StaysLemmas.{Stays-stored, Stays-then}
 use Rattle.cj_stream.proofs.framer.Framer.take_line.Goals as goal
 
 pub returns-in_err-store-clause-err : goal.returns-in_err-store-clause-err
@@ -40,7 +40,7 @@ pub returns-in_err-deal-clause-carries : goal.returns-in_err-deal-clause-carries
 returns-in_err-deal-clause-carries g c =
     let stored = Stays-stored (reading c.args.self.now) (reading c.store.new.self) c.args.part.now c.requires.unended.sound c.in_ok-store.ensures.ok in
     record {
-      stays = Stays-then _ _ _ stored (Stays-settled g.S.LineSink.takes g.S.LineSink.leaves _ (reading c.store.new.self) (reading c.deal.new.self) _ _ _ _ stored.sound c.deal.ensures.settles);
+      stays = Stays-then _ _ _ stored c.deal.ensures.carries.stays;
       rises = search rules;
       room = search rules;
       keeps = search rules;
