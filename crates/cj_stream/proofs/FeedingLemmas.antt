@@ -12,7 +12,7 @@ use Rattle.cj_stream.specs.Engine.{EngineState, StandsFor, IsRefusedRoom, given,
 use Rattle.cj_stream.specs.Feeding.{Feeds, IsFinished}
 use Rattle.cj_stream.specs.Item.{Item}
 use Rattle.cj_stream.specs.Lines.{closed, first_content}
-use Rattle.cj_stream.specs.Reading.{Stays, Reads, Advances, Stops, Finishes}
+use Rattle.cj_stream.specs.Reading.{IsSound, Stays, Reads, Advances, Stops, Finishes}
 use Rattle.cj_stream.specs.Scanning.{HasRoom, Rises, Scanned, HoldsFew}
 use Rattle.cj_stream.specs.Sink.{HasRisen}
 use Rattle.cj_stream.proofs.Apart.{some-none}
@@ -81,7 +81,7 @@ module _ {S : Type 0} (takes leaves : S → Item → S → Type 0) (failures : S
   })
 
   module _ (new : EngineState) (t : S) (going : old.ended ≡ None) (counts : failures s ≤ failures t) (stays : Stays old.reading new.reading)
-      (room : HasRoom (limits_of old) new.scanning) (rises : Rises old.scanning new.scanning) where
+      (sound : IsSound new.reading) (room : HasRoom (limits_of new) new.scanning) (rises : Rises old.scanning new.scanning) where
     limits : limits_of new ≡ limits_of old
     limits = ap (λ x. x.limits) stays.rules
 
@@ -98,12 +98,12 @@ module _ {S : Type 0} (takes leaves : S → Item → S → Type 0) (failures : S
       rules = stays.rules;
       stands = λ p st.
           let reads = (st.going going).0 in
-          rw going (StandsFor-reads new (p ++ bytes) (omega (arith, (st.going going).2, taken, length-append p bytes)) stays.sound (rw limits room) (advances p reads).reads
+          rw going (StandsFor-reads new (p ++ bytes) (omega (arith, (st.going going).2, taken, length-append p bytes)) sound room (advances p reads).reads
           (scanned-under (limits_of old) (limits_of new) (closed (p ++ bytes)) new.scanning limits (scanned p reads (st.going going).1)));
       rises = below-rises old new stays rises;
       going = λ p st.
           let reads = (st.going going).0 in
-          Going-reads new (p ++ bytes) stays.sound (advances p reads).reads
+          Going-reads new (p ++ bytes) sound (advances p reads).reads
           (scanned-under (limits_of old) (limits_of new) (closed (p ++ bytes)) new.scanning limits (scanned p reads (st.going going).1));
       told = tt;
       memory = λ p st _ none. absurd (fault-not_ok Memory none);
@@ -126,7 +126,7 @@ module _ {S : Type 0} (takes leaves : S → Item → S → Type 0) (failures : S
       rules = stays.rules;
       stands = λ p st.
           let reads = (st.going going).0 in
-          rw going (StandsFor-stops takes leaves old new s t p bytes e ended stays.sound (rw limits room) (rw limits (held p reads (st.going going).1)) (stops p reads));
+          rw going (StandsFor-stops takes leaves old new s t p bytes e ended sound room (rw limits (held p reads (st.going going).1)) (stops p reads));
       rises = below-rises old new stays rises;
       going = tt;
       told = λ p st _. Tells-stops takes leaves old.reading new.reading s t p bytes e (stops p (st.going going).0);
@@ -154,7 +154,7 @@ module _ {S : Type 0} (takes leaves : S → Item → S → Type 0) (failures : S
       rules = stays.rules;
       stands = λ p st.
           let reads = (st.going going).0 in
-          rw ended (StandsFor-finished takes leaves old.reading new.reading s t p reads r new.scanning new.taken e st.bounded.bytes room (held p reads (st.going going).1) (finishes p reads));
+          rw ended (StandsFor-finished takes leaves old.reading new.reading s t p reads r new.scanning new.taken e st.bounded.bytes (rw limits at room) (held p reads (st.going going).1) (finishes p reads));
       rises = below-rises old new stays rises;
       concludes = λ p st _.
           let reads = (st.going going).0 in

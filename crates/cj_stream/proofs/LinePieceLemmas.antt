@@ -1,10 +1,10 @@
 -- Pieces for a reader of lines, added up.
-use Rattle.std.proofs.Common.{◌≡◌, ◌≢◌, inl, inr, ℕ, ◌+◌, ◌≤◌, ◌⊎◌, List, [], ◌∷◌, ◌++◌, length, take, drop, Some, None, arith, refl, sym, ap, ◌∙◌, append_assoc}
+use Rattle.std.proofs.Common.{◌≡◌, inl, inr, ℕ, ◌+◌, ◌≤◌, ◌⊎◌, List, [], ◌∷◌, ◌++◌, length, take, drop, Some, None, refl, sym, ap, ◌∙◌, append_assoc}
 use Rattle.std.proofs.lemmas.List.{append-nil}
 use Rattle.std.proofs.Math.Seq.{drop-append_seam}
 use Rattle.cj_budget.specs.declared.limits.Peaks.{Peaks}
 use Rattle.cj_stream.specs.declared.ending.End.{End}
-use Rattle.cj_stream.specs.declared.ending.End.TheVariants.{Complete, Refused, WriteFault}
+use Rattle.cj_stream.specs.declared.ending.End.TheVariants.{Complete, Refused}
 use Rattle.cj_stream.specs.declared.ending.LineEnd.{LineEnd}
 use Rattle.cj_stream.specs.declared.ending.LineEnd.TheVariants.{Complete as LineComplete, Refused as LineRefused, WriteFault as LineWriteFault}
 use Rattle.cj_stream.specs.Bound.{IsBounded, exact_peaks}
@@ -15,7 +15,7 @@ use Rattle.cj_stream.specs.Item.{Item}
 use Rattle.cj_stream.specs.LinePieces.{kept_after, PutsLines}
 use Rattle.cj_stream.specs.Lines.{closed, lines}
 use Rattle.cj_stream.specs.Run.{Ends}
-use Rattle.cj_stream.specs.Sink.{Took, TookFront, LeavesNext}
+use Rattle.cj_stream.specs.Sink.{Took}
 use Rattle.cj_stream.specs.Verdict.{Rules, refusal_in, judged, kept, kept_first, ending, good, item_after}
 use Rattle.cj_stream.proofs.CutLemmas.{refused-more}
 use Rattle.cj_stream.proofs.EngineLemmas.{kept_first-front}

@@ -1,5 +1,5 @@
 -- An engine by the state that it holds.
-use Rattle.std.proofs.Common.{◌≡◌, ℕ, Bool, true, false, List, Option, Some, None, Result, Ok, Err, refl, sym, ◌∙◌, inl, inr, ◌⊎◌, ◌<◌}
+use Rattle.std.proofs.Common.{◌≡◌, ℕ, Bool, true, false, List, Option, Some, None, Ok, Err, refl, sym, ◌∙◌, inl, inr, ◌⊎◌, ◌<◌}
 use Rattle.std.specs.Prelude.{not}
 use Rattle.cj_stream.specs.declared.engine.Phase.{Phase}
 use Rattle.cj_stream.specs.declared.engine.Phase.TheVariants.{Header, Lines}

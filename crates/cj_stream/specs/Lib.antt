@@ -8,6 +8,7 @@ pub mod CountRows
 pub mod CountSink
 pub mod Criteria
 pub mod Cut
+pub mod Delivering
 pub mod Device
 pub mod EndRows
 pub mod Ending

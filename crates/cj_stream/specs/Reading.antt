@@ -4,7 +4,8 @@ use Rattle.cj_spans.specs.Tree.{Tree}
 use Rattle.std.specs.Prelude.{◌≡◌, ◌⊎◌, ℕ, ◌+◌, ◌<◌, ◌≤◌, List, [], ◌∷◌, ◌++◌, Bool, true, false, ◌&&◌, ◌==◌, nat_lt, if◌then◌else◌, IsTrue, Some, None, Result, Ok, Err, length, map, max, MatchResult, slice_get}
 use Rattle.cj_budget.specs.Bounded.{BoundedList, IsWithin, Becomes}
 use Rattle.cj_budget.specs.Limits.{LimitPair, InLine}
-use Rattle.cj_stream.specs.declared.framer.Framer.{Framer}
+use Rattle.cj_stream.specs.declared.desk.Desk.{Desk}
+use Rattle.cj_stream.specs.declared.store.Store.{Store}
 use Rattle.cj_spans.specs.declared.reason.Reason.TheVariants.{NoHeader}
 use Rattle.cj_stream.specs.declared.ending.End.{End}
 use Rattle.cj_stream.specs.declared.ending.End.TheVariants.{Complete, Refused, ReadFault, ReadLimit, WriteFault, Memory}
@@ -24,9 +25,9 @@ pub record Reading : Type 0 where
   pub lines : ℕ
   pub kept : ℕ
 
--- what a framer holds
-abbrev pub reading : Framer → Reading
-reading f = record { rules = rules_for f.limits f.query.now; header = f.header; line = f.line; lines = f.lines; kept = f.kept }
+-- what is held of bytes, beside what they are judged by and how many features were kept
+abbrev pub reading : Store → Desk → ℕ → Reading
+reading s d kept = record { rules = rules_for d.limits d.query.now; header = s.header; line = s.line; lines = s.lines; kept = kept }
 
 -- the content of the begun line
 abbrev pub begun_of : Reading → List ℕ
@@ -152,9 +153,8 @@ pub record Stops {S : Type 0} (takes leaves : S → Item → S → Type 0) (f : 
   pub puts : Puts takes f.rules p (p ++ done) s middle
   pub cause : HasCause leaves f.rules (p ++ done) (p ++ more) g.lines middle t e
 
--- what stays, whatever comes of some bytes: the limits, and peaks that never fall
+-- what stays, whatever comes of some bytes: the rules, and peaks that never fall
 pub record Stays (f g : Reading) : Type 0 where
-  pub sound : IsSound g
   pub rules : g.rules ≡ f.rules
   pub header_rises : f.header.peak ≤ g.header.peak
   pub line_rises : f.line.peak ≤ g.line.peak

@@ -1,5 +1,5 @@
 -- What is held of the trees of a stream's lines.
-use Rattle.std.specs.Prelude.{◌≡◌, ◌⊎◌, ℕ, ◌+◌, ◌*◌, ◌/◌, ◌<◌, ◌≤◌, List, [], Bool, true, IsTrue, length, max, min}
+use Rattle.std.specs.Prelude.{◌≡◌, ◌⊎◌, ℕ, ◌+◌, ◌*◌, ◌/◌, ◌<◌, ◌≤◌, List, [], true, IsTrue, length, max, min}
 use Rattle.std.specs.Str.{is_utf8}
 use Rattle.cj_budget.specs.Bounded.{BoundedList, IsWithin, Becomes}
 use Rattle.cj_budget.specs.Counts.{HasRisen}
@@ -8,7 +8,7 @@ use Rattle.cj_spans.specs.declared.token.Token.{Token}
 use Rattle.cj_spans.specs.Judgement.{judged_size, judged_nest}
 use Rattle.cj_spans.specs.Scan.{KeepsLaw}
 use Rattle.cj_spans.proofs.Judgements.{judgement}
-use Rattle.cj_stream.specs.declared.framer.Framer.{Framer}
+use Rattle.cj_stream.specs.declared.desk.Desk.{Desk}
 use Rattle.cj_stream.specs.declared.judge.Content.{Content}
 use Rattle.cj_stream.specs.declared.judge.Content.TheVariants.{Faulty, BlankLine, Sound}
 use Rattle.cj_stream.specs.Lines.{first_of, later_of}
@@ -21,9 +21,9 @@ pub record Scanning : Type 0 where
   pub line : BoundedList Token
   pub opened : BoundedList ℕ
 
--- what a framer holds
-abbrev pub scanning : Framer → Scanning
-scanning f = record { header = f.header_tokens; line = f.line_tokens; opened = f.opened }
+-- what a desk holds of trees
+abbrev pub scanning : Desk → Scanning
+scanning d = record { header = d.header_tokens; line = d.line_tokens; opened = d.opened }
 
 -- the depth limit is in range, no list is longer than its peak, nor the peak above the limit, which is what a line
 -- within the limits needs
@@ -82,6 +82,12 @@ pub record JudgesLine (lines : ℕ) (c : List ℕ) (old new : Scanning) (x : Con
 pub record IsReady (f : Reading) (s : Scanning) : Type 0 where
   pub first : f.lines ≡ 0 → IsTrue f.header.reserved × IsTrue s.header.reserved
   pub later : 0 < f.lines → IsTrue f.line.reserved × IsTrue s.line.reserved
+  pub opened : IsTrue s.opened.reserved
+
+-- so it is of those that the tokens of the line after so many go into
+pub record IsOpen (before : ℕ) (s : Scanning) : Type 0 where
+  pub first : before ≡ 0 → IsTrue s.header.reserved
+  pub later : 0 < before → IsTrue s.line.reserved
   pub opened : IsTrue s.opened.reserved
 
 -- nothing has changed but that there may be more room for later lines, or that it was refused

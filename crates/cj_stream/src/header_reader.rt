@@ -42,19 +42,15 @@ pub struct HeaderReader<'q> {
 impl<'q> Model for HeaderReader<'q> {
     ghost use Rattle.std.specs.Prelude.{◌≡◌, ◌≤◌, ◌^◌, None, option_map};
     ghost use Rattle.cj_stream.specs.Ending.{header_end};
-    ghost use Rattle.cj_stream.specs.Judging.{KeepsFirst};
-    ghost use Rattle.cj_stream.specs.Reading.{reading, IsSound};
-    ghost use Rattle.cj_stream.specs.Scanning.{scanning, HasRoom, IsReady};
+    ghost use Rattle.cj_stream.specs.Scanning.{IsReady};
     ghost use Rattle.cj_stream.specs.Engine.{EngineState};
 
     ghost Value = { EngineState };
 
-    ghost view = { λ e. record { reading = reading e.framer; scanning = scanning e.framer; taken = e.taken; ended = option_map header_end e.ended } };
+    ghost view = { λ e. record { reading = e.framer.reading; scanning = e.framer.scanning; taken = e.taken; ended = option_map header_end e.ended } };
 
-    ghost invariant = { λ e. IsSound (reading e.framer) × HasRoom e.framer.limits (scanning e.framer)
-        × KeepsFirst (reading e.framer) (scanning e.framer) e.framer.parts × (e.framer.lines ≤ 1)
-        × (e.ended ≡ None → e.framer.lines ≤ e.taken)
-        × (e.taken ≤ 2 ^ 60) × (e.ended ≡ None → IsReady (reading e.framer) (scanning e.framer)) };
+    ghost invariant = { λ e. (e.framer.reading.lines ≤ 1) × (e.ended ≡ None → e.framer.reading.lines ≤ e.taken)
+        × (e.taken ≤ 2 ^ 60) × (e.ended ≡ None → IsReady e.framer.reading e.framer.scanning) };
 }
 
 impl<'q> HeaderReader<'q> {

@@ -30,12 +30,14 @@
 //! - `query`: what is asked of features ([`Query`]);
 //! - `engine`: the stream so far ([`Engine`]), in one of its two states, `header_reader` ([`HeaderReader`]) and
 //!   `line_reader` ([`LineReader`]); `ending`: how it ended ([`End`]);
-//! - `framer`: the lists, and each line cut and dealt with; `judge`: what a line is as a text;
+//! - `framer`: each line cut and dealt with; `store`: its bytes until it is whole; `desk`: judged and put to the sink, with
+//!   `judge`: what it is as a text;
 //! - [`laws`]: what follows of what a sink took, and of the definitions; [`row_laws`]: these on worked rows.
 //!
 //! What a caller needs of the crates below is here too, so that one `use` names it all.
 #![tactic(auto)]
 
+mod desk;
 mod ending;
 mod engine;
 mod framer;
@@ -50,6 +52,7 @@ mod query;
 pub mod row_laws;
 mod running;
 mod sink;
+mod store;
 mod tally;
 #[cfg(test)]
 mod tests;

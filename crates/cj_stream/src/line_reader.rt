@@ -6,9 +6,7 @@
 ghost use Rattle.std.specs.Prelude.{◌≡◌, ◌+◌, ◌^◌, ◌≤◌, ◌<◌, length, OnOk, OnErr, MatchResult, Some, None, Ok, Err};
 ghost use Rattle.cj_stream.specs.Ending.{line_end};
 ghost use Rattle.cj_stream.specs.Feeding.{Feeds, IsFinished};
-ghost use Rattle.cj_stream.specs.Judging.{KeepsFirst};
-ghost use Rattle.cj_stream.specs.Reading.{reading, IsSound};
-ghost use Rattle.cj_stream.specs.Scanning.{scanning, HasRoom, IsReady};
+ghost use Rattle.cj_stream.specs.Scanning.{IsReady};
 ghost use Rattle.cj_stream.specs.Engine.{EngineState, lines_of, held_by, peaks_of};
 
 use crate::ending::LineEnd;
@@ -30,34 +28,27 @@ pub struct LineReader<'q> {
 impl<'q> Model for LineReader<'q> {
     ghost use Rattle.std.specs.Prelude.{◌≡◌, ◌≤◌, ◌<◌, ◌^◌, None, option_map};
     ghost use Rattle.cj_stream.specs.Ending.{line_end};
-    ghost use Rattle.cj_stream.specs.Judging.{KeepsFirst};
-    ghost use Rattle.cj_stream.specs.Reading.{reading, IsSound};
-    ghost use Rattle.cj_stream.specs.Scanning.{scanning, HasRoom, IsReady};
+    ghost use Rattle.cj_stream.specs.Scanning.{IsReady};
     ghost use Rattle.cj_stream.specs.Engine.{EngineState};
 
     ghost Value = { EngineState };
 
-    ghost view = { λ e. record { reading = reading e.framer; scanning = scanning e.framer; taken = e.taken; ended = option_map line_end e.ended } };
+    ghost view = { λ e. record { reading = e.framer.reading; scanning = e.framer.scanning; taken = e.taken; ended = option_map line_end e.ended } };
 
-    ghost invariant = { λ e. IsSound (reading e.framer) × HasRoom e.framer.limits (scanning e.framer)
-        × KeepsFirst (reading e.framer) (scanning e.framer) e.framer.parts × (0 < e.framer.lines)
-        × (e.ended ≡ None → e.framer.lines ≤ e.taken)
-        × (e.taken ≤ 2 ^ 60) × IsReady (reading e.framer) (scanning e.framer) };
+    ghost invariant = { λ e. (0 < e.framer.reading.lines) × (e.ended ≡ None → e.framer.reading.lines ≤ e.taken)
+        × (e.taken ≤ 2 ^ 60) × IsReady e.framer.reading e.framer.scanning };
 }
 
 impl<'q> LineReader<'q> {
     /// A reader of the lines behind a header that this framer has dealt with.
     pub(crate) fn of(framer: Framer<'q>, taken: u64) -> LineReader<'q>
-        requires sound { IsSound (reading framer) }
-        requires lists { HasRoom framer.limits (scanning framer) }
-        requires keeps { KeepsFirst (reading framer) (scanning framer) framer.parts }
-        requires first { 0 < framer.lines }
-        requires few { framer.lines ≤ taken }
+        requires first { 0 < framer.reading.lines }
+        requires few { framer.reading.lines ≤ taken }
         requires short { taken ≤ 2 ^ 60 }
-        requires ready { IsReady (reading framer) (scanning framer) }
+        requires ready { IsReady framer.reading framer.scanning }
         ensures { result ≡ record {
-          reading = reading framer.entry;
-          scanning = scanning framer.entry;
+          reading = framer.entry.reading;
+          scanning = framer.entry.scanning;
           taken = taken;
           ended = None;
         } }

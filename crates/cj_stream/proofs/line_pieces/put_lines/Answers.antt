@@ -1,10 +1,10 @@
-use Rattle.std.proofs.Common.{[], Some, None, ◌≡◌, ◌+◌, ◌++◌, ◌∙◌, length, take, map, get_or, refl, sym, ap, arith, append_assoc, length-append, Err}
-use Rattle.std.proofs.lemmas.List.{length-map, append-nil}
+use Rattle.std.proofs.Common.{[], Some, ◌≡◌, ◌+◌, ◌++◌, ◌∙◌, length, take, map, get_or, refl, sym, ap, arith, append_assoc, length-append, Err}
+use Rattle.std.proofs.lemmas.List.{length-map}
 use Rattle.cj_stream.specs.Cut.{joined}
 use Rattle.cj_stream.specs.Ending.{line_end}
 use Rattle.cj_stream.specs.Engine.{rules_of, lines_of, peaks_of}
 use Rattle.cj_stream.proofs.JoinedLemmas.{joined-more, joined-short, joined-all}
-use Rattle.cj_stream.proofs.LinePieceLemmas.{Delivers-nothing, kept_first-either, lines-put}
+use Rattle.cj_stream.proofs.LinePieceLemmas.{kept_first-either, lines-put}
 use Rattle.cj_stream.proofs.RunLemmas.{Delivers-join, kept_first-same, Ends-finished, Ends-fed, HasRisen-after, told-not_complete}
 use Rattle.cj_stream.proofs.line_pieces.put_lines.Goals as goal
 

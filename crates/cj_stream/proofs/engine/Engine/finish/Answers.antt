@@ -1,4 +1,4 @@
-use Rattle.std.proofs.Common.{◌≡◌, sym}
+use Rattle.std.proofs.Common.{sym}
 use Rattle.cj_stream.proofs.PhaseLemmas.{IsFinished-ends}
 use Rattle.cj_stream.proofs.engine.Engine.finish.Goals as goal
 

@@ -1,10 +1,12 @@
-use Rattle.std.proofs.Common.{refl}
-use Rattle.cj_stream.specs.Scanning.{scanning}
-use Rattle.cj_stream.proofs.ScanningLemmas.{still-same, still-err}
+use Rattle.std.proofs.Common.{rules, ◌≡◌, ◌+◌, Some}
+use Rattle.cj_stream.specs.Reading.{begun_verdict}
+use Rattle.cj_stream.specs.Verdict.{refusal_of}
+use Rattle.cj_stream.proofs.ReadingLemmas.{begun_verdict-first}
 use Rattle.cj_stream.proofs.framer.Framer.put_header.Goals as goal
 
-pub returns-in-Err-clause-still : goal.returns-in-Err-clause-still
-returns-in-Err-clause-still g c = still-same (scanning c.args.self.now) (scanning c.args.self.now) refl
-
-pub returns-then-not-lf-clause-still : goal.returns-then-not-lf-clause-still
-returns-then-not-lf-clause-still g c = still-err (scanning c.args.self.now) (scanning c.put_first.new.self) c.put_first.result c.put_first.ensures.same
+pub returns-in-Err-clause-settles : goal.returns-in-Err-clause-settles
+returns-in-Err-clause-settles g c =
+    let f = c.args.self.now.reading in
+    let same = begun_verdict-first f c.requires.first in
+    let refused : refusal_of (f.lines + 1) (begun_verdict f) ≡ Some c.in-Err.end = rw (same, c.requires.first, ← c.self.view_is, ← c.as_slice.ensures.value) c.in-Err.ensures.refused in
+    search rules

@@ -1,8 +1,6 @@
 use Rattle.std.proofs.Common.{rules, ◌∷◌, ◌++◌}
 use Rattle.std.proofs.lemmas.Result.{err_from_is_err_and}
 use Rattle.cj_stream.specs.Lines.{closed}
-use Rattle.cj_stream.specs.Reading.{reading}
-use Rattle.cj_stream.specs.Scanning.{scanning}
 use Rattle.cj_stream.proofs.PieceLemmas.{Stops-unstored, Stops-undealt, Advances-line}
 use Rattle.cj_stream.proofs.ScanningLemmas.{few-scanned, first-closed, few-line, scanned-line}
 use Rattle.cj_stream.proofs.StaysLemmas.{Stays-stored, Stays-then}
@@ -11,39 +9,38 @@ use Rattle.cj_stream.proofs.framer.Framer.take_line.Goals as goal
 pub returns-in_err-store-clause-err : goal.returns-in_err-store-clause-err
 returns-in_err-store-clause-err g c =
     let p = err_from_is_err_and c.from_residual.result c.from_residual.ensures.1 in
-    rw (p.1, p.2) (λ q more reads. rw c.in_err-store.ensures.err (Stops-unstored g.S.LineSink.takes g.S.LineSink.leaves (reading c.args.self.now) c.args.sink.now q c.args.part.now more _ reads c.requires.one c.in_err-store.ensures.cause))
+    rw (p.1, p.2) (λ q more reads. rw c.in_err-store.ensures.err (Stops-unstored g.S.LineSink.takes g.S.LineSink.leaves c.args.self.now.reading c.args.sink.now q c.args.part.now more _ reads c.requires.one c.in_err-store.ensures.cause))
 
 pub returns-in_err-deal-clause-err : goal.returns-in_err-deal-clause-err
 returns-in_err-deal-clause-err g c =
     let p = err_from_is_err_and c.from_residual-in_err-deal.result c.from_residual-in_err-deal.ensures.1 in
-    rw (p.1, p.2) (λ q more reads. Stops-undealt g.S.LineSink.takes g.S.LineSink.leaves (reading c.args.self.now) (reading c.store.new.self) (reading c.deal.new.self) c.args.sink.now c.deal.new.sink q c.args.part.now more _ _ reads c.requires.one c.in_ok-store.ensures.ok c.deal.ensures.settles c.in_err-deal.was)
+    rw (p.1, p.2) (λ q more reads. Stops-undealt g.S.LineSink.takes g.S.LineSink.leaves c.args.self.now.reading c.store.new.self.reading c.deal.new.self.reading c.args.sink.now c.deal.new.sink q c.args.part.now more _ _ reads c.requires.one c.in_ok-store.ensures.ok c.deal.ensures.settles c.in_err-deal.was)
 
 pub returns-clause-ok : goal.returns-clause-ok
-returns-clause-ok g c = λ q reads. Advances-line g.S.LineSink.takes g.S.LineSink.leaves (reading c.args.self.now) (reading c.store.new.self) (reading c.deal.new.self) c.args.sink.now c.deal.new.sink q c.args.part.now c.deal.result reads c.requires.one c.in_ok-store.ensures.ok c.deal.ensures.settles c.in_ok-deal.was
+returns-clause-ok g c = λ q reads. Advances-line g.S.LineSink.takes g.S.LineSink.leaves c.args.self.now.reading c.store.new.self.reading c.deal.new.self.reading c.args.sink.now c.deal.new.sink q c.args.part.now c.deal.result reads c.requires.one c.in_ok-store.ensures.ok c.deal.ensures.settles c.in_ok-deal.was
 
 pub returns-in_err-store-clause-held : goal.returns-in_err-store-clause-held
 returns-in_err-store-clause-held g c =
     let p = err_from_is_err_and c.from_residual.result c.from_residual.ensures.1 in
-    rw p.1 (λ q more reads s. rw c.in_err-store.ensures.err (few-scanned c.args.self.now.limits (closed q) (scanning c.args.self.now) _ s (first-closed q (c.args.part.now ++ 10 ∷ more))))
+    rw p.1 (λ q more reads s. rw c.in_err-store.ensures.err (few-scanned c.args.self.now.reading.rules.limits (closed q) c.args.self.now.scanning _ s (first-closed q (c.args.part.now ++ 10 ∷ more))))
 
 pub returns-in_err-deal-clause-held : goal.returns-in_err-deal-clause-held
 returns-in_err-deal-clause-held g c =
     let p = err_from_is_err_and c.from_residual-in_err-deal.result c.from_residual-in_err-deal.ensures.1 in
-    rw p.1 (λ q more reads s. few-line (reading c.args.self.now) (reading c.store.new.self) q c.args.part.now (scanning c.args.self.now) (scanning c.store.new.self) (scanning c.deal.new.self)
+    rw p.1 (λ q more reads s. few-line c.args.self.now.reading c.store.new.self.reading q c.args.part.now c.args.self.now.scanning c.store.new.self.scanning c.deal.new.self.scanning
     reads c.requires.one c.in_ok-store.ensures.ok c.store.ensures.lists s more c.deal.ensures.few)
 
 pub returns-clause-scanned : goal.returns-clause-scanned
-returns-clause-scanned g c = λ q reads s. scanned-line (reading c.args.self.now) (reading c.store.new.self) q c.args.part.now (scanning c.args.self.now) (scanning c.store.new.self) (scanning c.deal.new.self)
+returns-clause-scanned g c = λ q reads s. scanned-line c.args.self.now.reading c.store.new.self.reading q c.args.part.now c.args.self.now.scanning c.store.new.self.scanning c.deal.new.self.scanning
     reads c.requires.one c.in_ok-store.ensures.ok c.store.ensures.lists s c.in_ok-deal.ensures.scanned
 
 pub returns-in_err-deal-clause-carries : goal.returns-in_err-deal-clause-carries
 returns-in_err-deal-clause-carries g c =
-    let stored = Stays-stored (reading c.args.self.now) (reading c.store.new.self) c.args.part.now c.requires.unended.sound c.in_ok-store.ensures.ok in
+    let stored = Stays-stored c.args.self.now.reading c.store.new.self.reading c.args.part.now c.in_ok-store.ensures.ok in
     record {
       stays = Stays-then _ _ _ stored c.deal.ensures.carries.stays;
       rises = search rules;
-      room = search rules;
-      keeps = search rules;
+      framed = search rules;
       counts = search rules;
       cause = search rules;
       first = search rules;

@@ -2,8 +2,6 @@ use Rattle.std.proofs.Common.{◌∷◌, [], ◌++◌, ◌+◌, take, drop, refl
 use Rattle.std.proofs.lemmas.Result.{err_from_is_err_and}
 use Rattle.std.proofs.lemmas.List.{append-nil}
 use Rattle.cj_stream.specs.Lines.{closed}
-use Rattle.cj_stream.specs.Reading.{reading}
-use Rattle.cj_stream.specs.Scanning.{scanning}
 use Rattle.cj_stream.proofs.PieceSlices.{lf_found, NoLf-before, NoLf-not_found, left_length, piece_more}
 use Rattle.cj_stream.proofs.PieceLemmas.{Stops-later, Stops-unstored_last, Advances-none, Advances-then, Advances-stored}
 use Rattle.cj_stream.proofs.StaysLemmas.{Stays-then, Stays-same}
@@ -16,107 +14,104 @@ take_line-requires-clause-one g c = NoLf-before c.loop-at.rest.now c.in-Some.at 
 pub returns-in_err-take_line-clause-err : goal.returns-in_err-take_line-clause-err
 returns-in_err-take_line-clause-err g c =
     let p = err_from_is_err_and c.from_residual.result c.from_residual.ensures.1 in
-    let i = c.loop-at.invariant.3 in
+    let i = c.loop-at.invariant.read in
     rw (p.1, p.2) (λ q reads.
     let a = i.2 q reads in
     let rest = c.loop-at.rest.now in
     let s = c.in_err-take_line.ensures.err (q ++ i.0) (drop (c.in-Some.at + 1) rest) a.reads in
-    rw (i.1) (Stops-later g.S.LineSink.takes g.S.LineSink.leaves (reading c.args.self.now) (reading c.loop-at.self) (reading c.take_line.new.self) c.args.sink.now c.loop-at.sink c.take_line.new.sink q i.0 rest _ a
+    rw (i.1) (Stops-later g.S.LineSink.takes g.S.LineSink.leaves c.args.self.now.reading c.loop-at.self.reading c.take_line.new.self.reading c.args.sink.now c.loop-at.sink c.take_line.new.sink q i.0 rest _ a
     (rw (lf_found rest c.in-Some.at c.in-Some.ensures) s)))
 
 pub loop-at-preserved : goal.loop-at-preserved
 loop-at-preserved g c =
-    let i = c.loop-at.invariant.3 in
+    let i = c.loop-at.invariant.read in
     let rest = c.loop-at.rest.now in
-    let k = c.in-Some.at in (
-      Stays-then _ _ _ c.loop-at.invariant.0 c.take_line.ensures.carries.stays,
-      omega (arith, left_length rest k c.in-Some.ensures, c.take_line.ensures.few, c.loop-at.invariant.1),
-      omega (arith, c.take_line.ensures.carries.counts, c.loop-at.invariant.2),
-      (
+    let k = c.in-Some.at in
+    let limits = c.args.self.now.reading.rules.limits in
+    let same = ap (λ x. x.limits) c.loop-at.invariant.stays.rules in
+    record {
+      stays = Stays-then _ _ _ c.loop-at.invariant.stays c.take_line.ensures.carries.stays;
+      rises = Rises-then _ _ _ c.loop-at.invariant.rises c.take_line.ensures.carries.rises;
+      ready = c.in_ok-take_line.ensures.ready;
+      few = omega (arith, left_length rest k c.in-Some.ensures, c.take_line.ensures.few, c.loop-at.invariant.few);
+      grows = omega (arith, c.loop-at.invariant.grows, c.take_line.ensures.grows);
+      counts = omega (arith, c.take_line.ensures.carries.counts, c.loop-at.invariant.counts);
+      unrefused = λ z. absurd (omega (arith, z, c.in_ok-take_line.ensures.one));
+      read = (
         i.0 ++ (take k rest ++ 10 ∷ []),
         piece_more c.args.piece.now i.0 rest k i.1 c.in-Some.ensures,
         λ q reads.
             let a = i.2 q reads in
-            Advances-then g.S.LineSink.takes g.S.LineSink.leaves (reading c.args.self.now) (reading c.loop-at.self) (reading c.take_line.new.self) c.args.sink.now c.loop-at.sink c.take_line.new.sink q i.0 (take k rest ++ 10 ∷ []) a
+            Advances-then g.S.LineSink.takes g.S.LineSink.leaves c.args.self.now.reading c.loop-at.self.reading c.take_line.new.self.reading c.args.sink.now c.loop-at.sink c.take_line.new.sink q i.0 (take k rest ++ 10 ∷ []) a
             (c.in_ok-take_line.ensures.ok (q ++ i.0) a.reads),
         λ q reads s.
             let a = i.2 q reads in
-            let limits = c.args.self.now.limits in
-            let same = ap (λ x. x.limits) c.loop-at.invariant.0.rules in
-            scanned-then limits c.loop-at.self.limits q i.0 (take k rest ++ 10 ∷ []) (scanning c.take_line.new.self) same
-            (c.in_ok-take_line.ensures.scanned (q ++ i.0) a.reads (scanned-under limits c.loop-at.self.limits (closed (q ++ i.0)) (scanning c.loop-at.self) same (i.3 q reads s))),
-      ),
-      rw (← ap (λ x. x.limits) c.loop-at.invariant.0.rules) c.take_line.ensures.carries.room,
-      Rises-then _ _ _ c.loop-at.invariant.5 c.take_line.ensures.carries.rises,
-      c.take_line.ensures.carries.keeps,
-      c.in_ok-take_line.ensures.ready,
-      omega (arith, c.loop-at.invariant.8, c.take_line.ensures.grows),
-      λ z. absurd (omega (arith, z, c.in_ok-take_line.ensures.one)),
-    )
+            scanned-then limits c.loop-at.self.reading.rules.limits q i.0 (take k rest ++ 10 ∷ []) c.take_line.new.self.scanning same
+            (c.in_ok-take_line.ensures.scanned (q ++ i.0) a.reads (scanned-under limits c.loop-at.self.reading.rules.limits (closed (q ++ i.0)) c.loop-at.self.scanning same (i.3 q reads s))),
+      );
+    }
 
 pub returns-in_err-store-clause-err : goal.returns-in_err-store-clause-err
 returns-in_err-store-clause-err g c =
     let p = err_from_is_err_and c.from_residual-in_err-store.result c.from_residual-in_err-store.ensures.1 in
-    let i = c.loop-at.invariant.3 in
+    let i = c.loop-at.invariant.read in
     rw (p.1, p.2) (λ q reads.
     let a = i.2 q reads in
     let rest = c.loop-at.rest.now in
-    rw (i.1, c.in_err-store.ensures.err) (Stops-later g.S.LineSink.takes g.S.LineSink.leaves (reading c.args.self.now) (reading c.loop-at.self) (reading c.loop-at.self) c.args.sink.now c.loop-at.sink c.loop-at.sink q i.0 rest _ a
-    (Stops-unstored_last g.S.LineSink.takes g.S.LineSink.leaves (reading c.loop-at.self) c.loop-at.sink (q ++ i.0) rest _ a.reads (NoLf-not_found rest c.memchr.result c.memchr.ensures c.in_default.not-Some) c.in_err-store.ensures.cause)))
+    rw (i.1, c.in_err-store.ensures.err) (Stops-later g.S.LineSink.takes g.S.LineSink.leaves c.args.self.now.reading c.loop-at.self.reading c.loop-at.self.reading c.args.sink.now c.loop-at.sink c.loop-at.sink q i.0 rest _ a
+    (Stops-unstored_last g.S.LineSink.takes g.S.LineSink.leaves c.loop-at.self.reading c.loop-at.sink (q ++ i.0) rest _ a.reads (NoLf-not_found rest c.memchr.result c.memchr.ensures c.in_default.not-Some) c.in_err-store.ensures.cause)))
 
 pub returns-clause-ok : goal.returns-clause-ok
 returns-clause-ok g c = λ q reads.
-    let i = c.loop-at.invariant.3 in
+    let i = c.loop-at.invariant.read in
     let a = i.2 q reads in
     let rest = c.loop-at.rest.now in
-    rw i.1 (Advances-then g.S.LineSink.takes g.S.LineSink.leaves (reading c.args.self.now) (reading c.loop-at.self) (reading c.store.new.self) c.args.sink.now c.loop-at.sink c.loop-at.sink q i.0 rest a
-    (Advances-stored g.S.LineSink.takes g.S.LineSink.leaves (reading c.loop-at.self) (reading c.store.new.self) c.loop-at.sink (q ++ i.0) rest a.reads (NoLf-not_found rest c.memchr.result c.memchr.ensures c.in_default.not-Some) c.in_ok-store.ensures.ok))
+    rw i.1 (Advances-then g.S.LineSink.takes g.S.LineSink.leaves c.args.self.now.reading c.loop-at.self.reading c.store.new.self.reading c.args.sink.now c.loop-at.sink c.loop-at.sink q i.0 rest a
+    (Advances-stored g.S.LineSink.takes g.S.LineSink.leaves c.loop-at.self.reading c.store.new.self.reading c.loop-at.sink (q ++ i.0) rest a.reads (NoLf-not_found rest c.memchr.result c.memchr.ensures c.in_default.not-Some) c.in_ok-store.ensures.ok))
 
 pub loop-at-init : goal.loop-at-init
-loop-at-init g c = (
-  Stays-same (reading c.args.self.now) (reading c.args.self.now) c.requires.unended.sound refl,
-  omega arith,
-  omega arith,
-  (
+loop-at-init g c = record {
+  stays = Stays-same c.args.self.now.reading c.args.self.now.reading refl;
+  rises = Rises-same c.args.self.now.scanning c.args.self.now.scanning refl;
+  ready = c.requires.ready;
+  few = omega arith;
+  grows = omega arith;
+  counts = omega arith;
+  unrefused = λ z. (refl, refl);
+  read = (
     [],
     refl,
-    λ q reads. Advances-none g.S.LineSink.takes g.S.LineSink.leaves (reading c.args.self.now) c.args.sink.now q reads,
+    λ q reads. Advances-none g.S.LineSink.takes g.S.LineSink.leaves c.args.self.now.reading c.args.sink.now q reads,
     λ q reads s. rw (append-nil q) s,
-  ),
-  c.requires.unended.lists,
-  Rises-same (scanning c.args.self.now) (scanning c.args.self.now) refl,
-  c.requires.unended.keeps,
-  c.requires.unended.ready,
-  omega arith,
-  λ z. (refl, refl),
-)
+  );
+}
 
 pub returns-in_err-take_line-clause-held : goal.returns-in_err-take_line-clause-held
 returns-in_err-take_line-clause-held g c =
     let p = err_from_is_err_and c.from_residual.result c.from_residual.ensures.1 in
-    let i = c.loop-at.invariant.3 in
+    let i = c.loop-at.invariant.read in
     rw p.1 (λ q reads s.
     let a = i.2 q reads in
     let rest = c.loop-at.rest.now in
-    let limits = c.args.self.now.limits in
-    let same = ap (λ x. x.limits) c.loop-at.invariant.0.rules in
-    let held = c.in_err-take_line.ensures.held (q ++ i.0) (drop (c.in-Some.at + 1) rest) a.reads (scanned-under limits c.loop-at.self.limits (closed (q ++ i.0)) (scanning c.loop-at.self) same (i.3 q reads s)) in
-    rw i.1 (few-then limits c.loop-at.self.limits q i.0 rest (scanning c.take_line.new.self) same (rw (lf_found rest c.in-Some.at c.in-Some.ensures) held)))
+    let limits = c.args.self.now.reading.rules.limits in
+    let same = ap (λ x. x.limits) c.loop-at.invariant.stays.rules in
+    let held = c.in_err-take_line.ensures.held (q ++ i.0) (drop (c.in-Some.at + 1) rest) a.reads (scanned-under limits c.loop-at.self.reading.rules.limits (closed (q ++ i.0)) c.loop-at.self.scanning same (i.3 q reads s)) in
+    rw i.1 (few-then limits c.loop-at.self.reading.rules.limits q i.0 rest c.take_line.new.self.scanning same (rw (lf_found rest c.in-Some.at c.in-Some.ensures) held)))
 
 pub returns-in_err-store-clause-held : goal.returns-in_err-store-clause-held
 returns-in_err-store-clause-held g c =
     let p = err_from_is_err_and c.from_residual-in_err-store.result c.from_residual-in_err-store.ensures.1 in
-    let i = c.loop-at.invariant.3 in
+    let i = c.loop-at.invariant.read in
     rw p.1 (λ q reads s.
     let rest = c.loop-at.rest.now in
-    let limits = c.args.self.now.limits in
-    rw (i.1, c.in_err-store.ensures.err) (few-then limits limits q i.0 rest (scanning c.loop-at.self) refl
-    (few-scanned limits (closed (q ++ i.0)) (scanning c.loop-at.self) _ (i.3 q reads s) (first-closed (q ++ i.0) rest))))
+    let limits = c.args.self.now.reading.rules.limits in
+    rw (i.1, c.in_err-store.ensures.err) (few-then limits limits q i.0 rest c.loop-at.self.scanning refl
+    (few-scanned limits (closed (q ++ i.0)) c.loop-at.self.scanning _ (i.3 q reads s) (first-closed (q ++ i.0) rest))))
 
 pub returns-clause-scanned : goal.returns-clause-scanned
 returns-clause-scanned g c = λ q reads s.
-    let i = c.loop-at.invariant.3 in
+    let i = c.loop-at.invariant.read in
     let rest = c.loop-at.rest.now in
-    let limits = c.args.self.now.limits in
-    rw i.1 (scanned-then limits limits q i.0 rest (scanning c.store.new.self) refl
-    (scanned-begun limits (q ++ i.0) rest (scanning c.loop-at.self) (scanning c.store.new.self) (NoLf-not_found rest c.memchr.result c.memchr.ensures c.in_default.not-Some) c.store.ensures.lists (i.3 q reads s)))
+    let limits = c.args.self.now.reading.rules.limits in
+    rw i.1 (scanned-then limits limits q i.0 rest c.store.new.self.scanning refl
+    (scanned-begun limits (q ++ i.0) rest c.loop-at.self.scanning c.store.new.self.scanning (NoLf-not_found rest c.memchr.result c.memchr.ensures c.in_default.not-Some) c.store.ensures.lists (i.3 q reads s)))

@@ -1,8 +1,6 @@
-use Rattle.std.proofs.Common.{◌≡◌, ap, ◌+◌, length, take, length-take, arith, refl, ◌∙◌, Some, None, Err}
+use Rattle.std.proofs.Common.{◌≡◌, ap, ◌+◌, take, length-take, arith, refl, ◌∙◌, Some, None, Err}
 use Rattle.std.specs.Prelude.{option_map}
 use Rattle.cj_stream.specs.Ending.{header_end}
-use Rattle.cj_stream.specs.Reading.{reading}
-use Rattle.cj_stream.specs.Scanning.{scanning}
 use Rattle.cj_stream.proofs.EngineLemmas.{none_from_not_some}
 use Rattle.cj_stream.proofs.FeedingLemmas.{Feeds-again, Feeds-advances, Feeds-stops}
 use Rattle.cj_stream.proofs.header_reader.HeaderReader.feed.Goals as goal
@@ -17,9 +15,9 @@ returns-in-Ok-clause-feeds g c =
     let going : option_map header_end c.self.inside.ended ≡ None = ap (option_map header_end) not_ended in
     let used = c.in-Ok.progress.used in
     rw (← c.self.view_is) (Feeds-advances g.S.LineSink.takes g.S.LineSink.leaves g.S.LineSink.failures
-    (record { reading = reading c.self.inside.framer; scanning = scanning c.self.inside.framer; taken = c.self.inside.taken; ended = option_map header_end c.self.inside.ended }) _
-    (record { reading = reading c.take_front.new.self; scanning = scanning c.take_front.new.self; taken = c.self.inside.taken + c.in-Ok.progress.used; ended = option_map header_end c.self.inside.ended }) _
-    going c.take_front.ensures.carries.counts c.take_front.ensures.carries.stays c.take_front.ensures.carries.room c.take_front.ensures.carries.rises
+    (record { reading = c.self.inside.framer.reading; scanning = c.self.inside.framer.scanning; taken = c.self.inside.taken; ended = option_map header_end c.self.inside.ended }) _
+    (record { reading = c.take_front.new.self.reading; scanning = c.take_front.new.self.scanning; taken = c.self.inside.taken + c.in-Ok.progress.used; ended = option_map header_end c.self.inside.ended }) _
+    going c.take_front.ensures.carries.counts c.take_front.ensures.carries.stays c.take_front.ensures.carries.framed.sound c.take_front.ensures.carries.framed.room c.take_front.ensures.carries.rises
     (take c.in-Ok.progress.used c.args.piece.now) going (omega (arith, length-take c.in-Ok.progress.used c.args.piece.now, c.in-Ok.ensures.front.within)) c.in-Ok.ensures.ok c.in-Ok.ensures.scanned)
 
 pub returns-in-Err-clause-feeds : goal.returns-in-Err-clause-feeds
@@ -27,7 +25,7 @@ returns-in-Err-clause-feeds g c =
     let not_ended : c.self.inside.ended ≡ None = none_from_not_some c.self.inside.ended c.in_default.not-Some in
     let going : option_map header_end c.self.inside.ended ≡ None = ap (option_map header_end) not_ended in
     rw (← c.self.view_is, c.of-end.ensures) (Feeds-stops g.S.LineSink.takes g.S.LineSink.leaves g.S.LineSink.failures
-    (record { reading = reading c.self.inside.framer; scanning = scanning c.self.inside.framer; taken = c.self.inside.taken; ended = option_map header_end c.self.inside.ended }) _
-    (record { reading = reading c.take_front.new.self; scanning = scanning c.take_front.new.self; taken = c.self.inside.taken; ended = Some c.in-Err.end }) _
-    going c.take_front.ensures.carries.counts c.take_front.ensures.carries.stays c.take_front.ensures.carries.room c.take_front.ensures.carries.rises
+    (record { reading = c.self.inside.framer.reading; scanning = c.self.inside.framer.scanning; taken = c.self.inside.taken; ended = option_map header_end c.self.inside.ended }) _
+    (record { reading = c.take_front.new.self.reading; scanning = c.take_front.new.self.scanning; taken = c.self.inside.taken; ended = Some c.in-Err.end }) _
+    going c.take_front.ensures.carries.counts c.take_front.ensures.carries.stays c.take_front.ensures.carries.framed.sound c.take_front.ensures.carries.framed.room c.take_front.ensures.carries.rises
     c.args.piece.now c.in-Err.end refl (λ fault. c.take_front.ensures.carries.cause (c.in-Err.is ∙ ap Err fault)) (λ refused. c.take_front.ensures.carries.memory (c.in-Err.is ∙ ap Err refused)) c.in-Err.ensures.err c.in-Err.ensures.held)

@@ -1,8 +1,6 @@
-use Rattle.std.proofs.Common.{◌≡◌, ap, ◌+◌, length, arith, refl, ◌∙◌, Some, None, Err}
+use Rattle.std.proofs.Common.{◌≡◌, ap, ◌+◌, length, refl, ◌∙◌, Some, None, Err}
 use Rattle.std.specs.Prelude.{option_map}
 use Rattle.cj_stream.specs.Ending.{line_end}
-use Rattle.cj_stream.specs.Reading.{reading}
-use Rattle.cj_stream.specs.Scanning.{scanning}
 use Rattle.cj_stream.proofs.EngineLemmas.{none_from_not_some}
 use Rattle.cj_stream.proofs.FeedingLemmas.{Feeds-again, Feeds-advances, Feeds-stops}
 use Rattle.cj_stream.proofs.line_reader.LineReader.feed.Goals as goal
@@ -16,9 +14,9 @@ returns-in-Ok-clause-feeds g c =
     let not_ended : c.self.inside.ended ≡ None = none_from_not_some c.self.inside.ended c.in_default.not-Some in
     let going : option_map line_end c.self.inside.ended ≡ None = ap (option_map line_end) not_ended in
     rw (← c.self.view_is) (Feeds-advances g.S.LineSink.takes g.S.LineSink.leaves g.S.LineSink.failures
-    (record { reading = reading c.self.inside.framer; scanning = scanning c.self.inside.framer; taken = c.self.inside.taken; ended = option_map line_end c.self.inside.ended }) _
-    (record { reading = reading c.take_piece.new.self; scanning = scanning c.take_piece.new.self; taken = c.self.inside.taken + length c.args.piece.now; ended = option_map line_end c.self.inside.ended }) _
-    going c.take_piece.ensures.carries.counts c.take_piece.ensures.carries.stays c.take_piece.ensures.carries.room c.take_piece.ensures.carries.rises
+    (record { reading = c.self.inside.framer.reading; scanning = c.self.inside.framer.scanning; taken = c.self.inside.taken; ended = option_map line_end c.self.inside.ended }) _
+    (record { reading = c.take_piece.new.self.reading; scanning = c.take_piece.new.self.scanning; taken = c.self.inside.taken + length c.args.piece.now; ended = option_map line_end c.self.inside.ended }) _
+    going c.take_piece.ensures.carries.counts c.take_piece.ensures.carries.stays c.take_piece.ensures.carries.framed.sound c.take_piece.ensures.carries.framed.room c.take_piece.ensures.carries.rises
     c.args.piece.now going refl c.in-Ok.ensures.ok c.in-Ok.ensures.scanned)
 
 pub returns-in-Err-clause-feeds : goal.returns-in-Err-clause-feeds
@@ -26,7 +24,7 @@ returns-in-Err-clause-feeds g c =
     let not_ended : c.self.inside.ended ≡ None = none_from_not_some c.self.inside.ended c.in_default.not-Some in
     let going : option_map line_end c.self.inside.ended ≡ None = ap (option_map line_end) not_ended in
     rw (← c.self.view_is, c.of-end.ensures) (Feeds-stops g.S.LineSink.takes g.S.LineSink.leaves g.S.LineSink.failures
-    (record { reading = reading c.self.inside.framer; scanning = scanning c.self.inside.framer; taken = c.self.inside.taken; ended = option_map line_end c.self.inside.ended }) _
-    (record { reading = reading c.take_piece.new.self; scanning = scanning c.take_piece.new.self; taken = c.self.inside.taken; ended = Some c.in-Err.end }) _
-    going c.take_piece.ensures.carries.counts c.take_piece.ensures.carries.stays c.take_piece.ensures.carries.room c.take_piece.ensures.carries.rises
+    (record { reading = c.self.inside.framer.reading; scanning = c.self.inside.framer.scanning; taken = c.self.inside.taken; ended = option_map line_end c.self.inside.ended }) _
+    (record { reading = c.take_piece.new.self.reading; scanning = c.take_piece.new.self.scanning; taken = c.self.inside.taken; ended = Some c.in-Err.end }) _
+    going c.take_piece.ensures.carries.counts c.take_piece.ensures.carries.stays c.take_piece.ensures.carries.framed.sound c.take_piece.ensures.carries.framed.room c.take_piece.ensures.carries.rises
     c.args.piece.now c.in-Err.end refl (λ fault. c.take_piece.ensures.carries.cause (c.in-Err.is ∙ ap Err fault)) (λ refused. c.take_piece.ensures.carries.memory (c.in-Err.is ∙ ap Err refused)) c.in-Err.ensures.err c.in-Err.ensures.held)

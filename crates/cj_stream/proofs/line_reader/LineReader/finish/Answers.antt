@@ -1,8 +1,6 @@
 use Rattle.std.proofs.Common.{◌≡◌, ap, refl, None, Some}
 use Rattle.std.specs.Prelude.{option_map}
 use Rattle.cj_stream.specs.Ending.{line_end}
-use Rattle.cj_stream.specs.Reading.{reading}
-use Rattle.cj_stream.specs.Scanning.{scanning}
 use Rattle.cj_stream.proofs.EngineLemmas.{none_from_not_some}
 use Rattle.cj_stream.proofs.FeedingLemmas.{IsFinished-again, IsFinished-finishes}
 use Rattle.cj_stream.proofs.line_reader.LineReader.finish.Goals as goal
@@ -16,7 +14,7 @@ returns-clause-finished g c =
     let not_ended : c.self.inside.ended ≡ None = none_from_not_some c.self.inside.ended c.in_default.not-Some in
     let going : option_map line_end c.self.inside.ended ≡ None = ap (option_map line_end) not_ended in
     rw (← c.self.view_is) (IsFinished-finishes g.S.LineSink.takes g.S.LineSink.leaves g.S.LineSink.failures
-    (record { reading = reading c.self.inside.framer; scanning = scanning c.self.inside.framer; taken = c.self.inside.taken; ended = option_map line_end c.self.inside.ended }) _
-    (record { reading = reading c.finish.new.self; scanning = scanning c.finish.new.self; taken = c.self.inside.taken; ended = Some (line_end c.after-end.result) }) _
-    going c.finish.ensures.carries.counts c.finish.ensures.carries.stays c.finish.ensures.carries.room c.finish.ensures.carries.rises
+    (record { reading = c.self.inside.framer.reading; scanning = c.self.inside.framer.scanning; taken = c.self.inside.taken; ended = option_map line_end c.self.inside.ended }) _
+    (record { reading = c.finish.new.self.reading; scanning = c.finish.new.self.scanning; taken = c.self.inside.taken; ended = Some (line_end c.after-end.result) }) _
+    going c.finish.ensures.carries.counts c.finish.ensures.carries.stays c.finish.ensures.carries.framed.sound c.finish.ensures.carries.framed.room c.finish.ensures.carries.rises
     (line_end c.after-end.result) c.finish.result refl c.after-end.ensures c.finish.ensures.carries.cause c.finish.ensures.memory c.finish.ensures.finishes c.finish.ensures.scanned c.finish.ensures.held)

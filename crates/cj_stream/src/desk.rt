@@ -1,0 +1,205 @@
+//! Judges whole lines, and puts those that are kept to a sink.
+//!
+//! It knows what lines are judged by and what is asked of features, and keeps what a line is judged with: the tokens of
+//! the header with what was read of it once, the tokens of the line that is judged, and the open containers. The lines
+//! themselves are lent to it. That the header's tokens and parts belong to the header (`KeepsHeader`) is asked for by
+//! what uses them. A view borrows the lists, so what changes them comes after the sink. A line's number is one more than
+//! the lines before it, so the header's is 1.
+ghost use Rattle.std.specs.Prelude.{◌≡◌, ◌+◌, ◌<◌, ◌≤◌, ◌^◌, ◌/◌, List, length, [], OnOk, OnErr, IfOk, IfErr, IsErrOf, MatchResult, IsTrue, None, Some};
+ghost use Rattle.cj_budget.specs.Bounded.{IsNew, Becomes};
+ghost use Rattle.cj_budget.specs.Limits.{InLine};
+ghost use Rattle.cj_stream.specs.Ending.{IsLaterEnd};
+ghost use Rattle.cj_stream.specs.Item.{tree_of, item_at};
+ghost use Rattle.cj_stream.specs.Sink.{HasRisen};
+ghost use Rattle.cj_stream.specs.Verdict.{Valid, refusal_of, tree_verdict};
+
+use crate::ending::End;
+use crate::judge::{Content, judge};
+use crate::query::Query;
+use crate::sink::LineSink;
+use cj_budget::{Bounded, Limits, Stack};
+use cj_feature::{Header, HeaderParts, check_feature, check_header};
+use cj_spans::{Doc, Finding, Token};
+use std::alloc::Global;
+
+/// What lines are judged by, and what they are judged with.
+#[derive(Drop)]
+pub struct Desk<'q> {
+    pub limits: Limits,
+    pub query: &'q Query,
+    /// The tokens of the first line.
+    pub header_tokens: Bounded<Token>,
+    /// The tokens of the later line that is judged.
+    pub line_tokens: Bounded<Token>,
+    pub opened: Stack,
+    /// What was read of a valid header.
+    pub parts: Option<HeaderParts>,
+}
+
+impl<'q> Desk<'q> {
+    ghost use Rattle.cj_stream.specs.Delivering.{Hands};
+    ghost use Rattle.cj_stream.specs.Judging.{Says, ShowsTree, IsHeaderOf, KeepsHeader};
+    ghost use Rattle.cj_stream.specs.Query.{rules_for};
+    ghost use Rattle.cj_stream.specs.Scanning.{scanning, HasRoom, IsOpen, JudgesLine, Forgets};
+
+    /// A desk that no line has come to. It takes no memory.
+    pub fn new(alloc: Global, limits: Limits, query: &'q Query) -> Desk<'q>
+        ensures limits { result.limits ≡ limits }
+        ensures query { result.query.now ≡ query.now }
+        ensures header { IsNew ((limits.line + limits.depth + 1) / 2) result.header_tokens }
+        ensures line { IsNew ((limits.line + limits.depth + 1) / 2) result.line_tokens }
+        ensures opened { IsNew limits.depth result.opened }
+        ensures parts { result.parts ≡ None }
+    {
+        let depth = limits.depth() as usize;
+        let tokens = (limits.line() as usize + depth + 1) / 2; // each but the last has two bytes or an open container
+        Desk {
+            limits,
+            query,
+            header_tokens: Bounded::new(alloc, tokens),
+            line_tokens: Bounded::new(alloc, tokens),
+            opened: Stack::new(alloc, depth),
+            parts: None,
+        }
+    }
+
+    /// What the content of the line after so many is as a text. Its tokens are taken by the lists of the first line or
+    /// of a later one.
+    pub fn judge(&mut self, before: u64, content: &[u8]) -> Content
+        requires range { InLine self.old.limits.line }
+        requires room { before < 2 ^ 62 }
+        requires lists { HasRoom self.old.limits (scanning self.old) }
+        requires open { IsOpen before (scanning self.old) }
+        requires short { length content.now ≤ self.old.limits.line }
+        ensures rest { self.new ≡ record self.old {
+          header_tokens = self.new.header_tokens;
+          line_tokens = self.new.line_tokens;
+          opened = self.new.opened;
+        } }
+        ensures says { Says (before + 1) content.now self.old.limits.depth result }
+        ensures first { result ≡ Content.Sound → before ≡ 0
+            → ShowsTree content.now self.old.limits.depth (scanning self.new).header.elements }
+        ensures later { result ≡ Content.Sound → 0 < before
+            → ShowsTree content.now self.old.limits.depth (scanning self.new).line.elements }
+        ensures lists { JudgesLine before content.now (scanning self.old) (scanning self.new) result }
+        ensures open { IsOpen before (scanning self.new) }
+    {
+        if before == 0 {
+            judge(1, content, &mut self.header_tokens, &mut self.opened)
+        } else {
+            judge(before + 1, content, &mut self.line_tokens, &mut self.opened)
+        }
+    }
+
+    /// Judges the tree of the first line: what is read of a valid header once, or the end that its least finding makes.
+    pub fn check_first(&self, content: &[u8]) -> Result<HeaderParts, End>
+        requires shows { ShowsTree content.now self.now.limits.depth self.now.header_tokens.elements }
+        ensures ok { IfOk result (λ parts. IsHeaderOf (tree_of self.now.limits.depth content.now)
+            (rules_for self.now.limits self.now.query.now) parts) }
+        ensures valid { OnOk result (tree_verdict (rules_for self.now.limits self.now.query.now) 1
+            (tree_of self.now.limits.depth content.now) (tree_of self.now.limits.depth content.now) ≡ Valid) }
+        ensures refused { IfErr result (λ e. refusal_of 1 (tree_verdict (rules_for self.now.limits self.now.query.now) 1
+            (tree_of self.now.limits.depth content.now) (tree_of self.now.limits.depth content.now)) ≡ Some e) }
+    {
+        let doc = Doc::of(content, self.header_tokens.as_slice());
+        match check_header(doc, self.query.wants_box()) {
+            Ok(header) => Ok(header.parts()),
+            Err(finding) => Err(refused(1, finding)),
+        }
+    }
+
+    /// Puts a valid header to the sink, and keeps what was read of it.
+    pub fn put_first<S: LineSink>(
+        &mut self,
+        content: &[u8],
+        parts: HeaderParts,
+        lf: bool,
+        sink: &mut S,
+    ) -> Result<(), End>
+        requires shows { ShowsTree content.now self.old.limits.depth self.old.header_tokens.elements }
+        requires parts { IsHeaderOf (tree_of self.old.limits.depth content.now)
+            (rules_for self.old.limits self.old.query.now) parts }
+        ensures counts { S.failures sink.old ≤ S.failures sink.new }
+        ensures cause { IsErrOf result End.WriteFault → HasRisen (S.failures sink.old) (S.failures sink.new) }
+        ensures puts { MatchResult result
+            (λ _. S.takes sink.old (item_at self.old.limits.depth 1 (tree_of self.old.limits.depth content.now)
+            (record { content = content.now; lf = lf })) sink.new)
+            (λ e. (e ≡ End.WriteFault) × S.leaves sink.old (item_at self.old.limits.depth 1
+            (tree_of self.old.limits.depth content.now) (record { content = content.now; lf = lf })) sink.new) }
+        ensures same { OnErr result (self.new ≡ self.old) }
+        ensures rest { OnOk result (self.new ≡ record self.old { parts = self.new.parts }) }
+        ensures keeps { OnOk result (KeepsHeader content.now (rules_for self.old.limits self.old.query.now)
+            self.old.header_tokens.elements self.new.parts) }
+    {
+        let doc = Doc::of(content, self.header_tokens.as_slice());
+        let header = Header::of(doc, parts);
+        if sink.header(&header, lf).is_err() {
+            return Err(End::WriteFault);
+        }
+        let parts = header.parts();
+        self.parts = Some(parts);
+        Ok(())
+    }
+
+    /// Judges the tree of the line after so many, and puts it to the sink if it is a valid feature that is asked for:
+    /// whether it is.
+    pub fn put_later<S: LineSink>(
+        &self,
+        before: u64,
+        first: &[u8],
+        content: &[u8],
+        lf: bool,
+        sink: &mut S,
+    ) -> Result<bool, End>
+        requires room { before < 2 ^ 62 }
+        requires later { 0 < before }
+        requires shows { ShowsTree content.now self.now.limits.depth self.now.line_tokens.elements }
+        requires keeps { KeepsHeader first.now (rules_for self.now.limits self.now.query.now)
+            self.now.header_tokens.elements self.now.parts }
+        ensures counts { S.failures sink.old ≤ S.failures sink.new }
+        ensures cause { IsErrOf result End.WriteFault → HasRisen (S.failures sink.old) (S.failures sink.new) }
+        ensures hands { Hands S.takes S.leaves (tree_verdict (rules_for self.now.limits self.now.query.now) (before + 1)
+            (tree_of self.now.limits.depth first.now) (tree_of self.now.limits.depth content.now)) (before + 1)
+            (item_at self.now.limits.depth (before + 1) (tree_of self.now.limits.depth first.now)
+            (record { content = content.now; lf = lf })) sink.old result sink.new }
+        ensures end { IfErr result IsLaterEnd }
+    {
+        let Some(parts) = self.parts else {
+            unreachable!()
+        };
+        let header_doc = Doc::of(first, self.header_tokens.as_slice());
+        let header = Header::of(header_doc, parts);
+        let doc = Doc::of(content, self.line_tokens.as_slice());
+        let feature = match check_feature(doc, &header) {
+            Ok(feature) => feature,
+            Err(finding) => return Err(refused(before + 1, finding)),
+        };
+        if !self.query.holds(&feature, &header) {
+            return Ok(false);
+        }
+        if sink.put(&feature, lf).is_err() {
+            return Err(End::WriteFault);
+        }
+        Ok(true)
+    }
+
+    /// The line that was judged is done with. What is kept of the header stays.
+    pub fn forget(&mut self)
+        ensures forgets { Forgets (scanning self.old) (scanning self.new) }
+        ensures rest { self.new ≡ record self.old { line_tokens = self.new.line_tokens; opened = self.new.opened } }
+    {
+        self.line_tokens.clear();
+        self.opened.clear();
+    }
+}
+
+/// The end that a finding on a line makes.
+fn refused(line: u64, finding: Finding) -> End
+    ensures { result ≡ End.Refused line finding.place finding.reason }
+{
+    End::Refused {
+        line,
+        place: finding.place,
+        reason: finding.reason,
+    }
+}

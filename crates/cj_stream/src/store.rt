@@ -1,0 +1,86 @@
+//! Keeps the bytes of a stream: those of its first line, and those of a later line that has begun.
+//!
+//! The first line has a list of its own, since it stays while lines come and go; so its peak and that of the later
+//! lines add up, and exactly. Each line is put together here before it is judged, also where it stands whole in a
+//! piece, so that what is held does not depend on how the stream is cut. LF is no content: it is not stored.
+ghost use Rattle.std.specs.Prelude.{◌≡◌, ◌+◌, ◌<◌, ◌≤◌, ◌^◌, ◌==◌, ◌++◌, [], length, if◌then◌else◌, OnOk, OnErr, IsTrue};
+ghost use Rattle.cj_budget.specs.Bounded.{IsNew, IsWithin, Becomes};
+
+use cj_budget::Bounded;
+use std::alloc::Global;
+
+/// A part that does not fit under the line limit.
+#[derive(Clone, Copy, Debug, PartialEq, Eq)]
+pub struct TooLong;
+
+/// The content of the first line, and that of a later line that has begun. Both lists have the line limit.
+#[derive(Drop)]
+pub struct Store {
+    pub header: Bounded<u8>,
+    pub line: Bounded<u8>,
+    /// How many lines were dealt with.
+    pub lines: u64,
+}
+
+impl Store {
+    /// A store that holds nothing, under this line limit. It takes no memory.
+    pub fn new(alloc: Global, limit: usize) -> Store
+        ensures header { IsNew limit result.header }
+        ensures line { IsNew limit result.line }
+        ensures lines { result.lines ≡ 0 }
+    {
+        Store {
+            header: Bounded::new(alloc, limit),
+            line: Bounded::new(alloc, limit),
+            lines: 0,
+        }
+    }
+
+    /// The content of the begun line so far.
+    pub fn begun(&self) -> &[u8]
+        ensures value { result.now ≡ (if self.now.lines == 0 then self.now.header.elements else self.now.line.elements) }
+        ensures header { IsWithin self.now.header }
+        ensures line { IsWithin self.now.line }
+    {
+        let (header, line) = (self.header.as_slice(), self.line.as_slice());
+        if self.lines == 0 { header } else { line }
+    }
+
+    /// Adds a part to the begun line, or nothing of it where it does not fit.
+    pub fn add(&mut self, part: &[u8]) -> Result<(), TooLong>
+        requires limits { self.old.line.limit ≡ self.old.header.limit }
+        requires first { self.old.lines ≡ 0 → IsTrue self.old.header.reserved }
+        requires later { 0 < self.old.lines → IsTrue self.old.line.reserved }
+        ensures lines { self.new.lines ≡ self.old.lines }
+        ensures first { OnOk result (self.old.lines ≡ 0
+            → Becomes self.old.header (self.old.header.elements ++ part.now) self.new.header
+            × (self.new.line ≡ self.old.line)) }
+        ensures later { OnOk result (0 < self.old.lines
+            → Becomes self.old.line (self.old.line.elements ++ part.now) self.new.line
+            × (self.new.header ≡ self.old.header)) }
+        ensures err { OnErr result (self.new ≡ self.old) }
+        ensures long { OnErr result (self.old.header.limit < length
+            (if self.old.lines == 0 then self.old.header.elements else self.old.line.elements) + length part.now) }
+    {
+        if part.len() > self.header.limit() - self.begun().len() {
+            return Err(TooLong);
+        }
+        if self.lines == 0 {
+            self.header.extend_reserved(part);
+        } else {
+            self.line.extend_reserved(part);
+        }
+        Ok(())
+    }
+
+    /// The begun line is done with. The first one stays.
+    pub fn pass(&mut self)
+        requires room { self.old.lines < 2 ^ 62 }
+        ensures lines { self.new.lines ≡ self.old.lines + 1 }
+        ensures header { self.new.header ≡ self.old.header }
+        ensures line { Becomes self.old.line [] self.new.line }
+    {
+        self.lines += 1;
+        self.line.clear();
+    }
+}
