@@ -19,6 +19,7 @@ COMMANDS = (("check",), ("info",), ("filter", "--lod", "2"))
 LETTERS = "-0123456789ABCDEFGHIJKLMNOPQRSTUVWXYZ_abcdefghijklmnopqrstuvwxyz"
 HEADER = ('{"type":"CityJSON","version":"2.0","transform":{"scale":[1,1,1],"translate":[0,0,0]},'
           '"CityObjects":{},"vertices":[]%s}\n')
+PART = '{"type":"BuildingPart","parents":["b"]}'
 
 
 def many(length, item):
@@ -102,14 +103,22 @@ def escaped(text):
     return "".join(f"\\u{ord(letter):04x}" for letter in text)
 
 
+def parts(ids, order, spell=str):
+    """Parts of these names, which one building lists in an order, each with that one as its parent."""
+    listed = ",".join(f'"{spell(ids[i])}"' for i in in_order(order, len(ids)))
+    each = ",".join(f'"{ids[i]}":{PART}' for i in in_order("none", len(ids)))
+    return feature(building(f',"children":[{listed}]') + "," + each)
+
+
 def parts_of_one(n, order, before="", spell=str, after=""):
     """Parts that one building lists, in an order, each with that one as its parent."""
-    each = f'{{"type":"BuildingPart","parents":["b"]}}'
-    count = n // (2 * len(spell(before + short_text(0) + after)) + len(each) + 8)
-    ids = [before + short_text(i) + after for i in range(count)]
-    listed = ",".join(f'"{spell(ids[i])}"' for i in in_order(order, count))
-    parts = ",".join(f'"{ids[i]}":{each}' for i in in_order("none", count))
-    return feature(building(f',"children":[{listed}]') + "," + parts)
+    count = n // (2 * len(spell(before + short_text(0) + after)) + len(PART) + 8)
+    return parts([before + short_text(i) + after for i in range(count)], order, spell)
+
+
+def parts_of_one_tag(n):
+    """Parts whose names all have the tag by which the texts of links are ordered first, which one building lists."""
+    return parts(found("tag", n // (2 * 9 + len(PART) + 8)), "none")
 
 
 def parents_of_none(n, order, before=""):
@@ -288,6 +297,7 @@ SHAPES = {
     "parts of one, alike at both ends": lambda n: parts_of_one(n, "none", "a" * 8, after="a" * 8),
     "parts of one, by escapes": lambda n: parts_of_one(n, "none", spell=escaped),
     "parts of one hash": links_of_one_hash,
+    "parts of one tag": parts_of_one_tag,
     "a part of unknown parents": lambda n: parents_of_none(n, "none"),
     "a part of unknown parents, falling": lambda n: parents_of_none(n, "falling", "a" * 9),
     "instances of the last template": lambda n: instances(n, lambda i, count: count - 1),

@@ -1,11 +1,12 @@
 /* Finds names that meet in a hash of 64 bits, by which names were looked up once: a search by a hash is not to come back
- * unseen.
+ * unseen. And names that meet in the tag by which the texts of links are ordered first.
  *
  *   meeting marks COUNT     so many names, one a line, whose marks all lie in one 32nd of the places for marks: a block
  *                           of them sets nearly all marks there, so that both marks of each other one are set
  *   meeting whole PAIRS     so many pairs of texts, a pair a line with a space between. However one of each pair is
  *                           taken, in order, these texts together have one and the same hash of 64 bits: N pairs are
  *                           2^N names
+ *   meeting tag COUNT       so many names of nine letters, one a line, that all have one tag
  */
 #include <stdint.h>
 #include <stdio.h>
@@ -32,6 +33,54 @@ static uint64_t text_of(uint64_t state, uint64_t number, int digits, char *text)
     }
     text[digits] = 0;
     return state;
+}
+
+/* The same, and the number that the text is mixed to from a front on. */
+static uint64_t mix_of(uint64_t front, uint64_t number, int digits, char *text) {
+    for (int i = 0; i < digits; i++) {
+        text[i] = LETTERS[number >> 6 * i & 63];
+        front = front * FACTOR + (uint32_t)text[i];
+    }
+    text[digits] = 0;
+    return front;
+}
+
+/* The tag is the remainder of that number by a prime. */
+static const uint64_t TAGS = 4294967291u;
+
+/* The numbers of the texts of four letters, in order of their tags without the lowest byte, and where those of each such part
+ * of a tag begin: at the place behind it, and those of the next one behind that. */
+enum { ENDS = 1 << 24, PARTS = (1 << 24) + 2 };
+
+static void sort_ends(uint32_t *ends, uint32_t *starts) {
+    char text[16];
+    for (uint32_t number = 0; number < ENDS; number++) starts[(mix_of(0, number, 4, text) % TAGS >> 8) + 1]++;
+    for (uint32_t part = 1; part < PARTS; part++) starts[part] += starts[part - 1];
+    for (uint32_t number = ENDS; number-- > 0;) ends[--starts[(mix_of(0, number, 4, text) % TAGS >> 8) + 1]] = number;
+}
+
+/* Each front of five letters is looked up by what is left of the tag for its end, whether their sum passes 2^64 or not. */
+static int names_of_one_tag(long count) {
+    const uint64_t tag = 12345, past = UINT64_MAX % TAGS + 1, four = FACTOR * FACTOR * FACTOR * FACTOR;
+    char text[16], end[16];
+    uint32_t *ends = malloc(ENDS * sizeof *ends), *starts = calloc(PARTS, sizeof *starts);
+    if (!ends || !starts) return 1;
+    sort_ends(ends, starts);
+    for (uint64_t number = 0; count > 0 && number < ALL; number++) {
+        uint64_t front = mix_of(0, number, 5, text) * four;
+        for (int passes = 0; passes < 2; passes++) {
+            uint64_t part = (tag + TAGS - front % TAGS + passes * past) % TAGS >> 8;
+            for (uint32_t i = starts[part + 1]; count > 0 && i < starts[part + 2]; i++) {
+                uint64_t sum = front + mix_of(0, ends[i], 4, end);
+                if (sum % TAGS != tag || (sum < front) != passes) continue;
+                printf("%s%s\n", text, end);
+                count--;
+            }
+        }
+    }
+    free(ends);
+    free(starts);
+    return 0;
 }
 
 static void names_of_few_marks(long count) {
@@ -102,6 +151,7 @@ int main(int count, char **words) {
         free(table);
         return 0;
     }
-    fputs("meeting marks COUNT | meeting whole PAIRS\n", stderr);
+    if (count == 3 && !strcmp(words[1], "tag")) return names_of_one_tag(atol(words[2]));
+    fputs("meeting marks COUNT | meeting whole PAIRS | meeting tag COUNT\n", stderr);
     return 2;
 }

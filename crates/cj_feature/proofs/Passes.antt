@@ -1,17 +1,18 @@
 -- Links in two walks: the children of all city objects, then their parents.
-use Rattle.std.proofs.Common.{◌≡◌, ℕ, Bool, true, false, ◌&&◌, ◌||◌, cond, List, [], ◌∷◌, ◌++◌, Option, refl, sym, ap, ◌∙◌}
+use Rattle.std.proofs.Common.{◌≡◌, ℕ, Bool, true, false, not, ◌&&◌, ◌||◌, cond, List, [], ◌∷◌, ◌++◌, Option, Some, None, refl, sym, ap, ◌∙◌}
 use Rattle.std.specs.Prelude.{codes}
-use Rattle.std.specs.List.{flat_map}
+use Rattle.std.specs.List.{flat_map, list_any}
 use Rattle.std.specs.Str.{chars}
 use Rattle.cj_spans.specs.declared.finding.Finding.{Finding}
-use Rattle.cj_spans.specs.declared.reason.Reason.TheVariants.{ChildNotFound}
+use Rattle.cj_spans.specs.declared.reason.Reason.TheVariants.{ChildNotFound, NoParent}
 use Rattle.cj_spans.specs.Finding.{least}
-use Rattle.cj_spans.specs.Kinds.{is_text}
+use Rattle.cj_spans.specs.Kinds.{is_text, is_array}
 use Rattle.cj_spans.specs.Tree.{Tree}
-use Rattle.cj_spans.specs.Parts.{kind_of}
+use Rattle.cj_spans.specs.Parts.{kind_of, member_of}
 use Rattle.cj_spans.proofs.Findings.{least-append, least-swap}
 use Rattle.cj_geometry.specs.Rule.{one}
-use Rattle.cj_feature.specs.Links.{same_text, listed_in, is_known, has_item, lists, answered, child, children, parents, part, object_links}
+use Rattle.cj_feature.specs.Members.{items_if}
+use Rattle.cj_feature.specs.Links.{same_text, listed_in, is_part, is_known, has_item, lists, answered, child, children, parents, part_of, part, object_links}
 
 -- ---- who lists is in the feature
 
@@ -32,6 +33,23 @@ listed_child_at true true false t g h = cc
 pub listed_child : (objects : List (Tree × Tree)) (name item : Tree) (o : Option Finding) → lists (chars (codes "parents")) objects item name ≡ true → o ≡ least o (child objects name item)
 listed_child objects name item o h =
     ap (least o) (sym (listed_child_at (is_text (kind_of item)) (is_known objects item) (lists (chars (codes "parents")) objects item name) item (lists_known (chars (codes "parents")) objects item name h) h))
+
+-- ---- a part with a parent that is in the feature
+
+closed : (a : Bool) (fs : List Finding) → cond (a && false) fs [] ≡ []
+closed true fs = refl
+closed false fs = refl
+
+either_none : (a : Bool) (fs : List Finding) → fs ≡ [] → cond a fs [] ≡ []
+either_none true fs h = h
+either_none false fs h = refl
+
+known_parent : (objects : List (Tree × Tree)) (o : Tree) (w : Option Tree) → list_any (is_known objects) (items_if w) ≡ true → part_of objects o w ≡ []
+known_parent objects o None h = refl
+known_parent objects o (Some t) h = ap (λ b. cond (is_array (kind_of t) && not b) (one NoParent o) []) h ∙ closed (is_array (kind_of t)) (one NoParent o)
+
+pub known_part : (objects : List (Tree × Tree)) (m : Tree × Tree) → list_any (is_known objects) (listed_in (chars (codes "parents")) m.1) ≡ true → part objects m ≡ []
+known_part objects m h = either_none (is_part m.1) (part_of objects m.1 (member_of (chars (codes "parents")) m.1)) (known_parent objects m.1 (member_of (chars (codes "parents")) m.1) h)
 
 -- ---- two walks
 

@@ -23,8 +23,9 @@ use Rattle.cj_spans.specs.Parts.{kind_of, members_of, text_of, are_same_texts}
 use Rattle.cj_spans.specs.View.{tree}
 use Rattle.cj_feature.specs.declared.feature.questions.Question.{Question}
 use Rattle.cj_feature.specs.Links.{same_text, is_known, lists}
+use Rattle.cj_feature.specs.Tag.{tag_of}
 use Rattle.cj_feature.proofs.LinkFaults.{from-texts}
-use Rattle.cj_feature.specs.Questions.{Key, Side, tag_of, compare_sides, compare_keys, key_of, from_in, to_in, key_in, AreInOrder, IsPlaceOf, IsFirstOn, IsQuestion, AreListed, AreLeft}
+use Rattle.cj_feature.specs.Questions.{Key, Side, compare_sides, side_of, compare_keys, key_of, from_in, to_in, key_in, AreInOrder, IsPlaceOf, IsFirstOn, IsQuestion, AreListed, AreLeft}
 
 -- ---- marks
 
@@ -103,8 +104,13 @@ one_place p xs d i j below h k =
     omega arith
 
 module _ (objects : Node) (qs : List Question) where
-  pub place_by_sides : {s u : Side} {f o : Side} (p : ℕ) → s ≡ f → u ≡ o → IsPlaceOf objects (s, u) qs p → IsPlaceOf objects (f, o) qs p
+  place_by_sides : {s u : Side} {f o : Side} (p : ℕ) → s ≡ f → u ≡ o → IsPlaceOf objects (s, u) qs p → IsPlaceOf objects (f, o) qs p
   place_by_sides {s} {u} {f} {o} p e g h = subst (λ v. IsPlaceOf objects (f, v) qs p) g (subst (λ v. IsPlaceOf objects (v, u) qs p) e h)
+
+  -- so it is with two texts that have their tags, of which the second is that of the city objects
+  pub place_by_texts : (p f o : ℕ) (t u : Tree) → f ≡ tag_of (text_of t) → o ≡ tag_of (text_of u) → u ≡ tree objects → IsPlaceOf objects ((f, text_of t), (o, text_of u)) qs p → IsPlaceOf objects (key_of (text_of t) (text_of (tree objects))) qs p
+  place_by_texts p f o t u e g same h =
+      place_by_sides p (ap (λ n. (n, text_of t)) e) (ap (λ n. (n, text_of u)) g ∙ ap (λ w. side_of (text_of w)) same) h
 
   -- the first question on a text stands where its key has its place
   pub only_here : (t : Tree) (p i : ℕ) → IsPlaceOf objects (key_of (text_of t) (text_of (tree objects))) qs p → IsFirstOn objects qs t i → i ≡ p

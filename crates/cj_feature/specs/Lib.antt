@@ -5,6 +5,7 @@ pub mod HeaderView
 pub mod Links
 pub mod Members
 pub mod Part
+pub mod Tag
 pub mod Questions
 pub mod Relations
 pub mod Shown

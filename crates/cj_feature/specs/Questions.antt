@@ -1,28 +1,24 @@
 -- Questions on links: whether a city object of one text lists another. Many are answered at once, in the order of texts.
-use Rattle.std.specs.Prelude.{◌≡◌, ℕ, ◌+◌, ◌%◌, ◌≤◌, List, Bool, true, false, Option, Some, slice_get, slice_index_or, take, length}
+use Rattle.std.specs.Prelude.{◌≡◌, ℕ, ◌≤◌, List, Bool, true, false, Option, Some, slice_get, slice_index_or, take, length}
 use Rattle.std.specs.List.Sorted.{IsSortedByKey, IsPartitionPoint}
 use Rattle.std.specs.Ordering.{is_lt, nat_cmp, ordering_then}
 use Rattle.std.specs.declared.cmp.Ordering.{Ordering}
 use Rattle.cj_spans.specs.declared.node.Node.{Node}
-use Rattle.cj_spans.specs.Order.{compare_texts, word_of}
-use Rattle.cj_spans.specs.Tail.{tail_of}
+use Rattle.cj_spans.specs.Order.{compare_texts}
 use Rattle.cj_spans.specs.Tree.{Tree}
 use Rattle.cj_spans.specs.Parts.{members_of, text_of}
 use Rattle.cj_spans.specs.View.{tree, source_of, tree_in}
 use Rattle.cj_feature.specs.declared.feature.questions.Noted.{Noted}
-use Rattle.cj_feature.specs.declared.feature.questions.Text.{Text}
+use Rattle.cj_feature.specs.declared.feature.tagged.Text.{Text}
 use Rattle.cj_feature.specs.declared.feature.questions.Pair.{Pair}
 use Rattle.cj_feature.specs.declared.feature.questions.Question.{Question}
 use Rattle.cj_feature.specs.declared.feature.questions.Questions.{Questions}
 use Rattle.cj_feature.specs.declared.feature.questions.Answer.{Answer}
 use Rattle.cj_feature.specs.declared.feature.questions.Answer.TheVariants.{Listed, Absent, Untold}
+use Rattle.cj_feature.specs.Tag.{tag_of}
 use Rattle.cj_feature.specs.Links.{same_text, is_known, lists}
 
 -- ---- the order of questions
-
--- the tag of a text: a number by its first and its last eight code points
-abbrev pub tag_of : Option (List ℕ) → ℕ
-tag_of t = word_of t % 2147483647 + tail_of t % 2147483647
 
 -- what a text is ordered by: its tag, and then the text
 abbrev pub Side : Type 0

@@ -16,6 +16,7 @@ mod many_links;
 mod objects;
 mod questions;
 mod rules;
+mod tagged;
 mod vertices;
 
 pub use city_object::{CityObject, Objects};

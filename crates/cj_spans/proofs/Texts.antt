@@ -6,9 +6,9 @@ use Rattle.std.proofs.lemmas.List.{drop-drop, drop-take, length-take}
 use Rattle.std.proofs.lemmas.Bool.Decides.{nat_tests}
 use Rattle.std.proofs.lemmas.Grind.{common_steps}
 use Rattle.cj_spans.specs.declared.text.CodePoint.{CodePoint}
-use Rattle.cj_spans.specs.declared.text.CodePoints.{CodePoints}
-use Rattle.cj_spans.specs.Decoding.{left, after_read, ReadsCodePoint, plain_front, code_points_from, code_points_left, AreAlike, StartAlike}
+use Rattle.cj_spans.specs.Decoding.{left, after_read, ReadsCodePoint, plain_front, code_points_from, AreAlike, StartAlike}
 use Rattle.cj_spans.specs.Tail.{tail_on}
+use Rattle.cj_spans.specs.Mix.{mix_on}
 use Rattle.cj_spans.specs.Order.{compare}
 use Rattle.std.specs.Ordering.{nat_cmp, ordering_then}
 use Rattle.std.specs.declared.cmp.Ordering.TheVariants.{Less, Equal, Greater}
@@ -295,6 +295,9 @@ order_ends_with bs ws i j h k = ap (λ ps. compare ps (left ws j)) (points_done 
 pub tail_ends : (bs : List ℕ) (i h : ℕ) → length bs ≤ i → tail_on h (code_points_from bs i) ≡ h
 tail_ends bs i h e = ap (tail_on h) (points_done bs i (chars_past bs i e))
 
+pub mix_ends : (bs : List ℕ) (i h : ℕ) → length bs ≤ i → mix_on h (code_points_from bs i) ≡ h
+mix_ends bs i h e = ap (mix_on h) (points_done bs i (chars_past bs i e))
+
 -- ---- between the quotes
 
 body_place : (s : List ℕ) (n : ℕ) → drop 1 (take n s) ≡ take (n - 1) (drop 1 s)
@@ -371,20 +374,20 @@ alike_on bs i ds j n m a b k l =
           (ap (λ x. get_or bs x 0) (sym e) ∙ s.0 ∙ ap (λ x. get_or ds x 0) f, subst (λ x. get_or bs x 0 < 128) e s.1, ap (λ x. nat_eq (get_or bs x 0) 92) (sym e) ∙ s.2)
     ]
 
-pub alike_none : (p q : CodePoints) → StartAlike p q 0
-alike_none p q = record { within = omega arith; within_other = omega arith; alike = λ k l. absurd (omega arith) }
+pub alike_none : (bs : List ℕ) (i : ℕ) (ds : List ℕ) (j : ℕ) → StartAlike bs i ds j 0
+alike_none bs i ds j = record { within = omega arith; within_other = omega arith; alike = λ k l. absurd (omega arith) }
 
-pub alike_more : (p q : CodePoints) (n m : ℕ) → StartAlike p q n → m ≤ length p.bytes.now - p.place - n → m ≤ length q.bytes.now - q.place - n → AreAlike p.bytes.now (p.place + n) q.bytes.now (q.place + n) m → StartAlike p q (n + m)
-alike_more p q n m s h k a =
+pub alike_more : (bs : List ℕ) (i : ℕ) (ds : List ℕ) (j n m : ℕ) → StartAlike bs i ds j n → m ≤ length bs - i - n → m ≤ length ds - j - n → AreAlike bs (i + n) ds (j + n) m → StartAlike bs i ds j (n + m)
+alike_more bs i ds j n m s h k a =
     let x = s.within in let y = s.within_other in
-    record { within = omega arith; within_other = omega arith; alike = alike_on p.bytes.now p.place q.bytes.now q.place n m s.alike a }
+    record { within = omega arith; within_other = omega arith; alike = alike_on bs i ds j n m s.alike a }
 
-pub alike_one_more : (p q : CodePoints) (n : ℕ) → StartAlike p q n → n < length p.bytes.now - p.place → n < length q.bytes.now - q.place → get_or p.bytes.now (p.place + n) 0 ≡ get_or q.bytes.now (q.place + n) 0 → get_or p.bytes.now (p.place + n) 0 < 128 → nat_eq (get_or p.bytes.now (p.place + n) 0) 92 ≡ false → StartAlike p q (n + 1)
-alike_one_more p q n s h k same low other = alike_more p q n 1 s (omega arith) (omega arith) (λ i l.
-    let z : i ≡ 0 = omega arith in
-    let x : p.place + n + i ≡ p.place + n = omega arith in
-    let y : q.place + n + i ≡ q.place + n = omega arith in
-    (ap (λ v. get_or p.bytes.now v 0) x ∙ same ∙ ap (λ v. get_or q.bytes.now v 0) (sym y), subst (λ v. get_or p.bytes.now v 0 < 128) (sym x) low, ap (λ v. nat_eq (get_or p.bytes.now v 0) 92) x ∙ other))
+pub alike_one_more : (bs : List ℕ) (i : ℕ) (ds : List ℕ) (j n : ℕ) → StartAlike bs i ds j n → n < length bs - i → n < length ds - j → get_or bs (i + n) 0 ≡ get_or ds (j + n) 0 → get_or bs (i + n) 0 < 128 → nat_eq (get_or bs (i + n) 0) 92 ≡ false → StartAlike bs i ds j (n + 1)
+alike_one_more bs i ds j n s h k same low other = alike_more bs i ds j n 1 s (omega arith) (omega arith) (λ l m.
+    let z : l ≡ 0 = omega arith in
+    let x : i + n + l ≡ i + n = omega arith in
+    let y : j + n + l ≡ j + n = omega arith in
+    (ap (λ v. get_or bs v 0) x ∙ same ∙ ap (λ v. get_or ds v 0) (sym y), subst (λ v. get_or bs v 0 < 128) (sym x) low, ap (λ v. nat_eq (get_or bs v 0) 92) x ∙ other))
 
 -- the code points that they share
 pub shared_front : (n : ℕ) (bs : List ℕ) (i : ℕ) (ds : List ℕ) (j : ℕ) → n ≤ length bs - i → n ≤ length ds - j → AreAlike bs i ds j n → (f : List ℕ) × (code_points_from bs i ≡ f ++ code_points_from bs (i + n)) × (code_points_from ds j ≡ f ++ code_points_from ds (j + n))
@@ -425,19 +428,19 @@ order_behind : (fs cs ds : List ℕ) → compare cs ds ≡ compare (fs ++ cs) (f
 order_behind [] cs ds = refl
 order_behind (x ∷ fs) cs ds = order_behind fs cs ds ∙ sym (ap (λ o. ordering_then o (compare (fs ++ cs) (fs ++ ds))) (number_equal x))
 
-pub same_passed : (p q : CodePoints) (n : ℕ) → StartAlike p q n → are_same (code_points_from p.bytes.now (p.place + n)) (code_points_from q.bytes.now (q.place + n)) ≡ are_same (code_points_left p) (code_points_left q)
-same_passed p q n s =
-    let f = shared_front n p.bytes.now p.place q.bytes.now q.place s.within s.within_other s.alike in
-    same_behind f.0 (code_points_from p.bytes.now (p.place + n)) (code_points_from q.bytes.now (q.place + n)) ∙ (λ k. are_same (sym f.1 k) (sym f.2 k))
+pub same_passed : (bs : List ℕ) (i : ℕ) (ds : List ℕ) (j n : ℕ) → StartAlike bs i ds j n → are_same (code_points_from bs (i + n)) (code_points_from ds (j + n)) ≡ are_same (code_points_from bs i) (code_points_from ds j)
+same_passed bs i ds j n s =
+    let f = shared_front n bs i ds j s.within s.within_other s.alike in
+    same_behind f.0 (code_points_from bs (i + n)) (code_points_from ds (j + n)) ∙ (λ k. are_same (sym f.1 k) (sym f.2 k))
 
-pub order_passed : (p q : CodePoints) (n : ℕ) → StartAlike p q n → compare (code_points_from p.bytes.now (p.place + n)) (code_points_from q.bytes.now (q.place + n)) ≡ compare (code_points_left p) (code_points_left q)
-order_passed p q n s =
-    let f = shared_front n p.bytes.now p.place q.bytes.now q.place s.within s.within_other s.alike in
-    order_behind f.0 (code_points_from p.bytes.now (p.place + n)) (code_points_from q.bytes.now (q.place + n)) ∙ (λ k. compare (sym f.1 k) (sym f.2 k))
+pub order_passed : (bs : List ℕ) (i : ℕ) (ds : List ℕ) (j n : ℕ) → StartAlike bs i ds j n → compare (code_points_from bs (i + n)) (code_points_from ds (j + n)) ≡ compare (code_points_from bs i) (code_points_from ds j)
+order_passed bs i ds j n s =
+    let f = shared_front n bs i ds j s.within s.within_other s.alike in
+    order_behind f.0 (code_points_from bs (i + n)) (code_points_from ds (j + n)) ∙ (λ k. compare (sym f.1 k) (sym f.2 k))
 
-pub fewer_left : (p q : CodePoints) (n : ℕ) → StartAlike p q n → length (code_points_from p.bytes.now (p.place + n)) ≤ length (code_points_left p)
-fewer_left p q n s =
-    let f = shared_front n p.bytes.now p.place q.bytes.now q.place s.within s.within_other s.alike in
+pub fewer_left : (bs : List ℕ) (i : ℕ) (ds : List ℕ) (j n : ℕ) → StartAlike bs i ds j n → length (code_points_from bs (i + n)) ≤ length (code_points_from bs i)
+fewer_left bs i ds j n s =
+    let f = shared_front n bs i ds j s.within s.within_other s.alike in
     let l = ap length f.1 in
-    let a = length-append f.0 (code_points_from p.bytes.now (p.place + n)) in
+    let a = length-append f.0 (code_points_from bs (i + n)) in
     omega arith

@@ -1,11 +1,12 @@
 -- Bytes of a line, 16 at a time: what the marks of a vector say of the bytes.
-use Rattle.std.proofs.Common.{◌≡◌, ℕ, zero, suc, ◌+◌, ◌-◌, ◌*◌, ◌%◌, ◌^◌, ◌<◌, ◌≤◌, List, [], ◌∷◌, length, map, get_or, nat_eq, inl, inr, Bool, true, false, cond, not, eqb, ltb, replicate, refl, sym, ap, subst, arith, ◌∙◌, w8}
+use Rattle.std.proofs.Common.{◌≡◌, ℕ, zero, suc, ◌+◌, ◌-◌, ◌%◌, ◌^◌, ◌<◌, ◌≤◌, List, [], ◌∷◌, length, map, get_or, nat_eq, inl, inr, Bool, true, false, cond, not, eqb, ltb, replicate, refl, sym, ap, subst, arith, ◌∙◌, w8}
 use Rattle.std.proofs.lemmas.Bool.{cases_eq}
 use Rattle.std.proofs.lemmas.Bool.Decides.{nat_tests}
 use Rattle.std.specs.Simd.Lanes.{zip2, mask_l, sel_l, top, chunk}
 use Rattle.std.specs.List.{prefix_len}
 use Rattle.std.specs.Int.Count.{count_trailing_zeros}
-use Rattle.std.proofs.lemmas.Simd.{get_or-chunk, tops_compared, bitmask_splat, zip2_splat, zip2_splat_left, mask_l-mod, map-map, length-chunk, none_from_empty_mask, trailing_mask_l, run_in_chunk_le, run_in_chunk_fails}
+use Rattle.std.proofs.lemmas.List.Sums.{prefix_len-le-length, prefix_len_passes}
+use Rattle.std.proofs.lemmas.Simd.{get_or-chunk, leading_from_mask_l, tops_compared, bitmask_splat, zip2_splat, zip2_splat_left, mask_l-mod, map-map, length-chunk, none_from_empty_mask, trailing_mask_l, run_in_chunk_le, run_in_chunk_fails}
 use Rattle.std.proofs.lemmas.List.{length-map}
 use Rattle.cj_spans.specs.Spelling.{is_plain}
 use Rattle.cj_spans.specs.Json.{byte}
@@ -137,12 +138,12 @@ IsShared x y = (x ≡ y) × (x < 128) × (nat_eq x 92 ≡ false)
 abbrev lane : ℕ → ℕ → ℕ
 lane x y = cond (eqb x y) (cond (eqb x 92) 255 x) 255
 
-shared_lane : (x y n : ℕ) → cond (ltb 127 (lane x y)) 1 0 + 2 * n ≡ 0 → IsShared x y × (n ≡ 0)
-shared_lane x y n h =
+lane_shared : (x y : ℕ) → not (ltb 127 (lane x y)) ≡ true → IsShared x y
+lane_shared x y h =
     elim (cases_eq x y) [
       | inl e ↦ elim (cases_eq x 92) [
         | inl b ↦ absurd (grind (arith, nat_tests))
-        | inr b ↦ ((e, grind (arith, nat_tests), grind (arith, nat_tests)), grind (arith, nat_tests))
+        | inr b ↦ (e, grind (arith, nat_tests), grind (arith, nat_tests))
       ]
       | inr d ↦ absurd (grind (arith, nat_tests))
     ]
@@ -151,12 +152,12 @@ shared_lane x y n h =
 abbrev lanes : ℕ → List ℕ → List ℕ → List ℕ
 lanes m v w = sel_l (zip2 eqb v w) (sel_l (map (λ x. eqb x 92) v) (replicate m 255) v) (replicate m 255)
 
-lanes_shared : (m : ℕ) (v w : List ℕ) → length v ≡ m → length w ≡ m → mask_l (map (λ y. ltb 127 y) (lanes m v w)) ≡ 0 → (k : ℕ) → k < m → IsShared (get_or v k 0) (get_or w k 0)
-lanes_shared zero v w a b e k l = absurd (omega arith)
-lanes_shared (suc m) [] w a b e k l = absurd (omega arith)
-lanes_shared (suc m) (x ∷ v) [] a b e k l = absurd (omega arith)
-lanes_shared (suc m) (x ∷ v) (y ∷ w) a b e zero l = (shared_lane x y (mask_l (map (λ z. ltb 127 z) (lanes m v w))) e).0
-lanes_shared (suc m) (x ∷ v) (y ∷ w) a b e (suc k) l = lanes_shared m v w (omega arith) (omega arith) (shared_lane x y (mask_l (map (λ z. ltb 127 z) (lanes m v w))) e).1 k (omega arith)
+lanes_at : (m : ℕ) (v w : List ℕ) → length v ≡ m → length w ≡ m → (k : ℕ) → k < m → get_or (lanes m v w) k 0 ≡ lane (get_or v k 0) (get_or w k 0)
+lanes_at zero v w a b k l = absurd (omega arith)
+lanes_at (suc m) [] w a b k l = absurd (omega arith)
+lanes_at (suc m) (x ∷ v) [] a b k l = absurd (omega arith)
+lanes_at (suc m) (x ∷ v) (y ∷ w) a b zero l = refl
+lanes_at (suc m) (x ∷ v) (y ∷ w) a b (suc k) l = lanes_at m v w (omega arith) (omega arith) k (omega arith)
 
 length_lanes : (m : ℕ) (v w : List ℕ) → length v ≡ m → length w ≡ m → length (lanes m v w) ≡ m
 length_lanes zero [] w a b = refl
@@ -170,19 +171,53 @@ shared_is m v w a =
     ap (λ ms. sel_l ms (unescaped m v) (replicate m 255)) (tops_compared w8 eqb v w)
     ∙ ap (λ ms. sel_l (zip2 eqb v w) (sel_l ms (replicate m 255) v) (replicate m 255)) (tops_compared w8 eqb v (replicate m 92) ∙ zip2_splat eqb v m 92 a)
 
-pub all_alike : (m : ℕ) (b : List ℕ) (i : ℕ) (o : List ℕ) (j : ℕ) → m ≤ 64 → i + m ≤ length b → j + m ≤ length o → alike_marks m b i o j ≡ 0 → AreAlike b i o j m
-all_alike m b i o j few room there e k l =
+-- the lanes of the bytes from i and from j on
+abbrev lanes_from : ℕ → List ℕ → ℕ → List ℕ → ℕ → List ℕ
+lanes_from m b i o j = lanes m (chunk i m b) (chunk j m o)
+
+lanes_long : (m : ℕ) (b : List ℕ) (i : ℕ) (o : List ℕ) (j : ℕ) → i + m ≤ length b → j + m ≤ length o → length (lanes_from m b i o j) ≡ m
+lanes_long m b i o j room there = length_lanes m (chunk i m b) (chunk j m o) (length-chunk i m b room) (length-chunk j m o there)
+
+alike_marks_are : (m : ℕ) (b : List ℕ) (i : ℕ) (o : List ℕ) (j : ℕ) → m ≤ 64 → i + m ≤ length b → j + m ≤ length o → alike_marks m b i o j ≡ mask_l (map (λ y. ltb 127 y) (lanes_from m b i o j))
+alike_marks_are m b i o j few room there =
+    let all = lanes_from m b i o j in
+    let long : length all ≡ m = lanes_long m b i o j room there in
+    ap (λ u. mask_l (map (top 7) (zip2 (λ x y. cond (ltb x y) 255 0) (replicate m 127) u)) % 2 ^ 64) (shared_is m (chunk i m b) (chunk j m o) (length-chunk i m b room))
+    ∙ ap (λ ms. mask_l ms % 2 ^ 64) (tops_compared w8 ltb (replicate m 127) all ∙ zip2_splat_left ltb 127 m all long)
+    ∙ mask_l-mod (map (λ y. ltb 127 y) all) 64 (omega (arith, length-map all (λ y. ltb 127 y)))
+
+-- how many lanes come before the first that is marked
+abbrev count_before : ℕ → List ℕ → ℕ → List ℕ → ℕ → ℕ
+count_before m b i o j = prefix_len (λ y. not (ltb 127 y)) (lanes_from m b i o j)
+
+within_lanes : (m : ℕ) (b : List ℕ) (i : ℕ) (o : List ℕ) (j : ℕ) → i + m ≤ length b → j + m ≤ length o → count_before m b i o j ≤ m
+within_lanes m b i o j room there = omega (arith, lanes_long m b i o j room there, prefix_len-le-length (λ y. not (ltb 127 y)) (lanes_from m b i o j))
+
+alike_before : (m : ℕ) (b : List ℕ) (i : ℕ) (o : List ℕ) (j : ℕ) → i + m ≤ length b → j + m ≤ length o → AreAlike b i o j (count_before m b i o j)
+alike_before m b i o j room there k l =
     let v = chunk i m b in
     let w = chunk j m o in
-    let a : length v ≡ m = length-chunk i m b room in
-    let c : length w ≡ m = length-chunk j m o there in
-    let long : length (lanes m v w) ≡ m = length_lanes m v w a c in
-    let marks : mask_l (map (λ y. ltb 127 y) (lanes m v w)) ≡ 0 =
-    sym (mask_l-mod (map (λ y. ltb 127 y) (lanes m v w)) 64 (omega (arith, length-map (lanes m v w) (λ y. ltb 127 y))))
-    ∙ ap (λ ms. mask_l ms % 2 ^ 64) (sym (tops_compared w8 ltb (replicate m 127) (lanes m v w) ∙ zip2_splat_left ltb 127 m (lanes m v w) long))
-    ∙ ap (λ u. mask_l (map (top 7) (zip2 (λ x y. cond (ltb x y) 255 0) (replicate m 127) u)) % 2 ^ 64) (sym (shared_is m v w a))
-    ∙ e in
-    let s = lanes_shared m v w a c marks k l in
-    let x : get_or v k 0 ≡ get_or b (i + k) 0 = get_or-chunk i m b k 0 l in
-    let y : get_or w k 0 ≡ get_or o (j + k) 0 = get_or-chunk j m o k 0 l in
+    let h : k < m = omega (arith, l, within_lanes m b i o j room there) in
+    let at : get_or (lanes m v w) k 0 ≡ lane (get_or v k 0) (get_or w k 0) = lanes_at m v w (length-chunk i m b room) (length-chunk j m o there) k h in
+    let s = lane_shared (get_or v k 0) (get_or w k 0) (ap (λ y. not (ltb 127 y)) (sym at) ∙ prefix_len_passes (λ y. not (ltb 127 y)) (lanes m v w) k 0 l) in
+    let x : get_or v k 0 ≡ get_or b (i + k) 0 = get_or-chunk i m b k 0 h in
+    let y : get_or w k 0 ≡ get_or o (j + k) 0 = get_or-chunk j m o k 0 h in
     (sym x ∙ s.0 ∙ y, omega arith, ap (λ z. nat_eq z 92) (sym x) ∙ s.2)
+
+pub all_alike : (m : ℕ) (b : List ℕ) (i : ℕ) (o : List ℕ) (j : ℕ) → m ≤ 64 → i + m ≤ length b → j + m ≤ length o → alike_marks m b i o j ≡ 0 → AreAlike b i o j m
+all_alike m b i o j few room there e =
+    let none = leading_from_mask_l (λ y. ltb 127 y) (lanes_from m b i o j) (sym (alike_marks_are m b i o j few room there) ∙ e) in
+    subst (AreAlike b i o j) (none ∙ lanes_long m b i o j room there) (alike_before m b i o j room there)
+
+-- where not all are alike, those before the first that are not
+counted_alike : (m : ℕ) (b : List ℕ) (i : ℕ) (o : List ℕ) (j : ℕ) → m ≤ 64 → i + m ≤ length b → j + m ≤ length o → (alike_marks m b i o j ≡ 0 → ⊥) → count_trailing_zeros 64 (alike_marks m b i o j) ≡ count_before m b i o j
+counted_alike m b i o j few room there n =
+    let e = alike_marks_are m b i o j few room there in
+    let some : 0 < alike_marks m b i o j = omega arith in
+    ap (count_trailing_zeros 64) e ∙ trailing_mask_l (λ y. ltb 127 y) 64 (lanes_from m b i o j) (omega (arith, few, lanes_long m b i o j room there)) (subst (λ x. 0 < x) e some)
+
+pub few_alike : (m : ℕ) (b : List ℕ) (i : ℕ) (o : List ℕ) (j : ℕ) → m ≤ 64 → i + m ≤ length b → j + m ≤ length o → (alike_marks m b i o j ≡ 0 → ⊥) → count_trailing_zeros 64 (alike_marks m b i o j) ≤ m
+few_alike m b i o j few room there n = omega (arith, counted_alike m b i o j few room there n, within_lanes m b i o j room there)
+
+pub front_alike : (m : ℕ) (b : List ℕ) (i : ℕ) (o : List ℕ) (j : ℕ) → m ≤ 64 → i + m ≤ length b → j + m ≤ length o → (alike_marks m b i o j ≡ 0 → ⊥) → AreAlike b i o j (count_trailing_zeros 64 (alike_marks m b i o j))
+front_alike m b i o j few room there n = subst (AreAlike b i o j) (sym (counted_alike m b i o j few room there n)) (alike_before m b i o j room there)

@@ -41,8 +41,8 @@ characters_left c = left c.bytes.now c.place
 abbrev pub AreAlike : List ℕ → ℕ → List ℕ → ℕ → ℕ → Type 0
 AreAlike bs i ds j n = (k : ℕ) → k < n → (get_or bs (i + k) 0 ≡ get_or ds (j + k) 0) × (get_or bs (i + k) 0 < 128) × (nat_eq (get_or bs (i + k) 0) 92 ≡ false)
 
--- so many of what is left of both are alike
-pub record StartAlike (p q : CodePoints) (n : ℕ) : Type 0 where
-  pub within : n ≤ length p.bytes.now - p.place
-  pub within_other : n ≤ length q.bytes.now - q.place
-  pub alike : AreAlike p.bytes.now p.place q.bytes.now q.place n
+-- of what is left from two places on so many are alike
+pub record StartAlike (bs : List ℕ) (i : ℕ) (ds : List ℕ) (j n : ℕ) : Type 0 where
+  pub within : n ≤ length bs - i
+  pub within_other : n ≤ length ds - j
+  pub alike : AreAlike bs i ds j n

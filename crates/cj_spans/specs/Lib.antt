@@ -6,6 +6,7 @@ pub mod Front
 pub mod Preorder
 pub mod Forest
 pub mod Tail
+pub mod Mix
 pub mod Order
 pub mod Scan
 pub mod Pass

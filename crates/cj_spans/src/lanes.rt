@@ -52,33 +52,50 @@ pub fn find_special(line: &[u8], place: usize) -> Option<usize>
     }
 }
 
-/// Whether 16 bytes of each of two strings are the same, and each of them is a character that stands for itself: ASCII,
-/// and no backslash.
+/// How many bytes of two strings are alike before the first of 16 that are not: the same, and each a character that stands
+/// for itself, ASCII and no backslash. None where all 16 are alike.
 #[inline(always)]
-pub fn are_alike(bytes: &[u8], place: usize, others: &[u8], other_place: usize) -> bool
+pub fn find_unlike(bytes: &[u8], place: usize, others: &[u8], other_place: usize) -> Option<usize>
     requires first { place + 16 ≤ length bytes.now }
     requires second { other_place + 16 ≤ length others.now }
-    ensures { result ≡ true → AreAlike bytes.now place others.now other_place 16 }
+    ensures found { IfSome result (λ n. (n ≤ 16) × AreAlike bytes.now place others.now other_place n) }
+    ensures none { IfNone result (AreAlike bytes.now place others.now other_place 16) }
 {
     let first = u8x16::from_slice(&bytes[place..]);
     let second = u8x16::from_slice(&others[other_place..]);
     let high = u8x16::splat(255);
     let unescaped = first.simd_eq(u8x16::splat(b'\\')).select(high, first);
     let same = first.simd_eq(second).select(unescaped, high);
-    same.simd_gt(u8x16::splat(127)).to_bitmask() == 0
+    let unlike = same.simd_gt(u8x16::splat(127)).to_bitmask();
+    if unlike == 0 {
+        None
+    } else {
+        Some(unlike.trailing_zeros() as usize)
+    }
 }
 
 /// The same of 8 bytes.
 #[inline(always)]
-pub fn are_few_alike(bytes: &[u8], place: usize, others: &[u8], other_place: usize) -> bool
+pub fn find_unlike_of_few(
+    bytes: &[u8],
+    place: usize,
+    others: &[u8],
+    other_place: usize,
+) -> Option<usize>
     requires first { place + 8 ≤ length bytes.now }
     requires second { other_place + 8 ≤ length others.now }
-    ensures { result ≡ true → AreAlike bytes.now place others.now other_place 8 }
+    ensures found { IfSome result (λ n. (n ≤ 8) × AreAlike bytes.now place others.now other_place n) }
+    ensures none { IfNone result (AreAlike bytes.now place others.now other_place 8) }
 {
     let first = u8x8::from_slice(&bytes[place..]);
     let second = u8x8::from_slice(&others[other_place..]);
     let high = u8x8::splat(255);
     let unescaped = first.simd_eq(u8x8::splat(b'\\')).select(high, first);
     let same = first.simd_eq(second).select(unescaped, high);
-    same.simd_gt(u8x8::splat(127)).to_bitmask() == 0
+    let unlike = same.simd_gt(u8x8::splat(127)).to_bitmask();
+    if unlike == 0 {
+        None
+    } else {
+        Some(unlike.trailing_zeros() as usize)
+    }
 }

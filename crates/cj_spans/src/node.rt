@@ -27,7 +27,7 @@ mod examples;
 mod tests;
 
 use crate::text::{
-    CodePoints, compare_spelling_with, compare_spellings, spell_one_text, spells, tail, word,
+    CodePoints, compare_spelling_with, compare_spellings, mix, spell_one_text, spells, tail, word,
 };
 use crate::token::{Kind, Token};
 use std::cmp::Ordering;
@@ -291,6 +291,7 @@ impl<'a> Node<'a> {
     ghost use Rattle.cj_spans.specs.Decoding.{code_points_left};
     ghost use Rattle.cj_spans.specs.Text.{text};
     ghost use Rattle.cj_spans.specs.Tail.{tail_of};
+    ghost use Rattle.cj_spans.specs.Mix.{mix_of};
     ghost use Rattle.cj_spans.specs.Order.{compare_texts, word_of};
     ghost use Rattle.cj_spans.specs.View.{tree, line_of};
 
@@ -402,6 +403,18 @@ impl<'a> Node<'a> {
     {
         match self.points() {
             Some(points) => tail(points),
+            None => 0,
+        }
+    }
+
+    /// All code points of the text of a string or a name mixed to one number; 0 for any other value. Equal texts have
+    /// equal numbers, however they are spelled, and nearly all others have others, wherever they differ: so most texts
+    /// are told apart without a look at the line.
+    pub fn text_mix(self) -> u64
+        ensures { result ≡ mix_of (text_of (tree self.entry)) }
+    {
+        match self.points() {
+            Some(points) => mix(points),
             None => 0,
         }
     }

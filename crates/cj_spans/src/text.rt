@@ -5,6 +5,7 @@ ghost use Rattle.std.specs.Char.{digit_value as digit_value_of};
 ghost use Rattle.std.specs.Char.Utf16.{is_high_surrogate as is_high_of, is_low_surrogate as is_low_of};
 ghost use Rattle.cj_spans.specs.Decoding.{left, after_read, ReadsCodePoint, plain_front, code_points_from, code_points_left, characters_left, StartAlike};
 ghost use Rattle.cj_spans.specs.Tail.{tail_step, tail_on};
+ghost use Rattle.cj_spans.specs.Mix.{mix_step, mix_on};
 ghost use Rattle.cj_spans.specs.Order.{compare, digits};
 ghost use Rattle.cj_spans.specs.Text.{char_of, four_digits, escaped as escaped_of, is_escaped, is_unicode, unit, first_code_point, first_width, text, are_same};
 
@@ -12,7 +13,7 @@ ghost use Rattle.cj_spans.specs.Text.{char_of, four_digits, escaped as escaped_o
 mod examples;
 mod strings;
 
-use crate::lanes::{FEW_LANES, LANES, are_alike, are_few_alike};
+use crate::lanes::{FEW_LANES, LANES, find_unlike, find_unlike_of_few};
 use std::cmp::Ordering;
 pub use strings::{compare_strings, tail_of_string};
 
@@ -443,12 +444,12 @@ fn is_text(points: CodePoints, characters: Characters) -> bool
     is_text_slowly(left, wanted)
 }
 
-/// How many bytes are left of a string's body.
+/// How many bytes there are from a place on.
 #[inline(always)]
-fn bytes_left(points: CodePoints) -> usize
-    ensures { result ≡ length points.entry.bytes.now - points.entry.place }
+fn bytes_from(bytes: &[u8], place: usize) -> usize
+    ensures { result ≡ length bytes.now - place }
 {
-    points.bytes.len().saturating_sub(points.place)
+    bytes.len().saturating_sub(place)
 }
 
 /// Whether two bytes are one that stands for itself.
@@ -462,72 +463,69 @@ fn is_alike(first: u8, second: u8) -> bool
     first == second && first < 128 && first != b'\\'
 }
 
-/// How many bytes of two strings are found alike from here on, by 16 and by 8.
-#[tactic(auto, using(crate::proofs::Texts::alike_none, crate::proofs::Texts::alike_more))]
-fn count_alike(left: CodePoints, right: CodePoints) -> usize
-    ensures { StartAlike left.entry right.entry result }
-{
-    let room = bytes_left(left).min(bytes_left(right));
-    let mut count = 0;
-    while room - count >= LANES
-        && are_alike(
-            left.bytes,
-            left.place + count,
-            right.bytes,
-            right.place + count,
-        )
-    {
-        count += LANES;
-    }
-    if room - count >= FEW_LANES
-        && are_few_alike(
-            left.bytes,
-            left.place + count,
-            right.bytes,
-            right.place + count,
-        )
-    {
-        count += FEW_LANES;
-    }
-    count
-}
-
 /// How many bytes of two strings are alike from here on, of which so many are known to be.
 #[tactic(auto, using(crate::proofs::Texts::alike_one_more))]
 #[inline(always)]
-fn count_alike_on(left: CodePoints, right: CodePoints, known: usize) -> usize
-    requires { StartAlike left right known }
-    ensures { StartAlike left.entry right.entry result }
+fn count_alike_on(
+    bytes: &[u8],
+    place: usize,
+    others: &[u8],
+    other_place: usize,
+    known: usize,
+) -> usize
+    requires { StartAlike bytes.now place others.now other_place known }
+    ensures { StartAlike bytes.now place others.now other_place result }
 {
-    let room = bytes_left(left).min(bytes_left(right));
+    let room = bytes_from(bytes, place).min(bytes_from(others, other_place));
     let mut count = known;
-    while count < room
-        && is_alike(
-            left.bytes[left.place + count],
-            right.bytes[right.place + count],
-        )
-    {
+    while count < room && is_alike(bytes[place + count], others[other_place + count]) {
         count += 1;
     }
     count
 }
 
-/// Passes over the code points that two strings share from here on, as far as these stand for themselves.
-#[tactic(auto, using(crate::proofs::Texts::same_passed, crate::proofs::Texts::order_passed, crate::proofs::Texts::fewer_left))]
-#[inline(never)]
-fn pass_many(left: &mut CodePoints, right: &mut CodePoints)
-    ensures same { are_same (code_points_left left.new) (code_points_left right.new)
-        ≡ are_same (code_points_left left.old) (code_points_left right.old) }
-    ensures order { compare (code_points_left left.new) (code_points_left right.new)
-        ≡ compare (code_points_left left.old) (code_points_left right.old) }
-    ensures fewer { length (code_points_left left.new) ≤ length (code_points_left left.old) }
+/// The same, by 8 bytes where there are so many.
+#[inline(always)]
+fn count_few_alike(
+    bytes: &[u8],
+    place: usize,
+    others: &[u8],
+    other_place: usize,
+    known: usize,
+) -> usize
+    requires { StartAlike bytes.now place others.now other_place known }
+    ensures { StartAlike bytes.now place others.now other_place result }
 {
-    let count = count_alike_on(*left, *right, count_alike(*left, *right));
-    left.place += count;
-    right.place += count;
+    let room = bytes_from(bytes, place).min(bytes_from(others, other_place));
+    if room - known < FEW_LANES {
+        return count_alike_on(bytes, place, others, other_place, known);
+    }
+    match find_unlike_of_few(bytes, place + known, others, other_place + known) {
+        Some(more) => known + more,
+        None => count_alike_on(bytes, place, others, other_place, known + FEW_LANES),
+    }
 }
 
-/// Passes over code points that two strings share from here on, where there may be many.
+/// How many bytes of two strings are alike from here on.
+#[tactic(auto, using(crate::proofs::Texts::alike_none))]
+#[inline(never)]
+fn count_alike(bytes: &[u8], place: usize, others: &[u8], other_place: usize) -> usize
+    ensures { StartAlike bytes.now place others.now other_place result }
+{
+    let room = bytes_from(bytes, place).min(bytes_from(others, other_place));
+    let mut count = 0;
+    while room - count >= LANES {
+        match find_unlike(bytes, place + count, others, other_place + count) {
+            Some(more) => return count + more,
+            None => count += LANES,
+        }
+    }
+    count_few_alike(bytes, place, others, other_place, count)
+}
+
+/// Passes over the code points that two strings share from here on, as far as these stand for themselves, where there may
+/// be many.
+#[tactic(auto, using(crate::proofs::Texts::same_passed, crate::proofs::Texts::order_passed, crate::proofs::Texts::fewer_left))]
 #[inline(always)]
 fn pass_alike(left: &mut CodePoints, right: &mut CodePoints)
     ensures same { are_same (code_points_left left.new) (code_points_left right.new)
@@ -536,9 +534,14 @@ fn pass_alike(left: &mut CodePoints, right: &mut CodePoints)
         ≡ compare (code_points_left left.old) (code_points_left right.old) }
     ensures fewer { length (code_points_left left.new) ≤ length (code_points_left left.old) }
 {
-    if bytes_left(*left) >= FEW_LANES && bytes_left(*right) >= FEW_LANES {
-        pass_many(left, right);
+    if bytes_from(left.bytes, left.place) < FEW_LANES
+        || bytes_from(right.bytes, right.place) < FEW_LANES
+    {
+        return;
     }
+    let count = count_alike(left.bytes, left.place, right.bytes, right.place);
+    left.place += count;
+    right.place += count;
 }
 
 /// Whether two strings have one text, by code points: for what is spelled by escapes or is not ASCII.
@@ -846,4 +849,46 @@ pub(crate) fn tail(points: CodePoints) -> u64
         return tail;
     }
     tail_slowly(tail, left)
+}
+
+/// What the number of a text is multiplied by before each code point: odd, so that no code point is lost.
+const MULTIPLIER: u64 = 0x9E37_79B9_7F4A_7C15;
+
+/// The number of a text that goes on by one code point.
+#[inline(always)]
+fn mix_with(mix: u64, point: u32) -> u64
+    ensures { result ≡ mix_step mix point }
+{
+    mix.wrapping_mul(MULTIPLIER).wrapping_add(point as u64)
+}
+
+/// The number after these code points, from a front on, by code points: for what is spelled by escapes or is not ASCII.
+#[cold]
+#[inline(never)]
+fn mix_slowly(front: u64, points: CodePoints) -> u64
+    ensures { result ≡ mix_on front (code_points_left points.entry) }
+{
+    let mut mix = front;
+    for point in points {
+        mix = mix_with(mix, point);
+    }
+    mix
+}
+
+/// All code points of a string's text mixed to one number.
+#[tactic(auto, using(crate::proofs::Texts::mix_ends))]
+#[inline]
+pub(crate) fn mix(points: CodePoints) -> u64
+    ensures { result ≡ mix_on 0 (code_points_left points.entry) }
+{
+    let mut mix = 0;
+    let mut left = points;
+    while let Some(byte) = plain_at(left.bytes, left.place) {
+        mix = mix_with(mix, byte as u32);
+        left.place += 1;
+    }
+    if left.place >= left.bytes.len() {
+        return mix;
+    }
+    mix_slowly(mix, left)
 }

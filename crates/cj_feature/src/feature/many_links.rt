@@ -1,17 +1,18 @@
 //! Links between many city objects: the children of all are gone over, and then the parents of all. Whether a text is
 //! an id, and whether its city object lists the one that is gone over, is asked of many at once.
-ghost use Rattle.std.specs.Prelude.{◌≡◌, [], ◌++◌, codes};
+ghost use Rattle.std.specs.Prelude.{◌≡◌, [], ◌++◌, true, codes};
 ghost use Rattle.std.specs.List.{flat_map, list_any};
 ghost use Rattle.std.specs.Str.{chars};
 ghost use Rattle.cj_spans.specs.Finding.{least};
 ghost use Rattle.cj_spans.specs.Parts.{items_of, members_of};
 ghost use Rattle.cj_spans.specs.View.{tree, source_of, tree_in};
-ghost use Rattle.cj_feature.specs.Links.{is_known as is_known_in, child, parent, children, parents, part, object_links};
+ghost use Rattle.cj_feature.specs.Links.{is_known as is_known_in, listed_in, child, parent, children, parents, part, object_links};
 ghost use Rattle.cj_feature.specs.Questions.{noted_in, AreAnswered};
 
 use crate::feature::ids::is_known;
 use crate::feature::links::{self, is_group};
-use crate::feature::questions::{Ahead, Answer, Noted, Questions, tag_of};
+use crate::feature::questions::{Ahead, Answer, Noted, Questions};
+use crate::feature::tagged::tag_of;
 use cj_geometry::rule::{add, is_told_before};
 use cj_spans::{Least, Members, Node, Reason};
 
@@ -81,30 +82,37 @@ fn check_all_children<'a>(objects: Node<'a>, questions: &mut Questions, found: &
     }
 }
 
-/// A parent that is in the feature lists the city object that is gone over as a child.
+/// A parent that is in the feature lists the city object that is gone over as a child; answers whether it is known to be
+/// an id in the feature.
 fn check_parent<'a>(
     objects: Node<'a>,
     item: Node<'a>,
     ahead: Ahead<'a>,
     questions: &mut Questions,
     found: &mut Least,
-)
+) -> bool
     requires { AreAnswered (chars (codes "children")) objects [] questions.old }
     ensures found { found.new
         ≡ least found.old (parent (members_of (tree objects.entry)) (noted_in objects.entry ahead.entry.name)
         (tree item.entry)) }
+    ensures known { result ≡ true → is_known_in (members_of (tree objects.entry)) (tree item.entry) ≡ true }
     ensures answered { AreAnswered (chars (codes "children")) objects.entry [] questions.new }
 {
     if is_told_before(*found, item) {
-        return;
+        return false;
     }
     match questions.answer("children", "parents", objects, item, ahead) {
-        Answer::Untold => links::check_parent(objects, ahead.name.node(objects), item, found),
-        _ => {}
+        Answer::Listed => true,
+        Answer::Absent => false,
+        Answer::Untold => {
+            links::check_parent(objects, ahead.name.node(objects), item, found);
+            false
+        }
     }
 }
 
-/// The parents of a city object of the name that has this number in the line.
+/// The parents of a city object of the name that has this number in the line; answers whether one of them is known to be
+/// an id in the feature.
 fn check_parents<'a>(
     objects: Node<'a>,
     number: u32,
@@ -112,25 +120,31 @@ fn check_parents<'a>(
     later: Members<'a>,
     questions: &mut Questions,
     found: &mut Least,
-)
+) -> bool
     requires { AreAnswered (chars (codes "children")) objects [] questions.old }
     ensures found { found.new
         ≡ least found.old (parents (members_of (tree objects.entry))
         (tree_in (source_of objects.entry) number, tree object.entry)) }
+    ensures known { result ≡ true → list_any (is_known_in (members_of (tree objects.entry)))
+        (listed_in (chars (codes "parents")) (tree object.entry)) ≡ true }
     ensures answered { AreAnswered (chars (codes "children")) objects.entry [] questions.new }
 {
     let Some(value) = object.get("parents") else {
-        return;
+        return false;
     };
     let name = Noted {
         tag: tag_of(objects.at(number)),
         number,
     };
+    let mut known = false;
     let mut items = value.items();
     while let Some(item) = items.next() {
         let ahead = Ahead { name, items, later };
-        check_parent(objects, item, ahead, questions, found);
+        if check_parent(objects, item, ahead, questions, found) {
+            known = true;
+        }
     }
+    known
 }
 
 /// Whether a parent of the city object that is gone over is an id in the feature.
@@ -212,8 +226,9 @@ fn check_all_parents<'a>(objects: Node<'a>, questions: &mut Questions, found: &m
     let mut later = objects.members();
     while let Some((name, object)) = later.next() {
         let number = name.number();
-        check_parents(objects, number, object, later, questions, found);
-        check_part(objects, number, object, later, questions, found);
+        if !check_parents(objects, number, object, later, questions, found) {
+            check_part(objects, number, object, later, questions, found);
+        }
     }
 }
 

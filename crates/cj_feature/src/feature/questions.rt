@@ -22,8 +22,9 @@ ghost use Rattle.cj_spans.specs.Tree.{Tree};
 ghost use Rattle.cj_spans.specs.Parts.{members_of, text_of};
 ghost use Rattle.cj_spans.specs.View.{tree, trees, members_left, source_of, tree_in};
 ghost use Rattle.cj_feature.specs.Links.{same_text, listed_in, has_item as has_item_of, lists as lists_of};
-ghost use Rattle.cj_feature.specs.Questions.{tag_of as tag_of_text, compare_sides, side_of, text_side, noted_in, side_in, pair_key, key_in, compare_keys, AreInOrder, IsPlaceOf, IsFirstOn, IsQuestion, AreAnswered, IsAnswer};
+ghost use Rattle.cj_feature.specs.Questions.{compare_sides, text_side, noted_in, side_in, pair_key, key_in, compare_keys, AreInOrder, IsPlaceOf, IsFirstOn, IsQuestion, AreAnswered, IsAnswer};
 
+use crate::feature::tagged::{Text, tag_of};
 use cj_spans::{Items, Kind, Members, Node};
 use std::cmp::Ordering;
 
@@ -33,8 +34,8 @@ const ROOM: usize = 27_000;
 /// How many first texts are kept at hand.
 const KEPT: usize = 1_024;
 
-/// A prime: by their remainders by it second texts are known to be asked about.
-const WANTED: usize = 8_191;
+/// By how many marks second texts are known to be asked about.
+const WANTED: usize = 8_192;
 
 /// A text that is noted: its tag, and the number of its node in the line of the city objects.
 #[derive(Clone, Copy)]
@@ -48,13 +49,6 @@ pub struct Noted {
 pub struct Question {
     from: Noted,
     to: Noted,
-}
-
-/// A text that is looked up: its tag, and its node, which may be one of another line.
-#[derive(Clone, Copy)]
-pub struct Text<'a> {
-    tag: u32,
-    node: Node<'a>,
 }
 
 /// The two texts of a question that is looked up.
@@ -107,19 +101,8 @@ pub struct Questions {
     wanted: [bool; WANTED],
 }
 
-/// A prime: each half of a tag is a remainder by it.
-const HALF_TAGS: u64 = 2_147_483_647;
-
 /// What room holds before a question is noted.
 const NOTHING: Noted = Noted { tag: 0, number: 0 };
-
-/// The tag of a text: a number by its first and its last eight code points, which tells most texts apart. That of what
-/// is no text is 0.
-pub fn tag_of(node: Node) -> u32
-    ensures { result ≡ tag_of_text (text_of (tree node.entry)) }
-{
-    (node.text_word() % HALF_TAGS + node.text_tail() % HALF_TAGS) as u32
-}
 
 impl Noted {
     /// The text of a node.
@@ -190,19 +173,6 @@ fn compare_numbered(objects: Node, first: u32, second: u32) -> Ordering
     objects.at(first).compare_text(objects.at(second))
 }
 
-impl<'a> Text<'a> {
-    /// The text of a node.
-    fn of(node: Node<'a>) -> Text<'a>
-        ensures side { text_side result ≡ side_of (text_of (tree node.entry)) }
-        ensures node { tree result.node ≡ tree node.entry }
-    {
-        Text {
-            tag: tag_of(node),
-            node,
-        }
-    }
-}
-
 /// How two questions are ordered: by their first texts, and then by their second ones.
 fn compare(objects: Node, first: Question, second: Question) -> Ordering
     ensures { result ≡ compare_keys (key_in objects.entry first) (key_in objects.entry second) }
@@ -251,12 +221,11 @@ fn question_at(questions: &[Question], place: usize) -> Option<Question>
 
 /// The place of the first question on a text, if there is one. What is no text comes before all texts, so the city
 /// objects stand for a second text before all others.
-fn first_on(objects: Node, questions: &[Question], text: Node) -> Option<usize>
+fn first_on(objects: Node, questions: &[Question], from: Text) -> Option<usize>
     requires { AreInOrder objects questions.now }
-    ensures first { IfSome result (IsFirstOn objects.entry questions.now (tree text.entry)) }
-    ensures only { (i : ℕ) → IsFirstOn objects.entry questions.now (tree text.entry) i → result ≡ Some i }
+    ensures first { IfSome result (IsFirstOn objects.entry questions.now (tree from.entry.node)) }
+    ensures only { (i : ℕ) → IsFirstOn objects.entry questions.now (tree from.entry.node) i → result ≡ Some i }
 {
-    let from = Text::of(text);
     let to = Text::of(objects);
     let place = place_of(objects, questions, Pair { from, to });
     match question_at(questions, place) {
@@ -389,8 +358,8 @@ fn make_room(objects: Node, questions: &mut [Question], count: usize) -> usize
     }
 }
 
-/// Where a text is kept at hand, by its tag and the bytes in its middle: so also texts that are alike at both ends have
-/// places of their own. By another spelling a text has another place.
+/// Where a text is kept at hand, by its tag and the bytes in its middle: so most texts that were made to have one tag have
+/// places of their own too. By another spelling a text has another place.
 fn hand_of(node: Node, tag: u32) -> usize
     ensures { result < 1_024 }
 {
@@ -493,19 +462,19 @@ fn clear(marks: &mut [bool])
     }
 }
 
-/// Where it is known of a text whether it is asked about as a second one: by its end, and not by its tag, so that texts
-/// of one tag have places of their own.
-fn wanted_at(node: Node) -> usize
-    ensures { result < 8_191 }
+/// Where it is known of a text whether it is asked about as a second one, by the number that it is mixed to: not by its
+/// tag, so that texts of one tag have places of their own.
+fn wanted_at(mix: u64) -> usize
+    ensures { result < 8_192 }
 {
-    (node.text_tail() % WANTED as u64) as usize
+    (mix % WANTED as u64) as usize
 }
 
 /// Marks the second texts of questions as asked about.
 fn mark_wanted(objects: Node, questions: &[Question], wanted: &mut [bool; WANTED]) {
     clear(wanted);
     for question in questions {
-        wanted[wanted_at(question.to.node(objects))] = true;
+        wanted[wanted_at(question.to.node(objects).text_mix())] = true;
     }
 }
 
@@ -568,12 +537,13 @@ impl Questions {
             return;
         };
         for item in value.items() {
-            if !self.wanted[wanted_at(item)] {
+            let mix = item.text_mix();
+            if !self.wanted[wanted_at(mix)] {
                 continue;
             }
             let pair = Pair {
                 from: name,
-                to: Text::of(item),
+                to: Text::mixed(item, mix),
             };
             self.answer_item(list, objects, pair, run, later);
         }
@@ -589,10 +559,10 @@ impl Questions {
         ensures { AreAnswered (chars list.now) objects.entry (members_left later.entry) self.new }
     {
         let questions = &self.questions[..self.count];
-        let Some(place) = first_on(objects, questions, name) else {
+        let from = Text::of(name);
+        let Some(place) = first_on(objects, questions, from) else {
             return;
         };
-        let from = Text::of(name);
         let run = run_on(objects, questions, from, place);
         mark(&mut self.known, place);
         self.answer_items(list, objects, from, object, run, later);
@@ -645,7 +615,7 @@ impl Questions {
             return Some(Answer::Listed);
         }
         let questions = &self.questions[..self.count];
-        let first = first_on(objects, questions, from.node)?;
+        let first = first_on(objects, questions, from)?;
         if !self.known[first] {
             return Some(Answer::Absent);
         }

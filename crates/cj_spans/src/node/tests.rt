@@ -327,6 +327,29 @@ fn tails_are_of_the_last_eight_code_points(rt: HostRuntime) -> Result<(), Fail> 
     Ok(())
 }
 
+#[test]
+fn numbers_are_mixed_of_all_code_points(rt: HostRuntime) -> Result<(), Fail> {
+    let line =
+        b"[12,\"\",\"a\",\"\\u0061b\",\"abcdefgh\",\"xabcdefgh\",\"a\xE2\x82\xACb\",\"\\u00e9a\",\"\xC3\xBFa\"]";
+    let mixes = [
+        0u64,
+        0,
+        0x61,
+        0xF305_1F49_3B39_0457,
+        0x4D9A_B593_4765_C614,
+        0x814E_5318_5DBE_B38C,
+        0xD552_12BA_FEF7_FD97,
+        0x007D_C9D4_DACA_EF7E,
+        0x9942_3FC5_CB31_994C,
+    ];
+    let mut tokens: Bounded<Token> = Bounded::new(rt.alloc(), 1_000);
+    let items = view(&rt, rt.alloc(), line, &mut tokens).root().items();
+    for (item, mix) in items.zip(mixes.iter()) {
+        assert_eq!(&rt; item.text_mix(), *mix);
+    }
+    Ok(())
+}
+
 /// How the items of a line are ordered beside a text.
 fn are_ordered_beside(items: Items, text: &str, wanted: &[Ordering]) -> bool {
     let mut all = true;

@@ -2,7 +2,7 @@ use Rattle.std.proofs.Common.{◌<◌, length, arith, sym, subst, ◌∙◌}
 use Rattle.std.proofs.lemmas.Grind.{common_steps}
 use Rattle.std.proofs.lemmas.Option.{slice_get_within}
 use Rattle.cj_spans.specs.View.{trees, members_left}
-use Rattle.cj_feature.specs.Questions.{AreLeft, noted}
+use Rattle.cj_feature.specs.Questions.{AreLeft, IsFirstOn, noted}
 use Rattle.cj_feature.proofs.Questions.{left_unasked, left_marked}
 use Rattle.cj_feature.proofs.feature.questions.Questions.answer_object.Goals as goal
 
@@ -13,7 +13,7 @@ returns-in_default c =
       few = c.requires.answered.few;
       order = c.requires.answered.order;
       listed = c.requires.answered.listed;
-      known = left_unasked c.args.objects (noted a) a.known (trees (c.args.name, c.args.object)) (members_left c.args.later) c.requires.answered.known (λ i f. sym c.in_default.is ∙ c.first_on.ensures.only i f);
+      known = left_unasked c.args.objects (noted a) a.known (trees (c.args.name, c.args.object)) (members_left c.args.later) c.requires.answered.known (λ i f. sym c.in_default.is ∙ c.first_on.ensures.only i (subst (λ t. IsFirstOn c.args.objects (noted a) t i) (sym c.of-from.ensures) f));
     }
 
 pub answer_items-requires-clause-answered : goal.answer_items-requires-clause-answered
@@ -25,5 +25,5 @@ answer_items-requires-clause-answered c =
       few = c.requires.answered.few;
       order = c.requires.answered.order;
       listed = c.requires.answered.listed;
-      known = subst (λ marks. AreLeft c.args.objects (noted a) marks rest) (sym c.mark.ensures) (left_marked c.args.objects (noted a) a.known (trees (c.args.name, c.args.object)) rest c.requires.answered.known c.in-Some.place (grind (arith, common_steps)) (λ i f. sym c.in-Some.is ∙ c.first_on.ensures.only i f));
+      known = subst (λ marks. AreLeft c.args.objects (noted a) marks rest) (sym c.mark.ensures) (left_marked c.args.objects (noted a) a.known (trees (c.args.name, c.args.object)) rest c.requires.answered.known c.in-Some.place (grind (arith, common_steps)) (λ i f. sym c.in-Some.is ∙ c.first_on.ensures.only i (subst (λ t. IsFirstOn c.args.objects (noted a) t i) (sym c.of-from.ensures) f)));
     }

@@ -1,0 +1,53 @@
+//! Texts with their tags, by which they are ordered first.
+ghost use Rattle.std.specs.Prelude.{◌≡◌, ◌%◌};
+ghost use Rattle.cj_spans.specs.Mix.{mix_of};
+ghost use Rattle.cj_spans.specs.Parts.{text_of};
+ghost use Rattle.cj_spans.specs.View.{tree};
+ghost use Rattle.cj_feature.specs.Tag.{tag_of as tag_of_text};
+
+use cj_spans::Node;
+
+/// A prime: a tag is a remainder by it.
+const TAGS: u64 = 4_294_967_291;
+
+/// A text that is looked up: its tag, and its node, which may be one of another line.
+#[derive(Clone, Copy)]
+pub struct Text<'a> {
+    pub tag: u32,
+    pub node: Node<'a>,
+    ghost tagged: { tag ≡ tag_of_text (text_of (tree node)) },
+}
+
+/// The tag of a text, by the number that it is mixed to: so it hangs on all code points, and tells most texts apart.
+fn tag_by(mix: u64) -> u32
+    ensures { result ≡ mix % 4294967291 }
+{
+    (mix % TAGS) as u32
+}
+
+/// The tag of a text. That of what is no text is 0.
+pub fn tag_of(node: Node) -> u32
+    ensures { result ≡ tag_of_text (text_of (tree node.entry)) }
+{
+    tag_by(node.text_mix())
+}
+
+impl<'a> Text<'a> {
+    /// The text of a node, of which the number is known that it is mixed to.
+    pub fn mixed(node: Node<'a>, mix: u64) -> Text<'a>
+        requires { mix ≡ mix_of (text_of (tree node)) }
+        ensures { tree result.node ≡ tree node.entry }
+    {
+        Text {
+            tag: tag_by(mix),
+            node,
+        }
+    }
+
+    /// The text of a node.
+    pub fn of(node: Node<'a>) -> Text<'a>
+        ensures { tree result.node ≡ tree node.entry }
+    {
+        Text::mixed(node, node.text_mix())
+    }
+}
