@@ -1,8 +1,8 @@
 #!/usr/bin/env python3
 """Writes the vectors: python3 vectors/make.py. Each is a file NAME.jsonl, and a row of table.tsv says what has to come of it;
-README.md says how to read both.
+README.md says how to read both. The same rows, but for those of folders of their own, go into the tests of the engine.
 
-The rows below are written by hand, from the rules of docs/RULES.md. In a line that is to be refused the mark ^ stands where
+The rows, in rows.py, are written by hand, from the rules of docs/RULES.md. In a line that is to be refused the mark ^ stands where
 the finding is, and is taken out; `place` is given where no mark can stand. What a complete run holds at most is counted here
 from the lines, by Python's own reader of JSON."""
 import json
@@ -11,6 +11,7 @@ import re
 import shutil
 
 HERE = os.path.dirname(os.path.abspath(__file__))
+TESTS = os.path.join(HERE, os.pardir, "crates", "cj_stream", "src", "tests", "table.rt")
 LIMITS = (1_000, 64)  # where a row asks for no others: a line of so many bytes, so many open arrays and objects
 TEXTS = {
     1: "no header line", 2: "line too long", 3: "not UTF-8", 4: "syntax", 5: "nested too deep", 10: "member missing",
@@ -68,6 +69,12 @@ def instance(template="0", boundaries="[0]", matrix="[1,0,0,0,0,1,0,0,0,0,1,0,0,
 
 
 ROWS = []
+SECTIONS = []  # each with its title and its rows
+
+
+def section(title):
+    """The rows that follow, up to the next section, belong together."""
+    SECTIONS.append((title, []))
 
 
 def row(name, lines, code=None, place=None, limits=LIMITS, words=(), kept=None, end="\n"):
@@ -88,7 +95,10 @@ def row(name, lines, code=None, place=None, limits=LIMITS, words=(), kept=None, 
     if kept is None:
         kept = [number + 1 for number in range(len(good)) if not blank[number]]
     text = b"".join(line + b"\n" for line in lines[:-1]) + (lines[-1] + end.encode() if lines else b"")
-    ROWS.append((name, text, limits, words, refused, len(good), kept, good))
+    made = (name, text, limits, words, refused, len(good), kept, good)
+    ROWS.append(made)
+    if "/" not in name:
+        SECTIONS[-1][1].append(made)
 
 
 def size(tree):
@@ -122,6 +132,61 @@ def peaks(lines):
 exec(open(os.path.join(HERE, "rows.py"), encoding="utf-8").read())
 
 
+def answer_of(refused):
+    """What is said of a stream that is refused so, or that is complete."""
+    return f"line {refused[0]}, byte {refused[1]}: {refused[2]} {TEXTS[refused[2]]}" if refused else "complete"
+
+
+def peaks_of(refused, good):
+    """What is held at most, where that is told."""
+    return "-" if refused else " ".join(map(str, peaks(good)))
+
+
+def spelled(text):
+    """Bytes as a row of the tests spells them."""
+    parts = []
+    for part in re.split(b"(" + re.escape(H.encode()) + b"|" + re.escape(F.encode()) + b"|\n|[^ -~]|[&|])", text):
+        name = {H.encode(): "H", F.encode(): "F", b"\n": "lf"}.get(part)
+        if name or re.fullmatch(b"[^ -~]|[&|]", part):
+            parts.append(f"&{name or part[0]};")
+        else:
+            parts.append(part.decode("ascii"))
+    return "".join(parts)
+
+
+def test_row(name, text, limits, words, refused, lines, kept, good):
+    """The row of a vector in the tests of the engine."""
+    stream = text.split(b"\n")
+    written = b"".join(stream[number - 1] + (b"\n" if number < len(stream) else b"") for number in kept)
+    asked = " ".join(words).replace("--", "").replace("id ", "id=").replace("type ", "type=").replace("lod ", "lod=") or "-"
+    return "|".join([name, *map(str, limits), asked, spelled(text), "all" if written == text else spelled(written),
+                     answer_of(refused), str(lines), str(len(kept) - (1 in kept)), peaks_of(refused, good)])
+
+
+def write_tests():
+    """Writes the rows of each section as a constant of the engine's tests, with a test of them."""
+    with open(TESTS, "w", encoding="utf-8") as tests:
+        print(TESTS_HEAD, end="", file=tests)
+        for title, made in SECTIONS:
+            name = re.sub("[^a-z0-9]+", "_", title.split(": ")[-1].lower())
+            rows = "\n".join(test_row(*row) for row in made)
+            print(f"\n/// {title[0].upper()}{title[1:]}.\nconst {name.upper()}: &str = r#\"\n{rows}\n\"#;\n\n#[test]\n"
+                  f"fn {name}(rt: HostRuntime) -> Result<(), Fail> {{\n    check_rows(&rt, rt.alloc(), {name.upper()})\n}}", file=tests)
+
+
+TESTS_HEAD = """\
+//! The vectors of the folder `vectors/`, by section, but for its two families. Written by vectors/make.py: change vectors/rows.py
+//! and run it again.
+//!
+//! A row has cells with bars between them: its name, the line limit, the depth limit, what is asked for, or `-`, the stream, and what is
+//! written of it, or `all`; and then what is told: the answer, how many lines come before the refused one, or all, how many
+//! features are written, and what is held at most of a complete stream, or `-`. In a stream `&H;` is the usual header, `&F;` the
+//! usual feature, `&lf;` an LF, and `&255;` the byte of this number.
+use super::vectors::check_rows;
+use std::test::Fail;
+"""
+
+
 def main():
     for folder in ("cut", "not-utf8"):
         shutil.rmtree(os.path.join(HERE, folder), ignore_errors=True)
@@ -134,10 +199,9 @@ def main():
         for name, text, limits, words, refused, lines, kept, good in ROWS:
             with open(os.path.join(HERE, name + ".jsonl"), "wb") as file:
                 file.write(text)
-            answer = f"line {refused[0]}, byte {refused[1]}: {refused[2]} {TEXTS[refused[2]]}" if refused else "complete"
-            held = "-" if refused else " ".join(map(str, peaks(good)))
-            print(name, *limits, " ".join(words) or "-", answer, lines, ",".join(map(str, kept)) or "-", held,
-                  sep="\t", file=table)
+            print(name, *limits, " ".join(words) or "-", answer_of(refused), lines, ",".join(map(str, kept)) or "-",
+                  peaks_of(refused, good), sep="\t", file=table)
+    write_tests()
     names = [name for name, *_ in ROWS]
     assert len(set(names)) == len(names), "a name stands twice"
     for code in TEXTS:

@@ -1,7 +1,7 @@
 # The rows of the vectors, read by make.py. Of each reason some stand at the edge of its rule, with the same line beside them
-# that is just valid.
+# that is just valid. A section is a test of the engine.
 
-# ---- the lines of a stream, and what is written
+section("the lines of a stream")
 row("empty", [], 1, 0)
 row("empty-least-limits", [], 1, 0, limits=(1, 1))
 row("empty-asked-for-an-id", [], 1, 0, words=["--id", "b1"])
@@ -16,7 +16,7 @@ row("blank-first-line", ["^", H], 4)
 row("spaces-first-line", ["  ^", H], 4)
 row("form-feed-is-not-blank", [H, "^\f", F], 4)
 
-# ---- 2: line too long
+section("2: line too long")
 row("line-as-long-as-the-limit", [H, F], limits=(210, 64))
 row("line-one-byte-too-long", [H, F, F + " "], 2, 210, limits=(210, 64))
 row("line-one-byte-too-long-no-lf", [H, F + " "], 2, 210, limits=(210, 64), end="")
@@ -27,7 +27,7 @@ row("blank-as-long-as-the-limit", [H, " " * 140], limits=(140, 64))
 row("blank-one-byte-too-long", [H, " " * 141], 2, 140, limits=(140, 64))
 row("too-long-before-not-utf8", [H, b"\xff" * 141], 2, 140, limits=(140, 64))
 
-# ---- 3: not UTF-8
+section("3: not UTF-8")
 euro = one('"boundaries":[[[0,1,2,3]]]}]', '"boundaries":[[[0,1,2,3]]]}],"attributes":{"a":"€"}').encode()
 assert euro.index(b"\xe2\x82\xac") == 170
 row("euro", [H, euro])
@@ -41,7 +41,7 @@ row("blank-with-a-bad-byte", [H, b"  \xff"], 3, 2)
 row("bad-byte-before-bad-syntax", [H, b"}\xff"], 3, 1)
 row("bad-first-line", [b"\xff" + H.encode()], 3, 0)
 
-# ---- 4: syntax
+section("4: syntax")
 row("comma-before-a-brace", [H, '{"type":"CityJSONFeature",^}'], 4)
 row("front-of-a-feature", [H, F[:100] + "^"], 4)
 row("zero-before-a-digit", [H, "0^1"], 4)
@@ -62,7 +62,7 @@ row("byte-order-mark", ["^\ufeff" + H], 4)
 row("record-separator", ["^\x1e" + H], 4)
 row("comment", [H, "^// no"], 4)
 
-# ---- 5: nested too deep
+section("5: nested too deep")
 row("deepest-allowed", [H, "[" * 1024 + "^"], 4, limits=(2_000, 1_024))
 row("one-deeper-than-allowed", [H, "[" * 1024 + "^["], 5, limits=(2_000, 1_024))
 row("one-deeper-than-64", [H, "[" * 64 + "^["], 5)
@@ -72,10 +72,13 @@ row("header-at-its-depth", [H], limits=(140, 3))
 row("header-past-its-depth", [header('"scale":[', '"scale":^[')], 5, limits=(140, 2))
 row("too-deep-before-syntax", [H, "[[[^[}"], 5, limits=(1_000, 3))
 
-# ---- 10: member missing
+section("10: member missing")
 row("feature-as-the-first-line", ["^" + F], 10)
 row("second-header", [H, "^" + H], 10)
+row("empty-object-as-the-first-line", ["^{}"], 10)
 row("no-lod", [H, one('{"type":"MultiSurface","lod":"2.2",', '^{"type":"MultiSurface",')], 10)
+row("no-lod-and-a-bad-index", [H, one('{"type":"MultiSurface","lod":"2.2","boundaries":[[[0,1,2,3]]]}',
+                                      '^{"type":"MultiSurface","boundaries":[[[0,1,2,4]]]}')], 10)
 row("part-without-parents", [H, feature('"b":^{"type":"BuildingPart"}')], 10)
 row("city-object-without-type", [H, feature('"b":^{}')], 10)
 row("no-boundaries", [H, with_geometry('^{"type":"Solid","lod":"1"}')], 10)
@@ -84,7 +87,7 @@ row("semantics-without-values", [H, with_geometry(
 row("instance-without-matrix", [templates(), feature(
     '"b":{"type":"PlantCover","geometry":[^{"type":"GeometryInstance","template":0,"boundaries":[0]}]}', "[[0,0,0]]")], 10)
 
-# ---- 11: duplicate name
+section("11: duplicate name")
 row("one-name-twice", [H, feature('"b":{"type":"Building"},^"b":{"type":"Building"}')], 11)
 row("one-name-twice-by-an-escape", [H, feature('"b":{"type":"Building"},^"\\u0062":{"type":"Building"}')], 11)
 row("one-name-twice-in-attributes", [H, feature('"b":{"type":"Building","attributes":{"a":1,"a":2}}')])
@@ -93,7 +96,7 @@ row("one-name-twice-in-a-geometry", [H, with_geometry('{"type":"Solid","lod":"1"
 row("one-name-twice-in-a-transform", [header('"transform":{', '"transform":{"a":1,^"a":2,')], 11)
 row("names-that-differ-in-case", [H, feature('"b":{"type":"Building"},"B":{"type":"Building"}')])
 
-# ---- 12: wrong kind
+section("12: wrong kind")
 row("an-array", [H, "^[]"], 12)
 row("null", [H, "^null"], 12)
 row("lod-that-is-a-number", [H, one('"lod":"2.2"', '"lod":^2.2').replace("2,3]]]", "2,4]]]")], 12)
@@ -104,8 +107,9 @@ row("city-object-that-is-a-text", [H, feature('"b":^"x"')], 12)
 row("index-that-is-a-text", [H, one("[[[0,1,2,3]]]", '[[[0,1,2,^"3"]]]')], 12)
 row("semantics-that-are-null", [H, with_geometry('{"type":"Solid","lod":"1","boundaries":[],"semantics":^null}')], 12)
 row("header-that-is-a-number", ["^1"], 12)
+row("header-that-is-an-array", ["^[]"], 12)
 
-# ---- 13: number out of range
+section("13: number out of range")
 row("index-of-37-digits", [H, one("[[[0,1,2,3]]]", "[[[0,1,2,^" + "1" * 37 + "]]]")], 13)
 row("index-of-36-digits", [H, one("[[[0,1,2,3]]]", "[[[0,1,2,^" + "1" * 36 + "]]]")], 18)
 row("scale-of-37-digits", [header('"scale":[0.001,', '"scale":[^0.' + "1" * 37 + ",")], 13)
@@ -115,7 +119,7 @@ row("power-of-a-million", [header('"scale":[0.001,', '"scale":[1e1000000,')])
 row("power-past-minus-a-million", [header('"scale":[0.001,', '"scale":[^1e-1000001,')], 13)
 row("unread-number-of-any-size", [H, feature(B, more=',"a":1e9999999')])
 
-# ---- 14, 15: type and version
+section("14, 15: type and version")
 row("header-of-type-feature", [header('"CityJSON"', '^"CityJSONFeature"')], 14)
 row("feature-of-type-header", [H, feature(B).replace('"CityJSONFeature"', '^"CityJSON"')], 14)
 row("type-in-small-letters", [H, feature(B).replace('"CityJSONFeature"', '^"cityjsonfeature"')], 14)
@@ -125,19 +129,19 @@ row("version-2.0.1", [header('"2.0"', '^"2.0.1"')], 15)
 row("version-2", [header('"2.0"', '^"2"')], 15)
 row("version-by-an-escape", [header('"2.0"', '"2.\\u0030"')])
 
-# ---- 16: not empty
+section("16: not empty")
 row("header-with-a-city-object", [header('"CityObjects":{}', '"CityObjects":^{"a":{}}')], 16)
 row("header-with-a-vertex", [header('"vertices":[]', '"vertices":^[0]')], 16)
 row("header-with-a-whole-vertex", [header('"vertices":[]', '"vertices":^[[0,0,0]]')], 16)
 
-# ---- 17: not three items
+section("17: not three items")
 row("scale-of-two", [header("[0.001,0.001,0.001]", "^[1,1]")], 17)
 row("scale-of-four", [header("[0.001,0.001,0.001]", "^[1,1,1,1]")], 17)
 row("vertex-of-two", [H, feature(B, "[^[0,0]]")], 17)
 row("vertex-of-four", [H, feature(B, "[^[0,0,0,0]]")], 17)
 row("template-vertex-of-two", [templates(points="[[0,0,0],^[0,0],[0,0,0]]")], 17)
 
-# ---- 18: not a whole number
+section("18: not a whole number")
 row("coordinate-of-a-half", [H, feature(B, "[[0,0,^0.5]]")], 18)
 row("coordinate-of-10-18", [H, feature(B, "[[0,0,^1000000000000000000]]")], 18)
 row("coordinate-below-10-18", [H, feature(B, "[[0,0,-999999999999999999]]")])
@@ -147,19 +151,19 @@ row("index-with-a-point", [H, one("[[[0,1,2,3]]]", "[[[0,1,2,3.0]]]")])
 row("index-with-an-exponent", [H, one("[[[0,1,2,3]]]", "[[[0,1,2,3e0]]]")])
 row("index-of-minus-zero", [H, one("[[[0,1,2,3]]]", "[[[0,1,2,-0]]]")])
 
-# ---- 19: unknown object type
+section("19: unknown object type")
 row("type-of-an-extension", [H, feature('"b":{"type":^"+Shed"}')], 19)
 row("type-in-another-case", [H, feature('"b":{"type":^"building"}')], 19)
 row("type-with-a-space", [H, feature('"b":{"type":^"Building "}')], 19)
 row("type-that-is-empty", [H, feature('"b":{"type":^""}')], 19)
 
-# ---- 20: id not among the city objects
+section("20: id not among the city objects")
 row("id-of-no-city-object", [H, feature('"c":{"type":"Building"}').replace('"id":"b"', '"id":^"b"')], 20)
 row("id-and-no-city-objects", [H, feature("").replace('"id":"b"', '"id":^"b"')], 20)
 row("id-in-another-case", [H, feature(B).replace('"id":"b"', '"id":^"B"')], 20)
 row("id-by-an-escape", [H, feature(B).replace('"id":"b"', '"id":"\\u0062"')])
 
-# ---- 21, 22, 23: links
+section("21, 22, 23: links")
 row("child-that-is-not-there", [H, feature('"b":{"type":"Building","children":[^"q"]}')], 21)
 row("second-child-that-is-not-there", [H, feature(
     '"b":{"type":"Building","children":["p",^"q"]},"p":{"type":"BuildingPart","parents":["b"]}')], 21)
@@ -180,13 +184,13 @@ row("part-of-a-number", [H, feature('"b":^{"type":"BuildingPart","parents":[3]}'
 row("part-of-a-second-parent", [H, feature(
     '"b":{"type":"Building","children":["p"]},"p":{"type":"BuildingPart","parents":["g","b"]}')])
 
-# ---- 24: unknown geometry type
+section("24: unknown geometry type")
 row("geometry-of-a-cone", [H, feature('"b":{"type":"Building","geometry":[{"type":^"Cone"}]}')], 24)
 row("geometry-in-another-case", [H, feature('"b":{"type":"Building","geometry":[{"type":^"solid"}]}')], 24)
 row("geometry-with-no-name", [H, feature('"b":{"type":"Building","geometry":[{"type":^""}]}')], 24)
 row("template-of-a-cone", [templates('{"type":^"Cone"}')], 24)
 
-# ---- 25: vertex index out of range
+section("25: vertex index out of range")
 row("index-past-the-vertices", [H, one("[[[0,1,2,3]]]", "[[[0,1,2,^4]]]")], 25)
 row("index-below-zero", [H, one("[[[0,1,2,3]]]", "[[[0,1,2,^-1]]]")], 25)
 row("index-before-the-lod", [H, one('"lod":"2.2","boundaries":[[[0,1,2,3]]]', '"boundaries":[[[0,1,2,^4]]],"lod":2.2')], 25)
@@ -194,7 +198,7 @@ row("index-of-a-template", [templates('{"type":"MultiSurface","lod":"1","boundar
 row("index-of-an-instance", [templates(), instance(boundaries="[^1]")], 25)
 row("index-with-no-vertices", [H, with_geometry('{"type":"MultiPoint","lod":"1","boundaries":[^0]}', "[]")], 25)
 
-# ---- 26, 27: semantics
+section("26, 27: semantics")
 for name, values in (("null", "null"), ("null-shell", "[null]"), ("null-surface", "[[0,null]]")):
     row("values-of-" + name, [H, solid(values)])
 row("values-of-no-shell", [H, solid("^[]")], 26)
@@ -205,10 +209,11 @@ row("value-below-zero", [H, solid("[[0,^-1]]")], 27)
 row("value-of-no-surfaces", [H, solid("[[^0,null]]", surfaces="[]")], 27)
 row("value-of-the-last-surface", [H, solid("[[0,1]]", surfaces='[{"type":"RoofSurface"},{"type":"WallSurface"}]')])
 
-# ---- 28, 29: templates and instances
+section("28, 29: templates and instances")
 row("instance-of-a-template", [templates(), instance()])
 row("instance-asked-for-by-its-lod", [templates(), instance()], words=["--lod", "1"])
 row("instance-of-another-lod", [templates(), instance()], words=["--lod", "2"], kept=[1])
+row("templates-after-other-lines", [templates(), F, instance(), F, instance(), instance("^1"), F], 28)
 row("template-past-the-list", [templates(), instance("^1")], 28)
 row("template-below-zero", [templates(), instance("^-1")], 28)
 row("template-of-no-list", [H, instance("^0")], 28)
@@ -218,8 +223,9 @@ row("matrix-of-17", [templates(), instance(matrix="^[1,0,0,0,0,1,0,0,0,0,1,0,0,0
 row("instance-at-no-vertex", [templates(), instance(boundaries="^[]")], 29)
 row("instance-at-two-vertices", [templates(), instance(boundaries="^[0,0]")], 29)
 
-# ---- 30: a transform that no box can use, and boxes
+section("30: boxes")
 row("translate-too-fine", [header("[1000.0,", "[^1e-19,"), F], 30, words=["--bbox=0,0,1,1"])
+row("translate-just-not-too-fine", [header("[1000.0,", "[1e-18,"), F], words=["--bbox=0,2000,0.000000000000000001,2001"])
 row("translate-too-fine-and-no-box", [header("[1000.0,", "[1e-19,")])
 row("scale-too-great", [header('"scale":[0.001,', '"scale":[^1e18,'), F], 30, words=["--bbox=0,0,1,1"])
 row("second-scale-too-fine", [header("[0.001,0.001,", "[0.001,^0.0000000000000000001,"), F], 30, words=["--bbox=0,0,1,1"])
@@ -233,7 +239,7 @@ row("box-and-a-product-too-great", [great, feature(B, "[[999999999999999999,0,0]
 row("box-between-two-products", [great, feature(B, "[[-999999999999999999,0,0],[999999999999999999,0,0]]")],
     words=["--bbox=0,0,999999999999999999,0"])
 
-# ---- queries by id, type and LoD
+section("ids, types and LoDs")
 row("asked-for-by-its-id", [H, F], words=["--id", "b1"])
 row("asked-for-by-another-id", [H, F], words=["--id", "b2"], kept=[1])
 row("asked-for-by-one-of-two-ids", [H, F], words=["--id", "b2,b1"])

@@ -1,10 +1,10 @@
 //! Tests of what no clause says: worked rows, and devices that fail.
 //!
-//! `rows`, `engine_rows`, `blank_lines`, `long_lines`, `large`, `lines`, `order`, `queries` and `ids` have inputs
-//! with their answers, `vectors` two families of them, by every cut, `lent` and `tally` what sinks see of them,
-//! `faults` and `long_devices` what comes of readers and writers that fail, which are in `devices`, `reads` what
-//! comes of few reads, `states` rows through the two states, `turns` what these tell call by call, `line_pieces` what
-//! comes behind a header, and `calls` what all tests share. A body of many asserts is dear to prove, and a call is
+//! `rows`, `engine_rows`, `blank_lines`, `long_lines`, `large`, `order`, `queries` and `ids` have inputs with their
+//! answers, `table` those of the folder `vectors/`, which `vectors` tries by every cut, `lent` and `tally` what sinks see
+//! of them, `faults` and `long_devices` what comes of readers and writers that fail, which are in `devices`, `reads`
+//! what comes of few reads, `states` rows through the two states, `turns` what these tell call by call, `line_pieces`
+//! what comes behind a header, and `calls` what all tests share. A body of many asserts is dear to prove, and a call is
 //! not: a row is one call of a function that checks it.
 mod blank_lines;
 mod calls;
@@ -15,7 +15,6 @@ mod ids;
 mod large;
 mod lent;
 mod line_pieces;
-mod lines;
 mod long_devices;
 mod long_lines;
 mod order;
@@ -23,6 +22,7 @@ mod queries;
 mod reads;
 mod rows;
 mod states;
+mod table;
 mod tally;
 mod turns;
 mod vectors;

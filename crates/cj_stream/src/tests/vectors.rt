@@ -1,108 +1,136 @@
-//! A feature cut short, and with one byte that is no UTF-8, at each place: whole, by single bytes, and cut in two at every
-//! place. The other vectors of the folder `vectors/` are tried with the built program.
-use super::calls::refused;
+//! The vectors of the folder `vectors/`, each whole, by single bytes, and cut in two at every place: two families, a feature cut
+//! short and one with a byte that is no UTF-8, at each place, and all others, which `table` has.
+use super::calls::{check_bytes, check_outcome};
 use super::devices::{CutReader, SlowReader};
 use super::rows::{FEATURE, HEADER};
 use crate::{End, Outcome, Query, WriteSink, run};
-use cj_budget::Limits;
-use cj_spans::Reason;
+use cj_budget::{Limits, Peaks};
+use memchr::memchr;
 use std::alloc::{AllocError, Global};
+use std::io::Read;
 use std::process::Abort;
 use std::test::Fail;
 
-/// A stream, and how it has to end. Of it the header alone is written.
+/// A stream, and what has to come of it.
 #[derive(Drop)]
 struct Vector<'a> {
+    name: &'a str,
     text: &'a [u8],
     limits: Limits,
-    ended: End,
+    query: &'a Query,
+    written: &'a [u8],
+    /// What is told of the outcome.
+    told: &'a str,
+}
+
+/// Where a stream comes by single bytes, in place of where it is cut.
+const SINGLE_BYTES: u64 = 1_000_000;
+
+/// What is told of an outcome: the answer, how many lines there are before the refused one, or in all, how many features are
+/// kept, and what was held at most of a complete stream.
+fn told(alloc: Global, outcome: Outcome) -> Result<String, AllocError> {
+    let (lines, kept, held) = (outcome.lines, outcome.kept, outcome.peaks);
+    match outcome.ended {
+        End::Complete => format!(in alloc;
+            "complete|{lines}|{kept}|{} {} {}",
+            held.bytes, held.tokens, held.depth
+        ),
+        End::Refused {
+            line,
+            place,
+            reason,
+        } => format!(in alloc;
+            "line {line}, byte {place}: {} {}|{lines}|{kept}|-",
+            reason.code(),
+            reason.text()
+        ),
+        end => format!(in alloc; "{end:?}"),
+    }
 }
 
 /// What was held at most is within what the first line and the limits allow.
-fn check_held(rt: &impl Abort, vector: &Vector, outcome: Outcome) {
+fn check_held(rt: &impl Abort, vector: &Vector, peaks: Peaks) {
     let (line, depth) = (vector.limits.line(), vector.limits.depth());
-    let header = HEADER.len() as u64;
-    assert!(rt; outcome.peaks.bytes <= header + line);
-    assert!(rt; outcome.peaks.tokens <= (header + line + depth) / 2 + 1);
-    assert!(rt; outcome.peaks.depth <= depth);
+    let first = memchr(b'\n', vector.text).unwrap_or(vector.text.len());
+    let header = (first as u64).min(line);
+    assert!(rt; peaks.bytes <= header + line);
+    assert!(rt; peaks.tokens <= (header + line + depth) / 2 + 1);
+    assert!(rt; peaks.depth <= depth);
 }
 
-/// What came of a vector is what is wanted.
-fn check_outcome(rt: &impl Abort, vector: &Vector, outcome: Outcome, written: &[u8]) {
-    check_held(rt, vector, outcome);
-    assert_eq!(rt; outcome.ended, vector.ended);
-    assert_eq!(rt; outcome.lines, 1);
-    assert_eq!(rt; outcome.kept, 0);
-    assert_eq!(rt; written.len(), HEADER.len() + 1);
-    assert!(rt; written.starts_with(HEADER));
-}
-
-/// A vector by single bytes.
-fn check_bytes(rt: &impl Abort, alloc: Global, vector: &Vector) {
-    let mut reader = SlowReader::new(vector.text, 1);
+/// Runs over what a reader gives of a vector, which is cut at this place.
+fn run_over<R: Read>(
+    rt: &impl Abort,
+    alloc: Global,
+    vector: &Vector,
+    reader: &mut R,
+    at: u64,
+) -> Outcome {
     let mut sink = WriteSink::new(Vec::new(alloc));
-    let outcome = run(
-        alloc,
-        &mut reader,
-        &mut sink,
-        vector.limits,
-        &Query::all(alloc),
-    );
-    check_outcome(rt, vector, outcome, &sink.into_inner());
+    let outcome = run(alloc, reader, &mut sink, vector.limits, vector.query);
+    check_held(rt, vector, outcome.peaks);
+    check_bytes(rt, &sink.into_inner(), vector.written, vector.name, at);
+    outcome
 }
 
-/// A vector cut in two; whole, where it is cut at its end.
-fn check_cut(rt: &impl Abort, alloc: Global, vector: &Vector, at: usize) {
+/// Cuts a vector in two; it is whole where the cut is at an end. All comes out as it did by single bytes, but for what a stream
+/// that is not complete has held at most.
+fn check_cut(rt: &impl Abort, alloc: Global, vector: &Vector, at: usize, first: Outcome) {
     assert!(rt; at <= vector.text.len());
     let mut reader = CutReader {
         front: &vector.text[..at],
         back: &vector.text[at..],
     };
-    let mut sink = WriteSink::new(Vec::new(alloc));
-    let outcome = run(
-        alloc,
-        &mut reader,
-        &mut sink,
-        vector.limits,
-        &Query::all(alloc),
-    );
-    check_outcome(rt, vector, outcome, &sink.into_inner());
+    let got = run_over(rt, alloc, vector, &mut reader, at as u64);
+    let peaks = match first.ended {
+        End::Complete => first.peaks,
+        _ => got.peaks,
+    };
+    let wanted = Outcome { peaks, ..first };
+    check_outcome(rt, got, wanted, vector.name, at as u64);
 }
 
 /// A vector in every way.
-fn check(rt: &impl Abort, alloc: Global, vector: &Vector) {
-    check_bytes(rt, alloc, vector);
-    for at in 0..vector.text.len() {
-        check_cut(rt, alloc, vector, at);
+fn check(rt: &impl Abort, alloc: Global, vector: &Vector) -> Result<(), Fail> {
+    let mut reader = SlowReader::new(vector.text, 1);
+    let first = run_over(rt, alloc, vector, &mut reader, SINGLE_BYTES);
+    let told = told(alloc, first)?;
+    assert_eq!(rt; told.as_str(), vector.told, "{}", vector.name);
+    for at in 0..=vector.text.len() {
+        check_cut(rt, alloc, vector, at, first);
     }
-    check_cut(rt, alloc, vector, vector.text.len());
+    Ok(())
 }
 
-/// A header and a line that is refused so, in every way.
+// ---- the two families
+
+/// A header and a line that is refused at this place, for this reason, in every way.
 fn check_second(
     rt: &impl Abort,
     alloc: Global,
     line: &[u8],
-    limits: Limits,
-    ended: End,
-) -> Result<(), AllocError> {
+    place: usize,
+    reason: &str,
+) -> Result<(), Fail> {
     let text = [HEADER, b"\n", line, b"\n"].concat(alloc)?;
+    let written = [HEADER, b"\n"].concat(alloc)?;
+    let told = format!(in alloc; "line 2, byte {place}: {reason}|1|0|-")?;
     let vector = Vector {
+        name: reason,
         text: &text,
-        limits,
-        ended,
+        limits: Limits::new(1_000, 64)?,
+        query: &Query::all(alloc),
+        written: &written,
+        told: &told,
     };
-    check(rt, alloc, &vector);
-    Ok(())
+    check(rt, alloc, &vector)
 }
 
 /// Its first bytes alone are no JSON text, at the end of the line.
 #[test]
 fn a_feature_cut_short_at_each_place(rt: HostRuntime) -> Result<(), Fail> {
-    let limits = Limits::new(1_000, 64)?;
     for count in 1..FEATURE.len() {
-        let ended = refused(2, count as u64, Reason::Syntax);
-        check_second(&rt, rt.alloc(), &FEATURE[..count], limits, ended)?;
+        check_second(&rt, rt.alloc(), &FEATURE[..count], count, "4 syntax")?;
     }
     Ok(())
 }
@@ -110,13 +138,107 @@ fn a_feature_cut_short_at_each_place(rt: HostRuntime) -> Result<(), Fail> {
 /// The byte 80 in hexadecimal begins no character.
 #[test]
 fn a_feature_with_one_byte_that_is_no_text(rt: HostRuntime) -> Result<(), Fail> {
-    let limits = Limits::new(1_000, 64)?;
     for place in 0..FEATURE.len() {
         let mut line = FEATURE.to_vec(rt.alloc())?;
         assert!(rt; place < line.len());
         line[place] = 0x80;
-        let ended = refused(2, place as u64, Reason::NotUtf8);
-        check_second(&rt, rt.alloc(), &line, limits, ended)?;
+        check_second(&rt, rt.alloc(), &line, place, "3 not UTF-8")?;
+    }
+    Ok(())
+}
+
+// ---- the rows of the table
+
+/// Adds what stands behind a `&`: a name, `;`, and bytes.
+fn push_part(rt: &impl Abort, text: &mut Vec<u8>, part: &str) -> Result<(), Fail> {
+    let (name, rest) = part.split_once(';').expect(rt, "the end of a name");
+    match name {
+        "H" => text.extend_from_slice(HEADER)?,
+        "F" => text.extend_from_slice(FEATURE)?,
+        "lf" => text.push(b'\n')?,
+        _ => text.push(name.parse()?)?,
+    }
+    text.extend_from_slice(rest.as_bytes())?;
+    Ok(())
+}
+
+/// The bytes that a cell spells.
+fn bytes_of(rt: &impl Abort, alloc: Global, cell: &str) -> Result<Vec<u8>, Fail> {
+    let mut text = Vec::new(alloc);
+    for (at, part) in cell.split('&').enumerate() {
+        match at {
+            0 => text.extend_from_slice(part.as_bytes())?,
+            _ => push_part(rt, &mut text, part)?,
+        }
+    }
+    Ok(text)
+}
+
+/// Asks a query for what a word says.
+fn ask(rt: &impl Abort, query: &mut Query, word: &str) -> Result<(), Fail> {
+    let (option, value) = word.split_once('=').expect(rt, "an option with its value");
+    if option == "bbox" {
+        query.bbox(value)?;
+        return Ok(());
+    }
+    for text in value.split(',') {
+        match option {
+            "id" => query.add_id(text)?,
+            "type" => query.add_type(text)?,
+            "lod" => query.add_lod(text)?,
+            _ => panic!(rt; "no option {option}"),
+        }
+    }
+    Ok(())
+}
+
+/// The query that a cell asks.
+fn query_of(rt: &impl Abort, alloc: Global, cell: &str) -> Result<Query, Fail> {
+    let mut query = Query::all(alloc);
+    if cell != "-" {
+        for word in cell.split(' ') {
+            ask(rt, &mut query, word)?;
+        }
+    }
+    Ok(query)
+}
+
+/// The first cell of a row, and the others.
+fn cell<'a>(rt: &impl Abort, row: &'a str) -> (&'a str, &'a str) {
+    row.split_once('|').expect(rt, "a cell, and others")
+}
+
+/// The limits that two cells say.
+fn limits_of(line: &str, depth: &str) -> Result<Limits, Fail> {
+    Ok(Limits::new(line.parse()?, depth.parse()?)?)
+}
+
+/// The vector of a row, in every way.
+fn check_row(rt: &impl Abort, alloc: Global, row: &str) -> Result<(), Fail> {
+    let (name, row) = cell(rt, row);
+    let (line, row) = cell(rt, row);
+    let (depth, row) = cell(rt, row);
+    let (asked, row) = cell(rt, row);
+    let (stream, row) = cell(rt, row);
+    let (written, told) = cell(rt, row);
+    let query = query_of(rt, alloc, asked)?;
+    let text = bytes_of(rt, alloc, stream)?;
+    let kept = bytes_of(rt, alloc, if written == "all" { stream } else { written })?;
+    let vector = Vector {
+        name,
+        text: &text,
+        limits: limits_of(line, depth)?,
+        query: &query,
+        written: &kept,
+        told,
+    };
+    check(rt, alloc, &vector)
+}
+
+/// The vector of each row, in every way.
+pub fn check_rows(rt: &impl Abort, alloc: Global, rows: &str) -> Result<(), Fail> {
+    for row in rows.trim().lines() {
+        check_row(rt, alloc, row)?;
     }
     Ok(())
 }
