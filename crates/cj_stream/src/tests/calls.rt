@@ -97,3 +97,16 @@ pub fn check_feed<S: LineSink>(
 pub fn check_finish<S: LineSink>(rt: &impl Abort, engine: &mut Engine, sink: &mut S, wanted: End) {
     assert_eq!(rt; engine.finish(sink), wanted);
 }
+
+/// Compares what an engine counts.
+pub fn check_counts(rt: &impl Abort, engine: &Engine, taken: u64, lines: u64, kept: u64) {
+    check_number(rt, engine.taken(), taken, "taken", taken);
+    check_number(rt, engine.lines(), lines, "lines", taken);
+    check_number(rt, engine.kept(), kept, "kept", taken);
+}
+
+/// Compares what an engine holds, and has held at most.
+pub fn check_held(rt: &impl Abort, engine: &Engine, held: Peaks, peaks: Peaks) {
+    assert_eq!(rt; engine.held(), held);
+    assert_eq!(rt; engine.peaks(), peaks);
+}

@@ -1,22 +1,14 @@
 //! Rows of an engine that is called step by step.
-use super::calls::{check_bytes, check_feed, check_finish, check_number, held, joined, refused};
+use super::calls::{
+    check_bytes, check_counts, check_feed, check_finish, check_held, check_number, held, joined,
+    refused,
+};
 use super::rows::{FEATURE, HEADER, with_last_index};
 use crate::{End, Engine, Query, WriteSink};
-use cj_budget::{Limits, Peaks};
+use cj_budget::Limits;
 use cj_spans::Reason;
 use std::process::Abort;
 use std::test::Fail;
-
-fn check_counts(rt: &impl Abort, engine: &Engine, taken: u64, lines: u64, kept: u64) {
-    check_number(rt, engine.taken(), taken, "taken", taken);
-    check_number(rt, engine.lines(), lines, "lines", taken);
-    check_number(rt, engine.kept(), kept, "kept", taken);
-}
-
-fn check_held(rt: &impl Abort, engine: &Engine, held: Peaks, peaks: Peaks) {
-    assert_eq!(rt; engine.held(), held);
-    assert_eq!(rt; engine.peaks(), peaks);
-}
 
 /// Takes a stream whose third line is refused so, and then what comes after an end.
 fn check_end(

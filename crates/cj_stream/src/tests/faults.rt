@@ -1,7 +1,7 @@
 //! Devices that fail: what is written is a prefix of the output, and the end says why.
 use super::calls::{
-    check_bytes, check_ended, check_feed, check_finish, check_number, copied, copied_to, joined,
-    refused,
+    check_bytes, check_counts, check_ended, check_feed, check_finish, check_held, check_number,
+    copied, copied_to, joined, refused,
 };
 use super::devices::{SlowReader, SlowWriter};
 use super::rows::{FEATURE, HEADER, with_last_index};
@@ -180,14 +180,25 @@ fn a_write_fault_stays_the_end(rt: HostRuntime) -> Result<(), Fail> {
     Ok(())
 }
 
-fn check_told_again<S: LineSink>(rt: &impl Abort, engine: &mut Engine, text: &[u8], sink: &mut S) {
+/// Feeds a stream to an engine whose sink fails after so many lines: the end is told again, and nothing changes.
+fn check_told_again<S: LineSink>(
+    rt: &impl Abort,
+    engine: &mut Engine,
+    text: &[u8],
+    sink: &mut S,
+    lines: u64,
+) {
     check_feed(rt, engine, text, sink, Err(End::WriteFault));
+    let held = engine.held();
+    let peaks = engine.peaks();
     check_feed(rt, engine, text, sink, Err(End::WriteFault));
     check_finish(rt, engine, sink, End::WriteFault);
+    check_held(rt, engine, held, peaks);
+    check_counts(rt, engine, 0, lines, 0);
 }
 
-/// Feeds a stream to an engine whose writer takes a byte a write before the one that fails, or that takes none: the
-/// writer is not asked again.
+/// Feeds a stream, whose header has 141 bytes with its LF, to an engine whose writer takes a byte a write before the one that
+/// fails, or that takes none: the writer is not asked again.
 fn check_fault_told_again(
     rt: &impl Abort,
     alloc: Global,
@@ -197,7 +208,8 @@ fn check_fault_told_again(
 ) -> Result<(), Fail> {
     let query = Query::all(alloc);
     let mut engine = Engine::open(alloc, Limits::new(8_388_608, 64)?, &query)?;
-    check_told_again(rt, &mut engine, text, &mut Output::new(&mut *writer));
+    let lines = u64::from(at > 141);
+    check_told_again(rt, &mut engine, text, &mut Output::new(&mut *writer), lines);
     let written = writer.bytes.as_slice();
     assert!(rt; written.len() <= text.len());
     check_number(rt, writer.writes, at, "writes", at);

@@ -143,6 +143,39 @@ fn an_empty_input_by_no_read_and_by_one(rt: HostRuntime) -> Result<(), Fail> {
     check_reads(&rt, rt.alloc(), b"", 1, &wanted, b"")
 }
 
+/// Runs by so many reads over a reader whose third read fails.
+fn check_failing_read(
+    rt: &impl Abort,
+    alloc: Global,
+    reads: u64,
+    wanted: &Wanted,
+) -> Result<(), Fail> {
+    let mut reader = SlowReader::new(HEADER, 1);
+    reader.fails_at = 3;
+    let limits = Limits::new(8_388_608, 64)?;
+    let went = run_by(rt, alloc, &mut reader, limits, reads);
+    check_went(rt, &went, reader.reads, wanted, b"", reads);
+    Ok(())
+}
+
+/// The failure that the last read gives is told, and not that it was the last one.
+#[test]
+fn a_last_read_that_fails(rt: HostRuntime) -> Result<(), Fail> {
+    let wanted = Wanted {
+        ended: End::ReadFault,
+        lines: 0,
+        kept: 0,
+        reads: 3,
+    };
+    check_failing_read(&rt, rt.alloc(), 3, &wanted)?;
+    let wanted = Wanted {
+        ended: End::ReadLimit,
+        reads: 2,
+        ..wanted
+    };
+    check_failing_read(&rt, rt.alloc(), 2, &wanted)
+}
+
 #[test]
 fn a_reader_without_end(rt: HostRuntime) -> Result<(), Fail> {
     let header = joined(rt.alloc(), &[HEADER, b"\n"])?;
