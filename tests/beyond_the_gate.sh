@@ -1,7 +1,7 @@
 #!/usr/bin/env bash
 # Runs all that the gate leaves out, over the program and the outputs of the crates' checks: each call of the program failing in
-# turn with each vector by every cut, a run whose four requests for memory are refused in turn, and with --edits all edits of
-# all crates. Its last line is 'N passed, M failed'.
+# turn with each vector by every cut, each kind of call of the crates that may be refused memory refused in turn, a run whose four
+# requests for memory are, and with --edits all edits of all crates. Its last line is 'N passed, M failed'.
 #
 #     tests/beyond_the_gate.sh [--edits]
 set -u
@@ -20,6 +20,7 @@ try() {
 }
 
 try tests/refused_growth.sh
+try tests/refused_calls.sh
 try tests/four_requests.sh
 try python3 vectors/try.py cityseq crates/cityseq/out/cityseq
 try python3 tests/failing_calls.py

@@ -14,16 +14,8 @@ scratch=$(mktemp -d)
 trap 'rm -rf "$scratch"' EXIT
 passed=0 failed=0
 
-for crate in cj_budget cj_decimal cj_spans cj_geometry cj_feature cj_stream; do
-  mkdir -p "$scratch/crates/$crate"
-  for part in src specs proofs; do
-    [ ! -d "crates/$crate/$part" ] || cp -r "crates/$crate/$part" "$scratch/crates/$crate/"
-  done
-done
-mkdir -p "$scratch/crates/four_requests/src"
-cp tests/four_requests/main.rattle "$scratch/crates/four_requests/src/main.rt"
-grep -E '^(cj_budget|cj_decimal|cj_spans|cj_geometry|cj_feature|cj_stream):' crates.txt > "$scratch/crates.txt"
-echo "four_requests: cj_stream" >> "$scratch/crates.txt"
+. tests/beside_crates.sh
+put_beside four_requests cj_stream
 
 # has LINE: whether the last run printed this line
 has() {
