@@ -107,6 +107,15 @@ row_the_vectors_with_a_peer() {
     { tail -n 20 "$scratch/written"; return 1; }
 }
 
+# And one that takes all for valid: it is told otherwise by each vector that is refused.
+row_the_vectors_with_a_peer_that_takes_all() {
+  local refused
+  refused=$(cut -f 2-5 vectors/table.tsv | grep -c $'^1000\t64\t-\tline ')
+  python3 vectors/try.py peer true > "$scratch/written"
+  tail -n 1 "$scratch/written" | grep -qx "[1-9][0-9]* vectors tried, $refused told otherwise" ||
+    { tail -n 20 "$scratch/written"; return 1; }
+}
+
 row_the_sample_is_copied() {
   run filter < examples/sample.city.jsonl
   answered 0 '' < examples/sample.city.jsonl
