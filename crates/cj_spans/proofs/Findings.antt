@@ -6,7 +6,7 @@ use Rattle.std.proofs.lemmas.List.{append-nil}
 use Rattle.std.proofs.lemmas.List.Elements.{All-contains, Contains-get_or, Contains-append_left, Contains-append_right, Contains-append_cases}
 use Rattle.std.proofs.lemmas.Bool.Decides.{nat_tests}
 use Rattle.cj_spans.specs.declared.reason.Reason.{Reason}
-use Rattle.cj_spans.specs.declared.reason.Reason.TheVariants.{NoHeader, LineTooLong, NotUtf8, Syntax, TooDeep, MissingMember, DuplicateName, WrongKind, NumberRange, WrongType, WrongVersion, NotEmpty, NotThree, NotWhole, UnknownObjectType, IdNotFound, ChildNotFound, LinkNotMutual, NoParent, UnknownGeometryType, VertexIndex, SemanticsCount, SemanticsIndex, TemplateIndex, BadInstance, TransformNotFixed}
+use Rattle.cj_spans.specs.declared.reason.Reason.TheVariants.{NoHeader, LineTooLong, NotUtf8, Syntax, TooDeep, MissingMember, DuplicateName, WrongKind, NumberRange, WrongType, WrongVersion, NotEmpty, NotThree, NotWhole, UnknownObjectType, IdNotFound, ChildNotFound, LinkNotMutual, NoParent, UnknownGeometryType, VertexIndex, SemanticsCount, SemanticsIndex, TemplateIndex, BadInstance, TransformNotFixed, NotReached}
 use Rattle.cj_spans.specs.declared.finding.Finding.{Finding}
 use Rattle.cj_spans.specs.Reason.{code_of}
 use Rattle.cj_spans.specs.Finding.{IsNoLater, IsLeast, HaveSame, is_before, lesser, least, list_found}
@@ -19,7 +19,7 @@ reason_of n =
     (cond (nat_eq n 11) DuplicateName (cond (nat_eq n 12) WrongKind (cond (nat_eq n 13) NumberRange (cond (nat_eq n 14) WrongType (cond (nat_eq n 15) WrongVersion (cond (nat_eq n 16) NotEmpty
     (cond (nat_eq n 17) NotThree (cond (nat_eq n 18) NotWhole (cond (nat_eq n 19) UnknownObjectType (cond (nat_eq n 20) IdNotFound (cond (nat_eq n 21) ChildNotFound (cond (nat_eq n 22) LinkNotMutual
     (cond (nat_eq n 23) NoParent (cond (nat_eq n 24) UnknownGeometryType (cond (nat_eq n 25) VertexIndex (cond (nat_eq n 26) SemanticsCount (cond (nat_eq n 27) SemanticsIndex (cond (nat_eq n 28) TemplateIndex
-    (cond (nat_eq n 29) BadInstance TransformNotFixed))))))))))))))))))))))))
+    (cond (nat_eq n 29) BadInstance (cond (nat_eq n 30) TransformNotFixed NotReached)))))))))))))))))))))))))
 
 reason_of-code_of : (r : Reason) → reason_of (code_of r) ≡ r
 unfolding reason_of
@@ -49,6 +49,7 @@ reason_of-code_of SemanticsIndex = refl
 reason_of-code_of TemplateIndex = refl
 reason_of-code_of BadInstance = refl
 reason_of-code_of TransformNotFixed = refl
+reason_of-code_of NotReached = refl
 
 same_reason : (r s : Reason) → code_of r ≡ code_of s → r ≡ s
 same_reason r s h = sym (reason_of-code_of r) ∙ ap reason_of h ∙ reason_of-code_of s

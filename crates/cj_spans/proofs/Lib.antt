@@ -30,3 +30,4 @@ pub mod Rising
 pub mod Walks
 pub mod Strings
 pub mod Granted
+pub mod Marking

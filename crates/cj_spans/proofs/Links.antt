@@ -1,6 +1,8 @@
 -- The links of the tokens of a tree, and the trees that come after them.
-use Rattle.std.proofs.Common.{◌≡◌, ℕ, zero, suc, ◌+◌, ◌%◌, ◌^◌, ◌<◌, ◌≤◌, List, [], ◌∷◌, ◌++◌, length, drop, slice_get, inl, inr, Some, refl, sym, ap, subst, arith, ◌∙◌, append_assoc, length-append}
+use Rattle.std.proofs.Common.{◌≡◌, ℕ, zero, suc, ◌+◌, ◌%◌, ◌^◌, ◌<◌, ◌≤◌, List, [], ◌∷◌, ◌++◌, length, drop, slice_get, false, inl, inr, Some, refl, sym, ap, subst, arith, ◌∙◌, append_assoc, length-append}
+use Rattle.std.specs.Prelude.{nat_le}
 use Rattle.std.proofs.lemmas.Bool.{cases_lt}
+use Rattle.std.proofs.lemmas.Bool.Decides.{nat_tests}
 use Rattle.std.proofs.lemmas.List.{append-nil, length-drop}
 use Rattle.std.proofs.lemmas.Option.{slice_get_within}
 use Rattle.cj_spans.specs.declared.token.Token.{Token}
@@ -8,6 +10,7 @@ use Rattle.cj_spans.specs.Tree.{Atom, Tree, Items, Members, add_item, add_member
 use Rattle.cj_spans.specs.Json.{Value, atom, empty_array, full_array, empty_object, full_object, Padded, padded, LedItems, no_led, led, LedMembers, no_led_members, led_member, Named, named, Json}
 use Rattle.cj_spans.specs.Preorder.{flatten, flatten_items, flatten_members, token_at}
 use Rattle.cj_spans.specs.Sound.{before, AreLinked}
+use Rattle.cj_spans.specs.Marks.{is_marked_at, AreUnmarked}
 use Rattle.cj_spans.proofs.Lists.{flatten_items-add, flatten_members-add, named_tokens, length-flatten, length-flatten_items, length-flatten_members}
 use Rattle.cj_spans.proofs.Forests.{led_order, led_members_order, padded_ends, named_ends}
 
@@ -156,19 +159,33 @@ link_at n k [] t h g = cc
 link_at n zero (u ∷ ts) t h g = let e : u ≡ t = cc in let l = h.0 in let q : u.link ≡ suc (n + 0) + before u.stop ts = omega arith in subst (λ v. v.link ≡ suc (n + 0) + before v.stop ts) e q
 link_at n (suc k) (u ∷ ts) t h g = let l = link_at (suc n) k ts t h.1 g in omega arith
 
--- the tokens of a line's tree are linked, where they are few enough
-pub json_linked : (b : List ℕ) (t : Tree) → Json b t → size t < 2 ^ 31 → AreLinked (flatten 0 t)
-json_linked b t p few =
+-- the tokens of a line's tree link so, where they are few enough
+json_links : (b : List ℕ) (t : Tree) → Json b t → size t < 2 ^ 31 → (k : ℕ) (u : Token) → slice_get (flatten 0 t) k ≡ Some u → (u.link < 2 ^ 31) × (u.link ≡ k + 1 + before u.stop (drop (k + 1) (flatten 0 t)))
+json_links b t p few k u h =
     let a = subst (AllLinked 0) (append-nil (flatten 0 t)) ((linked_padded p 0).linked [] _ refl tt tt) in
-    λ k u h.
     let next : suc k ≡ k + 1 = omega arith in
     let l = subst (λ m. u.link ≡ m + before u.stop (drop m (flatten 0 t))) next (let e = link_at 0 k (flatten 0 t) u a h in omega arith) in
     let inside = slice_get_within (flatten 0 t) k u h in
     let m = before_length u.stop (drop (k + 1) (flatten 0 t)) in
     let n = length-drop (k + 1) (flatten 0 t) in
     let o = length-flatten 0 t in
-    let below : u.link < 2 ^ 31 = omega arith in
-    small_mod u.link below ∙ l
+    (omega arith, l)
+
+-- the tokens of a line's tree are linked, where they are few enough
+pub json_linked : (b : List ℕ) (t : Tree) → Json b t → size t < 2 ^ 31 → AreLinked (flatten 0 t)
+json_linked b t p few = λ k u h. let l = json_links b t p few k u h in small_mod u.link l.0 ∙ l.1
   where
     small_mod : (n : ℕ) → n < 2 ^ 31 → n % 2 ^ 31 ≡ n
     small_mod n h = omega arith
+
+mark_none : (n : ℕ) → n < 2 ^ 31 → nat_le (2 ^ 31) n ≡ false
+mark_none n h = grind (arith, nat_tests)
+
+marks_none : (ts : List Token) → ((k : ℕ) (u : Token) → slice_get ts k ≡ Some u → u.link < 2 ^ 31) → (k : ℕ) → is_marked_at ts k ≡ false
+marks_none [] h k = refl
+marks_none (u ∷ ts) h zero = mark_none u.link (h 0 u refl)
+marks_none (u ∷ ts) h (suc k) = marks_none ts (λ n v g. h (suc n) v g) k
+
+-- and have no marks
+pub json_unmarked : (b : List ℕ) (t : Tree) → Json b t → size t < 2 ^ 31 → AreUnmarked (flatten 0 t)
+json_unmarked b t p few = marks_none (flatten 0 t) (λ k u h. (json_links b t p few k u h).0)

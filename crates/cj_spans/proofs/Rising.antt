@@ -8,7 +8,7 @@ use Rattle.cj_spans.specs.Tree.{Tree, start_of}
 use Rattle.cj_spans.specs.Json.{byte}
 use Rattle.cj_spans.specs.Preorder.{Span, spans_of}
 use Rattle.cj_spans.specs.Forest.{forest, held, past, node, kind_by}
-use Rattle.cj_spans.specs.Parts.{AreInOrder}
+use Rattle.cj_spans.specs.Parts.{AreInOrder, AreInValueOrder}
 use Rattle.cj_spans.specs.Sound.{AreWithin, shown_between}
 use Rattle.cj_spans.specs.View.{pairs_of}
 use Rattle.cj_spans.proofs.Forests.{past_on, start-node}
@@ -54,3 +54,15 @@ pub pairs_rise : (ts : List Tree) → Rise ts → AreInOrder (pairs_of ts)
 pairs_rise [] r = tt
 pairs_rise (t ∷ []) r = tt
 pairs_rise (t ∷ u ∷ ts) r = (names_among (start_of t) ts (All-tail (λ v. start_of t < start_of v) u ts r.0), pairs_rise ts r.1.1)
+
+values_among : (n : ℕ) (ts : List Tree) → All (λ u. n < start_of u) ts → All (λ (m : Tree × Tree). n < start_of m.1) (pairs_of ts)
+values_among n [] a = All-nil (λ (m : Tree × Tree). n < start_of m.1)
+values_among n (t ∷ []) a = All-nil (λ (m : Tree × Tree). n < start_of m.1)
+values_among n (t ∷ u ∷ ts) a =
+    let later = All-tail (λ u. n < start_of u) t (u ∷ ts) a in
+    All-cons (λ (m : Tree × Tree). n < start_of m.1) (t, u) (pairs_of ts) (All-head (λ u. n < start_of u) u ts later) (values_among n ts (All-tail (λ u. n < start_of u) u ts later))
+
+pub values_rise : (ts : List Tree) → Rise ts → AreInValueOrder (pairs_of ts)
+values_rise [] r = tt
+values_rise (t ∷ []) r = tt
+values_rise (t ∷ u ∷ ts) r = (values_among (start_of u) ts r.1.0, values_rise ts r.1.1)

@@ -11,7 +11,7 @@ use Rattle.cj_spans.specs.Spelling.{IsScalar}
 use Rattle.cj_spans.specs.Json.{byte, IsAtom, Value, atom, empty_array, full_array, empty_object, full_object, Padded, padded, LedItems, no_led, led, LedMembers, no_led_members, led_member, Named, named, Json}
 use Rattle.cj_spans.specs.Preorder.{Span, span_at, preorder, items_preorder, members_preorder, spans_of}
 use Rattle.cj_spans.specs.Forest.{kind_by, held, past, atom_of, items_from, members_from, node, forest}
-use Rattle.cj_spans.specs.Sound.{AreOf, AreWithin, AreNested, AreNamed, AreLinked, are_members}
+use Rattle.cj_spans.specs.Sound.{AreOf, AreWithin, AreRising, AreNested, AreNamed, AreLinked, are_members}
 use Rattle.cj_spans.specs.View.{tree_at}
 use Rattle.cj_spans.proofs.Lists.{items_preorder-add, members_preorder-add}
 use Rattle.cj_spans.proofs.Verdicts.{json_only}
@@ -152,6 +152,7 @@ record IsGood (b : List ℕ) (s : Span) (ss : List Span) : Type 0 where
   within : s.stop ≤ length b
   stops : StopsBy s.stop ss
   named : byte b s.start ≡ 123 → are_members (held s.stop (forest b ss)) ≡ true
+  later : From (suc s.start) ss
 
 abbrev AllGood : List ℕ → List Span → Type 0
 AllGood b [] = Unit {0}
@@ -207,7 +208,9 @@ good_both b i j k ss us f g h q = record {
 good_over : (b : List ℕ) (i j : ℕ) (ss : List Span) → i < j → j ≤ length b → Good b (suc i) j ss → ((rest : List Span) → From j rest → byte b i ≡ 123 → are_members (held j (forest b (ss ++ rest))) ≡ true) → Good b i j (span_at i j ∷ ss)
 good_over b i j ss o l h n = record {
   between = (omega arith, omega arith, between_more (suc i) j i j ss (omega arith) (omega arith) h.between);
-  good = λ rest f g. (record { order = o; within = l; stops = stops_between (suc i) j ss rest h.between (stops_from j rest f); named = n rest f }, h.good rest f g);
+  good = λ rest f g.
+      let after = from_append (suc i) ss rest (between_from (suc i) j ss h.between) (from_more (suc i) j rest o f) in
+      (record { order = o; within = l; stops = stops_between (suc i) j ss rest h.between (stops_from j rest f); named = n rest f; later = after }, h.good rest f g);
 }
 
 -- ---- the grammar
@@ -316,6 +319,16 @@ are_within b ts g = λ k t h. let w = good_at b ts k t g h in (w.order, w.within
 are_nested : (b : List ℕ) (ts : List Token) → AllGood b (spans_of ts) → AreNested ts
 are_nested b ts g = λ k t h i u l m n. stops_at ts t.stop (suc k) i u (good_at b ts k t g h).stops (omega arith) m n
 
+from_at : (ts : List Token) (j n k : ℕ) (u : Token) → From j (drop n (spans_of ts)) → n ≤ k → slice_get ts k ≡ Some u → j ≤ u.start
+from_at [] j n k u s l h = cc
+from_at (v ∷ ts) j zero zero u s l h = let e : v ≡ u = cc in let f = ap (λ (w : Token). w.start) e in let m = s.0 in omega arith
+from_at (v ∷ ts) j zero (suc k) u s l h = from_at ts j zero k u s.1 (omega arith) h
+from_at (v ∷ ts) j (suc n) zero u s l h = absurd (omega arith)
+from_at (v ∷ ts) j (suc n) (suc k) u s l h = from_at ts j n k u s (omega arith) h
+
+are_rising : (b : List ℕ) (ts : List Token) → AllGood b (spans_of ts) → AreRising ts
+are_rising b ts g = λ i k t u l h m. let o = from_at ts (suc t.start) (suc i) k u (good_at b ts i t g h).later (omega arith) m in omega arith
+
 are_named : (b : List ℕ) (ts : List Token) → AllGood b (spans_of ts) → AreNamed b ts
 are_named b ts g = λ k t h e.
     let f : suc k ≡ k + 1 = omega arith in
@@ -324,6 +337,7 @@ are_named b ts g = λ k t h e.
 -- what a view of the tokens of a line needs
 pub record Known (b : List ℕ) (ts : List Token) : Type 0 where
   pub within : AreWithin b ts
+  pub rising : AreRising ts
   pub nested : AreNested ts
   pub named : AreNamed b ts
   pub linked : AreLinked ts
@@ -339,7 +353,7 @@ known b ts a =
     let g = subst (AllGood b) e (json_good b a.tree a.json) in
     let s = size_some a.tree in
     let c = a.count in
-    record { within = are_within b ts g; nested = are_nested b ts g; named = are_named b ts g; linked = a.linked; some = omega arith }
+    record { within = are_within b ts g; rising = are_rising b ts g; nested = are_nested b ts g; named = are_named b ts g; linked = a.linked; some = omega arith }
 
 first_shown : (b : List ℕ) (ss : List Span) (t : Tree) → forest b ss ≡ t ∷ [] → tree_at b ss 0 ≡ t
 unfolding forest tree_at

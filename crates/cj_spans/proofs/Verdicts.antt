@@ -20,6 +20,7 @@ use Rattle.cj_spans.specs.Front.{Front, IsFront, SyntaxAt, stuck, short, DeepAt,
 use Rattle.cj_spans.specs.Preorder.{flatten, spans_of}
 use Rattle.cj_spans.specs.Forest.{forest}
 use Rattle.cj_spans.specs.Scan.{IsScanOf, KeepsLaw}
+use Rattle.cj_spans.specs.Marks.{AreUnmarked}
 use Rattle.cj_spans.specs.Machine.{State, state, in_atom, step, settle, end_atom, lex_kind, Reaches, here, on, start, Sticks, SticksAt, SinksAt, Accepts, RunAnswers}
 use Rattle.cj_spans.proofs.Spellings.{none_some, some_same}
 use Rattle.cj_spans.proofs.Lists.{rise, rise-nest, length-flatten, spans_of-flatten}
@@ -31,7 +32,7 @@ use Rattle.cj_spans.proofs.Facts.{lawful_reaches, next_place, same_state, state_
 use Rattle.cj_spans.proofs.Fronts.{Live, front_runs, inv_front}
 use Rattle.cj_spans.proofs.Forests.{json_shown, tree_by_preorder}
 use Rattle.cj_spans.specs.Sound.{AreLinked}
-use Rattle.cj_spans.proofs.Links.{json_linked}
+use Rattle.cj_spans.proofs.Links.{json_linked, json_unmarked}
 
 -- ---- a line that is read to its end
 
@@ -267,7 +268,20 @@ scan_of b old empty new old_stack empty_stack new_stack c d k few_bytes a =
       },
     )
 
+-- it leaves no marks
+scan_unmarked : (b : List ℕ) (empty new : BoundedList Token) (empty_stack new_stack : BoundedList ℕ) → KeepsLaw b empty new empty_stack new_stack → length b ≤ 1073741824 → Accepts b new empty_stack new_stack → AreUnmarked new.elements
+scan_unmarked b empty new empty_stack new_stack k few_bytes a =
+    let s = spells a.settles.last (inv_reaches b a.settles.last a.settles.reached) new.elements a.deepest a.settles.settles in
+    let t = s.tree in
+    let count : length new.elements ≡ size t = ap length s.tokens ∙ length-flatten 0 t in
+    let few : size t < 2 ^ 31 = let l = k.law in let o = ap (λ (ns : List ℕ). length ns) a.closed in omega arith in
+    subst AreUnmarked (sym s.tokens) (json_unmarked b t s.json few)
+
 module _ (X : Type 0) (b : List ℕ) (old : BoundedList ℕ) (tokens : BoundedList Token) (new : BoundedList ℕ) where
+  pub run_unmarked : (empty : BoundedList Token) (r : Result X LineFault) → RunAnswers b old r tokens new → KeepsLaw b empty tokens old new → length b ≤ 1073741824 → OnOk r (AreUnmarked tokens.elements)
+  run_unmarked empty (Ok v) a k few_bytes = scan_unmarked b empty tokens old new k few_bytes a
+  run_unmarked empty (Err e) a k few_bytes = search rules
+
   pub run_deep : (r : Result X LineFault) (i : ℕ) → RunAnswers b old r tokens new → r ≡ Err (TooDeep i) → DeepAt b old.limit i
   run_deep r i a e = sinks_deep b old.limit i (subst (λ z. RunAnswers b old z tokens new) e a)
 

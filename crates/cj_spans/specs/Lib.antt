@@ -21,3 +21,4 @@ pub mod Kinds
 pub mod Parts
 pub mod Sound
 pub mod View
+pub mod Marks

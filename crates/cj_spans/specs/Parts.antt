@@ -44,6 +44,11 @@ abbrev pub AreInOrder : List (Tree × Tree) → Type 0
 AreInOrder [] = ⊤
 AreInOrder (m ∷ ms) = All (λ (n : Tree × Tree). start_of m.0 < start_of n.0) ms × AreInOrder ms
 
+-- and each value starts before those after it
+abbrev pub AreInValueOrder : List (Tree × Tree) → Type 0
+AreInValueOrder [] = ⊤
+AreInValueOrder (m ∷ ms) = All (λ (n : Tree × Tree). start_of m.1 < start_of n.1) ms × AreInValueOrder ms
+
 -- the text of a scalar of the kind
 abbrev pub text_if : Kind → List ℕ → Option (List ℕ)
 text_if Text s = Some (text s)

@@ -1,7 +1,7 @@
 -- The table of reasons: code and words of each.
 use Rattle.std.specs.Prelude.{ℕ, List, codes}
 use Rattle.cj_spans.specs.declared.reason.Reason.{Reason}
-use Rattle.cj_spans.specs.declared.reason.Reason.TheVariants.{NoHeader, LineTooLong, NotUtf8, Syntax, TooDeep, MissingMember, DuplicateName, WrongKind, NumberRange, WrongType, WrongVersion, NotEmpty, NotThree, NotWhole, UnknownObjectType, IdNotFound, ChildNotFound, LinkNotMutual, NoParent, UnknownGeometryType, VertexIndex, SemanticsCount, SemanticsIndex, TemplateIndex, BadInstance, TransformNotFixed}
+use Rattle.cj_spans.specs.declared.reason.Reason.TheVariants.{NoHeader, LineTooLong, NotUtf8, Syntax, TooDeep, MissingMember, DuplicateName, WrongKind, NumberRange, WrongType, WrongVersion, NotEmpty, NotThree, NotWhole, UnknownObjectType, IdNotFound, ChildNotFound, LinkNotMutual, NoParent, UnknownGeometryType, VertexIndex, SemanticsCount, SemanticsIndex, TemplateIndex, BadInstance, TransformNotFixed, NotReached}
 
 -- the number that stands for a reason
 abbrev pub code_of : Reason → ℕ
@@ -31,6 +31,7 @@ code_of SemanticsIndex = 27
 code_of TemplateIndex = 28
 code_of BadInstance = 29
 code_of TransformNotFixed = 30
+code_of NotReached = 31
 
 -- the reason in a few words, as bytes
 abbrev pub words_of : Reason → List ℕ
@@ -60,3 +61,4 @@ words_of SemanticsIndex = codes "semantics index out of range"
 words_of TemplateIndex = codes "template index out of range"
 words_of BadInstance = codes "bad instance"
 words_of TransformNotFixed = codes "transform not fixed"
+words_of NotReached = codes "not reached from the main object"

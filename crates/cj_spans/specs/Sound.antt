@@ -39,6 +39,10 @@ AreFull line tokens = total_size (forest line (spans_of tokens)) ≡ length toke
 abbrev pub AreWithin : List ℕ → List Token → Type 0
 AreWithin line tokens = (k : ℕ) (t : Token) → slice_get tokens k ≡ Some t → (t.start < t.stop) × (t.stop ≤ length line)
 
+-- each token starts before those after it
+abbrev pub AreRising : List Token → Type 0
+AreRising tokens = (i k : ℕ) (t u : Token) → i < k → slice_get tokens i ≡ Some t → slice_get tokens k ≡ Some u → t.start < u.start
+
 -- from the k-th token on, what starts before the place stops before it
 abbrev pub StopBefore : List Token → ℕ → ℕ → Type 0
 StopBefore tokens k j = (i : ℕ) (t : Token) → k ≤ i → slice_get tokens i ≡ Some t → t.start < j → t.stop ≤ j

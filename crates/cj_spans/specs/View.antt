@@ -2,6 +2,7 @@
 use Rattle.std.specs.Prelude.{◌≡◌, ℕ, zero, suc, ◌-◌, min, List, [], ◌∷◌, length, Option, IfSome}
 use Rattle.std.specs.Iterator.{YieldsFirstBy}
 use Rattle.cj_spans.specs.declared.token.Kind.TheVariants.{Null}
+use Rattle.cj_spans.specs.declared.token.Token.{Token}
 use Rattle.cj_spans.specs.declared.node.Source.{Source}
 use Rattle.cj_spans.specs.declared.node.Doc.{Doc}
 use Rattle.cj_spans.specs.declared.node.Node.{Node}
@@ -68,6 +69,13 @@ items_source w = w.source
 
 unfoldable pub members_source : Members → Source
 members_source w = w.source
+
+unfoldable pub document_source : Doc → Source
+document_source d = d.source
+
+-- those tokens
+unfoldable pub tokens_in : Source → List Token
+tokens_in s = s.tokens.now
 
 -- the tree of the node of this number, or of the last one where there is none of it
 unfoldable pub tree_in : Source → ℕ → Tree

@@ -9,7 +9,8 @@
 //!
 //! [`Doc`] and [`Node`] view a line that was scanned: they read like its tree, and hold no more than
 //! the line and its tokens. A rule of the layers above looks at nodes and adds each [`Finding`] to a
-//! [`Least`], which keeps the one that is told.
+//! [`Least`], which keeps the one that is told. What is found out of some nodes before others are looked at is
+//! noted by [`set_mark`] at their tokens, by their numbers, and seen again by [`Node::marked`].
 //!
 //! The contracts cite definitions, and [`laws`] holds what is proved of these: a line has one judgement
 //! and a string one text.
@@ -39,6 +40,7 @@ mod lanes;
 pub mod laws;
 mod least;
 mod lex;
+mod mark;
 mod members;
 mod next;
 mod node;
@@ -54,6 +56,7 @@ mod token;
 pub use fault::{LineFault, ScanFault};
 pub use finding::Finding;
 pub use least::Least;
+pub use mark::set_mark;
 pub use next::slow_next;
 pub use node::{Doc, Items, Members, Node};
 pub use reason::Reason;

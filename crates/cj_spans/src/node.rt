@@ -12,7 +12,7 @@
 //! }
 //! ```
 ghost use Rattle.std.specs.Prelude.{◌≡◌, ◌<◌, ◌≤◌, ◌+◌, ◌^◌, ℕ, length, slice_get, Some, List, take, drop};
-ghost use Rattle.cj_spans.specs.Sound.{AreOf, AreFull, AreWithin, AreNested, AreNamed, AreLinked, AreLone, AreWhole, ShowMembers, before};
+ghost use Rattle.cj_spans.specs.Sound.{AreOf, AreFull, AreWithin, AreRising, AreNested, AreNamed, AreLinked, AreLone, AreWhole, ShowMembers, before};
 ghost use Rattle.cj_spans.specs.Tree.{Tree};
 ghost use Rattle.cj_spans.specs.declared.token.Token.{Token as TokenOf};
 ghost use Rattle.cj_spans.specs.Json.{Json, byte};
@@ -26,6 +26,7 @@ mod examples;
 #[cfg(test)]
 mod tests;
 
+use crate::mark::{LINKS, has_mark};
 use crate::text::{
     CodePoints, compare_spelling_with, compare_spellings, mix, spell_one_text, spells, tail, word,
 };
@@ -38,6 +39,7 @@ struct Source<'a> {
     line: &'a [u8],
     tokens: &'a [Token],
     ghost within: { AreWithin line.now tokens.now },
+    ghost rising: { AreRising tokens.now },
     ghost nested: { AreNested tokens.now },
     ghost named: { AreNamed line.now tokens.now },
     ghost linked: { AreLinked tokens.now },
@@ -78,9 +80,6 @@ pub struct Members<'a> {
     ghost whole: { AreWhole source.tokens.now next stop },
     ghost named: { ShowMembers source.line.now source.tokens.now next stop },
 }
-
-/// Links are below this: the top bit may be a mark.
-const LINKS: u32 = 1 << 31;
 
 /// The token at an index.
 pub(crate) fn token_at(tokens: &[Token], index: usize) -> Token
@@ -139,7 +138,7 @@ impl<'a> Source<'a> {
 }
 
 impl<'a> Doc<'a> {
-    ghost use Rattle.cj_spans.specs.View.{document, document_line, tree, line_of};
+    ghost use Rattle.cj_spans.specs.View.{document, document_line, document_source, tree, line_of, source_of, tokens_in};
 
     /// Views a line by the tokens that a scan of it has left with `Ok`. A copy of the line and the tokens
     /// serves as well, also later.
@@ -148,6 +147,7 @@ impl<'a> Doc<'a> {
         ensures json { Json line.now (document result) }
         ensures only { (t : Tree) → Json line.now t → document result ≡ t }
         ensures line { document_line result ≡ line.now }
+        ensures tokens { tokens_in (document_source result) ≡ tokens.now }
     {
         Doc {
             source: Source { line, tokens },
@@ -158,6 +158,7 @@ impl<'a> Doc<'a> {
     pub fn root(self) -> Node<'a>
         ensures tree { tree result ≡ document self.entry }
         ensures line { line_of result ≡ document_line self.entry }
+        ensures source { source_of result ≡ document_source self.entry }
     {
         Node {
             source: self.source,
@@ -175,7 +176,7 @@ impl<'a> Doc<'a> {
 }
 
 impl<'a> Node<'a> {
-    ghost use Rattle.cj_spans.specs.Parts.{kind_of, spelling_of, items_of, members_of, AreInOrder};
+    ghost use Rattle.cj_spans.specs.Parts.{kind_of, spelling_of, items_of, members_of, AreInOrder, AreInValueOrder};
     ghost use Rattle.cj_spans.specs.Tree.{start_of, size, total_size};
     ghost use Rattle.cj_spans.specs.View.{tree, line_of, source_of, items_left, items_line, items_source, members_left, members_line, members_source};
 
@@ -247,6 +248,7 @@ impl<'a> Node<'a> {
     pub fn members(self) -> Members<'a>
         ensures members { members_left result ≡ members_of (tree self.entry) }
         ensures order { AreInOrder (members_left result) }
+        ensures values { AreInValueOrder (members_left result) }
         ensures line { members_line result ≡ line_of self.entry }
         ensures source { members_source result ≡ source_of self.entry }
         ensures few { length (members_left result) < 2 ^ 63 }
@@ -261,14 +263,27 @@ impl<'a> Node<'a> {
 }
 
 impl<'a> Node<'a> {
-    ghost use Rattle.cj_spans.specs.View.{tree, source_of, tree_in};
+    ghost use Rattle.std.specs.Prelude.{true, false};
+    ghost use Rattle.cj_spans.specs.Marks.{IsMarked, is_marked_at};
+    ghost use Rattle.cj_spans.specs.Preorder.{spans_of};
+    ghost use Rattle.cj_spans.specs.View.{tree, line_of, source_of, tokens_in, tree_in, tree_at};
 
     /// Its number in the line, by which [`Node::at`] finds it again: a number takes 4 bytes, and a node takes
-    /// ten times as many.
+    /// ten times as many. It is that of its token, which [`crate::set_mark`] takes.
     pub fn number(self) -> u32
-        ensures { tree_in (source_of self.entry) result ≡ tree self.entry }
+        ensures node { tree_in (source_of self.entry) result ≡ tree self.entry }
+        ensures token { tree_at (line_of self.entry) (spans_of (tokens_in (source_of self.entry))) result ≡ tree self.entry }
+        ensures within { result < length (tokens_in (source_of self.entry)) }
     {
         self.index as u32
+    }
+
+    /// Whether its token has a mark.
+    pub fn marked(self) -> bool
+        ensures yes { result ≡ true → IsMarked (line_of self.entry) (tokens_in (source_of self.entry)) (tree self.entry) }
+        ensures no { result ≡ false → IsMarked (line_of self.entry) (tokens_in (source_of self.entry)) (tree self.entry) → ⊥ }
+    {
+        has_mark(token_at(self.source.tokens, self.index))
     }
 
     /// The node of this number in the same line, or its last one where it has none of that number: so any number may be
@@ -293,7 +308,7 @@ impl<'a> Node<'a> {
     ghost use Rattle.cj_spans.specs.Tail.{tail_of};
     ghost use Rattle.cj_spans.specs.Mix.{mix_of};
     ghost use Rattle.cj_spans.specs.Order.{compare_texts, word_of};
-    ghost use Rattle.cj_spans.specs.View.{tree, line_of};
+    ghost use Rattle.cj_spans.specs.View.{tree, line_of, source_of};
 
     /// A string or a name as it is spelled, with its quotes; None for any other value.
     fn spelling(self) -> Option<&'a [u8]>
@@ -425,6 +440,7 @@ impl<'a> Node<'a> {
     pub fn get(self, name: &str) -> Option<Node<'a>>
         ensures value { option_map tree result ≡ member_of (chars name.now) (tree self.entry) }
         ensures line { IfSome result (λ n. line_of n ≡ line_of self.entry) }
+        ensures source { IfSome result (λ n. source_of n ≡ source_of self.entry) }
     {
         for (key, value) in self.members() {
             if key.text_is(name) {

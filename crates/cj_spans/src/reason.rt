@@ -57,6 +57,8 @@ pub enum Reason {
     BadInstance,
     /// A number of the transform cannot be compared with a box.
     TransformNotFixed,
+    /// A city object is not reached from the main one.
+    NotReached,
 }
 
 /// The code and the text of a reason.
@@ -107,6 +109,7 @@ impl Reason {
             Reason::TemplateIndex => make_entry(28, "template index out of range"),
             Reason::BadInstance => make_entry(29, "bad instance"),
             Reason::TransformNotFixed => make_entry(30, "transform not fixed"),
+            Reason::NotReached => make_entry(31, "not reached from the main object"),
         }
     }
 

@@ -23,6 +23,7 @@ ghost use Rattle.cj_spans.specs.Tree.{Tree, nest};
 ghost use Rattle.cj_spans.specs.Json.{Json};
 ghost use Rattle.cj_spans.specs.Front.{SyntaxAt, DeepAt, NowhereDeep};
 ghost use Rattle.cj_spans.specs.Begins.{IsFirstFault, IsFirstTooDeep};
+ghost use Rattle.cj_spans.specs.Marks.{AreUnmarked};
 ghost use Rattle.cj_spans.specs.Scan.{IsScanOf, AreSized, KeepsLaw, IsEmptied};
 ghost use Rattle.cj_spans.specs.Judgement.{Judgement, IsAnswerOf, IsReservedAnswerOf};
 ghost use Rattle.cj_spans.specs.Json.{byte as byte_of};
@@ -229,6 +230,7 @@ pub fn scan_reserved(
     ensures tree { OnOk result ((t : Tree)
         × IsScanOf line.now t tokens.old tokens.new stack.old stack.new) }
     ensures sized { OnOk result (AreSized line.now tokens.new.elements) }
+    ensures unmarked { OnOk result (AreUnmarked tokens.new.elements) }
     ensures utf8 { ((i : ℕ) → IsErrOf result (LineFault.NotUtf8 i) → ⊥) → IsUtf8 line.now }
 
     // Each fault comes with its place.
@@ -297,6 +299,7 @@ pub fn scan(line: &[u8], tokens: &mut Bounded<Token>, stack: &mut Stack) -> Resu
     ensures tree { OnOk result ((t : Tree)
         × IsScanOf line.now t tokens.old tokens.new stack.old stack.new) }
     ensures sized { OnOk result (AreSized line.now tokens.new.elements) }
+    ensures unmarked { OnOk result (AreUnmarked tokens.new.elements) }
     ensures utf8 { (IsErrOf result ScanFault.Memory → ⊥)
         → ((i : ℕ) → IsErrOf result (ScanFault.NotUtf8 i) → ⊥) → IsUtf8 line.now }
 

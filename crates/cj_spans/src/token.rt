@@ -5,9 +5,9 @@
 //!
 //! A *link* is the index of the first token after a token and its parts. It is set when a container closes;
 //! while that is open, stop is 0 and link tells the scan which kind of container it is (`open_link`,
-//! `open_kind`). Its top bit is free for a *mark*, as no line has 2^31 tokens: `link_of` of the definitions
-//! and `Source::after` alone read links, and leave it out. What else is put into a token must leave starts
-//! and stops as they are, since trees are told by these.
+//! `open_kind`). Its top bit is free for a *mark* (`mark.rt`), as no line has 2^31 tokens: `link_of` of the
+//! definitions and `Source::after` alone read links, and leave it out. What else is put into a token must leave
+//! starts and stops as they are, since trees are told by these.
 ghost use Rattle.std.specs.Prelude.{◌≡◌, ◌+◌, ◌^◌, ◌<◌, ◌++◌, ◌∷◌, [], length, IsTrue};
 ghost use Rattle.cj_budget.specs.Bounded.{Becomes};
 ghost use Rattle.cj_spans.specs.Preorder.{token_at};

@@ -1,5 +1,5 @@
 use Rattle.std.proofs.Common.{refl}
-use Rattle.cj_spans.proofs.Verdicts.{cleared, run_utf8, answers_tree, answers_deep, answers_syntax, answers_finds_deep, answers_finds_syntax, answers_finds_tree, utf8_whole, utf8_fault}
+use Rattle.cj_spans.proofs.Verdicts.{cleared, run_utf8, run_unmarked, answers_tree, answers_deep, answers_syntax, answers_finds_deep, answers_finds_syntax, answers_finds_tree, utf8_whole, utf8_fault}
 use Rattle.cj_spans.proofs.Judgements.{judgement, answer_of}
 use Rattle.cj_spans.proofs.Endings.{answers_first_too_deep, answers_first_fault}
 use Rattle.cj_spans.proofs.Sizes.{sized_on}
@@ -12,6 +12,9 @@ returns-in-Ok-clause-tree c =
 
 pub returns-in-Ok-clause-sized : goal.returns-in-Ok-clause-sized
 returns-in-Ok-clause-sized c = sized_on (Unit {0}) c.args.line.now c.args.tokens.now c.run.new.tokens c.args.stack.now c.run.new.stack c.run.result (returns-in-Ok-clause-tree c)
+
+pub returns-in-Ok-clause-unmarked : goal.returns-in-Ok-clause-unmarked
+returns-in-Ok-clause-unmarked c = run_unmarked (Unit {0}) c.args.line.now c.clear-2.new.self c.run.new.tokens c.run.new.stack c.clear.new.self c.run.result c.run.ensures.answer c.run.ensures.law c.requires.short
 
 pub returns-in-Ok-clause-not_utf8 : goal.returns-in-Ok-clause-not_utf8
 returns-in-Ok-clause-not_utf8 c = λ i.

@@ -1,12 +1,12 @@
 use Rattle.std.proofs.Common.{refl}
-use Rattle.cj_spans.specs.View.{document, document_line}
+use Rattle.cj_spans.specs.View.{document, document_line, document_source, tokens_in}
 use Rattle.cj_spans.proofs.Scanned.{known, one_tree, its_tree}
 use Rattle.cj_spans.proofs.Sizes.{are_full}
 use Rattle.cj_spans.proofs.Walks.{are_lone}
 use Rattle.cj_spans.proofs.node.Doc.of.Goals as goal
 
 pub invariant_of-result : goal.invariant_of-result
-invariant_of-result c = let k = known c.args.line.now c.args.tokens.now c.requires in record { within = k.within; nested = k.nested; named = k.named; linked = k.linked; lone = are_lone c.args.line.now c.args.tokens.now c.requires; full = are_full c.args.line.now c.args.tokens.now c.requires }
+invariant_of-result c = let k = known c.args.line.now c.args.tokens.now c.requires in record { within = k.within; rising = k.rising; nested = k.nested; named = k.named; linked = k.linked; lone = are_lone c.args.line.now c.args.tokens.now c.requires; full = are_full c.args.line.now c.args.tokens.now c.requires }
 
 pub invariant_of-result-2 : goal.invariant_of-result-2
 invariant_of-result-2 c = record { known = (known c.args.line.now c.args.tokens.now c.requires).some }
@@ -22,3 +22,7 @@ returns-clause-only c = one_tree c.args.line.now c.args.tokens.now c.requires
 pub returns-clause-line : goal.returns-clause-line
 unfolding document_line
 returns-clause-line c = refl
+
+pub returns-clause-tokens : goal.returns-clause-tokens
+unfolding document_source tokens_in
+returns-clause-tokens c = refl

@@ -2,7 +2,7 @@ use Rattle.std.proofs.Common.{refl, arith, ◌+◌}
 use Rattle.cj_spans.specs.View.{tree, line_of, source_of, members_line, members_source, members_left}
 use Rattle.cj_spans.proofs.Walks.{members_from_link, few_pairs}
 use Rattle.cj_spans.specs.Sound.{shown_between}
-use Rattle.cj_spans.proofs.Rising.{pairs_rise, shown_rise}
+use Rattle.cj_spans.proofs.Rising.{pairs_rise, values_rise, shown_rise}
 use Rattle.cj_spans.proofs.node.Node.members.Goals as goal
 
 pub invariant_of-result : goal.invariant_of-result
@@ -21,6 +21,10 @@ returns-clause-members c =
 pub returns-clause-order : goal.returns-clause-order
 unfolding members_left
 returns-clause-order c = let s = c.args.self.source in pairs_rise (shown_between s.line.now s.tokens.now (c.args.self.index + 1) c.members_end-stop.result) (shown_rise s.line.now s.tokens.now (c.args.self.index + 1) c.members_end-stop.result s.within)
+
+pub returns-clause-values : goal.returns-clause-values
+unfolding members_left
+returns-clause-values c = let s = c.args.self.source in values_rise (shown_between s.line.now s.tokens.now (c.args.self.index + 1) c.members_end-stop.result) (shown_rise s.line.now s.tokens.now (c.args.self.index + 1) c.members_end-stop.result s.within)
 
 pub returns-clause-line : goal.returns-clause-line
 unfolding line_of members_line
