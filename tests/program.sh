@@ -331,6 +331,147 @@ row_info_of_an_empty_input() {
   answered 1 'line 1, byte 0: 1 no header line' < /dev/null
 }
 
+# ---- going on after invalid lines
+
+# A header, two good features, and between them lines that are invalid, of which one is blank.
+several_lines() {
+  lines "$header" "$feature" '[]' '' '{}'
+  indexed 4
+  indexed 3
+}
+several_told='line 3, byte 0: 12 wrong kind
+line 5, byte 0: 10 member missing
+line 6, byte 144: 25 vertex index out of range'
+
+row_each_invalid_line_is_told() {
+  several_lines | run check --keep-going
+  lines 'invalid lines=7 features=2 refused=3' | answered 1 "$several_told"
+}
+
+row_all_good_lines_are_copied() {
+  several_lines | run filter --keep-going
+  { lines "$header" "$feature"; indexed 3; } | answered 1 "$several_told"
+}
+
+row_a_part_of_the_good_lines() {
+  several_lines | run filter --keep-going --id b1
+  { lines "$header"; indexed 3; } | answered 1 "$several_told"
+}
+
+row_going_on_in_a_valid_stream() {
+  run filter --keep-going < examples/sample.city.jsonl
+  answered 0 '' < examples/sample.city.jsonl
+  run check --keep-going < examples/sample.city.jsonl
+  lines 'valid lines=121 features=120' | answered 0 ''
+}
+
+row_going_on_after_a_line_longer_than_the_limit() {
+  { long_line $((limit + 1)); lines "$feature"; } | run check --keep-going
+  lines 'invalid lines=3 features=1 refused=1' | answered 1 "line 2, byte $limit: 2 line too long"
+}
+
+# Of what is dropped nothing is judged, be it as long as it may.
+row_going_on_after_a_line_of_many_limits() {
+  { lines "$header"; head -c $((limit * 5)) /dev/zero | tr '\0' '['; lines '' "$feature"; } | run filter --keep-going
+  lines "$header" "$feature" | answered 1 "line 2, byte $limit: 2 line too long"
+}
+
+row_a_last_line_that_is_cut_short() {
+  { lines "$header" "$feature"; printf %s "${feature:0:50}"; } | run filter --keep-going
+  lines "$header" "$feature" | answered 1 'line 3, byte 50: 4 syntax'
+}
+
+row_no_going_on_without_a_header() {
+  lines "$feature" "$header" "$feature" | run check --keep-going
+  answered 1 'line 1, byte 0: 10 member missing' < /dev/null
+}
+
+# Every second one of many lines.
+row_many_invalid_lines() {
+  local n
+  { lines "$header"; for n in {1..5000}; do lines '[]' "$feature"; done; } | run filter --keep-going
+  [ "$(sort -u "$scratch/said" | wc -l)" = 5000 ] || { differs '5000 lines' "$(sketch "$scratch/said")"; return 1; }
+  [ "$(sed 's/^[^:]*: //' "$scratch/said" | sort -u)" = '12 wrong kind' ] || return 1
+  [ "$(tail -n 1 "$scratch/said")" = 'line 10000, byte 0: 12 wrong kind' ] || return 1
+  lines 'line 10000, byte 0: 12 wrong kind' > "$scratch/said"
+  { lines "$header"; for n in {1..5000}; do lines "$feature"; done; } | answered 1 'line 10000, byte 0: 12 wrong kind'
+}
+
+# A report comes while the input is still open.
+row_a_report_comes_at_once() {
+  local report
+  mkfifo "$scratch/in" "$scratch/err"
+  "$program" filter --keep-going < "$scratch/in" > "$scratch/written" 2> "$scratch/err" &
+  exec 3> "$scratch/in" 4< "$scratch/err"
+  lines "$header" '[]' >&3
+  IFS= read -r -t 20 report <&4
+  lines "$feature" >&3
+  exec 3>&-
+  cat <&4 > "$scratch/rest"
+  wait $!
+  echo $? > "$scratch/status"
+  exec 4<&-
+  lines "$report" > "$scratch/said"
+  [ ! -s "$scratch/rest" ] && lines "$header" "$feature" | answered 1 'line 2, byte 0: 12 wrong kind'
+}
+
+row_going_on_and_info() {
+  refuses "$(mistake "unexpected argument '--keep-going' found" 'Usage: cityseq info [OPTIONS]' '')" info --keep-going
+}
+
+row_going_on_twice() {
+  refuses "$(mistake "the argument '--keep-going' cannot be used multiple times" 'Usage: cityseq check [OPTIONS]' '')" \
+    check --keep-going --keep-going
+}
+
+row_going_on_with_a_value() {
+  refuses "$(mistake "unexpected value 'true' for '--keep-going' found; no more were expected" \
+    'Usage: cityseq check --keep-going' '')" check --keep-going=true
+}
+
+row_a_full_device_after_a_report() {
+  several_lines | run_onto filter --keep-going > /dev/full
+  answered 4 "$several_told"$'\nwrite fault' < /dev/null
+}
+
+row_a_full_device_and_check_after_a_report() {
+  several_lines | run_onto check --keep-going > /dev/full
+  answered 4 "$several_told"$'\nwrite fault' < /dev/null
+}
+
+row_a_full_standard_error_and_reports() {
+  several_lines | "$program" filter --keep-going > "$scratch/written" 2> /dev/full
+  echo $? > "$scratch/status"
+  { lines "$header" "$feature"; indexed 3; } | answered 1 ''
+}
+
+# ---- trees, and exclusion
+
+# A feature of these city objects, of which b is the main one.
+objects() { printf '{"type":"CityJSONFeature","id":"b","CityObjects":{%s},"vertices":[]}\n' "$1"; }
+
+row_an_object_that_hangs_on_nothing() {
+  local command
+  for command in check info; do
+    { lines "$header"; objects '"b":{"type":"Building"},"c":{"type":"Building"}'; } | run $command --tree
+    answered 1 'line 2, byte 78: 31 not reached from the main object' < /dev/null || return 1
+  done
+  { lines "$header"; objects '"b":{"type":"Building"},"c":{"type":"Building"}'; } | run check
+  lines 'valid lines=2 features=1' | answered 0 ''
+}
+
+row_an_object_that_hangs_on_nothing_is_left_out() {
+  { lines "$header"; objects '"b":{"type":"Building"},"c":{"type":"Building"}'; lines "$feature"; } | run filter --tree --keep-going
+  lines "$header" "$feature" | answered 1 'line 2, byte 78: 31 not reached from the main object'
+}
+
+row_all_but_what_is_asked_for() {
+  { lines "$header"; indexed 3; lines "$feature"; } | run filter --exclude --id b1
+  lines "$header" "$feature" | answered 0 '' || return 1
+  lines "$header" "$feature" | run filter --exclude
+  lines "$header" | answered 0 ''
+}
+
 # ---- help, and words that are not understood
 
 row_the_version() {

@@ -1,6 +1,6 @@
 #!/usr/bin/env bash
 # Measures the filter by 10, by 10,000 and by 100,000 ids, in one run, without the time to read or to add them: the best of
-# five times each, on lines of 300 bytes and of 5 to 125 KB.
+# nine times each, the three in turn, on lines of 300 bytes and of 5 to 125 KB.
 #
 #   bench/queries/ids.sh [MEGABYTES]      (12 if left out)
 #

@@ -1,24 +1,27 @@
 -- What is told of texts that the program writes.
-use Rattle.std.proofs.Common.{◌≡◌, inl, inr, arith, ℕ, List, Option, Some, None, Result, Ok, Err, length, refl, ap, sym, subst, ◌∙◌}
+use Rattle.std.proofs.Common.{◌≡◌, inl, inr, arith, ℕ, List, [], Option, Some, None, Result, Ok, Err, length, refl, ap, sym, subst, ◌∙◌}
 use Rattle.std.specs.List.{filter}
 use Rattle.std.specs.Io.KnownBytes.{Appends, Keeps}
 use Rattle.cj_budget.specs.declared.limits.Peaks.{Peaks}
 use Rattle.cj_stream.specs.declared.ending.End.{End}
 use Rattle.cj_stream.specs.declared.ending.End.TheVariants.{Complete, Refused, ReadFault, ReadLimit, WriteFault, Memory}
 use Rattle.cj_stream.specs.declared.output.WriteFault.{WriteFault as Unwritten}
+use Rattle.cj_stream.specs.declared.reporting.Report.{Report}
 use Rattle.cj_stream.specs.declared.running.Outcome.{Outcome}
 use Rattle.cj_stream.specs.Engine.{Counts}
 use Rattle.cj_stream.specs.Headline.{Headline}
 use Rattle.cj_stream.specs.Item.{is_feature}
 use Rattle.cj_stream.specs.Output.{Channel}
-use Rattle.cj_stream.specs.Run.{Writes}
-use Rattle.cj_stream.specs.Sink.{HasRisen, RisesOnErr, AppendsPart}
-use Rattle.cj_stream.specs.Verdict.{Rules, good, kept, kept_first}
+use Rattle.cj_stream.specs.Reporting.{Collects}
+use Rattle.cj_stream.specs.Run.{Run, RunsNoting, Writes}
+use Rattle.cj_stream.specs.Sink.{HasRisen, RisesOnErr, AppendsPart, Took}
+use Rattle.cj_stream.specs.Verdict.{Rules, good, kept, kept_first, reported, reported_first}
 use Rattle.cj_stream.specs.Bound.{exact_peaks}
 use Rattle.cj_stream.specs.TallySink.{Tally, IsTallyOf, no_tally}
 use Rattle.cj_stream.specs.Query.{rules_for}
 use Rattle.cityseq.specs.Performed.{end_of_writing, Says, SaysCheck, SaysReport, Answers}
 use Rattle.cityseq.specs.Report.{Wrote}
+use Rattle.cityseq.specs.Reporting.{AreReported}
 use Rattle.cityseq.specs.declared.ask.Ask.{Ask}
 use Rattle.cityseq.specs.declared.ask.Ask.TheVariants.{Check, Filter, Info}
 use Rattle.cityseq.specs.Summary.{check_text, report}
@@ -90,18 +93,27 @@ Says-kept text ReadLimit told a b c p k f = (p.0, Keeps-then a.bytes b.bytes c.b
 Says-kept text WriteFault told a b c p k f = p
 Says-kept text Memory told a b c p k f = (p.0, Keeps-then a.bytes b.bytes c.bytes p.1 k)
 
--- the features that a complete run kept are those among what is kept
-pub features-kept : (rules : Rules) (r : List ℕ) (n features : ℕ) → (n ≡ length (good rules r) → kept_first rules n r ≡ kept rules r)
-    → Counts rules r n features → n ≡ length (good rules r) → features ≡ length (filter is_feature (kept rules r))
-features-kept rules r n features all counts lines = counts.kept ∙ ap (λ is. length (filter is_feature is)) (all lines)
+-- the features that a complete run kept are those among what is kept, and the lines that it refused those that are reported
+pub features-kept : (rules : Rules) (r : List ℕ) (n features refused : ℕ) → (n ≡ length (good rules r) → kept_first rules n r ≡ kept rules r)
+    → Counts rules r n features refused → n ≡ length (good rules r) → features ≡ length (filter is_feature (kept rules r))
+features-kept rules r n features refused all counts lines = counts.kept ∙ ap (λ is. length (filter is_feature is)) (all lines)
+
+pub lines-refused : (rules : Rules) (r : List ℕ) (n features refused : ℕ) → (n ≡ length (good rules r) → reported_first rules n r ≡ reported rules r)
+    → Counts rules r n features refused → n ≡ length (good rules r) → refused ≡ length (reported rules r)
+lines-refused rules r n features refused all counts lines = counts.refused ∙ ap (λ rs. length rs) (all lines)
+
+-- the reports of a run, which a sink has taken
+pub Reported-told : {N : Type 0} (notes : N → Report → N → Type 0) (run : Run) (n m : N) → RunsNoting notes run n m
+    → RunsNoting Collects run [] (reported_first run.rules run.outcome.lines run.read) → AreReported notes run (reported_first run.rules run.outcome.lines run.read) n m
+Reported-told notes run n m told collected = record { collected = collected; took = subst (λ rs. Took notes n rs m) (sym told.reports.told) told.reports.noted }
 
 -- a check or a report after a complete run, of what that counted
-pub Says-check : (rules : Rules) (r : List ℕ) (n m : ℕ) (written : Result (Unit {0}) Unwritten) (told : End) (old new : Channel)
-    → n ≡ length (good rules r) → m ≡ length (filter is_feature (kept rules r)) → told ≡ end_of_writing written
-    → Wrote (check_text n m) written old new → SaysCheck rules r Complete told old new
-Says-check rules r n m written told old new lines features tells wrote =
-    subst (λ y. Says (check_text (length (good rules r)) y) Complete told old new) features
-    (subst (λ x. Says (check_text x m) Complete told old new) lines (written, tells, wrote))
+pub Says-check : (rules : Rules) (r : List ℕ) (n m k : ℕ) (written : Result (Unit {0}) Unwritten) (told : End) (old new : Channel)
+    → n ≡ length (good rules r) → m ≡ length (filter is_feature (kept rules r)) → k ≡ length (reported rules r) → told ≡ end_of_writing written
+    → Wrote (check_text n m k) written old new → SaysCheck rules r Complete told old new
+Says-check rules r n m k written told old new lines features refused tells wrote =
+    let now : Wrote (check_text (length (good rules r)) (length (filter is_feature (kept rules r))) (length (reported rules r))) written old new = rw (← lines, ← features, ← refused) wrote in
+    (written, tells, now)
 
 pub Says-report : (rules : Rules) (r : List ℕ) (n : ℕ) (t : Tally) (peaks : Peaks) (written : Result (Unit {0}) Unwritten) (told : End) (old new : Channel)
     → n ≡ length (good rules r) → IsTallyOf (kept rules r) t → peaks ≡ exact_peaks rules.limits r → told ≡ end_of_writing written
@@ -128,10 +140,11 @@ SaysReport-kept rules r e told a b c says k f = record {
   says = Says-kept _ e told a b c says.says k f;
 }
 
-Headline-kept : (rules : Rules) (text given : List ℕ) (e : End) (peaks : Peaks) (a b c : Channel) → Headline rules text given e peaks a b → Keeps b.bytes c.bytes → c.failures ≡ b.failures
-    → Headline rules text given e peaks a c
-Headline-kept rules text given e peaks a b c h k f = record {
+Headline-kept : {N : Type 0} (notes : N → Report → N → Type 0) (rules : Rules) (text given : List ℕ) (e : End) (peaks : Peaks) (a b c : Channel) (n m : N) → Headline notes rules text given e peaks a b n m
+    → Keeps b.bytes c.bytes → c.failures ≡ b.failures → Headline notes rules text given e peaks a c n m
+Headline-kept notes rules text given e peaks a b c n m h k f = record {
   writes = λ u. Appends-kept a.bytes b.bytes c.bytes _ (h.writes u) k;
+  gives = h.gives;
   ends = h.ends;
   cause = λ is. subst (λ n. HasRisen a.failures n) (sym f) (h.cause is);
   held = h.held;
@@ -139,12 +152,12 @@ Headline-kept rules text given e peaks a b c h k f = record {
 }
 
 -- an answer stays where the writer keeps its bytes
-pub Answers-kept : (ask : Ask) (r : List ℕ) (at_end : Type 0) (outcome : Outcome) (told : End) (a b c : Channel) → Answers ask r at_end outcome told a b → Keeps b.bytes c.bytes → c.failures ≡ b.failures
-    → Answers ask r at_end outcome told a c
-Answers-kept (Check limits) r at_end outcome told a b c says k f = Says-kept _ outcome.ended told a b c says k f
-Answers-kept (Filter limits query) r at_end outcome told a b c says k f = (
+pub Answers-kept : (ask : Ask) (r : List ℕ) (at_end : Type 0) (outcome : Outcome) (reports : List Report) (told : End) (a b c : Channel) → Answers ask r at_end outcome reports told a b
+    → Keeps b.bytes c.bytes → c.failures ≡ b.failures → Answers ask r at_end outcome reports told a c
+Answers-kept (Check limits options) r at_end outcome reports told a b c says k f = Says-kept _ outcome.ended told a b c says k f
+Answers-kept (Filter limits query options) r at_end outcome reports told a b c says k f = (
   says.0,
-  Writes-kept (rules_for limits query) r outcome.ended a.bytes b.bytes c.bytes says.1 k,
-  λ rest all u. Headline-kept (rules_for limits query) _ r outcome.ended outcome.peaks a b c (says.2 rest all u) k f,
+  Writes-kept (rules_for limits query options) r outcome.ended a.bytes b.bytes c.bytes says.1 k,
+  λ rest all u. Headline-kept Collects (rules_for limits query options) _ r outcome.ended outcome.peaks a b c [] reports (says.2 rest all u) k f,
 )
-Answers-kept (Info limits) r at_end outcome told a b c says k f = SaysReport-kept _ r outcome.ended told a b c says k f
+Answers-kept (Info limits options) r at_end outcome reports told a b c says k f = SaysReport-kept _ r outcome.ended told a b c says k f

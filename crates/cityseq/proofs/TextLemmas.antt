@@ -1,12 +1,13 @@
 -- Texts that are written one part after another.
-use Rattle.std.proofs.Common.{◌≡◌, ℕ, ◌+◌, ◌<◌, List, [], ◌∷◌, ◌++◌, length, take, drop, get_or, map, append_assoc, Option, None, Some, Result, Ok, Err, refl, sym, ap, ◌∙◌}
-use Rattle.std.specs.Prelude.{OnErr, OnOk}
+use Rattle.std.proofs.Common.{◌≡◌, arith, zero, suc, ℕ, ◌+◌, ◌<◌, List, [], ◌∷◌, ◌++◌, length, take, drop, get_or, map, append_assoc, Option, None, Some, Result, Ok, Err, refl, sym, ap, ◌∙◌}
+use Rattle.std.specs.Prelude.{OnErr, OnOk, codes, decimal}
 use Rattle.std.specs.List.{flat_map}
 use Rattle.std.specs.Io.KnownBytes.{Appends}
 use Rattle.std.proofs.lemmas.Grind.{flat_map-append}
 use Rattle.std.proofs.lemmas.List.{append-nil, take-append-drop, take_more}
 use Rattle.cj_stream.specs.Cut.{joined}
 use Rattle.cj_stream.specs.Sink.{AppendsPart}
+use Rattle.cityseq.specs.Summary.{check_text}
 
 -- ---- known bytes that grow twice
 
@@ -87,3 +88,10 @@ module _ {T E : Type 0} (r : Result T E) (a b : Option (List ℕ)) (x : List ℕ
 
     pub fault-after : OnErr r (AppendsPart b c y) → OnErr r (AppendsPart a c (x ++ y))
     fault-after = elim r as (λ r. OnErr r (AppendsPart b c y) → OnErr r (AppendsPart a c (x ++ y))) [ Ok v ↦ λ h. tt | Err e ↦ λ h. AppendsPart-after a b c x y first h ]
+
+-- ---- what `check` says of a stream with lines that are refused
+
+pub check-refused : (lines features refused : ℕ) → 0 < refused
+    → check_text lines features refused ≡ joined (codes "invalid lines=" ∷ decimal lines ∷ codes " features=" ∷ decimal features ∷ codes " refused=" ∷ decimal refused ∷ codes "\n" ∷ [])
+check-refused lines features zero some = absurd (omega (arith, some))
+check-refused lines features (suc n) some = refl

@@ -1,12 +1,15 @@
 -- What came of writing texts, one after another.
-use Rattle.std.proofs.Common.{ℕ, ◌+◌, ◌<◌, ◌≤◌, List, [], ◌++◌, length, take, get_or, Result, Ok, Err, refl, subst, ◌∙◌}
+use Rattle.std.proofs.Common.{◌≡◌, ℕ, ◌+◌, ◌<◌, ◌≤◌, List, [], ◌∷◌, ◌++◌, length, take, get_or, Option, Result, Ok, Err, refl, subst, ◌∙◌}
 use Rattle.std.specs.Prelude.{IsErr}
 use Rattle.std.specs.List.{flat_map}
 use Rattle.std.proofs.lemmas.List.{append-nil, take_all}
-use Rattle.cj_stream.specs.Output.{Channel}
-use Rattle.cj_stream.specs.Sink.{HasRisen}
+use Rattle.cj_stream.specs.Output.{Channel, channel}
+use Rattle.cj_stream.specs.Sink.{HasRisen, Took}
+use Rattle.cj_stream.specs.declared.reporting.Report.{Report}
 use Rattle.cj_stream.specs.declared.output.WriteFault.{WriteFault}
-use Rattle.cityseq.specs.Report.{Wrote}
+use Rattle.cityseq.specs.Report.{Wrote, WroteAfter}
+use Rattle.cityseq.specs.Reporting.{WritesReport, lent_output, loan_name, report_line, report_lines, writing}
+use Rattle.cityseq.specs.declared.reporting.WriteReports.{WriteReports}
 use Rattle.cityseq.proofs.TextLemmas.{Appends-nothing, Appends-then, AppendsPart-after, AppendsPart-front, parts_more, parts_at}
 
 -- the empty text is written by nothing
@@ -47,6 +50,27 @@ module _ (r : Result (Unit {0}) WriteFault) (is : IsErr r) where
 
   pub Wrote-stops : (e : WriteFault) (x y : List ℕ) (a b : Channel) → Wrote x (Err e) a b → Wrote (x ++ y) r a b
   Wrote-stops e x y a b p = Wrote-front x y a b (Wrote-told e x a b p)
+
+-- ---- after other texts
+
+-- a text after others, and then one more
+pub WroteAfter-then : (p q r : Result (Unit {0}) WriteFault) (x y : List ℕ) (a b c : Channel) → WroteAfter p x q a b → WroteAfter q y r b c → WroteAfter p (x ++ y) r a c
+WroteAfter-then (Ok v) (Ok w) r x y a b c first second = Wrote-then r w x y a b c first second
+WroteAfter-then (Ok v) (Err e) r x y a b c first second =
+    rw (second.0, second.1) (record { whole = tt; front = AppendsPart-front a.bytes b.bytes x y first.front; failures = first.failures })
+WroteAfter-then (Err e) q r x y a b c first second = let k = rw (first.0, first.1) at second in k
+
+WroteAfter-nothing : (p : Result (Unit {0}) WriteFault) (a : Channel) → WroteAfter p [] p a a
+WroteAfter-nothing (Ok v) a = Wrote-nothing v a
+WroteAfter-nothing (Err e) a = (refl, refl)
+
+-- reports that a sink wrote, in turn
+pub wrote-reports : {E : Type 0} (contents : E → Option (List ℕ)) (xs : List Report) (a b : WriteReports E) → Took (WritesReport contents) a xs b
+    → (loan_name b ≡ loan_name a) × WroteAfter (writing a) (report_lines xs) (writing b) (channel contents (lent_output a)) (channel contents (lent_output b))
+wrote-reports contents [] a b took = rw took (refl, WroteAfter-nothing (writing a) (channel contents (lent_output a)))
+wrote-reports contents (x ∷ xs) a b took =
+    let rest = wrote-reports contents xs took.0 b took.2 in
+    (rest.0 ∙ took.1.same_loan, WroteAfter-then (writing a) (writing took.0) (writing b) (report_line x) (report_lines xs) _ _ _ took.1.line rest.1)
 
 -- ---- parts of a list
 

@@ -4,7 +4,7 @@ use Rattle.cj_spans.specs.declared.reason.Reason.TheVariants.{NoHeader, VertexIn
 use Rattle.cj_stream.specs.declared.ending.End.{End}
 use Rattle.cj_stream.specs.declared.ending.End.TheVariants.{Complete, Refused, ReadFault, ReadLimit, WriteFault, Memory}
 use Rattle.cj_stream.specs.declared.output.WriteFault.{WriteFault as Unwritten}
-use Rattle.cityseq.specs.Report.{fault_line, shown_end, status_of}
+use Rattle.cityseq.specs.Report.{fault_line, shown_end, status_of, status_after}
 
 -- whatever the end, a write fault is shown where the flush after it failed
 abbrev pub FailedRow : Type 0
@@ -17,6 +17,19 @@ GoodRow = (e : End) → shown_end (Ok tt) e ≡ e
 -- this stands on standard error of an end, and this is the status
 abbrev pub Shows : End → List ℕ → ℕ → Type 0
 Shows e line status = (fault_line e ≡ line) × (status_of e ≡ status)
+
+-- after lines that were refused, a complete run is no success; any other end has its own status; and so has each, where
+-- none was refused
+abbrev pub RefusedRows : Type 0
+RefusedRows =
+    (status_after 1 Complete ≡ 1)
+    × (status_after 5000 Complete ≡ 1)
+    × (status_after 1 (Refused 1 0 NoHeader) ≡ 1)
+    × (status_after 2 ReadFault ≡ 3)
+    × (status_after 2 ReadLimit ≡ 3)
+    × (status_after 2 WriteFault ≡ 4)
+    × (status_after 2 Memory ≡ 5)
+    × ((e : End) → status_after 0 e ≡ status_of e)
 
 -- the line and the status of each end
 abbrev pub LineRows : Type 0

@@ -4,6 +4,7 @@ pub mod Options
 pub mod Performed
 pub mod RefusalRows
 pub mod Report
+pub mod Reporting
 pub mod Summary
 pub mod SummaryRows
 pub mod Text

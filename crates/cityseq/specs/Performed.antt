@@ -1,5 +1,5 @@
 -- What the program does of what it is asked.
-use Rattle.std.specs.Prelude.{◌≡◌, ◌≢◌, ◌⊎◌, ℕ, List, [], Result, Ok, Err, length}
+use Rattle.std.specs.Prelude.{◌≡◌, ◌≢◌, ◌⊎◌, ℕ, List, [], false, Result, Ok, Err, length}
 use Rattle.std.specs.List.{filter}
 use Rattle.std.specs.Io.KnownBytes.{Keeps}
 use Rattle.clap.specs.Words.{kind_of}
@@ -11,21 +11,26 @@ use Rattle.cj_stream.specs.Criteria.{everything}
 use Rattle.cj_stream.specs.Bound.{exact_peaks}
 use Rattle.cj_stream.specs.Headline.{HeadlineOfRun}
 use Rattle.cj_stream.specs.Item.{is_feature}
+use Rattle.cj_stream.specs.Options.{OptionSet}
 use Rattle.cj_stream.specs.Query.{rules_for}
-use Rattle.cj_stream.specs.Run.{Run, Account, Writes}
+use Rattle.cj_stream.specs.Reporting.{Collects}
+use Rattle.cj_stream.specs.Run.{Run, Account, RunsNoting, Writes}
 use Rattle.cj_stream.specs.Output.{Channel}
 use Rattle.cj_stream.specs.Sink.{HasRisen}
 use Rattle.cj_stream.specs.TallySink.{Tally, IsTallyOf}
-use Rattle.cj_stream.specs.Verdict.{Rules, good, kept}
+use Rattle.cj_stream.specs.Verdict.{Rules, good, kept, reported}
 use Rattle.cj_stream.specs.declared.ending.End.{End}
 use Rattle.cj_stream.specs.declared.ending.End.TheVariants.{Complete, Refused, ReadFault, ReadLimit, WriteFault, Memory}
 use Rattle.cj_stream.specs.declared.output.WriteFault.{WriteFault as Unwritten}
+use Rattle.cj_stream.specs.declared.reporting.Report.{Report}
 use Rattle.cj_stream.specs.declared.running.Outcome.{Outcome}
-use Rattle.cityseq.specs.Report.{Reports, Wrote, fault_line, query_line, status_of, status_of_query}
+use Rattle.cityseq.specs.Report.{Reports, Wrote, fault_line, query_line, status_of, status_after, status_of_query}
+use Rattle.cityseq.specs.Reporting.{AreReported, report_lines}
 use Rattle.cityseq.specs.Summary.{check_text, report}
 use Rattle.cityseq.specs.Words.{CannotAsk}
 use Rattle.cityseq.specs.declared.ask.Ask.{Ask}
 use Rattle.cityseq.specs.declared.ask.Ask.TheVariants.{Check, Filter, Info}
+use Rattle.cityseq.specs.declared.ask.Told.{Told}
 use Rattle.cityseq.specs.declared.asking.NoAsk.{NoAsk}
 use Rattle.cityseq.specs.declared.asking.NoAsk.TheVariants.{Words, NoCommand, Limits, Query}
 use Rattle.cityseq.specs.declared.report.Shown.{Shown}
@@ -47,10 +52,10 @@ Says text ReadLimit told old new = (told ≡ ReadLimit) × Keeps old.bytes new.b
 Says text WriteFault told old new = ⊥
 Says text Memory told old new = (told ≡ Memory) × Keeps old.bytes new.bytes
 
--- of the bytes r: how many good lines they have, and how many features
+-- of the bytes r: how many good lines they have, how many features, and how many lines are reported as refused
 abbrev pub SaysCheck : Rules → List ℕ → End → End → Channel → Channel → Type 0
 SaysCheck rules r e told old new =
-    Says (check_text (length (good rules r)) (length (filter is_feature (kept rules r)))) e told old new
+    Says (check_text (length (good rules r)) (length (filter is_feature (kept rules r))) (length (reported rules r))) e told old new
 
 -- of the bytes r: how many good lines they have, their tally, and what was held at most
 pub record SaysReport (rules : Rules) (r : List ℕ) (e told : End) (old new : Channel) : Type 0 where
@@ -66,38 +71,60 @@ pub record Channels : Type 0 where
   pub err : Channel
 
 -- the rules that lines are judged by
-abbrev pub all_under : LimitPair → Rules
-all_under limits = record { limits = limits; criteria = everything }
+abbrev pub all_under : LimitPair → OptionSet → Rules
+all_under limits options = record { limits = limits; criteria = everything; options = options }
 
 abbrev pub rules_of_ask : Ask → Rules
-rules_of_ask (Check limits) = all_under limits
-rules_of_ask (Filter limits query) = rules_for limits query
-rules_of_ask (Info limits) = all_under limits
+rules_of_ask (Check limits options) = all_under limits options
+rules_of_ask (Filter limits query options) = rules_for limits query options
+rules_of_ask (Info limits options) = all_under limits options
+
+-- a command takes the options that are set: a report of `info` is of valid streams alone, so it does not go on
+abbrev pub TakesOptions : Ask → Type 0
+TakesOptions (Check limits options) = Unit {0}
+TakesOptions (Filter limits query options) = Unit {0}
+TakesOptions (Info limits options) = options.keep_going ≡ false
 
 -- the run over these bytes that what is asked comes to
 abbrev pub run_of : Ask → List ℕ → Outcome → Run
 run_of ask r outcome = record { rules = rules_of_ask ask; read = r; outcome = outcome }
 
--- What is written of the bytes r, over which a run went so, and the end that is told of it. Of what is copied the
--- headline holds.
-abbrev pub Answers : Ask → List ℕ → Type 0 → Outcome → End → Channel → Channel → Type 0
-Answers (Check limits) r at_end outcome told old new = SaysCheck (all_under limits) r outcome.ended told old new
-Answers (Filter limits query) r at_end outcome told old new =
-    (told ≡ outcome.ended) × Writes (rules_for limits query) r outcome.ended old.bytes new.bytes
-    × HeadlineOfRun (run_of (Filter limits query) r outcome) at_end old new
-Answers (Info limits) r at_end outcome told old new = SaysReport (all_under limits) r outcome.ended told old new
+-- What is written of the bytes r, over which a run went so, with these reports, and the end that is told of it. Of what is
+-- copied the headline holds.
+abbrev pub Answers : Ask → List ℕ → Type 0 → Outcome → List Report → End → Channel → Channel → Type 0
+Answers (Check limits options) r at_end outcome reports told old new = SaysCheck (all_under limits options) r outcome.ended told old new
+Answers (Filter limits query options) r at_end outcome reports told old new =
+    (told ≡ outcome.ended) × Writes (rules_for limits query options) r outcome.ended old.bytes new.bytes
+    × HeadlineOfRun Collects (run_of (Filter limits query options) r outcome) at_end old new [] reports
+Answers (Info limits options) r at_end outcome reports told old new = SaysReport (all_under limits options) r outcome.ended told old new
 
--- What is asked was done with bytes r that were read: the account of the run over them; what standard output has got, and
--- that a write to it failed where that is told; what the flush answered, and standard error has got; and the status.
+-- What is asked was done with bytes r that were read, but for what is said at its end: the account of the run over them, and
+-- its reports, which a sink of reports has taken; what standard output has got, and that a write to it failed where that is
+-- told; and how many lines were refused that reading went on after.
+pub record Does {N : Type 0} (notes : N → Report → N → Type 0) (ask : Ask) (r : List ℕ) (at_end : Type 0) (told : Told) (old new : Channel) (n m : N) : Type 0 where
+  pub outcome : Outcome
+  pub refused : List Report
+  pub account : Account (run_of ask r outcome) at_end
+  pub reported : AreReported notes (run_of ask r outcome) refused n m
+  pub answers : Answers ask r at_end outcome refused told.end old new
+  pub cause : told.end ≡ WriteFault → HasRisen old.failures new.failures
+  pub count : told.refused ≡ length refused
+
+-- What is asked was done with bytes r that were read: the account of the run over them, and its reports, of which there are
+-- none unless it is told to go on; what standard output has got, and that a write to it failed where that is told; what the
+-- flush answered, and standard error has got: the lines of the reports, and then that of the end; and the status.
 pub record Performs (ask : Ask) (r : List ℕ) (at_end : Type 0) (answer : ℕ) (old new : Channels) : Type 0 where
   pub outcome : Outcome
+  pub refused : List Report
   pub told : End
   pub shown : Shown
   pub account : Account (run_of ask r outcome) at_end
-  pub answers : Answers ask r at_end outcome told old.out new.out
+  pub reported : RunsNoting Collects (run_of ask r outcome) [] refused
+  pub usual : (rules_of_ask ask).options.keep_going ≡ false → refused ≡ []
+  pub answers : Answers ask r at_end outcome refused told old.out new.out
   pub cause : told ≡ WriteFault → HasRisen old.out.failures new.out.failures
-  pub reports : Reports told new.out.flushed shown old.err new.err
-  pub status : answer ≡ status_of shown.end
+  pub reports : Reports told (report_lines refused) new.out.flushed shown old.err new.err
+  pub status : answer ≡ status_after (length refused) shown.end
 
 -- ---- other words
 
@@ -108,7 +135,7 @@ pub record TellsHelp (answer : ℕ) (old new : Channels) : Type 0 where
   pub told : End
   pub shown : Shown
   pub says : Says text Complete told old.out new.out
-  pub reports : Reports told new.out.flushed shown old.err new.err
+  pub reports : Reports told [] new.out.flushed shown old.err new.err
   pub status : answer ≡ status_of shown.end
 
 -- standard error has got all of this line, or a prefix of it where it failed; and the answer is the status that is due

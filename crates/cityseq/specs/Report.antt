@@ -1,5 +1,5 @@
 -- What the program says of an end.
-use Rattle.std.specs.Prelude.{◌≡◌, ℕ, List, [], ◌∷◌, Option, Some, Result, Ok, Err, OnOk, OnErr, codes, decimal}
+use Rattle.std.specs.Prelude.{◌≡◌, ℕ, zero, suc, List, [], ◌∷◌, ◌++◌, Option, Some, Result, Ok, Err, OnOk, OnErr, codes, decimal}
 use Rattle.std.specs.Io.KnownBytes.{Appends}
 use Rattle.cj_stream.specs.Cut.{joined}
 use Rattle.cj_stream.specs.Output.{Channel}
@@ -22,6 +22,16 @@ status_of ReadFault = 3
 status_of ReadLimit = 3
 status_of WriteFault = 4
 status_of Memory = 5
+
+-- the status after a run that went on after so many refused lines, and of which this end is shown
+abbrev pub status_after : ℕ → End → ℕ
+status_after zero e = status_of e
+status_after (suc n) Complete = 1
+status_after (suc n) (Refused line place reason) = status_of (Refused line place reason)
+status_after (suc n) ReadFault = status_of ReadFault
+status_after (suc n) ReadLimit = status_of ReadLimit
+status_after (suc n) WriteFault = status_of WriteFault
+status_after (suc n) Memory = status_of Memory
 
 -- what stands on standard error: for a refusal its line, place and reason
 abbrev pub fault_line : End → List ℕ
@@ -60,10 +70,16 @@ pub record Wrote (text : List ℕ) (answer : Result (Unit {0}) Unwritten) (old n
   pub front : OnErr answer (AppendsPart old.bytes new.bytes text)
   pub failures : RisesOnErr answer old.failures new.failures
 
+-- a text after others, of which the writes answered so: it was written where they were, and else nothing more was
+abbrev pub WroteAfter : Result (Unit {0}) Unwritten → List ℕ → Result (Unit {0}) Unwritten → Channel → Channel → Type 0
+WroteAfter (Ok x) text answer old new = Wrote text answer old new
+WroteAfter (Err f) text answer old new = (answer ≡ Err f) × (new ≡ old)
+
 -- a run ended so, its output noted this of the flush after it, and this is shown: the run's end, or a write fault where
--- that flush failed; and the line of that end, of which standard error has taken all, or a prefix where it failed
-pub record Reports (e : End) (noted : Option (Result (Unit {0}) Unwritten)) (shown : Shown) (old new : Channel) : Type 0 where
+-- that flush failed; and the line of that end after a text that came before, of which standard error has taken all, or a
+-- prefix where it failed
+pub record Reports (e : End) (before : List ℕ) (noted : Option (Result (Unit {0}) Unwritten)) (shown : Shown) (old new : Channel) : Type 0 where
   pub flushed : Result (Unit {0}) Unwritten
   pub told : noted ≡ Some flushed
   pub end : shown.end ≡ shown_end flushed e
-  pub line : Wrote (fault_line shown.end) shown.line old new
+  pub line : Wrote (before ++ fault_line shown.end) shown.line old new

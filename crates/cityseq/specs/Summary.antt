@@ -1,5 +1,5 @@
 -- What `check` and `info` say of a stream.
-use Rattle.std.specs.Prelude.{ℕ, List, [], ◌∷◌, ◌++◌, Option, Some, None, ℤ, get_or, map, codes, decimal}
+use Rattle.std.specs.Prelude.{ℕ, zero, suc, List, [], ◌∷◌, ◌++◌, Option, Some, None, ℤ, get_or, map, codes, decimal}
 use Rattle.std.specs.Fmt.{signed_decimal}
 use Rattle.std.specs.List.{flat_map}
 use Rattle.cj_budget.specs.declared.limits.Peaks.{Peaks}
@@ -9,9 +9,12 @@ use Rattle.cj_stream.specs.Cut.{joined}
 use Rattle.cj_stream.specs.TallySink.{Tally}
 use Rattle.cityseq.specs.Text.{text_line, count_line, counted}
 
--- what `check` says of a stream of so many lines and features
-abbrev pub check_text : ℕ → ℕ → List ℕ
-check_text lines features = joined (codes "valid lines=" ∷ decimal lines ∷ codes " features=" ∷ decimal features ∷ codes "\n" ∷ [])
+-- what `check` says of a stream of so many lines and features, of which so many lines were refused
+abbrev pub check_text : ℕ → ℕ → ℕ → List ℕ
+check_text lines features zero =
+    joined (codes "valid lines=" ∷ decimal lines ∷ codes " features=" ∷ decimal features ∷ codes "\n" ∷ [])
+check_text lines features (suc n) =
+    joined (codes "invalid lines=" ∷ decimal lines ∷ codes " features=" ∷ decimal features ∷ codes " refused=" ∷ decimal (suc n) ∷ codes "\n" ∷ [])
 
 -- ---- what `info` says
 

@@ -73,6 +73,8 @@ UndergroundRow = report 13 underground (record { bytes = 18446744073709551615; t
     ∷ codes "peak open 64\n"
     ∷ [])
 
--- what `check` says of two lines, the second a feature
+-- what `check` says of two lines, the second a feature; and of four, of which two are features, and one was refused
 abbrev pub CheckRow : Type 0
-CheckRow = check_text 2 1 ≡ codes "valid lines=2 features=1\n"
+CheckRow =
+    (check_text 2 1 0 ≡ codes "valid lines=2 features=1\n")
+    × (check_text 4 2 1 ≡ codes "invalid lines=4 features=2 refused=1\n")

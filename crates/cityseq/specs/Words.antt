@@ -1,8 +1,9 @@
 -- What the words of a command line say, as `clap` found it.
-use Rattle.std.specs.Prelude.{◌≡◌, ℕ, ◌<◌, ◌^◌, List, Some, None, Ok, codes, decimal}
+use Rattle.std.specs.Prelude.{◌≡◌, ℕ, ◌<◌, ◌^◌, List, Bool, true, false, Some, None, Ok, codes, decimal}
 use Rattle.clap.specs.Words.{found_of, first_value, one_text}
 use Rattle.clap.specs.declared.parser.matches.ArgMatches.{ArgMatches}
 use Rattle.cj_budget.specs.Limits.{LimitPair}
+use Rattle.cj_stream.specs.Options.{OptionSet}
 use Rattle.cj_stream.specs.Query.{criteria}
 use Rattle.cj_stream.specs.declared.query.fault.QueryFault.{QueryFault}
 use Rattle.cityseq.specs.Options.{Texts, criteria_by, RefusesBy}
@@ -28,11 +29,33 @@ pub record HasLimits (m : ArgMatches) (limits : LimitPair) : Type 0 where
   pub line : HasNumber m (codes "line-limit") 8388608 limits.line
   pub depth : HasNumber m (codes "depth") 64 limits.depth
 
+-- an option without a text is given, or not
+pub record HasFlag (m : ArgMatches) (option : List ℕ) (given : Bool) : Type 0 where
+  pub none : one_text (found_of m) option ≡ None → given ≡ false
+  pub yes : one_text (found_of m) option ≡ Some (codes "true") → given ≡ true
+  pub no : one_text (found_of m) option ≡ Some (codes "false") → given ≡ false
+
+-- the options of each command that it was given, and none that it does not take
+pub record HasCheckOptions (m : ArgMatches) (options : OptionSet) : Type 0 where
+  pub keep_going : HasFlag m (codes "keep-going") options.keep_going
+  pub tree : HasFlag m (codes "tree") options.tree
+  pub exclude : options.exclude ≡ false
+
+pub record HasFilterOptions (m : ArgMatches) (options : OptionSet) : Type 0 where
+  pub keep_going : HasFlag m (codes "keep-going") options.keep_going
+  pub tree : HasFlag m (codes "tree") options.tree
+  pub exclude : HasFlag m (codes "exclude") options.exclude
+
+pub record HasInfoOptions (m : ArgMatches) (options : OptionSet) : Type 0 where
+  pub tree : HasFlag m (codes "tree") options.tree
+  pub keep_going : options.keep_going ≡ false
+  pub exclude : options.exclude ≡ false
+
 -- a command of this name with these options asks for this
 abbrev pub AsksBy : List ℕ → ArgMatches → Ask → Type 0
-AsksBy name m (Check limits) = (name ≡ codes "check") × HasLimits m limits
-AsksBy name m (Filter limits query) = (name ≡ codes "filter") × HasLimits m limits × (criteria_by (texts_in m) ≡ Ok (criteria query))
-AsksBy name m (Info limits) = (name ≡ codes "info") × HasLimits m limits
+AsksBy name m (Check limits options) = (name ≡ codes "check") × HasLimits m limits × HasCheckOptions m options
+AsksBy name m (Filter limits query options) = (name ≡ codes "filter") × HasLimits m limits × (criteria_by (texts_in m) ≡ Ok (criteria query)) × HasFilterOptions m options
+AsksBy name m (Info limits options) = (name ≡ codes "info") × HasLimits m limits × HasInfoOptions m options
 
 -- a command of this name with these options cannot be asked: it is `filter`, and this is the first refusal of its texts
 abbrev pub CannotAsk : List ℕ → ArgMatches → QueryFault → Type 0

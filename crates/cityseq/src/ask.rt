@@ -1,15 +1,15 @@
 //! What the program can be asked to do, and how it does it.
 ghost use Rattle.std.specs.Prelude.{◌≡◌, ℕ, List};
 ghost use Rattle.std.specs.Io.KnownBytes.{Consumes, IsAtEnd};
-ghost use Rattle.cj_stream.specs.Run.{Account};
-ghost use Rattle.cj_stream.specs.declared.running.Outcome.{Outcome};
-ghost use Rattle.cj_stream.specs.Output.{output_failures, channel};
-ghost use Rattle.cj_stream.specs.Sink.{HasRisen};
-ghost use Rattle.cityseq.specs.Performed.{all_under, end_of_writing as told_after, run_of, Answers, Performs, SaysCheck, SaysReport};
+ghost use Rattle.cj_stream.specs.Output.{channel};
+ghost use Rattle.cityseq.specs.Performed.{end_of_writing as told_after, Does, Performs, TakesOptions};
 
-use crate::report::{Shown, show, status};
+use crate::report::{show_after, status_after};
+use crate::reporting::WriteReports;
 use crate::summary::{write_check, write_report};
-use cj_stream::{End, IgnoreSink, Limits, Output, Query, TallySink, WriteFault, laws, run};
+use cj_stream::{
+    End, IgnoreSink, Limits, Options, Output, Query, ReportSink, TallySink, WriteFault, laws, run,
+};
 use std::alloc::Global;
 use std::io::{Read, Write};
 
@@ -17,11 +17,18 @@ use std::io::{Read, Write};
 #[derive(Drop)]
 pub enum Ask {
     /// To say whether it is valid under these limits, and how many lines and features it has.
-    Check(Limits),
+    Check(Limits, Options),
     /// To copy the header and the features that satisfy the query.
-    Filter(Limits, Query),
-    /// To report what is in it.
-    Info(Limits),
+    Filter(Limits, Query, Options),
+    /// To report what is in it. Of what is not valid there is no report, so it cannot be told to go on.
+    Info(Limits, Options),
+}
+
+/// What is told of what was asked: the end, and how many lines were refused that reading went on after.
+#[derive(Clone, Copy)]
+struct Told {
+    end: End,
+    refused: u64,
 }
 
 /// The end that is told where a text of our own followed a complete run, by what came of writing it.
@@ -34,74 +41,123 @@ pub fn end_of_writing(written: Result<(), WriteFault>) -> End
     }
 }
 
-/// Judges the stream, and says how many lines and features it has where it is valid.
-fn check<R: Read, W: Write + Drop>(
+/// Judges the stream, and says how many lines and features it has where none is the end.
+fn check<R: Read, W: Write + Drop, N: ReportSink>(
     alloc: Global,
     limits: Limits,
+    options: Options,
     reader: &mut R,
     out: &mut Output<W>,
-) -> End
-    ensures { (r : List ℕ) × (outcome : Outcome) × Consumes (R.remaining reader.old) (R.remaining reader.new) r
-        × Account (run_of (Ask.Check limits) r outcome) (IsAtEnd (R.remaining reader.new))
-        × SaysCheck (all_under limits) r outcome.ended result (channel W.contents out.old) (channel W.contents out.new)
-        × (result ≡ End.WriteFault → HasRisen (output_failures out.old) (output_failures out.new)) }
+    reports: &mut N,
+) -> Told
+    ensures { (r : List ℕ) × Consumes (R.remaining reader.old) (R.remaining reader.new) r
+        × Does N.notes (Ask.Check limits options) r (IsAtEnd (R.remaining reader.new)) result
+        (channel W.contents out.old) (channel W.contents out.new) reports.old reports.new }
 {
     let query = Query::all(alloc);
-    let outcome = run(alloc, reader, &mut IgnoreSink, limits, &query);
+    let outcome = run(
+        alloc,
+        reader,
+        &mut IgnoreSink,
+        reports,
+        limits,
+        &query,
+        options,
+    );
     laws::good_lines_are_kept();
+    laws::reports_are_collected::<W>();
     match outcome.ended {
-        End::Complete => end_of_writing(write_check(out, outcome.lines, outcome.kept)),
-        ended => ended,
+        End::Complete => Told {
+            end: end_of_writing(write_check(out, outcome.lines, outcome.kept, outcome.refused)),
+            refused: outcome.refused,
+        },
+        ended => Told {
+            end: ended,
+            refused: outcome.refused,
+        },
     }
 }
 
 /// Tallies the stream, and reports what is in it where it is valid.
-fn info<R: Read, W: Write + Drop>(
+fn info<R: Read, W: Write + Drop, N: ReportSink>(
     alloc: Global,
     limits: Limits,
+    options: Options,
     reader: &mut R,
     out: &mut Output<W>,
-) -> End
-    ensures { (r : List ℕ) × (outcome : Outcome) × Consumes (R.remaining reader.old) (R.remaining reader.new) r
-        × Account (run_of (Ask.Info limits) r outcome) (IsAtEnd (R.remaining reader.new))
-        × SaysReport (all_under limits) r outcome.ended result (channel W.contents out.old) (channel W.contents out.new)
-        × (result ≡ End.WriteFault → HasRisen (output_failures out.old) (output_failures out.new)) }
+    reports: &mut N,
+) -> Told
+    requires { TakesOptions (Ask.Info limits options) }
+    ensures { (r : List ℕ) × Consumes (R.remaining reader.old) (R.remaining reader.new) r
+        × Does N.notes (Ask.Info limits options) r (IsAtEnd (R.remaining reader.new)) result
+        (channel W.contents out.old) (channel W.contents out.new) reports.old reports.new }
 {
     let query = Query::all(alloc);
     let mut tally = TallySink::new();
-    let outcome = run(alloc, reader, &mut tally, limits, &query);
+    let outcome = run(alloc, reader, &mut tally, reports, limits, &query, options);
     laws::puts_are_tallied();
+    laws::first_invalid_line_is_the_end();
+    laws::reports_are_collected::<W>();
     match outcome.ended {
-        End::Complete => end_of_writing(write_report(out, outcome.lines, &tally, outcome.peaks)),
-        ended => ended,
+        End::Complete => Told {
+            end: end_of_writing(write_report(out, outcome.lines, &tally, outcome.peaks)),
+            refused: outcome.refused,
+        },
+        ended => Told {
+            end: ended,
+            refused: outcome.refused,
+        },
+    }
+}
+
+/// Copies the header and the features of the stream that satisfy the query.
+fn filter<R: Read, W: Write + Drop, N: ReportSink>(
+    alloc: Global,
+    limits: Limits,
+    query: &Query,
+    options: Options,
+    reader: &mut R,
+    out: &mut Output<W>,
+    reports: &mut N,
+) -> Told
+    ensures { (r : List ℕ) × Consumes (R.remaining reader.old) (R.remaining reader.new) r
+        × Does N.notes (Ask.Filter limits query.now options) r (IsAtEnd (R.remaining reader.new)) result
+        (channel W.contents out.old) (channel W.contents out.new) reports.old reports.new }
+{
+    laws::puts_are_written::<W, N>();
+    laws::reports_are_collected::<W>();
+    let outcome = run(alloc, reader, out, reports, limits, query, options);
+    Told {
+        end: outcome.ended,
+        refused: outcome.refused,
     }
 }
 
 /// Does what is asked with what the reader gives, and tells the end.
-fn answer<R: Read, W: Write + Drop>(
+fn answer<R: Read, W: Write + Drop, N: ReportSink>(
     alloc: Global,
     ask: &Ask,
     reader: &mut R,
     out: &mut Output<W>,
-) -> End
-    ensures { (r : List ℕ) × (outcome : Outcome) × Consumes (R.remaining reader.old) (R.remaining reader.new) r
-        × Account (run_of ask.now r outcome) (IsAtEnd (R.remaining reader.new))
-        × Answers ask.now r (IsAtEnd (R.remaining reader.new)) outcome result (channel W.contents out.old)
-        (channel W.contents out.new)
-        × (result ≡ End.WriteFault → HasRisen (output_failures out.old) (output_failures out.new)) }
+    reports: &mut N,
+) -> Told
+    requires { TakesOptions ask.now }
+    ensures { (r : List ℕ) × Consumes (R.remaining reader.old) (R.remaining reader.new) r
+        × Does N.notes ask.now r (IsAtEnd (R.remaining reader.new)) result
+        (channel W.contents out.old) (channel W.contents out.new) reports.old reports.new }
 {
     match ask {
-        Ask::Check(limits) => check(alloc, *limits, reader, out),
-        Ask::Filter(limits, query) => {
-            laws::puts_are_written::<W>();
-            run(alloc, reader, out, *limits, query).ended
+        Ask::Check(limits, options) => check(alloc, *limits, *options, reader, out, reports),
+        Ask::Filter(limits, query, options) => {
+            filter(alloc, *limits, query, *options, reader, out, reports)
         }
-        Ask::Info(limits) => info(alloc, *limits, reader, out),
+        Ask::Info(limits, options) => info(alloc, *limits, *options, reader, out, reports),
     }
 }
 
-/// Does what is asked with what the reader gives, flushes `out`, says on `err` how it ended, and answers
-/// the status. A failure to write to `err` is ignored.
+/// Does what is asked with what the reader gives, flushes `out`, says on `err` which lines were refused that it went on
+/// after, and how it ended, and answers the status. A failure to write to `err` is ignored, but nothing more is written
+/// to it then.
 pub fn perform<R: Read, W: Write + Drop, E: Write + Drop>(
     alloc: Global,
     ask: &Ask,
@@ -109,11 +165,16 @@ pub fn perform<R: Read, W: Write + Drop, E: Write + Drop>(
     out: &mut Output<W>,
     err: &mut Output<E>,
 ) -> u8
+    requires { TakesOptions ask.now }
     ensures { (r : List ℕ) × Consumes (R.remaining reader.old) (R.remaining reader.new) r
         × Performs ask.now r (IsAtEnd (R.remaining reader.new)) result
         (record { out = channel W.contents out.old; err = channel E.contents err.old })
         (record { out = channel W.contents out.new; err = channel E.contents err.new }) }
 {
-    let told = answer(alloc, ask, reader, out);
-    status(show(out.flush(), told, err).end)
+    laws::first_invalid_line_is_the_end();
+    let mut reports = WriteReports::new(err);
+    let told = answer(alloc, ask, reader, out, &mut reports);
+    let reported = reports.written();
+    let shown = show_after(reported, out.flush(), told.end, err);
+    status_after(told.refused, shown.end)
 }

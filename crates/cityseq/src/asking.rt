@@ -7,11 +7,13 @@ ghost use Rattle.cj_stream.specs.Query.{criteria};
 ghost use Rattle.cj_stream.specs.declared.query.fault.QueryFault.{QueryFault};
 ghost use Rattle.cj_stream.specs.declared.query.fault.QueryFault.TheVariants.{Memory, UnknownTypeName};
 ghost use Rattle.cityseq.specs.Options.{criteria_by, flags_with, texts_of, RefusesBy};
-ghost use Rattle.cityseq.specs.Performed.{MayDecline};
+ghost use Rattle.cityseq.specs.Performed.{MayDecline, TakesOptions};
 ghost use Rattle.cityseq.specs.Words.{AsksBy, CannotAsk};
 
 use crate::ask::Ask;
-use crate::words::{QueryTexts, limits_of, read_words, texts_of};
+use crate::words::{
+    QueryTexts, check_options, filter_options, info_options, limits_of, read_words, texts_of,
+};
 use cj_budget::LimitFault;
 use cj_stream::{Query, QueryFault};
 use clap::{ArgMatches, Error};
@@ -37,6 +39,7 @@ pub enum NoAsk {
 /// Why nothing is to be done with the stream.
 pub fn read_ask(alloc: Global, words: &[String]) -> Result<Ask, NoAsk>
     ensures ok { IfOk result (λ ask. (name : List ℕ) × (options : ArgMatches) × AsksBy name options ask) }
+    ensures takes { IfOk result TakesOptions }
     ensures err { IfErr result MayDecline }
 {
     let matches = match read_words(alloc, words) {
@@ -52,6 +55,7 @@ pub fn read_ask(alloc: Global, words: &[String]) -> Result<Ask, NoAsk>
 /// What a command with these options asks for.
 fn ask_of(alloc: Global, name: &str, options: &ArgMatches) -> Result<Ask, NoAsk>
     ensures ok { IfOk result (λ ask. AsksBy name.now options.now ask) }
+    ensures takes { IfOk result TakesOptions }
     ensures err { (fault : QueryFault) → IsErrOf result (NoAsk.Query fault) → CannotAsk name.now options.now fault }
 {
     let limits = match limits_of(options) {
@@ -59,12 +63,12 @@ fn ask_of(alloc: Global, name: &str, options: &ArgMatches) -> Result<Ask, NoAsk>
         Err(fault) => return Err(NoAsk::Limits(fault)),
     };
     match name {
-        "check" => Ok(Ask::Check(limits)),
+        "check" => Ok(Ask::Check(limits, check_options(options))),
         "filter" => match query_of(alloc, &texts_of(options)) {
-            Ok(query) => Ok(Ask::Filter(limits, query)),
+            Ok(query) => Ok(Ask::Filter(limits, query, filter_options(options))),
             Err(fault) => Err(NoAsk::Query(fault)),
         },
-        "info" => Ok(Ask::Info(limits)),
+        "info" => Ok(Ask::Info(limits, info_options(options))),
         _ => Err(NoAsk::NoCommand),
     }
 }

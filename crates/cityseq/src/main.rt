@@ -10,6 +10,7 @@
 //! - `ask` does what is asked, by the engine of `cj_stream`, over standard input and output;
 //! - `summary` writes what `check` and `info` say of a stream;
 //! - `decline` tells why nothing is done: help, wrong words, or a query that cannot be asked;
+//! - `reporting` has the sink that writes reports of refused lines to standard error as they come;
 //! - `report` has the lines that standard error is told, and the statuses.
 //!
 //! `option_laws`, `summary_laws` and `end_laws` are worked rows of the definitions, as theorems.
@@ -22,6 +23,7 @@ mod decline;
 mod end_laws;
 mod option_laws;
 mod report;
+mod reporting;
 mod summary;
 mod summary_laws;
 #[cfg(test)]

@@ -1,17 +1,17 @@
-//! What the program says of an end: a line on standard error, and its status.
+//! What the program says of an end and of a refused line: a line on standard error, and the status.
 ghost use Rattle.std.specs.Prelude.{◌≡◌, OnOk, OnErr, map, ◌∷◌, [], codes, decimal};
 ghost use Rattle.std.specs.Io.KnownBytes.{Appends};
 ghost use Rattle.cj_stream.specs.Cut.{joined};
 ghost use Rattle.cj_stream.specs.Sink.{AppendsPart, RisesOnErr};
 ghost use Rattle.cj_stream.specs.Output.{channel, output_writer, output_failures};
-ghost use Rattle.cityseq.specs.Report.{Wrote, fault_line, query_line, shown_end, status_of, status_of_query};
+ghost use Rattle.cityseq.specs.Report.{Wrote, WroteAfter, fault_line, query_line, shown_end, status_of, status_after as due_after, status_of_query};
 
 use cj_spans::Reason;
 use cj_stream::{End, Output, QueryFault, WriteFault};
 use itoa::Buffer;
 use std::io::Write;
 
-/// The status of a command line that is not understood. All others are those of an end: [`status`].
+/// The status of a command line that is not understood. All others are those of an end: [`status_after`].
 pub const WRONG_WORDS: u8 = 2;
 
 /// What was shown of a run: its end, and whether standard error took the line of it.
@@ -19,7 +19,7 @@ pub const WRONG_WORDS: u8 = 2;
 pub struct Shown {
     /// The run's end, or a write fault where the flush after it failed.
     pub end: End,
-    /// Whether the line of the end was written.
+    /// Whether the line of the end was written, and all that was told before it.
     pub line: Result<(), WriteFault>,
 }
 
@@ -33,6 +33,16 @@ pub fn status(end: End) -> u8
         End::ReadFault | End::ReadLimit => 3,
         End::WriteFault => 4,
         End::Memory => 5,
+    }
+}
+
+/// The status of the program after a run that went on after so many refused lines: no success, if there were some.
+pub fn status_after(refused: u64, end: End) -> u8
+    ensures { result ≡ due_after refused end }
+{
+    match end {
+        End::Complete if refused > 0 => 1,
+        end => status(end),
     }
 }
 
@@ -78,7 +88,7 @@ pub fn write_parts<W: Write + Drop>(out: &mut Output<W>, parts: &[&str]) -> Resu
 }
 
 /// Writes what is told of a line that is refused.
-fn write_refusal<E: Write + Drop>(
+pub fn write_refusal<E: Write + Drop>(
     err: &mut Output<E>,
     line: u64,
     place: u64,
@@ -157,5 +167,26 @@ pub fn show<E: Write + Drop>(
     Shown {
         end,
         line: write_fault_line(err, end),
+    }
+}
+
+/// Says on standard error how a run ended, as [`show`] does, behind reports that were written with this answer: where one of
+/// them was not written whole, nothing more is.
+pub fn show_after<E: Write + Drop>(
+    reported: Result<(), WriteFault>,
+    flushed: Result<(), WriteFault>,
+    ended: End,
+    err: &mut Output<E>,
+) -> Shown
+    ensures end { result.end ≡ shown_end flushed ended }
+    ensures line { WroteAfter reported (fault_line result.end) result.line (channel E.contents err.old)
+        (channel E.contents err.new) }
+{
+    match reported {
+        Ok(()) => show(flushed, ended, err),
+        Err(WriteFault) => Shown {
+            end: end_after(flushed, ended),
+            line: Err(WriteFault),
+        },
     }
 }

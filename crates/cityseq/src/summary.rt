@@ -1,5 +1,5 @@
 //! What `check` and `info` write of a valid stream.
-ghost use Rattle.std.specs.Prelude.{◌≡◌, ◌≤◌, OnOk, OnErr, get_or, map, ◌∷◌, []};
+ghost use Rattle.std.specs.Prelude.{◌≡◌, ◌≤◌, ◌<◌, OnOk, OnErr, get_or, map, ◌∷◌, []};
 ghost use Rattle.std.specs.Io.KnownBytes.{Appends};
 ghost use Rattle.cj_stream.specs.Sink.{AppendsPart, RisesOnErr};
 ghost use Rattle.cj_stream.specs.Output.{channel, output_writer, output_failures};
@@ -18,7 +18,8 @@ use std::io::Write;
 /// How many classes of LoDs a tally has.
 const CLASSES: u8 = 6;
 
-/// Writes what `check` says: how many lines were dealt with, and how many features are among them.
+/// Writes what `check` says: how many lines were dealt with, how many features are among them, and how many lines that
+/// are refused, if there are some.
 ///
 /// # Errors
 ///
@@ -27,14 +28,30 @@ pub fn write_check<W: Write + Drop>(
     out: &mut Output<W>,
     lines: u64,
     features: u64,
+    refused: u64,
 ) -> Result<(), WriteFault>
     ensures ok { OnOk result
         (Appends (W.contents (output_writer out.old)) (W.contents (output_writer out.new))
-        (check_text lines features)) }
+        (check_text lines features refused)) }
     ensures fault { OnErr result
         (AppendsPart (W.contents (output_writer out.old)) (W.contents (output_writer out.new))
-        (check_text lines features)) }
+        (check_text lines features refused)) }
     ensures failures { RisesOnErr result (output_failures out.old) (output_failures out.new) }
+{
+    if refused == 0 {
+        write_valid(out, lines, features)
+    } else {
+        write_invalid(out, lines, features, refused)
+    }
+}
+
+/// Writes how many lines and features a stream has of which no line is refused.
+fn write_valid<W: Write + Drop>(
+    out: &mut Output<W>,
+    lines: u64,
+    features: u64,
+) -> Result<(), WriteFault>
+    ensures { Wrote (check_text lines features 0) result (channel W.contents out.old) (channel W.contents out.new) }
 {
     let mut line_digits = Buffer::new();
     let mut feature_digits = Buffer::new();
@@ -43,6 +60,32 @@ pub fn write_check<W: Write + Drop>(
         line_digits.format(lines),
         " features=",
         feature_digits.format(features),
+        "\n",
+    ];
+    write_parts(out, &parts)
+}
+
+/// Writes how many lines and features a stream has, and how many of its lines are refused.
+fn write_invalid<W: Write + Drop>(
+    out: &mut Output<W>,
+    lines: u64,
+    features: u64,
+    refused: u64,
+) -> Result<(), WriteFault>
+    requires { 0 < refused }
+    ensures { Wrote (check_text lines features refused) result
+        (channel W.contents out.old) (channel W.contents out.new) }
+{
+    let mut line_digits = Buffer::new();
+    let mut feature_digits = Buffer::new();
+    let mut refused_digits = Buffer::new();
+    let parts = [
+        "invalid lines=",
+        line_digits.format(lines),
+        " features=",
+        feature_digits.format(features),
+        " refused=",
+        refused_digits.format(refused),
         "\n",
     ];
     write_parts(out, &parts)

@@ -1,10 +1,11 @@
 //! The words of the command line, read by `clap`: the help, and the limits and the texts that options give.
 ghost use Rattle.std.specs.Prelude.{◌≡◌, IfOk, decimal};
 ghost use Rattle.cityseq.specs.Options.{texts_of as texts_given};
-ghost use Rattle.cityseq.specs.Words.{texts_in, HasNumber, HasLimits};
+ghost use Rattle.cityseq.specs.Words.{texts_in, HasNumber, HasLimits, HasFlag, HasCheckOptions, HasFilterOptions, HasInfoOptions};
 
 use cj_budget::{LimitFault, Limits, USUAL_DEPTH, USUAL_LINE};
-use clap::{Arg, ArgMatches, Command, Error, value_parser};
+use cj_stream::Options;
+use clap::{Arg, ArgAction, ArgMatches, Command, Error, value_parser};
 use std::alloc::{AllocError, Global};
 
 /// As `--version` tells it.
@@ -23,12 +24,18 @@ const LODS: &str = "lod";
 
 const BBOX: &str = "bbox";
 
+const KEEP_GOING: &str = "keep-going";
+
+const TREE: &str = "tree";
+
+const EXCLUDE: &str = "exclude";
+
 /// What follows the help on the program.
 const STATUSES: &str = "\
 Exit status:
   0  the stream is valid up to its end
   1  a line is not valid: standard error tells its number (from 1), the byte in it (from 0), and
-     the code and the words of the reason
+     the code and the words of the reason; with --keep-going it tells each such line
   2  the command line is wrong
   3  a read failed
   4  a write failed
@@ -39,20 +46,26 @@ line. docs/RULES.md explains each reason, and docs/GUIDE.md shows the program at
 
 /// What follows the help on a command.
 const CHECK_EXAMPLE: &str = "\
-Example:
+Examples:
   cityseq check < town.city.jsonl
+  cityseq check --keep-going < town.city.jsonl 2> invalid-lines.txt
 
 Writes 'valid lines=N features=M' where the whole stream is valid, and nothing otherwise: then one
-line on standard error says where it is wrong. See 'cityseq --help' for the exit status.";
+line on standard error says where it is wrong. With --keep-going each line that is not valid has one
+there, and 'invalid lines=N features=M refused=R' is written of a stream that has R of them; only a
+first line that is not valid ends the run. See 'cityseq --help' for the exit status.";
 
 const FILTER_EXAMPLE: &str = "\
 Examples:
   cityseq filter --type Building,BuildingPart --lod 2.2 < town.city.jsonl > buildings.city.jsonl
   zcat town.city.jsonl.gz | cityseq filter --bbox=-5,0,5000,5000 | gzip > part.city.jsonl.gz
+  cityseq filter --keep-going < town.city.jsonl > good.city.jsonl 2> invalid-lines.txt
 
-Kept lines leave byte for byte, in order. A feature is kept if it meets each option that is given;
-without options all are kept. The run stops at the first line that is not valid, with what was kept
-before it written. See 'cityseq --help' for the exit status.";
+Kept lines leave byte for byte, in order. A feature is kept if it meets each of the last four options
+that is given, or, with --exclude, if it does not; without these four all meet them. The run stops at
+the first line that is not valid, with what was kept before it written. With --keep-going it stops at
+the first line of the stream alone, and leaves out each later one that is not valid. See
+'cityseq --help' for the exit status.";
 
 const INFO_EXAMPLE: &str = "\
 Example:
@@ -94,6 +107,32 @@ fn with_limits(command: Command<'_>, alloc: Global) -> Result<Command<'_>, Alloc
     command.arg(line)?.arg(depth)
 }
 
+/// An option that is given or not, and takes no text.
+fn flag<'a>(alloc: Global, name: &'a str, help: &'a str) -> Arg<'a> {
+    Arg::new(alloc, name)
+        .long(name)
+        .action(ArgAction::SetTrue)
+        .help(help)
+}
+
+/// The option to go on after invalid lines.
+fn keep_going<'a>(alloc: Global) -> Arg<'a> {
+    flag(
+        alloc,
+        KEEP_GOING,
+        "Report each line that is not valid, and go on with the next",
+    )
+}
+
+/// The option to ask for trees of city objects.
+fn tree<'a>(alloc: Global) -> Arg<'a> {
+    flag(
+        alloc,
+        TREE,
+        "Refuse a feature of which a city object is not reached from the main one",
+    )
+}
+
 /// An option of a query, which takes a text.
 fn query_option<'a>(alloc: Global, name: &'a str, value: &'a str, help: &'a str) -> Arg<'a> {
     Arg::new(alloc, name)
@@ -106,7 +145,9 @@ fn check_command<'a>(alloc: Global) -> Result<Command<'a>, AllocError> {
     let command = Command::new(alloc, "check")
         .about("Say whether a stream is valid, and count its lines and features")
         .after_help(CHECK_EXAMPLE);
-    with_limits(command, alloc)
+    with_limits(command, alloc)?
+        .arg(keep_going(alloc))?
+        .arg(tree(alloc))
 }
 
 fn filter_command<'a>(alloc: Global) -> Result<Command<'a>, AllocError> {
@@ -114,6 +155,13 @@ fn filter_command<'a>(alloc: Global) -> Result<Command<'a>, AllocError> {
         .about("Copy the header and the features that are wanted")
         .after_help(FILTER_EXAMPLE);
     with_limits(command, alloc)?
+        .arg(keep_going(alloc))?
+        .arg(tree(alloc))?
+        .arg(flag(
+            alloc,
+            EXCLUDE,
+            "Keep the features that do not meet the options below, instead of those that do",
+        ))?
         .arg(query_option(
             alloc,
             IDS,
@@ -144,7 +192,7 @@ fn info_command<'a>(alloc: Global) -> Result<Command<'a>, AllocError> {
     let command = Command::new(alloc, "info")
         .about("Report what is in a stream: types, LoDs, extent, and memory")
         .after_help(INFO_EXAMPLE);
-    with_limits(command, alloc)
+    with_limits(command, alloc)?.arg(tree(alloc))
 }
 
 /// What `clap` knows of the command line: the program with its commands, their options and all help.
@@ -189,6 +237,41 @@ pub fn limits_of(matches: &ArgMatches) -> Result<Limits, LimitFault>
     let line = number_of(matches, LINE_LIMIT, USUAL_LINE);
     let depth = number_of(matches, DEPTH, USUAL_DEPTH);
     Limits::new(line, depth)
+}
+
+/// Whether an option that takes no text was given.
+fn has_flag(matches: &ArgMatches, option: &str) -> bool
+    ensures { HasFlag matches.now option.now result }
+{
+    matches.get_flag(option)
+}
+
+/// The options that all commands have.
+fn common_options(matches: &ArgMatches) -> Options
+    ensures { HasInfoOptions matches.now result }
+{
+    Options::new().tree(has_flag(matches, TREE))
+}
+
+/// The options that `check` was given.
+pub fn check_options(matches: &ArgMatches) -> Options
+    ensures { HasCheckOptions matches.now result }
+{
+    common_options(matches).keep_going(has_flag(matches, KEEP_GOING))
+}
+
+/// The options that `filter` was given.
+pub fn filter_options(matches: &ArgMatches) -> Options
+    ensures { HasFilterOptions matches.now result }
+{
+    check_options(matches).exclude(has_flag(matches, EXCLUDE))
+}
+
+/// The options that `info` was given.
+pub fn info_options(matches: &ArgMatches) -> Options
+    ensures { HasInfoOptions matches.now result }
+{
+    common_options(matches)
 }
 
 /// The texts of the options of a query, as they were given. Where there are commas, what stands between two of

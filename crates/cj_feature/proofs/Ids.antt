@@ -21,7 +21,7 @@ by-tests id true true h e = refl
 by-tests id true false h e = absurd (cc h)
 by-tests id false known h e = absurd (cc e)
 
-module _ (templates : Given) (t : Tree) (valid : of_kind is_object (feature_rules templates) t ≡ []) (id : Tree) (is : member_of (chars (codes "id")) t ≡ Some id) where
+module _ (templates : Given) (t : Tree) (valid : of_kind is_object (feature_rules templates false) t ≡ []) (id : Tree) (is : member_of (chars (codes "id")) t ≡ Some id) where
   not-unknown : id_in (member_of (chars (codes "CityObjects")) t) id ≡ []
   not-unknown =
       let rule = id_in (member_of (chars (codes "CityObjects")) t) in

@@ -21,16 +21,16 @@ use Rattle.cj_feature.specs.Relations.{IsIn, IsListed, Lists, IsLinkFault, child
 
 -- ---- elements
 
-here : {X : Type 0} (x : X) (xs : List X) → Contains (x ∷ xs) x
+pub here : {X : Type 0} (x : X) (xs : List X) → Contains (x ∷ xs) x
 here x xs = (0, omega arith, refl)
 
-there : {X : Type 0} (y : X) (xs : List X) (x : X) → Contains xs x → Contains (y ∷ xs) x
+pub there : {X : Type 0} (y : X) (xs : List X) (x : X) → Contains xs x → Contains (y ∷ xs) x
 there y xs x h = (suc h.0, omega (arith, h.1), h.2)
 
-nowhere : {X : Type 0} (x : X) → Contains [] x → ⊥
+pub nowhere : {X : Type 0} (x : X) → Contains [] x → ⊥
 nowhere x h = omega (arith, h.1)
 
-first-or : {X : Type 0} (y : X) (xs : List X) (x : X) → Contains (y ∷ xs) x → (y ≡ x) ⊎ Contains xs x
+pub first-or : {X : Type 0} (y : X) (xs : List X) (x : X) → Contains (y ∷ xs) x → (y ≡ x) ⊎ Contains xs x
 first-or y xs x h = go h.0 h.1 h.2
   where
     go : (k : ℕ) → k < suc (length xs) → get_or (y ∷ xs) k x ≡ x → (y ≡ x) ⊎ Contains xs x
@@ -38,14 +38,14 @@ first-or y xs x h = go h.0 h.1 h.2
     go (suc k) lt e = inr (k, omega arith, e)
 
 -- one element alone
-alone : {X : Type 0} (y x : X) → Contains (y ∷ []) x → y ≡ x
+pub alone : {X : Type 0} (y x : X) → Contains (y ∷ []) x → y ≡ x
 alone y x h = go (first-or y [] x h)
   where
     go : (y ≡ x) ⊎ Contains [] x → y ≡ x
     go (inl e) = e
     go (inr n) = absurd (nowhere x n)
 
-from-flat_map : {X A : Type 0} (g : X → List A) (xs : List X) (a : A) → Contains (flat_map g xs) a → (x : X) × Contains xs x × Contains (g x) a
+pub from-flat_map : {X A : Type 0} (g : X → List A) (xs : List X) (a : A) → Contains (flat_map g xs) a → (x : X) × Contains xs x × Contains (g x) a
 from-flat_map g [] a h = absurd (nowhere a h)
 from-flat_map {X = X} g (y ∷ xs) a h = go (Contains-append_cases (g y) (flat_map g xs) a h) (from-flat_map g xs a)
   where
@@ -53,7 +53,7 @@ from-flat_map {X = X} g (y ∷ xs) a h = go (Contains-append_cases (g y) (flat_m
     go (inl k) later = (y, here y xs, k)
     go (inr k) later = let r = later k in (r.0, there y xs r.0 r.1, r.2)
 
-to-flat_map : {X A : Type 0} (g : X → List A) (xs : List X) (a : A) (x : X) → Contains xs x → Contains (g x) a → Contains (flat_map g xs) a
+pub to-flat_map : {X A : Type 0} (g : X → List A) (xs : List X) (a : A) (x : X) → Contains xs x → Contains (g x) a → Contains (flat_map g xs) a
 to-flat_map g [] a x h k = absurd (nowhere x h)
 to-flat_map g (y ∷ xs) a x h k = go (first-or y xs x h) (λ r. to-flat_map g xs a x r k)
   where
@@ -66,11 +66,11 @@ to-flat_map g (y ∷ xs) a x h k = go (first-or y xs x h) (λ r. to-flat_map g x
 false-not : (b : Bool) → b ≡ false → b ≡ true → ⊥
 false-not b f t = cc
 
-from-and : (a b : Bool) → a && b ≡ true → (a ≡ true) × (b ≡ true)
+pub from-and : (a b : Bool) → a && b ≡ true → (a ≡ true) × (b ≡ true)
 from-and true b h = (refl, h)
 from-and false b h = cc
 
-from-any : {X : Type 0} (p : X → Bool) (xs : List X) → list_any p xs ≡ true → (x : X) × Contains xs x × (p x ≡ true)
+pub from-any : {X : Type 0} (p : X → Bool) (xs : List X) → list_any p xs ≡ true → (x : X) × Contains xs x × (p x ≡ true)
 from-any p [] h = absurd (false-not false refl h)
 from-any {X = X} p (y ∷ xs) h = go (p y) refl h (from-any p xs)
   where
@@ -78,7 +78,7 @@ from-any {X = X} p (y ∷ xs) h = go (p y) refl h (from-any p xs)
     go true e h later = (y, here y xs, e)
     go false e h later = let r = later h in (r.0, there y xs r.0 r.1, r.2)
 
-to-any : {X : Type 0} (p : X → Bool) (xs : List X) (x : X) → Contains xs x → p x ≡ true → list_any p xs ≡ true
+pub to-any : {X : Type 0} (p : X → Bool) (xs : List X) (x : X) → Contains xs x → p x ≡ true → list_any p xs ≡ true
 to-any p [] x h k = absurd (nowhere x h)
 to-any p (y ∷ xs) x h k = go (first-or y xs x h) (λ r. to-any p xs x r k)
   where
@@ -91,7 +91,7 @@ to-any p (y ∷ xs) x h k = go (first-or y xs x h) (λ r. to-any p xs x r k)
     go (inr r) later = step (p y) (later r)
 
 -- a test that would say more than is so answers false
-not-so : (b : Bool) → (b ≡ true → ⊥) → b ≡ false
+pub not-so : (b : Bool) → (b ≡ true → ⊥) → b ≡ false
 not-so true h = absurd (h refl)
 not-so false h = refl
 
@@ -102,16 +102,16 @@ from-texts None p h = cc
 from-texts (Some s) None h = cc
 from-texts (Some s) (Some t) h = (s, refl, ap (λ z. Some z) (sym ((bytes_decides s t).0 h)))
 
-to-texts : (o p : Option (List ℕ)) (t : List ℕ) → o ≡ Some t → p ≡ Some t → are_same_texts o p ≡ true
+pub to-texts : (o p : Option (List ℕ)) (t : List ℕ) → o ≡ Some t → p ≡ Some t → are_same_texts o p ≡ true
 to-texts o p t h k = rw (h, k) ((bytes_decides t t).1 refl)
 
 -- a text of the one is the text of the other
-carried : (t u : Tree) (b : List ℕ) → same_text t u ≡ true → text_of u ≡ Some b → text_of t ≡ Some b
+pub carried : (t u : Tree) (b : List ℕ) → same_text t u ≡ true → text_of u ≡ Some b → text_of t ≡ Some b
 carried t u b h k =
     let r = from-texts (text_of t) (text_of u) h in
     r.1 ∙ (sym r.2 ∙ k)
 
-text-kind : (t : Tree) (b : List ℕ) → text_of t ≡ Some b → is_text (kind_of t) ≡ true
+pub text-kind : (t : Tree) (b : List ℕ) → text_of t ≡ Some b → is_text (kind_of t) ≡ true
 text-kind (scalar Null a) b h = cc
 text-kind (scalar Truth a) b h = cc
 text-kind (scalar Number a) b h = cc
@@ -121,7 +121,7 @@ text-kind (scalar Object a) b h = cc
 text-kind (array i j ts) b h = cc
 text-kind (object i j ms) b h = cc
 
-kind-text : (t : Tree) → is_text (kind_of t) ≡ true → (b : List ℕ) × (text_of t ≡ Some b)
+pub kind-text : (t : Tree) → is_text (kind_of t) ≡ true → (b : List ℕ) × (text_of t ≡ Some b)
 kind-text (scalar Null a) h = cc
 kind-text (scalar Truth a) h = cc
 kind-text (scalar Number a) h = cc
@@ -132,7 +132,7 @@ kind-text (array i j ts) h = cc
 kind-text (object i j ms) h = cc
 
 -- each name has a text
-member-text : (ms : Members) (m : Tree × Tree) → Contains (list_members ms) m → (x : List ℕ) × (text_of m.0 ≡ Some x)
+pub member-text : (ms : Members) (m : Tree × Tree) → Contains (list_members ms) m → (x : List ℕ) × (text_of m.0 ≡ Some x)
 member-text no_members m h = absurd (nowhere m h)
 member-text (member n u ms) m h = go (first-or (scalar Text n, u) (list_members ms) m h) (member-text ms m)
   where
@@ -140,7 +140,7 @@ member-text (member n u ms) m h = go (first-or (scalar Text n, u) (list_members 
     go (inl e) later = (text n.spelling, ap (λ z. text_of z.0) (sym e))
     go (inr k) later = later k
 
-names-text : (t : Tree) (m : Tree × Tree) → Contains (members_of t) m → (x : List ℕ) × (text_of m.0 ≡ Some x)
+pub names-text : (t : Tree) (m : Tree × Tree) → Contains (members_of t) m → (x : List ℕ) × (text_of m.0 ≡ Some x)
 names-text (scalar k a) m h = absurd (nowhere m h)
 names-text (array i j ts) m h = absurd (nowhere m h)
 names-text (object i j ms) m h = member-text ms m h
@@ -153,7 +153,7 @@ module _ (objects : List (Tree × Tree)) where
       let r = from-any (λ m. same_text m.0 id) objects h in
       record { object = r.0; held = r.1; named = carried r.0.0 id b r.2 t }
 
-  to-known : (id : Tree) (b : List ℕ) → text_of id ≡ Some b → IsIn objects b → is_known objects id ≡ true
+  pub to-known : (id : Tree) (b : List ℕ) → text_of id ≡ Some b → IsIn objects b → is_known objects id ≡ true
   to-known id b t h = to-any (λ m. same_text m.0 id) objects h.object h.held (to-texts (text_of h.object.0) (text_of id) b h.named t)
 
   -- what is no text is no id
@@ -162,7 +162,7 @@ module _ (objects : List (Tree × Tree)) where
       let r = from-any (λ m. same_text m.0 id) objects h in
       let t = from-texts (text_of r.0.0) (text_of id) r.2 in (t.0, t.2)
 
-  from-listed : (list : List ℕ) (o item : Tree) → Contains (listed_in list o) item → IsListed list o item
+  pub from-listed : (list : List ℕ) (o item : Tree) → Contains (listed_in list o) item → IsListed list o item
   from-listed list o item h = go (member_of list o) refl h
     where
       held : (t : Tree) → member_of list o ≡ Some t → Contains (items_of t) item → IsListed list o item
@@ -174,7 +174,7 @@ module _ (objects : List (Tree × Tree)) where
       go None e h = absurd (nowhere item h)
       go (Some t) e h = held t e h
 
-  to-listed : (list : List ℕ) (o item : Tree) → IsListed list o item → Contains (listed_in list o) item
+  pub to-listed : (list : List ℕ) (o item : Tree) → IsListed list o item → Contains (listed_in list o) item
   to-listed list o item h = rw h.member h.held
 
   from-lists : (list : List ℕ) (from to : Tree) (a b : List ℕ) → text_of from ≡ Some a → text_of to ≡ Some b → lists list objects from to ≡ true → Lists list objects a b

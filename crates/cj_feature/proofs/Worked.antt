@@ -36,15 +36,15 @@ pub plain_header-valid : header false plain_header ≡ []
 unfolding text code_points_after first_code_point first_width chars
 plain_header-valid = simp (number-zero, number-one) refl
 
-pub plain_feature-valid : feature plain_header plain_feature.tree ≡ []
+pub plain_feature-valid : feature plain_header plain_feature.tree false ≡ []
 unfolding text code_points_after first_code_point first_width chars object_types
 plain_feature-valid = refl
 
-pub euro_feature-valid : feature plain_header euro_feature ≡ []
+pub euro_feature-valid : feature plain_header euro_feature false ≡ []
 unfolding text code_points_after first_code_point first_width chars object_types
 euro_feature-valid = refl
 
-pub other_id-refused : least None (feature plain_header other_id.tree) ≡ Some (found_at 31 IdNotFound)
+pub other_id-refused : least None (feature plain_header other_id.tree false) ≡ Some (found_at 31 IdNotFound)
 unfolding text code_points_after first_code_point first_width chars object_types
 other_id-refused = refl
 
@@ -53,6 +53,6 @@ pub feature-no_header : least None (header false plain_feature.tree) ≡ Some (f
 unfolding text code_points_after first_code_point first_width chars object_types
 feature-no_header = refl
 
-pub header-no_feature : least None (feature plain_header plain_header) ≡ Some (found_at 0 MissingMember)
+pub header-no_feature : least None (feature plain_header plain_header false) ≡ Some (found_at 0 MissingMember)
 unfolding text code_points_after first_code_point first_width chars object_types
 header-no_feature = refl

@@ -1,8 +1,8 @@
 -- The findings of a feature, rule by rule.
-use Rattle.std.specs.Prelude.{ℕ, List, [], ◌++◌, cond, Option, Some, None, codes}
+use Rattle.std.specs.Prelude.{ℕ, List, [], ◌++◌, Bool, cond, Option, Some, None, codes}
 use Rattle.std.specs.List.{flat_map}
 use Rattle.std.specs.Str.{chars}
-use Rattle.cj_spans.specs.declared.reason.Reason.TheVariants.{WrongType, NotThree, UnknownObjectType, IdNotFound}
+use Rattle.cj_spans.specs.declared.reason.Reason.TheVariants.{WrongType, NotThree, UnknownObjectType, IdNotFound, NotReached}
 use Rattle.cj_spans.specs.declared.finding.Finding.{Finding}
 use Rattle.cj_spans.specs.Tree.{Tree}
 use Rattle.cj_spans.specs.Kinds.{is_text, is_array, is_object}
@@ -13,6 +13,7 @@ use Rattle.cj_geometry.specs.Geometry.{Given, listed, empty, geometry, count_of}
 use Rattle.cj_feature.specs.Header.{has_member_named}
 use Rattle.cj_feature.specs.Members.{member_if}
 use Rattle.cj_feature.specs.Links.{is_known, is_part, links}
+use Rattle.cj_feature.specs.Reached.{is_reached}
 
 -- ---- the header's templates
 
@@ -79,17 +80,36 @@ city_objects vertices templates t =
 abbrev pub vertex_list : Tree → List Finding
 vertex_list t = of_kind is_array (λ u. flat_map (of_length NotThree 3 whole_number) (items_of u)) t
 
+-- ---- city objects that hang on the main one
+
+-- a city object among these, of which none has a finding that is reached from the id
+abbrev pub unreached : List (Tree × Tree) → Tree → Tree × Tree → List Finding
+unreached objects id m = cond (is_reached objects id m.0) [] (one NotReached m.1)
+
+-- where the id is a text that is the name of a city object, each city object is reached from it
+abbrev pub reach_rule : Option Tree → Option Tree → List Finding
+reach_rule None objects = []
+reach_rule (Some id) None = []
+reach_rule (Some id) (Some t) = cond (is_known (members_of t) id) (flat_map (unreached (members_of t) id) (members_of t)) []
+
+-- the rule, where it is asked for
+abbrev pub reach_if : Bool → Tree → List Finding
+reach_if tree u = cond tree (reach_rule (member_of (chars (codes "id")) u) (member_of (chars (codes "CityObjects")) u)) []
+
 -- ---- the feature
 
-abbrev pub feature_rules : Given → Tree → List Finding
-feature_rules templates u =
+-- the rules, with that on what is reached if `tree` asks for it
+abbrev pub feature_rules : Given → Bool → Tree → List Finding
+feature_rules templates tree u =
     distinct u
     ++ has_member_named (chars (codes "type")) WrongType (chars (codes "CityJSONFeature")) u
     ++ id_rule u
     ++ needs (chars (codes "CityObjects")) (city_objects (count_of (member_of (chars (codes "vertices")) u)) templates) u
     ++ needs (chars (codes "vertices")) vertex_list u
     ++ links (member_of (chars (codes "CityObjects")) u)
+    ++ reach_if tree u
 
--- the findings of a feature, with the templates of the header of this tree
-abbrev pub feature : Tree → Tree → List Finding
-feature header t = of_kind is_object (feature_rules (templates_of header)) t
+-- the findings of a feature, with the templates of the header of this tree, and with the rule on what is reached or
+-- without it
+abbrev pub feature : Tree → Tree → Bool → List Finding
+feature header t tree = of_kind is_object (feature_rules (templates_of header) tree) t

@@ -3,12 +3,15 @@ pub mod Feature
 pub mod Header
 pub mod HeaderView
 pub mod Links
+pub mod Marking
 pub mod Members
 pub mod Part
 pub mod Tag
 pub mod Questions
 pub mod Relations
+pub mod Reached
 pub mod Shown
 pub mod Typed
 pub mod View
 pub mod Walks
+pub mod Wanting

@@ -10,59 +10,59 @@ ghost use Rattle.cj_feature.specs.Examples.{bare, itself, lost_child, unlisted_p
 
 /// A city object may list itself, as a child and as a parent.
 pub fn children_and_parents_of_itself()
-    ensures { feature bare itself.tree ≡ [] }
+    ensures { feature bare itself.tree false ≡ [] }
 {}
 
 /// Each child is in the feature, and lists the city object as a parent.
 pub fn children()
-    ensures lost { feature bare lost_child.tree ≡ found_at 85 ChildNotFound ∷ [] }
-    ensures unlisted { feature bare unlisted_parent.tree ≡ found_at 85 LinkNotMutual ∷ [] }
-    ensures null { feature bare null_children.tree ≡ found_at 84 WrongKind ∷ [] }
+    ensures lost { feature bare lost_child.tree false ≡ found_at 85 ChildNotFound ∷ [] }
+    ensures unlisted { feature bare unlisted_parent.tree false ≡ found_at 85 LinkNotMutual ∷ [] }
+    ensures null { feature bare null_children.tree false ≡ found_at 84 WrongKind ∷ [] }
 {}
 
 /// Each parent in the feature lists the city object as a child.
 pub fn parents()
-    ensures lost { feature bare lost_parent.tree ≡ [] }
-    ensures unlisted { feature bare unlisted_part.tree ≡ found_at 112 LinkNotMutual ∷ [] }
+    ensures lost { feature bare lost_parent.tree false ≡ [] }
+    ensures unlisted { feature bare unlisted_part.tree false ≡ found_at 112 LinkNotMutual ∷ [] }
 {}
 
 /// A city object of the second level needs a parent in the feature.
 pub fn parts()
-    ensures alone { feature bare part_alone.tree ≡ found_at 54 MissingMember ∷ [] }
-    ensures other { feature bare part_of_other.tree ≡ found_at 54 NoParent ∷ [] }
-    ensures none { feature bare part_of_none.tree ≡ found_at 54 NoParent ∷ [] }
-    ensures number { least None (feature bare part_of_number.tree) ≡ Some (found_at 54 NoParent) }
+    ensures alone { feature bare part_alone.tree false ≡ found_at 54 MissingMember ∷ [] }
+    ensures other { feature bare part_of_other.tree false ≡ found_at 54 NoParent ∷ [] }
+    ensures none { feature bare part_of_none.tree false ≡ found_at 54 NoParent ∷ [] }
+    ensures number { least None (feature bare part_of_number.tree false) ≡ Some (found_at 54 NoParent) }
 {}
 
 /// The children of a group may be anywhere; its members list it as any other parent, and its own
 /// parents list it as any other child.
 pub fn groups()
-    ensures group { feature bare group.tree ≡ [] }
-    ensures unlisted { feature bare unlisted_member.tree ≡ found_at 115 LinkNotMutual ∷ [] }
-    ensures parent { feature bare unlisted_group.tree ≡ found_at 91 LinkNotMutual ∷ [] }
-    ensures lost_parent { feature bare group_of_other.tree ≡ [] }
+    ensures group { feature bare group.tree false ≡ [] }
+    ensures unlisted { feature bare unlisted_member.tree false ≡ found_at 115 LinkNotMutual ∷ [] }
+    ensures parent { feature bare unlisted_group.tree false ≡ found_at 91 LinkNotMutual ∷ [] }
+    ensures lost_parent { feature bare group_of_other.tree false ≡ [] }
 {}
 
 /// Links are between names, whichever city object of a name has them, and however it is spelled.
 pub fn names_of_city_objects()
-    ensures doubled { feature bare doubled.tree ≡ found_at 74 DuplicateName ∷ [] }
-    ensures escaped { feature bare escaped.tree ≡ [] }
-    ensures same { feature bare same_by_escape.tree ≡ found_at 74 DuplicateName ∷ [] }
-    ensures unread { feature bare unread_names.tree ≡ [] }
+    ensures doubled { feature bare doubled.tree false ≡ found_at 74 DuplicateName ∷ [] }
+    ensures escaped { feature bare escaped.tree false ≡ [] }
+    ensures same { feature bare same_by_escape.tree false ≡ found_at 74 DuplicateName ∷ [] }
+    ensures unread { feature bare unread_names.tree false ≡ [] }
 {}
 
 /// A name is an id in the feature also where its value is no city object.
 pub fn values_that_are_no_city_objects()
-    ensures alone { feature bare no_object.tree ≡ found_at 54 WrongKind ∷ [] }
-    ensures child { feature bare child_no_object.tree ≡ found_at 95 WrongKind ∷ found_at 85 LinkNotMutual ∷ [] }
-    ensures least { least None (feature bare child_no_object.tree) ≡ Some (found_at 85 LinkNotMutual) }
-    ensures parent { feature bare part_of_no_object.tree ≡ found_at 98 WrongKind ∷ found_at 88 LinkNotMutual ∷ [] }
+    ensures alone { feature bare no_object.tree false ≡ found_at 54 WrongKind ∷ [] }
+    ensures child { feature bare child_no_object.tree false ≡ found_at 95 WrongKind ∷ found_at 85 LinkNotMutual ∷ [] }
+    ensures least { least None (feature bare child_no_object.tree false) ≡ Some (found_at 85 LinkNotMutual) }
+    ensures parent { feature bare part_of_no_object.tree false ≡ found_at 98 WrongKind ∷ found_at 88 LinkNotMutual ∷ [] }
 {}
 
 /// The id of the feature is the name of a city object.
 pub fn an_id_of_no_city_object()
-    ensures other { feature bare other_id.tree ≡ found_at 31 IdNotFound ∷ [] }
-    ensures none { feature bare no_objects.tree ≡ found_at 31 IdNotFound ∷ [] }
+    ensures other { feature bare other_id.tree false ≡ found_at 31 IdNotFound ∷ [] }
+    ensures none { feature bare no_objects.tree false ≡ found_at 31 IdNotFound ∷ [] }
 {}
 
 /// A header has its type and its version, whose digits are those of the version.
@@ -84,7 +84,7 @@ pub fn parts_of_a_header()
 /// Neither a header nor a feature is the other.
 pub fn one_taken_for_the_other()
     ensures feature { least None (header false itself.tree) ≡ Some (found_at 0 MissingMember) }
-    ensures header { least None (feature bare plain_header) ≡ Some (found_at 0 MissingMember) }
+    ensures header { least None (feature bare plain_header false) ≡ Some (found_at 0 MissingMember) }
 {}
 
 /// The trees of features are those that their lines show.

@@ -1,5 +1,5 @@
 //! Features: the later lines of a text.
-ghost use Rattle.std.specs.Prelude.{◌≡◌, ◌<◌, ℕ, List, [], Some, IfSome, codes, map, option_map};
+ghost use Rattle.std.specs.Prelude.{◌≡◌, ◌<◌, ℕ, List, [], false, Some, IfSome, codes, map, option_map};
 ghost use Rattle.std.specs.Str.{chars};
 ghost use Rattle.cj_spans.specs.Parts.{member_of, text_of};
 ghost use Rattle.cj_spans.specs.View.{document, document_line, tree, line_of};
@@ -13,17 +13,21 @@ mod geometries;
 mod ids;
 mod links;
 mod many_links;
+mod near;
 mod objects;
 mod questions;
+mod reached;
 mod rules;
 mod tagged;
 mod vertices;
+mod wanted;
 
 pub use city_object::{CityObject, Objects};
 use cj_geometry::Templates;
 use cj_spans::{Doc, Node};
 pub use coordinates::Coordinates;
 pub use geometries::Geometries;
+pub use reached::mark_reached;
 pub use rules::check_feature;
 pub use vertices::Vertices;
 
@@ -35,7 +39,7 @@ pub struct Feature<'a> {
     objects: Node<'a>,
     vertices: Node<'a>,
     templates: Templates<'a>,
-    ghost valid: { feature (document header) (document doc) ≡ [] },
+    ghost valid: { feature (document header) (document doc) false ≡ [] },
     ghost has_objects: { member_of (chars (codes "CityObjects")) (document doc) ≡ Some (tree objects) } by { tree_if-set _ _ },
     ghost of_line: { line_of objects ≡ document_line doc },
     ghost has_vertices: { member_of (chars (codes "vertices")) (document doc) ≡ Some (tree vertices) } by { tree_if-set _ _ },
@@ -60,7 +64,7 @@ impl<'a> Feature<'a> {
         vertices: Option<Node<'a>>,
         templates: Templates<'a>,
     ) -> Feature<'a>
-        requires valid { feature (document header) (document doc) ≡ [] }
+        requires valid { feature (document header) (document doc) false ≡ [] }
         requires objects { option_map tree objects ≡ member_of (chars (codes "CityObjects")) (document doc) }
         requires line { IfSome objects (λ n. line_of n ≡ document_line doc) }
         requires vertices { option_map tree vertices ≡ member_of (chars (codes "vertices")) (document doc) }

@@ -1,5 +1,5 @@
 //! Laws of the definitions, proved once and for all.
-ghost use Rattle.std.specs.Prelude.{◌≡◌, ◌↔◌, Some, ℤ, IsTrue};
+ghost use Rattle.std.specs.Prelude.{◌≡◌, ◌↔◌, List, Some, ℤ, IsTrue, true};
 ghost use Rattle.std.specs.List.{Contains};
 ghost use Rattle.cj_spans.specs.Tree.{Tree};
 ghost use Rattle.cj_spans.specs.declared.finding.Finding.{Finding};
@@ -9,6 +9,7 @@ ghost use Rattle.cj_decimal.specs.Spelling.{IsValue};
 ghost use Rattle.cj_geometry.specs.Rule.{spelling, whole_of};
 ghost use Rattle.cj_feature.specs.Header.{is_fixed, units_of};
 ghost use Rattle.cj_feature.specs.Links.{links};
+ghost use Rattle.cj_feature.specs.Reached.{IsReached, is_reached};
 ghost use Rattle.cj_feature.specs.Relations.{IsLinkFault};
 ghost use Rattle.cj_feature.specs.Shown.{value_of};
 
@@ -16,6 +17,13 @@ ghost use Rattle.cj_feature.specs.Shown.{value_of};
 /// compute, and by relations between ids. Both say the same, finding by finding.
 pub fn links_are_the_links()
     ensures { (t : Tree) (f : Finding) → Contains (links (Some t)) f ↔ IsLinkFault (members_of t) f }
+{}
+
+/// What is reached from an id is told twice: by rounds over the city objects, which compute, and as the least set of
+/// ids. Both say the same of each name.
+pub fn reached_is_the_least_set()
+    ensures { (objects : List (Tree × Tree)) (id name : Tree)
+        → (is_reached objects id name ≡ true) ↔ IsReached objects id name }
 {}
 
 /// The test for a fixed number in the rule on a transform beside a box is right: it answers true for

@@ -11,10 +11,14 @@
 //! let parts = header.parts();
 //! // later, with the first line at hand again, and for each other line:
 //! let header = Header::of(Doc::of(first, first_tokens), parts);
-//! let feature = check_feature(Doc::of(line, tokens), &header)?;
+//! let feature = check_feature(Doc::of(line, tokens.as_slice()), &header, false)?;
 //! for object in feature.objects() {}                                // id, type and node of each
 //! for [x, y, z] in feature.vertices() {}                            // whole numbers, as they stand there
 //! for x in feature.coordinates(0) {}                                // the first number of each
+//!
+//! // each city object has to hang on the feature's main one, too: those that do are marked first
+//! mark_reached(line, &mut tokens);
+//! let feature = check_feature(Doc::of(line, tokens.as_slice()), &header, true)?;
 //! ```
 #![tactic(auto)]
 
@@ -27,6 +31,11 @@ mod member;
 #[cfg(test)]
 mod tests;
 
-pub use feature::{CityObject, Coordinates, Feature, Geometries, Objects, Vertices, check_feature};
+pub use feature::{
+    CityObject, Coordinates, Feature, Geometries, Objects, Vertices, check_feature, mark_reached,
+};
 pub use header::{Header, HeaderParts, check_header};
-pub use laws::{fixed_numbers_are_fixed, links_are_the_links, numbers_have_their_values};
+pub use laws::{
+    fixed_numbers_are_fixed, links_are_the_links, numbers_have_their_values,
+    reached_is_the_least_set,
+};

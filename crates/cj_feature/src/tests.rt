@@ -2,6 +2,7 @@
 //! table has a row a line, with bars between its cells: a name, what stands in the hole `_` of the
 //! table's line, and the code and the text of the reason, or `none`. The mark `^` stands where the
 //! finding is, and is no part of the line; without a mark a row counts the place itself.
+ghost use Rattle.cj_spans.specs.Marks.{AreUnmarked};
 ghost use Rattle.cj_spans.specs.Sound.{AreOf};
 
 mod headers;
@@ -9,6 +10,7 @@ mod links;
 mod many_links;
 mod objects;
 mod pairs;
+mod reached;
 mod shown;
 mod templates;
 mod worked;
@@ -25,7 +27,8 @@ const HEADER: &str =
 
 /// The tokens of a line that is a JSON text.
 fn tokens_of(rt: &impl Abort, alloc: Global, line: &[u8]) -> Bounded<Token>
-    ensures { AreOf line.now result.elements }
+    ensures of { AreOf line.now result.elements }
+    ensures unmarked { AreUnmarked result.elements }
 {
     assert!(rt; line.len() <= 1_000_000);
     let mut tokens: Bounded<Token> = Bounded::new(alloc, 1_000_000);
@@ -56,7 +59,7 @@ fn feature_finding(
     let header_tokens = tokens_of(rt, alloc, header_line);
     let tokens = tokens_of(rt, alloc, line);
     match check_header(Doc::of(header_line, header_tokens.as_slice()), false) {
-        Ok(header) => match check_feature(Doc::of(line, tokens.as_slice()), &header) {
+        Ok(header) => match check_feature(Doc::of(line, tokens.as_slice()), &header, false) {
             Ok(_) => None,
             Err(finding) => Some(finding),
         },

@@ -1,5 +1,5 @@
 -- What small texts may hold at most, and what they hold, computed.
-use Rattle.std.proofs.Common.{◌≡◌, ℕ, ◌+◌, ◌≤◌, List, [], ◌∷◌, ◌++◌, true, length, max, refl, ap, arith, lit≤}
+use Rattle.std.proofs.Common.{◌≡◌, ℕ, ◌+◌, ◌≤◌, List, [], ◌∷◌, ◌++◌, true, length, max, min, refl, ap, arith, lit≤}
 use Rattle.std.specs.Str.{is_utf8}
 use Rattle.std.proofs.lemmas.Str.{is_utf8-from_IsUtf8}
 use Rattle.cj_budget.specs.Limits.{LimitPair}
@@ -51,7 +51,7 @@ module _ (limits : LimitPair) (s a : List ℕ) (n d : ℕ) (first : first_conten
   one-line : contents s ≡ a ∷ [] → exact_peaks limits s ≡ held (length a + 0) (n + 0) (max d 0)
   one-line all = rw (all, first, size, nest) refl
 
-  two-lines : (b : List ℕ) (m e : ℕ) → contents s ≡ a ∷ b ∷ [] → tree_size limits b ≡ m → tree_nest limits b ≡ e → exact_peaks limits s ≡ held (length a + max (length b) 0) (n + max m 0) (max d (max e 0))
+  two-lines : (b : List ℕ) (m e : ℕ) → contents s ≡ a ∷ b ∷ [] → tree_size limits b ≡ m → tree_nest limits b ≡ e → exact_peaks limits s ≡ held (length a + max (min (length b) limits.line) 0) (n + max m 0) (max d (max e 0))
   two-lines b m e all more deep = rw (all, first, size, nest, more, deep) refl
 
 is_header : is_utf8 small_header ≡ true

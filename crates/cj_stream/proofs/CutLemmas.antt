@@ -9,7 +9,7 @@ use Rattle.cj_stream.specs.declared.ending.End.{End}
 use Rattle.cj_stream.specs.declared.ending.End.TheVariants.{Complete, Refused, ReadFault, ReadLimit, WriteFault, Memory}
 use Rattle.cj_stream.specs.Item.{Item}
 use Rattle.cj_stream.specs.Lines.{Line, NoLf, closed, begun, first_of, ended_line, last_line, lines, whole}
-use Rattle.cj_stream.specs.Verdict.{Rules, verdict, header_of, item_after, refusal_of, refusal_in, refusal_from, good_from, kept_from, kept_first, kept, ending, judged, long_line}
+use Rattle.cj_stream.specs.Verdict.{Rules, verdict, header_of, item_after, goes_on, refusal_of, refusal_in, refusal_from, good_from, kept_from, kept_first, kept, reported_from, reported, ending, judged, long_line}
 use Rattle.cj_stream.specs.Cut.{joined, PutsPieces, EndsAt, Copies, TookWhole, IsUnread}
 use Rattle.cj_stream.specs.Engine.{EngineState, rules_of, lines_of, Delivers, Faults, Tells, Concludes}
 use Rattle.cj_stream.specs.Reading.{Reads}
@@ -44,7 +44,7 @@ first-line c t free some = go (closed (c ++ t)) (begun (c ++ t)) (first_content-
 -- lines after a refusal change nothing of what is good
 good-stays : (rules : Rules) (before xs ys : List Line) (e : End) → refusal_from rules before xs ≡ Some e → good_from rules before (xs ++ ys) ≡ good_from rules before xs
 good-stays rules before [] ys e h = absurd (none-some e h)
-good-stays rules before (x ∷ xs) ys e h = step (refusal_of (length before + 1) (verdict rules before x.content)) (good-stays rules (before ++ x ∷ []) xs ys e) h
+good-stays rules before (x ∷ xs) ys e h = step (refusal_of rules (length before + 1) (verdict rules before x.content)) (good-stays rules (before ++ x ∷ []) xs ys e) h
   where
     step : (first : Option End) → (refusal_from rules (before ++ x ∷ []) xs ≡ Some e → good_from rules (before ++ x ∷ []) (xs ++ ys) ≡ good_from rules (before ++ x ∷ []) xs)
         → cond (is_some first) first (refusal_from rules (before ++ x ∷ []) xs) ≡ Some e
@@ -52,10 +52,20 @@ good-stays rules before (x ∷ xs) ys e h = step (refusal_of (length before + 1)
     step None later h = ap (λ z. x ∷ z) (later h)
     step (Some y) later h = refl
 
--- a line that is too long
-refusal-long : (rules : Rules) (before : List Line) (l : Line) (rest : List Line) → rules.limits.line < length l.content
+-- a line that is too long, and is the end
+refusal-long : (rules : Rules) (before : List Line) (l : Line) (rest : List Line) → rules.limits.line < length l.content → goes_on rules (length before + 1) ≡ false
     → (refusal_from rules before (l ∷ rest) ≡ Some (Refused (length before + 1) rules.limits.line LineTooLong)) × (good_from rules before (l ∷ rest) ≡ [])
-refusal-long rules before l rest long = let v = verdict-long rules (length before + 1) (header_of rules before) l.content long in (rw v refl, rw v refl)
+refusal-long rules before l rest long on = let v = verdict-long rules (length before + 1) (header_of rules before) l.content long in (rw (v, on) refl, rw (v, on) refl)
+
+-- a line that is too long, and none that reading goes on after, since it is the end
+long-ends : (rules : Rules) (before : List Line) (l : Line) (e : End) → rules.limits.line < length l.content → refusal_from rules before (l ∷ []) ≡ Some e → goes_on rules (length before + 1) ≡ false
+long-ends rules before l e long k = go (goes_on rules (length before + 1)) refl
+  where
+    go : (b : Bool) → goes_on rules (length before + 1) ≡ b → goes_on rules (length before + 1) ≡ false
+    go true is =
+        let v = verdict-long rules (length before + 1) (header_of rules before) l.content long in
+        absurd (none-some e (let h = rw (v, is) at k in h))
+    go false is = is
 
 module _ (rules : Rules) (q more : List ℕ) (e : End) where
   -- the refusal of what can be judged of a text is that of each text that begins so
@@ -77,17 +87,22 @@ module _ (rules : Rules) (q more : List ℕ) (e : End) where
       let cs = map ended_line (closed q) in
       let long : rules.limits.line < length (begun q) = ltb-true rules.limits.line (length (begun q)) is in
       let first = first-line (begun q) more (NoLf-begun q) (omega arith) in
-      let later = refusal-long rules (map ended_line (closed q)) first.0 first.1 (omega (arith, first.3, long)) in
-      let now = refused_now (begun q) long k in
+      let on = ends_now (begun q) long k in
+      let later = refusal-long rules (map ended_line (closed q)) first.0 first.1 (omega (arith, first.3, long)) on in
+      let now = refused_now (begun q) long on k in
       rw (lines-more q more, first.2) (
         refusal-append rules [] cs (first.0 ∷ first.1) h ∙ (later.0 ∙ now),
         good-append rules [] cs (first.0 ∷ first.1) h ∙ (ap (λ z. cs ++ z) later.1 ∙ (append-nil cs ∙ sym (good-all rules [] cs h))),
       )
     where
-      refused_now : (c : List ℕ) → rules.limits.line < length c → refusal_from rules (map ended_line (closed q)) (last_line c) ≡ Some e
+      ends_now : (c : List ℕ) → rules.limits.line < length c → refusal_from rules (map ended_line (closed q)) (last_line c) ≡ Some e → goes_on rules (length (map ended_line (closed q)) + 1) ≡ false
+      ends_now [] long k = absurd (omega arith)
+      ends_now (b ∷ c) long k = long-ends rules (map ended_line (closed q)) (record { content = b ∷ c; lf = false }) e long k
+
+      refused_now : (c : List ℕ) → rules.limits.line < length c → goes_on rules (length (map ended_line (closed q)) + 1) ≡ false → refusal_from rules (map ended_line (closed q)) (last_line c) ≡ Some e
           → Some (Refused (length (map ended_line (closed q)) + 1) rules.limits.line LineTooLong) ≡ Some e
-      refused_now [] long k = absurd (omega arith)
-      refused_now (b ∷ c) long k = sym (refusal-long rules (map ended_line (closed q)) (record { content = b ∷ c; lf = false }) [] long).0 ∙ k
+      refused_now [] long on k = absurd (omega arith)
+      refused_now (b ∷ c) long on k = sym (refusal-long rules (map ended_line (closed q)) (record { content = b ∷ c; lf = false }) [] long on).0 ∙ k
   long-stays false is h k = absurd (none-some e k)
 
   judged-stays : refusal_in rules (judged rules.limits q) ≡ Some e → Stays
@@ -99,15 +114,15 @@ module _ (rules : Rules) (q more : List ℕ) (e : End) where
           long-stays (ltb rules.limits.line (length (begun q))) refl h (sym later ∙ k)
       go (Some x) h = ended-stays x h k
 
--- the ending and the output of a text, where what came first of it was refused
+-- the ending of a text, its output and what is reported of it, where what came first of it was the end
 pub refused-more : (rules : Rules) (q more : List ℕ) (e : End) → refusal_in rules (judged rules.limits q) ≡ Some e
-    → (ending rules (q ++ more) ≡ e) × (kept rules (q ++ more) ≡ kept rules q)
+    → (ending rules (q ++ more) ≡ e) × (kept rules (q ++ more) ≡ kept rules q) × (reported rules (q ++ more) ≡ reported rules q)
 unfolding Stays
 refused-more rules q more e k =
     let all = judged-stays rules q more e k in
     let front = judged-stays rules q [] e k in
     let same : good_from rules [] (lines q) ≡ good_from rules [] (map ended_line (closed q)) = let z = front.1 in rw (append-nil q) at z in
-    (ending-refused rules (lines (q ++ more)) e all.0, ap (λ z. kept_from rules [] z) (all.1 ∙ sym same))
+    (ending-refused rules (lines (q ++ more)) e all.0, ap (λ z. kept_from rules [] z) (all.1 ∙ sym same), ap (λ z. reported_from rules [] z) (all.1 ∙ sym same))
 
 -- what is kept of some pieces, of whose whole lines none is refused, are kept lines of these and the next
 kept-pieces : (rules : Rules) (pieces : List (List ℕ)) (n : ℕ) → refusal_in rules (lines (whole (joined (take n pieces)))) ≡ None
@@ -121,10 +136,10 @@ kept-pieces rules pieces n good =
     let same = kept_first-same rules (length (closed q)) q next.0 refl in
     (whole_kept, rw next.1 (same ∙ whole_kept))
 
-module _ {S : Type 0} (takes leaves : S → Item → S → Type 0) (rules : Rules) (pieces : List (List ℕ)) (n : ℕ) (s t : S) (count features : ℕ) (peaks : Peaks) where
+module _ {S : Type 0} (takes leaves : S → Item → S → Type 0) (rules : Rules) (pieces : List (List ℕ)) (n : ℕ) (s t : S) (count features refused : ℕ) (peaks : Peaks) where
   abbrev Given : End → Type 0
   Given e =
-      let run : Run = record { rules = rules; read = joined (take (n + 1) pieces); outcome = record { lines = count; kept = features; peaks = peaks; ended = e } } in
+      let run : Run = record { rules = rules; read = joined (take (n + 1) pieces); outcome = record { lines = count; kept = features; refused = refused; peaks = peaks; ended = e } } in
       Runs takes leaves run (joined (take (n + 1) pieces) ≡ joined pieces) s t
 
   -- what a sink took of the lines that were dealt with before a fault

@@ -8,18 +8,18 @@ use Rattle.cj_stream.specs.declared.ending.End.{End}
 use Rattle.cj_stream.specs.declared.ending.End.TheVariants.{Complete, Refused, ReadFault, ReadLimit, WriteFault, Memory}
 use Rattle.cj_stream.specs.Lines.{Line, closed, begun, ended_line, last_line, lines, first_content}
 use Rattle.cj_stream.specs.Item.{Item}
-use Rattle.cj_stream.specs.Verdict.{Rules, Refuse, verdict, refusal_in, kept_from, judged, kept_first}
+use Rattle.cj_stream.specs.Verdict.{Rules, Refuse, verdict, header_of, goes_on, refusal_from, refusal_in, kept_from, judged, kept_first}
 use Rattle.cj_budget.specs.Bounded.{IsWithin}
 use Rattle.cj_budget.specs.declared.limits.Peaks.{Peaks}
 use Rattle.cj_stream.specs.Bound.{bytes_bound, IsBelow, IsBounded}
 use Rattle.cj_stream.specs.Scanning.{Scanning, HasRoom, Scanned, HoldsFew}
-use Rattle.cj_stream.specs.Reading.{Reading, IsSound, Reads, kept_closed, Advances, IsNext, LacksMemory, HasCause, Stops}
+use Rattle.cj_stream.specs.Reading.{Reading, is_lenient, IsSound, Reads, kept_closed, Advances, IsNext, LacksMemory, HasCause, Stops}
 use Rattle.cj_stream.specs.Engine.{EngineState, StandsFor, Counts, Going, Faults, Delivers, Tells, limits_of, held_by, peaks_of}
 use Rattle.cj_stream.proofs.LineLemmas.{closed-then, first_content-grows, none-from_length}
 use Rattle.cj_stream.proofs.IsLinesLemmas.{lines-whole}
-use Rattle.cj_stream.proofs.VerdictLemmas.{refusal-append}
+use Rattle.cj_stream.proofs.VerdictLemmas.{refusal-append, verdict-long}
 use Rattle.cj_stream.proofs.ScanningLemmas.{few-scanned, first-closed}
-use Rattle.cj_stream.proofs.ReadingLemmas.{length-map_lines, map_lines-append, begun_of-first, begun_of-later, zero_or}
+use Rattle.cj_stream.proofs.ReadingLemmas.{length-map_lines, map_lines-append, dropped-long}
 use Rattle.cj_stream.proofs.Apart.{some-none}
 
 -- what is held is within the peaks
@@ -78,11 +78,12 @@ few-front n p more e =
     (omega (arith, e, length-map_lines (closed p), length-append cs (map ended_line (closed (begun p ++ more)) ++ last_line (begun (p ++ more)))))
 
 -- the counts of what has been read, whatever bytes follow
-pub Counts-front : (f : Reading) (p more : List ℕ) → Reads f p → Counts f.rules (p ++ more) f.lines f.kept
+pub Counts-front : (f : Reading) (p more : List ℕ) → Reads f p → Counts f.rules (p ++ more) f.lines f.kept f.refused
 Counts-front f p more h = record {
   few = few-front f.lines p more h.lines;
   good = rw (lines-front f.lines p more h.lines) h.good;
   kept = rw (lines-front f.lines p more h.lines) h.kept;
+  refused = rw (lines-front f.lines p more h.lines) h.refused;
 }
 
 -- what can be judged is a prefix of the lines
@@ -107,17 +108,17 @@ front-next limits p q l n h e =
     rw (x.1, h.1, append_assoc cs (l ∷ h.0) x.0) (take-front cs (l ∷ h.0 ++ x.0) n (e ∙ sym (length-map_lines (closed p))))
 
 pub next-refusal : (rules : Rules) (n place : ℕ) (reason : _) (p q : List ℕ) (l : Line) → IsNext rules.limits p q l → n ≡ length (closed p) + 1
-    → refusal_in rules (map ended_line (closed p)) ≡ None → verdict rules (map ended_line (closed p)) l.content ≡ Refuse place reason
+    → refusal_in rules (map ended_line (closed p)) ≡ None → verdict rules (map ended_line (closed p)) l.content ≡ Refuse place reason → goes_on rules n ≡ false
     → refusal_in rules (judged rules.limits q) ≡ Some (Refused n place reason)
-next-refusal rules n place reason p q l h e good v =
+next-refusal rules n place reason p q l h e good v on =
     let at : length (map ended_line (closed p)) + 1 ≡ n = omega (arith, length-map_lines (closed p), e) in
-    rw (h.1, refusal-append rules [] (map ended_line (closed p)) (l ∷ h.0) good, v, at) refl
+    rw (h.1, refusal-append rules [] (map ended_line (closed p)) (l ∷ h.0) good, v, at, on) refl
 
 pub Tells-cause : {S : Type 0} (leaves : S → Item → S → Type 0) (rules : Rules) (p q : List ℕ) (n : ℕ) (s t : S) (e : End) → n ≡ length (closed p)
     → refusal_in rules (map ended_line (closed p)) ≡ None → HasCause leaves rules p q n s t e → Tells rules q n e
 Tells-cause leaves rules p q n s t Complete len good c = c
 Tells-cause leaves rules p q n s t (Refused number place reason) len good c =
-    (next-refusal rules number place reason p q c.0 c.1 (omega (arith, c.2, len)) good c.3, c.2)
+    (next-refusal rules number place reason p q c.0 c.1 (omega (arith, c.2, len)) good c.3 c.5, c.2)
 Tells-cause leaves rules p q n s t ReadFault len good c = c
 Tells-cause leaves rules p q n s t ReadLimit len good c = c
 Tells-cause leaves rules p q n s t WriteFault len good c = tt
@@ -134,19 +135,28 @@ Faults-cause leaves rules p q n s t WriteFault len c =
     (c.0, next-line rules.limits n p q c.0 c.1 len, rw before c.2, rw before c.3)
 Faults-cause leaves rules p q n s t Memory len c = c.0
 
--- what has begun is within the limit
-begun-within : (f : Reading) (p : List ℕ) → IsSound f → Reads f p → length (begun p) ≤ f.rules.limits.line
-begun-within f p s h = go (zero_or f.lines)
+-- what has begun, and is no end: it is within the limit, or reading goes on after it
+begun-good : (f : Reading) (q : List ℕ) → Reads f q → refusal_in f.rules (judged f.rules.limits q) ≡ None
+begun-good f q h = go f.dropped refl
   where
-    go : (f.lines ≡ 0) ⊎ (0 < f.lines) → length (begun p) ≤ f.rules.limits.line
-    go (inl z) = rw (← h.begun, begun_of-first f z) (omega (arith, h.header_within.below_peak, h.header_within.below_limit, s.header))
-    go (inr z) = rw (← h.begun, begun_of-later f z) (omega (arith, h.line_within.below_peak, h.line_within.below_limit, s.line))
+    after : (c : List ℕ) → f.rules.limits.line < length c → is_lenient f ≡ true → refusal_from f.rules (map ended_line (closed q)) (last_line c) ≡ None
+    after [] long on = absurd (omega arith)
+    after (b ∷ c) long on =
+        let v = verdict-long f.rules (length (map ended_line (closed q)) + 1) (header_of f.rules (map ended_line (closed q))) (b ∷ c) long in
+        let at : length (map ended_line (closed q)) + 1 ≡ f.lines + 1 = omega (arith, length-map_lines (closed q), h.lines) in
+        rw (v, at, on) refl
 
-pub Going-reads : (e : EngineState) (q : List ℕ) → IsSound e.reading → Reads e.reading q → Scanned (limits_of e) (closed q) e.scanning → Going e q
-Going-reads e q s h sc = record {
-  good =
-      let short : ltb e.reading.rules.limits.line (length (begun q)) ≡ false = let w = begun-within e.reading q s h in grind (arith, nat_tests) in
-      rw (short, append-nil (map ended_line (closed q))) h.good;
+    go : (d : Bool) → f.dropped ≡ d → refusal_in f.rules (judged f.rules.limits q) ≡ None
+    go false held =
+        let short : ltb f.rules.limits.line (length (begun q)) ≡ false = sym h.begun.dropped ∙ held in
+        rw (short, append-nil (map ended_line (closed q))) h.good
+    go true dropped =
+        let long : ltb f.rules.limits.line (length (begun q)) ≡ true = sym h.begun.dropped ∙ dropped in
+        rw (long, refusal-append f.rules [] (map ended_line (closed q)) (last_line (begun q)) h.good) (after (begun q) (dropped-long f (begun q) h.begun dropped) (h.lenient dropped))
+
+pub Going-reads : (e : EngineState) (q : List ℕ) → Reads e.reading q → Scanned (limits_of e) (closed q) e.scanning → Going e q
+Going-reads e q h sc = record {
+  good = begun-good e.reading q h;
   lines = rw (lines-whole q) (h.lines ∙ sym (length-map_lines (closed q)));
   held = same-peaks _ _ _ _ _ _ (rw (h.header, h.line) refl) (omega (arith, sc.header, ap length sc.line)) (ap length sc.opened);
 }

@@ -22,7 +22,7 @@ use Rattle.cj_stream.proofs.RunLemmas.{Delivers-join, HasRisen-after, kept_first
 use Rattle.cj_stream.proofs.ScanningLemmas.{scanned-under}
 
 -- an end is none that has not come
-not-going : (o : Option End) (e : End) → o ≡ Some e → o ≡ None → ⊥
+pub not-going : (o : Option End) (e : End) → o ≡ Some e → o ≡ None → ⊥
 not-going o e is none = some-none e (sym is ∙ none)
 
 fault-not_ok : (e : End) → ◌≡◌ {A = Result (Unit {0}) End} (Ok tt) (Err e) → ⊥
@@ -103,7 +103,7 @@ module _ {S : Type 0} (takes leaves : S → Item → S → Type 0) (failures : S
       rises = below-rises old new stays rises;
       going = λ p st.
           let reads = (st.going going).0 in
-          Going-reads new (p ++ bytes) sound (advances p reads).reads
+          Going-reads new (p ++ bytes) (advances p reads).reads
           (scanned-under (limits_of old) (limits_of new) (closed (p ++ bytes)) new.scanning limits (scanned p reads (st.going going).1));
       told = tt;
       memory = λ p st _ none. absurd (fault-not_ok Memory none);

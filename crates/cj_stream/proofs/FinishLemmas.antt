@@ -1,6 +1,6 @@
 -- What the end of a text makes of an engine.
 use Rattle.std.proofs.Common.{◌≡◌, ℕ, ◌+◌, ◌<◌, ◌≤◌, ◌⊎◌, inl, inr, max, List, [], ◌∷◌, ◌++◌, Bool, true, false, eqb, length, take, map, Some, None, Result, Ok, Err, arith, refl, sym, ap, ◌∙◌, length-append}
-use Rattle.std.specs.Prelude.{unwrap_or, OnOk, if◌then◌else◌}
+use Rattle.std.specs.Prelude.{unwrap_or, OnOk, OnErr, if◌then◌else◌}
 use Rattle.std.proofs.lemmas.List.{append-nil}
 use Rattle.std.proofs.lemmas.Bool.Decides.{nat_tests}
 use Rattle.cj_budget.specs.Limits.{LimitPair}
@@ -12,14 +12,14 @@ use Rattle.cj_stream.specs.declared.ending.End.{End}
 use Rattle.cj_stream.specs.declared.ending.End.TheVariants.{Complete, Refused, ReadFault, ReadLimit, WriteFault, Memory}
 use Rattle.cj_stream.specs.Lines.{Line, closed, begun, begun_after, first_content, ended_line, last_line, later_of, lines}
 use Rattle.cj_stream.specs.Item.{Item}
-use Rattle.cj_stream.specs.Verdict.{Rules, Verdict, Refuse, Blank, Unwanted, Valid, verdict, item_after, refusal_of, is_kept, refusal_in, refusal_from, kept_from, ending, ending_of, kept_first}
-use Rattle.cj_stream.specs.Bound.{bytes_bound, greatest, contents, exact_peaks}
-use Rattle.cj_stream.specs.Reading.{Reading, begun_of, next_verdict, next_item, IsLeft, Deals, Settles, Reads, Finishes, FinishesWith, Passes}
-use Rattle.cj_stream.specs.Scanning.{Scanning, Scanned, HasRoom, HoldsFew}
+use Rattle.cj_stream.specs.Verdict.{Rules, Verdict, Refuse, Blank, Unwanted, Valid, verdict, item_after, goes_on, refusal_of, is_kept, refusal_in, refusal_from, kept_from, ending, ending_of, kept_first}
+use Rattle.cj_stream.specs.Bound.{bytes_bound, greatest, held_length, contents, exact_peaks, IsExact}
+use Rattle.cj_stream.specs.Reading.{Reading, next_verdict, next_item, is_lenient, IsLeft, Refuses, Deals, Settles, Reads, Finishes, FinishesWith, Passes}
+use Rattle.cj_stream.specs.Scanning.{Scanning, Scanned, ScansNext, HasRoom, HoldsFew}
 use Rattle.cj_stream.specs.Engine.{StandsFor, Counts, Faults, Delivers, Concludes, end_of}
 use Rattle.cj_stream.proofs.LineLemmas.{none-from_length, begun_after-empty}
 use Rattle.cj_stream.proofs.VerdictLemmas.{refusal-append, kept-append}
-use Rattle.cj_stream.proofs.ReadingLemmas.{length-map_lines, zero_or, next-verdict, next-item, kept-next, longest-later, max-zero}
+use Rattle.cj_stream.proofs.ReadingLemmas.{length-map_lines, zero_or, next-verdict, next-item, kept-next, is_refused, refused-next, greatest-later, held-nothing}
 use Rattle.cj_stream.proofs.Apart.{some-none}
 use Rattle.cj_stream.proofs.GoodLemmas.{good-complete, good-refused}
 use Rattle.cj_stream.proofs.EngineLemmas.{held-below, peaks-bounded, same-peaks, take-front, get-next, lines-front, Counts-front}
@@ -63,26 +63,34 @@ pub ok-then : {T E : Type 0} (P Q : Type 0) (r : Result T E) → (P → Q) → O
 ok-then P Q (Ok x) f h = f h
 ok-then P Q (Err x) f h = h
 
+-- and of an error
+pub err-then : {T E : Type 0} (P Q : Type 0) (r : Result T E) → (P → Q) → OnErr r P → OnErr r Q
+err-then P Q (Ok x) f h = h
+err-then P Q (Err x) f h = f h
+
 -- a last line that is not empty was dealt with
 pub finishes-with : {S : Type 0} (takes leaves : S → Item → S → Type 0) (c : List ℕ) (f g : Reading) (s t : S) (r : Result (Unit {0}) End) → 0 < length c
-    → Settles takes leaves (next_verdict f c) (next_item f (record { content = c; lf = false })) f s r g t → FinishesWith takes leaves c f s r g t
+    → Settles takes leaves (is_lenient f) (next_verdict f c) (next_item f (record { content = c; lf = false })) f s r g t → FinishesWith takes leaves c f s r g t
 finishes-with takes leaves [] f g s t r some d = absurd (omega arith)
 finishes-with takes leaves (b ∷ c) f g s t r some d = d
 
 -- a line that LF has not ended is never refused memory
-pub settles-memory : {S : Type 0} (takes leaves : S → Item → S → Type 0) (v : Verdict) (i : Item) (f g : Reading) (s t : S) (r : Result (Unit {0}) End) → i.line.lf ≡ false
-    → Settles takes leaves v i f s r g t → r ≡ Err Memory → ⊥
-settles-memory takes leaves (Refuse place reason) i f g s t r open_end (inl d) m = cc
-settles-memory takes leaves Blank i f g s t r open_end (inl d) m = cc
-settles-memory takes leaves Unwanted i f g s t r open_end (inl d) m = cc
-settles-memory takes leaves Valid i f g s t (Ok x) open_end (inl d) m = cc
-settles-memory takes leaves Valid i f g s t (Err x) open_end (inl d) m = let fault : x ≡ WriteFault = d.0 in cc
-settles-memory takes leaves v i f g s t r open_end (inr m) e = let lf : i.line.lf ≡ true = m.5 in cc
+refused-memory : (on : Bool) (place : ℕ) (reason : Reason) (f g : Reading) (r : Result (Unit {0}) End) → Refuses on place reason f r g → r ≡ Err Memory → ⊥
+refused-memory true place reason f g r d m = let ok : r ≡ Ok tt = d.0 in cc
+refused-memory false place reason f g r d m = let err : r ≡ Err (Refused (f.lines + 1) place reason) = d.0 in cc
+
+pub settles-memory : {S : Type 0} (takes leaves : S → Item → S → Type 0) (on : Bool) (v : Verdict) (i : Item) (f g : Reading) (s t : S) (r : Result (Unit {0}) End) → i.line.lf ≡ false
+    → Settles takes leaves on v i f s r g t → r ≡ Err Memory → ⊥
+settles-memory takes leaves on (Refuse place reason) i f g s t r open_end (inl d) m = refused-memory on place reason f g r d.0 m
+settles-memory takes leaves on Blank i f g s t r open_end (inl d) m = cc
+settles-memory takes leaves on Unwanted i f g s t r open_end (inl d) m = cc
+settles-memory takes leaves on Valid i f g s t (Ok x) open_end (inl d) m = cc
+settles-memory takes leaves on Valid i f g s t (Err x) open_end (inl d) m = let fault : x ≡ WriteFault = d.0 in cc
+settles-memory takes leaves on v i f g s t r open_end (inr m) e = let lf : i.line.lf ≡ true = m.5 in cc
 
 -- the lists after a last line was dealt with, and of a text without one
-pub scanned-last : (f : Reading) (p : List ℕ) (a b : Scanning) → Reads f p → 0 < length (begun_of f) → Scanned f.rules.limits (closed p) a
-    → ((cs : List (List ℕ)) → length cs ≡ f.lines → Scanned f.rules.limits cs a → Scanned f.rules.limits (cs ++ begun_of f ∷ []) b) → Scanned f.rules.limits (contents p) b
-scanned-last f p a b reads some s deal = go (begun p) (rw reads.begun at some) (let k = deal (closed p) (sym reads.lines) s in rw reads.begun at k)
+pub scanned-last : (f : Reading) (p : List ℕ) (a b : Scanning) → Reads f p → 0 < length (begun p) → Scanned f.rules.limits (closed p) a → ScansNext f a b → Scanned f.rules.limits (contents p) b
+scanned-last f p a b reads some s deal = go (begun p) some (deal (closed p) (begun p) (sym reads.lines) reads.begun s)
   where
     go : (c : List ℕ) → 0 < length c → Scanned f.rules.limits (closed p ++ c ∷ []) b → Scanned f.rules.limits (map (λ l. l.content) (map ended_line (closed p) ++ last_line c)) b
     go [] some k = absurd (omega arith)
@@ -122,9 +130,18 @@ module _ {S : Type 0} (takes leaves : S → Item → S → Type 0) (f g : Readin
   count-last : (b : ℕ) (c : List ℕ) → begun p ≡ b ∷ c → g.lines ≡ f.lines + 1 → g.lines ≡ length (lines p)
   count-last b c e h = rw (lines-last b c e) (omega (arith, h, length-cs, length-append (map ended_line (closed p)) (unended b c ∷ [])))
 
+  -- reading goes on after the last line, or not
+  last-lenient : (on : Bool) → is_lenient f ≡ on → goes_on f.rules (length (map ended_line (closed p)) + 1) ≡ on
+  last-lenient on is = rw length-cs is
+
+  concluded-refused : (b : ℕ) (c : List ℕ) (place : ℕ) (reason : Reason) (on : Bool) (r : Result (Unit {0}) End) → begun p ≡ b ∷ c → verdict f.rules (map ended_line (closed p)) (b ∷ c) ≡ Refuse place reason
+      → is_lenient f ≡ on → Refuses on place reason f r g → Concluded f.rules p g.lines (end_of r)
+  concluded-refused b c place reason true r e h is d = rw d.0 (ending-verdict b c e ∙ rw (h, last-lenient true is) refl, count-last b c e d.1.lines)
+  concluded-refused b c place reason false r e h is d = rw d.0 (ending-verdict b c e ∙ rw (h, last-lenient false is, length-cs) refl, ap (λ x. x.lines + 1) (sym d.1))
+
   concluded-last : (b : ℕ) (c : List ℕ) (v : Verdict) (r : Result (Unit {0}) End) → begun p ≡ b ∷ c → verdict f.rules (map ended_line (closed p)) (b ∷ c) ≡ v
-      → Deals takes leaves v (next_item f (unended b c)) f s r g t → Concluded f.rules p g.lines (end_of r)
-  concluded-last b c (Refuse place reason) r e h d = rw d.0 (ending-verdict b c e ∙ rw (h, length-cs) refl, ap (λ x. x.lines + 1) (sym d.1))
+      → Deals takes leaves (is_lenient f) v (next_item f (unended b c)) f s r g t → Concluded f.rules p g.lines (end_of r)
+  concluded-last b c (Refuse place reason) r e h d = concluded-refused b c place reason (is_lenient f) r e h refl d.0
   concluded-last b c Blank r e h d = rw d.0 (ending-verdict b c e ∙ rw h refl, count-last b c e d.1.lines)
   concluded-last b c Unwanted r e h d = rw d.0 (ending-verdict b c e ∙ rw h refl, count-last b c e d.1.lines)
   concluded-last b c Valid (Ok x) e h d = (ending-verdict b c e ∙ rw h refl, count-last b c e d.0.lines)
@@ -152,34 +169,41 @@ module _ {S : Type 0} (takes leaves : S → Item → S → Type 0) (f g : Readin
       go (b ∷ c) e (inr m) = rw m.0 tt
 
   -- the counts are those of f where nothing was dealt with
-  counts-same : g ≡ f → Counts f.rules p g.lines g.kept
+  counts-same : g ≡ f → Counts f.rules p g.lines g.kept g.refused
   counts-same e = let k = Counts-front f p [] reads in rw e (rw (append-nil p) at k)
 
-  counts-left : IsLeft f g → Counts f.rules p g.lines g.kept
+  counts-left : IsLeft f g → Counts f.rules p g.lines g.kept g.refused
   counts-left left = let k = Counts-front f p [] reads in rw left.same (rw (append-nil p) at k)
 
-  counts-passed : (b : ℕ) (c : List ℕ) (put : Bool) → begun p ≡ b ∷ c → Passes put f g → refusal_of (length (map ended_line (closed p)) + 1) (verdict f.rules (map ended_line (closed p)) (b ∷ c)) ≡ None
-      → put ≡ is_kept (verdict f.rules (map ended_line (closed p)) (b ∷ c)) → Counts f.rules p g.lines g.kept
-  counts-passed b c put e d fine k =
+  counts-passed : (b : ℕ) (c : List ℕ) (put refuses : Bool) → begun p ≡ b ∷ c → Passes put refuses f g
+      → refusal_of f.rules (length (map ended_line (closed p)) + 1) (verdict f.rules (map ended_line (closed p)) (b ∷ c)) ≡ None
+      → put ≡ is_kept (verdict f.rules (map ended_line (closed p)) (b ∷ c)) → refuses ≡ is_refused (verdict f.rules (map ended_line (closed p)) (b ∷ c)) → Counts f.rules p g.lines g.kept g.refused
+  counts-passed b c put refuses e d fine k bad =
       let xs = map ended_line (closed p) in
       record {
         few = omega (arith, count-last b c e d.lines);
         good = rw (d.lines, take-last b c e, refusal-append f.rules [] xs (unended b c ∷ []) reads.good, fine) refl;
-        kept = rw (d.lines, take-last b c e) (kept-next f g xs (unended b c) put (sym length-cs) reads.kept d k);
+        kept = rw (d.lines, take-last b c e) (kept-next f g xs (unended b c) put refuses (sym length-cs) reads.kept d k);
+        refused = rw (d.lines, take-last b c e) (refused-next f g xs (unended b c) put refuses reads.refused d bad);
       }
 
+  counts-refused : (b : ℕ) (c : List ℕ) (place : ℕ) (reason : Reason) (on : Bool) (r : Result (Unit {0}) End) → begun p ≡ b ∷ c → verdict f.rules (map ended_line (closed p)) (b ∷ c) ≡ Refuse place reason
+      → is_lenient f ≡ on → Refuses on place reason f r g → Counts f.rules p g.lines g.kept g.refused
+  counts-refused b c place reason true r e h is d = counts-passed b c false true e d.1 (rw (h, last-lenient true is) refl) (rw h refl) (rw h refl)
+  counts-refused b c place reason false r e h is d = counts-same d.1
+
   counts-last : (b : ℕ) (c : List ℕ) (v : Verdict) (r : Result (Unit {0}) End) → begun p ≡ b ∷ c → verdict f.rules (map ended_line (closed p)) (b ∷ c) ≡ v
-      → Deals takes leaves v (next_item f (unended b c)) f s r g t → Counts f.rules p g.lines g.kept
-  counts-last b c (Refuse place reason) r e h d = counts-same d.1
-  counts-last b c Blank r e h d = counts-passed b c false e d.1 (rw h refl) (rw h refl)
-  counts-last b c Unwanted r e h d = counts-passed b c false e d.1 (rw h refl) (rw h refl)
-  counts-last b c Valid (Ok x) e h d = counts-passed b c true e d.0 (rw h refl) (rw h refl)
+      → Deals takes leaves (is_lenient f) v (next_item f (unended b c)) f s r g t → Counts f.rules p g.lines g.kept g.refused
+  counts-last b c (Refuse place reason) r e h d = counts-refused b c place reason (is_lenient f) r e h refl d.0
+  counts-last b c Blank r e h d = counts-passed b c false false e d.1 (rw h refl) (rw h refl) (rw h refl)
+  counts-last b c Unwanted r e h d = counts-passed b c false false e d.1 (rw h refl) (rw h refl) (rw h refl)
+  counts-last b c Valid (Ok x) e h d = counts-passed b c true false e d.0 (rw h refl) (rw h refl) (rw h refl)
   counts-last b c Valid (Err x) e h d = counts-left d.1
 
-  Counts-finished : (r : Result (Unit {0}) End) → Finishes takes leaves f s p r g t → Counts f.rules p g.lines g.kept
+  Counts-finished : (r : Result (Unit {0}) End) → Finishes takes leaves f s p r g t → Counts f.rules p g.lines g.kept g.refused
   Counts-finished r d = go (begun p) refl d
     where
-      go : (x : List ℕ) → begun p ≡ x → FinishesWith takes leaves x f s r g t → Counts f.rules p g.lines g.kept
+      go : (x : List ℕ) → begun p ≡ x → FinishesWith takes leaves x f s r g t → Counts f.rules p g.lines g.kept g.refused
       go [] e d = counts-same d.1
       go (b ∷ c) e (inl d) = counts-last b c _ r e (sym (next-verdict f p reads (b ∷ c))) d
       go (b ∷ c) e (inr m) = counts-left m.1
@@ -202,19 +226,23 @@ module _ {S : Type 0} (takes leaves : S → Item → S → Type 0) (f g : Readin
     peaks = refl;
   })
 
-  settled-passed : (put : Bool) → Passes put f g → Settled
-  settled-passed put d = record {
+  settled-passed : (put refuses : Bool) → Passes put refuses f g → Settled
+  settled-passed put refuses d = record {
     rules = d.rules;
     header = rw d.header reads.header_within;
     line = d.line.within;
     peaks = rw d.header (omega (arith, d.line.peak));
   }
 
-  settled-dealt : (l : Item) (v : Verdict) (r : Result (Unit {0}) End) → Deals takes leaves v l f s r g t → Settled
-  settled-dealt l (Refuse place reason) r d = settled-same d.1
-  settled-dealt l Blank r d = settled-passed false d.1
-  settled-dealt l Unwanted r d = settled-passed false d.1
-  settled-dealt l Valid (Ok x) d = settled-passed true d.0
+  settled-refused : (on : Bool) (place : ℕ) (reason : Reason) (r : Result (Unit {0}) End) → Refuses on place reason f r g → Settled
+  settled-refused true place reason r d = settled-passed false true d.1
+  settled-refused false place reason r d = settled-same d.1
+
+  settled-dealt : (l : Item) (v : Verdict) (r : Result (Unit {0}) End) → Deals takes leaves (is_lenient f) v l f s r g t → Settled
+  settled-dealt l (Refuse place reason) r d = settled-refused (is_lenient f) place reason r d.0
+  settled-dealt l Blank r d = settled-passed false false d.1
+  settled-dealt l Unwanted r d = settled-passed false false d.1
+  settled-dealt l Valid (Ok x) d = settled-passed true false d.0
   settled-dealt l Valid (Err x) d = settled-left d.1
 
   Settled-finished : (r : Result (Unit {0}) End) → Finishes takes leaves f s p r g t → Settled
@@ -238,29 +266,36 @@ module _ {S : Type 0} (takes leaves : S → Item → S → Type 0) (f g : Readin
       }
 
   -- what was held at most, of all lines
-  peak-all : (put : Bool) (b : ℕ) (c : List ℕ) → begun p ≡ b ∷ c → Passes put f g → g.header.peak + g.line.peak ≡ (exact_peaks f.rules.limits p).bytes
-  peak-all put b c e d =
-      let later : greatest length (later_of (contents p)) ≡ max (greatest length (later_of (closed p))) (length (begun_after (closed p) (begun p))) =
-      rw (lines-last b c e, contents-last (closed p) (b ∷ c), ← e) (sym (max-zero _) ∙ longest-later (closed p) (begun p)) in
+  peak-all : (put refuses : Bool) (b : ℕ) (c : List ℕ) → begun p ≡ b ∷ c → Passes put refuses f g → g.header.peak + g.line.peak ≡ (exact_peaks f.rules.limits p).bytes
+  peak-all put refuses b c e d =
+      let none = held-nothing f.rules.limits in
+      let more = greatest-later (held_length f.rules.limits) none (closed p) (begun p) in
+      let later : greatest (held_length f.rules.limits) (later_of (contents p)) ≡ max (greatest (held_length f.rules.limits) (later_of (closed p))) (held_length f.rules.limits (begun_after (closed p) (begun p))) =
+      rw (lines-last b c e, contents-last (closed p) (b ∷ c), ← e) (omega (arith, more, none)) in
       let first : g.header.peak ≡ length (first_content p) = ap (λ x. x.peak) d.header ∙ (reads.peak ∙ ap length reads.header) in
       omega (arith, later, first, d.line.peak, reads.line_peak)
 
   peak-closed : g ≡ f → begun p ≡ [] → g.header.peak + g.line.peak ≡ (exact_peaks f.rules.limits p).bytes
   peak-closed same e =
-      let later : greatest length (later_of (contents p)) ≡ greatest length (later_of (closed p)) = rw (e, contents-closed (closed p)) refl in
+      let later : greatest (held_length f.rules.limits) (later_of (contents p)) ≡ greatest (held_length f.rules.limits) (later_of (closed p)) = rw (e, contents-closed (closed p)) refl in
       let first : f.header.peak ≡ length (first_content p) = reads.peak ∙ ap length reads.header in
       let line = rw (e, begun_after-empty (closed p)) at reads.line_peak in
-      rw same (omega (arith, later, first, line))
+      rw same (omega (arith, later, first, line, held-nothing f.rules.limits))
 
-  peak-dealt : (b : ℕ) (c : List ℕ) (v : Verdict) (r : Result (Unit {0}) End) → begun p ≡ b ∷ c → Deals takes leaves v (next_item f (unended b c)) f s r g t → end_of r ≡ Complete
+  peak-refused : (b : ℕ) (c : List ℕ) (place : ℕ) (reason : Reason) (on : Bool) (r : Result (Unit {0}) End) → begun p ≡ b ∷ c → Refuses on place reason f r g → end_of r ≡ Complete
       → g.header.peak + g.line.peak ≡ (exact_peaks f.rules.limits p).bytes
-  peak-dealt b c (Refuse place reason) r e d done = absurd (clash (sym (ap end_of d.0) ∙ done))
+  peak-refused b c place reason true r e d done = peak-all false true b c e d.1
+  peak-refused b c place reason false r e d done = absurd (clash (sym (ap end_of d.0) ∙ done))
     where
       clash : Refused (f.lines + 1) place reason ≡ Complete → ⊥
       clash x = cc
-  peak-dealt b c Blank r e d done = peak-all false b c e d.1
-  peak-dealt b c Unwanted r e d done = peak-all false b c e d.1
-  peak-dealt b c Valid (Ok x) e d done = peak-all true b c e d.0
+
+  peak-dealt : (b : ℕ) (c : List ℕ) (v : Verdict) (r : Result (Unit {0}) End) → begun p ≡ b ∷ c → Deals takes leaves (is_lenient f) v (next_item f (unended b c)) f s r g t → end_of r ≡ Complete
+      → g.header.peak + g.line.peak ≡ (exact_peaks f.rules.limits p).bytes
+  peak-dealt b c (Refuse place reason) r e d done = peak-refused b c place reason (is_lenient f) r e d.0 done
+  peak-dealt b c Blank r e d done = peak-all false false b c e d.1
+  peak-dealt b c Unwanted r e d done = peak-all false false b c e d.1
+  peak-dealt b c Valid (Ok x) e d done = peak-all true false b c e d.0
   peak-dealt b c Valid (Err x) e d done = absurd (clash (sym d.0 ∙ done))
     where
       clash : WriteFault ≡ Complete → ⊥
@@ -289,8 +324,12 @@ module _ {S : Type 0} (takes leaves : S → Item → S → Type 0) (f g : Readin
       none true r e h = refused 1 0 NoHeader r e h
       none false r e h = e
 
-      dealt : (v : Verdict) (l : Item) (r : Result (Unit {0}) End) → Deals takes leaves v l f s r g t → end_of r ≡ Complete → r ≡ Ok tt
-      dealt (Refuse place reason) l r d h = refused (f.lines + 1) place reason r d.0 h
+      refuses : (on : Bool) (place : ℕ) (reason : Reason) (r : Result (Unit {0}) End) → Refuses on place reason f r g → end_of r ≡ Complete → r ≡ Ok tt
+      refuses true place reason r d h = d.0
+      refuses false place reason r d h = refused (f.lines + 1) place reason r d.0 h
+
+      dealt : (v : Verdict) (l : Item) (r : Result (Unit {0}) End) → Deals takes leaves (is_lenient f) v l f s r g t → end_of r ≡ Complete → r ≡ Ok tt
+      dealt (Refuse place reason) l r d h = refuses (is_lenient f) place reason r d.0 h
       dealt Blank l r d h = d.0
       dealt Unwanted l r d h = d.0
       dealt Valid l (Ok x) d h = refl
@@ -307,8 +346,14 @@ module _ {S : Type 0} (takes leaves : S → Item → S → Type 0) (f g : Readin
 
   -- and of all three counts
   pub peaks-finished : (r : Result (Unit {0}) End) (sc : Scanning) → Finishes takes leaves f s p r g t → end_of r ≡ Complete → Scanned f.rules.limits (contents p) sc
-      → ◌≡◌ {A = Peaks} (record { bytes = g.header.peak + g.line.peak; tokens = sc.header.peak + sc.line.peak; depth = sc.opened.peak }) (exact_peaks f.rules.limits p)
-  peaks-finished r sc d done k = same-peaks _ _ _ _ _ _ (peak-finished r d done) (rw (k.header_peak, k.line_peak) refl) k.opened_peak
+      → IsExact f.rules.limits p (record { bytes = g.header.peak + g.line.peak; tokens = sc.header.peak + sc.line.peak; depth = sc.opened.peak })
+  peaks-finished r sc d done k =
+      let bytes = peak-finished r d done in
+      record {
+        bytes = bytes;
+        least = record { bytes = omega (arith, bytes); tokens = omega (arith, k.header_peak, k.line_peak.least); depth = k.opened_peak.least };
+        legible = λ all. same-peaks _ _ _ _ _ _ bytes (omega (arith, k.header_peak, k.line_peak.exact all)) (k.opened_peak.exact all);
+      }
 
   kept-last : (b : ℕ) (c : List ℕ) → begun p ≡ b ∷ c
       → kept_first f.rules (f.lines + 1) p ≡ kept_first f.rules f.lines p ++ kept_from f.rules (map ended_line (closed p)) (unended b c ∷ [])
@@ -325,23 +370,26 @@ module _ {S : Type 0} (takes leaves : S → Item → S → Type 0) (f g : Readin
     fault = fault;
   }
 
+  skipped : (b : ℕ) (c : List ℕ) (put refuses : Bool) → begun p ≡ b ∷ c → Passes put refuses f g → is_kept (verdict f.rules (map ended_line (closed p)) (b ∷ c)) ≡ false → t ≡ s
+      → Delivers takes leaves f.rules p f.lines g.lines s t (Some Complete)
+  skipped b c put refuses e d unkept still = record {
+    added = [];
+    middle = s;
+    kept = rw d.lines (kept-last b c e ∙ rw unkept refl);
+    took = refl;
+    fault = still;
+  }
+
+  delivers-refused : (b : ℕ) (c : List ℕ) (place : ℕ) (reason : Reason) (on : Bool) (r : Result (Unit {0}) End) → begun p ≡ b ∷ c → verdict f.rules (map ended_line (closed p)) (b ∷ c) ≡ Refuse place reason
+      → Refuses on place reason f r g → t ≡ s → Delivers takes leaves f.rules p f.lines g.lines s t (Some (end_of r))
+  delivers-refused b c place reason true r e h d still = rw d.0 (skipped b c false true e d.1 (rw h refl) still)
+  delivers-refused b c place reason false r e h d still = rw d.0 (quiet (Refused (f.lines + 1) place reason) (ap (λ x. x.lines) d.1) still)
+
   delivers-last : (b : ℕ) (c : List ℕ) (v : Verdict) (r : Result (Unit {0}) End) → begun p ≡ b ∷ c → verdict f.rules (map ended_line (closed p)) (b ∷ c) ≡ v
-      → Deals takes leaves v (next_item f (unended b c)) f s r g t → Delivers takes leaves f.rules p f.lines g.lines s t (Some (end_of r))
-  delivers-last b c (Refuse place reason) r e h d = rw d.0 (quiet (Refused (f.lines + 1) place reason) (ap (λ x. x.lines) d.1) d.2)
-  delivers-last b c Blank r e h d = rw d.0 (record {
-    added = [];
-    middle = s;
-    kept = rw d.1.lines (kept-last b c e ∙ rw h refl);
-    took = refl;
-    fault = d.2;
-  })
-  delivers-last b c Unwanted r e h d = rw d.0 (record {
-    added = [];
-    middle = s;
-    kept = rw d.1.lines (kept-last b c e ∙ rw h refl);
-    took = refl;
-    fault = d.2;
-  })
+      → Deals takes leaves (is_lenient f) v (next_item f (unended b c)) f s r g t → Delivers takes leaves f.rules p f.lines g.lines s t (Some (end_of r))
+  delivers-last b c (Refuse place reason) r e h d = delivers-refused b c place reason (is_lenient f) r e h d.0 d.1
+  delivers-last b c Blank r e h d = rw d.0 (skipped b c false false e d.1 (rw h refl) d.2)
+  delivers-last b c Unwanted r e h d = rw d.0 (skipped b c false false e d.1 (rw h refl) d.2)
   delivers-last b c Valid (Ok x) e h d = record {
     added = item_after f.rules (map ended_line (closed p)) (unended b c) ∷ [];
     middle = t;

@@ -1,5 +1,5 @@
 -- The good lines of a text, and what is kept of them.
-use Rattle.std.proofs.Common.{◌≡◌, ℕ, ◌+◌, List, [], ◌∷◌, ◌++◌, true, cond, zero, suc, length, take, drop, Option, Some, None, refl, sym, ap, ◌∙◌, arith, length-append}
+use Rattle.std.proofs.Common.{◌≡◌, ℕ, ◌+◌, List, [], ◌∷◌, ◌++◌, Bool, true, false, cond, zero, suc, length, take, drop, Option, Some, None, refl, sym, ap, ◌∙◌, arith, length-append}
 use Rattle.std.specs.Prelude.{unwrap_or, is_some, slice_get}
 use Rattle.std.proofs.lemmas.List.{take-append-drop, append-nil}
 use Rattle.cj_spans.specs.declared.reason.Reason.{Reason}
@@ -8,14 +8,14 @@ use Rattle.cj_stream.specs.declared.ending.End.{End}
 use Rattle.cj_stream.specs.declared.ending.End.TheVariants.{Complete, Refused}
 use Rattle.cj_stream.specs.Lines.{Line, lines}
 use Rattle.cj_stream.specs.Item.{Item}
-use Rattle.cj_stream.specs.Verdict.{Rules, Verdict, Refuse, Blank, Unwanted, Valid, verdict, item_after, refusal_of, is_kept, refusal_from, refusal_in, good_from, kept_from, good, kept, kept_first, ending, ending_of}
+use Rattle.cj_stream.specs.Verdict.{Rules, Verdict, Refuse, Blank, Unwanted, Valid, verdict, item_after, goes_on, refusal_of, is_kept, refusal_from, refusal_in, good_from, kept_from, good, kept, kept_first, ending, ending_of}
 use Rattle.cj_stream.proofs.VerdictLemmas.{kept-append, before-more}
 use Rattle.cj_stream.proofs.Apart.{false-true, none-some, some-none}
 
 -- good lines are a prefix
 pub good-take : (rules : Rules) (before ls : List Line) → take (length (good_from rules before ls)) ls ≡ good_from rules before ls
 good-take rules before [] = refl
-good-take rules before (l ∷ ls) = step (refusal_of (length before + 1) (verdict rules before l.content)) (good-take rules (before ++ l ∷ []) ls)
+good-take rules before (l ∷ ls) = step (refusal_of rules (length before + 1) (verdict rules before l.content)) (good-take rules (before ++ l ∷ []) ls)
   where
     step : (first : Option End) → take (length (good_from rules (before ++ l ∷ []) ls)) ls ≡ good_from rules (before ++ l ∷ []) ls
         → take (length (cond (is_some first) [] (l ∷ good_from rules (before ++ l ∷ []) ls))) (l ∷ ls) ≡ cond (is_some first) [] (l ∷ good_from rules (before ++ l ∷ []) ls)
@@ -29,7 +29,7 @@ kept_first-good rules n r e = rw e (ap (λ z. kept_from rules [] z) (good-take r
 -- lines without a refusal, and then others
 pub good-append : (rules : Rules) (before xs ys : List Line) → refusal_from rules before xs ≡ None → good_from rules before (xs ++ ys) ≡ xs ++ good_from rules (before ++ xs) ys
 good-append rules before [] ys h = rw (append-nil before) refl
-good-append rules before (l ∷ xs) ys h = step (refusal_of (length before + 1) (verdict rules before l.content)) (good-append rules (before ++ l ∷ []) xs ys) h
+good-append rules before (l ∷ xs) ys h = step (refusal_of rules (length before + 1) (verdict rules before l.content)) (good-append rules (before ++ l ∷ []) xs ys) h
   where
     step : (first : Option End) → (refusal_from rules (before ++ l ∷ []) xs ≡ None → good_from rules (before ++ l ∷ []) (xs ++ ys) ≡ xs ++ good_from rules ((before ++ l ∷ []) ++ xs) ys)
         → cond (is_some first) first (refusal_from rules (before ++ l ∷ []) xs) ≡ None
@@ -40,7 +40,7 @@ good-append rules before (l ∷ xs) ys h = step (refusal_of (length before + 1) 
 pub good-all : (rules : Rules) (before ls : List Line) → refusal_from rules before ls ≡ None → good_from rules before ls ≡ ls
 good-all rules before [] h = refl
 good-all rules before (l ∷ ls) h =
-    step (refusal_of (length before + 1) (verdict rules before l.content)) (refusal_from rules (before ++ l ∷ []) ls) (good-all rules (before ++ l ∷ []) ls) h
+    step (refusal_of rules (length before + 1) (verdict rules before l.content)) (refusal_from rules (before ++ l ∷ []) ls) (good-all rules (before ++ l ∷ []) ls) h
   where
     step : (first rest : Option End) → (rest ≡ None → good_from rules (before ++ l ∷ []) ls ≡ ls) → cond (is_some first) first rest ≡ None
         → cond (is_some first) [] (l ∷ good_from rules (before ++ l ∷ []) ls) ≡ l ∷ ls
@@ -57,21 +57,32 @@ refusal-good rules before m place reason (l ∷ ls) h = step (verdict rules befo
     one = length-append before (l ∷ [])
 
     step : (v : Verdict) → (refusal_from rules (before ++ l ∷ []) ls ≡ Some (Refused m place reason) → m ≡ length (before ++ l ∷ []) + 1 + length (good_from rules (before ++ l ∷ []) ls))
-        → cond (is_some (refusal_of (length before + 1) v)) (refusal_of (length before + 1) v) (refusal_from rules (before ++ l ∷ []) ls) ≡ Some (Refused m place reason)
-        → m ≡ length before + 1 + length (cond (is_some (refusal_of (length before + 1) v)) [] (l ∷ good_from rules (before ++ l ∷ []) ls))
-    step (Refuse q why) later h = let same : length before + 1 ≡ m = cc in omega (arith, same)
+        → cond (is_some (refusal_of rules (length before + 1) v)) (refusal_of rules (length before + 1) v) (refusal_from rules (before ++ l ∷ []) ls) ≡ Some (Refused m place reason)
+        → m ≡ length before + 1 + length (cond (is_some (refusal_of rules (length before + 1) v)) [] (l ∷ good_from rules (before ++ l ∷ []) ls))
+    step (Refuse q why) later h = on (goes_on rules (length before + 1)) h
+      where
+        on : (b : Bool)
+            → cond (is_some (cond b None (Some (Refused (length before + 1) q why)))) (cond b None (Some (Refused (length before + 1) q why))) (refusal_from rules (before ++ l ∷ []) ls) ≡ Some (Refused m place reason)
+            → m ≡ length before + 1 + length (cond (is_some (cond b None (Some (Refused (length before + 1) q why)))) [] (l ∷ good_from rules (before ++ l ∷ []) ls))
+        on true h = omega (arith, later h, one)
+        on false h = let same : length before + 1 ≡ m = cc in omega (arith, same)
     step Blank later h = omega (arith, later h, one)
     step Unwanted later h = omega (arith, later h, one)
     step Valid later h = omega (arith, later h, one)
 
 -- a refusal is no completion
-refusal-kind : (rules : Rules) (before ls : List Line) → refusal_from rules before ls ≡ Some Complete → ⊥
+pub refusal-kind : (rules : Rules) (before ls : List Line) → refusal_from rules before ls ≡ Some Complete → ⊥
 refusal-kind rules before [] h = none-some Complete h
 refusal-kind rules before (l ∷ ls) h = step (verdict rules before l.content) (refusal-kind rules (before ++ l ∷ []) ls) h
   where
     step : (v : Verdict) → (refusal_from rules (before ++ l ∷ []) ls ≡ Some Complete → ⊥)
-        → cond (is_some (refusal_of (length before + 1) v)) (refusal_of (length before + 1) v) (refusal_from rules (before ++ l ∷ []) ls) ≡ Some Complete → ⊥
-    step (Refuse q why) later h = cc
+        → cond (is_some (refusal_of rules (length before + 1) v)) (refusal_of rules (length before + 1) v) (refusal_from rules (before ++ l ∷ []) ls) ≡ Some Complete → ⊥
+    step (Refuse q why) later h = on (goes_on rules (length before + 1)) h
+      where
+        on : (b : Bool)
+            → cond (is_some (cond b None (Some (Refused (length before + 1) q why)))) (cond b None (Some (Refused (length before + 1) q why))) (refusal_from rules (before ++ l ∷ []) ls) ≡ Some Complete → ⊥
+        on true h = later h
+        on false h = cc
     step Blank later h = later h
     step Unwanted later h = later h
     step Valid later h = later h

@@ -18,18 +18,18 @@ neither (Some x) rest h = cc
 module _ (rules : Rules) where
   -- the refusal of a line after these
   refused_after : List Line → Line → Option End
-  refused_after before l = refusal_of (length before + 1) (verdict rules before l.content)
+  refused_after before l = refusal_of rules (length before + 1) (verdict rules before l.content)
 
   none-each : (b before : List Line) (l : Line) (after : List Line) → refusal_from rules b (before ++ l ∷ after) ≡ None
-      → refusal_of (length (b ++ before) + 1) (verdict rules (b ++ before) l.content) ≡ None
-  none-each b [] l after h = rw (append-nil b) (neither (refusal_of (length b + 1) (verdict rules b l.content)) (refusal_from rules (b ++ l ∷ []) after) h).0
+      → refusal_of rules (length (b ++ before) + 1) (verdict rules (b ++ before) l.content) ≡ None
+  none-each b [] l after h = rw (append-nil b) (neither (refusal_of rules (length b + 1) (verdict rules b l.content)) (refusal_from rules (b ++ l ∷ []) after) h).0
   none-each b (x ∷ before) l after h =
-      let later = (neither (refusal_of (length b + 1) (verdict rules b x.content)) (refusal_from rules (b ++ x ∷ []) (before ++ l ∷ after)) h).1 in
+      let later = (neither (refusal_of rules (length b + 1) (verdict rules b x.content)) (refusal_from rules (b ++ x ∷ []) (before ++ l ∷ after)) h).1 in
       let more = none-each (b ++ x ∷ []) before l after later in
       rw (append_assoc b (x ∷ []) before) at more
 
   each-none : (b ls : List Line)
-      → ((before : List Line) (l : Line) (after : List Line) → ls ≡ before ++ l ∷ after → refusal_of (length (b ++ before) + 1) (verdict rules (b ++ before) l.content) ≡ None)
+      → ((before : List Line) (l : Line) (after : List Line) → ls ≡ before ++ l ∷ after → refusal_of rules (length (b ++ before) + 1) (verdict rules (b ++ before) l.content) ≡ None)
       → refusal_from rules b ls ≡ None
   each-none b [] h = refl
   each-none b (x ∷ ls) h =
@@ -47,7 +47,7 @@ module _ (rules : Rules) where
   -- the good lines are a prefix without a refusal, and the line after them is refused
   good-front : (b ls : List Line) → (rest : List Line) × (ls ≡ good_from rules b ls ++ rest)
   good-front b [] = ([], refl)
-  good-front b (l ∷ ls) = go (refusal_of (length b + 1) (verdict rules b l.content)) (good-front (b ++ l ∷ []) ls)
+  good-front b (l ∷ ls) = go (refusal_of rules (length b + 1) (verdict rules b l.content)) (good-front (b ++ l ∷ []) ls)
     where
       go : (first : Option End) → (rest : List Line) × (ls ≡ good_from rules (b ++ l ∷ []) ls ++ rest)
           → (rest : List Line) × (l ∷ ls ≡ cond (is_some first) [] (l ∷ good_from rules (b ++ l ∷ []) ls) ++ rest)
@@ -56,19 +56,19 @@ module _ (rules : Rules) where
 
   good-none : (b ls : List Line) → refusal_from rules b (good_from rules b ls) ≡ None
   good-none b [] = refl
-  good-none b (l ∷ ls) = go (refusal_of (length b + 1) (verdict rules b l.content)) refl (good-none (b ++ l ∷ []) ls)
+  good-none b (l ∷ ls) = go (refusal_of rules (length b + 1) (verdict rules b l.content)) refl (good-none (b ++ l ∷ []) ls)
     where
-      go : (first : Option End) → refusal_of (length b + 1) (verdict rules b l.content) ≡ first → refusal_from rules (b ++ l ∷ []) (good_from rules (b ++ l ∷ []) ls) ≡ None
+      go : (first : Option End) → refusal_of rules (length b + 1) (verdict rules b l.content) ≡ first → refusal_from rules (b ++ l ∷ []) (good_from rules (b ++ l ∷ []) ls) ≡ None
           → refusal_from rules b (cond (is_some first) [] (l ∷ good_from rules (b ++ l ∷ []) ls)) ≡ None
       go None is later = rw is later
       go (Some x) is later = refl
 
   stops : (b : List Line) (l : Line) (ls : List Line) → good_from rules b (l ∷ ls) ≡ []
-      → (e : End) × (refusal_of (length b + 1) (verdict rules b l.content) ≡ Some e) × (refusal_from rules b (l ∷ ls) ≡ Some e)
-  stops b l ls h = go (refusal_of (length b + 1) (verdict rules b l.content)) refl h
+      → (e : End) × (refusal_of rules (length b + 1) (verdict rules b l.content) ≡ Some e) × (refusal_from rules b (l ∷ ls) ≡ Some e)
+  stops b l ls h = go (refusal_of rules (length b + 1) (verdict rules b l.content)) refl h
     where
-      go : (first : Option End) → refusal_of (length b + 1) (verdict rules b l.content) ≡ first → cond (is_some first) [] (l ∷ good_from rules (b ++ l ∷ []) ls) ≡ []
-          → (e : End) × (refusal_of (length b + 1) (verdict rules b l.content) ≡ Some e) × (cond (is_some first) first (refusal_from rules (b ++ l ∷ []) ls) ≡ Some e)
+      go : (first : Option End) → refusal_of rules (length b + 1) (verdict rules b l.content) ≡ first → cond (is_some first) [] (l ∷ good_from rules (b ++ l ∷ []) ls) ≡ []
+          → (e : End) × (refusal_of rules (length b + 1) (verdict rules b l.content) ≡ Some e) × (cond (is_some first) first (refusal_from rules (b ++ l ∷ []) ls) ≡ Some e)
       go None is k = cc
       go (Some x) is k = (x, is, refl)
 

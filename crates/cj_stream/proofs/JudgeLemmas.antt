@@ -1,5 +1,5 @@
 -- What a scan's answer says of the judgement on a line.
-use Rattle.std.proofs.Common.{◌≡◌, ℕ, List, length, arith, Result, Ok, Err, refl, ap}
+use Rattle.std.proofs.Common.{◌≡◌, ℕ, List, false, length, arith, Result, Ok, Err, refl, ap}
 use Rattle.std.specs.Prelude.{IsUtf8}
 use Rattle.std.specs.Str.{IsValidUpTo}
 use Rattle.std.proofs.lemmas.List.{take_all}
@@ -9,6 +9,7 @@ use Rattle.cj_spans.specs.declared.reason.Reason.TheVariants.{Syntax as SyntaxRe
 use Rattle.cj_spans.specs.Tree.{Tree, size, nest}
 use Rattle.cj_spans.specs.Json.{Json}
 use Rattle.cj_spans.specs.Judgement.{Judgement, spelled, broken, sunk, IsReservedAnswerOf, judged_size, judged_nest}
+use Rattle.cj_stream.specs.Bound.{is_spelled}
 use Rattle.cj_stream.specs.Item.{judged_tree}
 use Rattle.cj_stream.specs.Verdict.{Rules, Refuse, tree_verdict, text_verdict}
 
@@ -48,3 +49,14 @@ syntax-text r k e i f = cc
 
 pub deep-text : (r : Result (Unit {0}) LineFault) (k : ℕ) → r ≡ Err (TooDeep k) → (i : ℕ) → r ≡ Err (NotUtf8 i) → ⊥
 deep-text r k e i f = cc
+
+-- a scan that finds such a fault has found no tree
+pub syntax-unspelled : {b : List ℕ} {d : ℕ} (j : Judgement b d) (i : ℕ) → IsReservedAnswerOf j (Err (Syntax i)) → is_spelled j ≡ false
+syntax-unspelled (spelled u json shallow) i e = cc
+syntax-unspelled (broken k s m) i e = refl
+syntax-unspelled (sunk k s) i e = refl
+
+pub deep-unspelled : {b : List ℕ} {d : ℕ} (j : Judgement b d) (i : ℕ) → IsReservedAnswerOf j (Err (TooDeep i)) → is_spelled j ≡ false
+deep-unspelled (spelled u json shallow) i e = cc
+deep-unspelled (broken k s m) i e = refl
+deep-unspelled (sunk k s) i e = refl

@@ -10,5 +10,5 @@ pub keeps-same : (f g : Reading) (s t : Scanning) (p q : Option HeaderParts) →
 keeps-same f g s t p q later header rules tokens parts h = λ _. rw (header, rules, tokens, parts) (h later)
 
 -- a later line that was dealt with
-pub keeps-passed : (put : _) (f g : Reading) (s t : Scanning) (p q : Option HeaderParts) → 0 < f.lines → Passes put f g → Forgets s t → q ≡ p → KeepsFirst f s p → KeepsFirst g t q
-keeps-passed put f g s t p q later passes forgets parts h = keeps-same f g s t p q later passes.header passes.rules forgets.header parts h
+pub keeps-passed : (put refuses : _) (f g : Reading) (s t : Scanning) (p q : Option HeaderParts) → 0 < f.lines → Passes put refuses f g → Forgets s t → q ≡ p → KeepsFirst f s p → KeepsFirst g t q
+keeps-passed put refuses f g s t p q later passes forgets parts h = keeps-same f g s t p q later passes.header passes.rules forgets.header parts h

@@ -12,6 +12,7 @@ pub mod EngineLemmas
 pub mod FeedingLemmas
 pub mod FinishLemmas
 pub mod GoodLemmas
+pub mod GoingRowLemmas
 pub mod HeadlineLemmas
 pub mod IdLemmas
 pub mod IsGoodLemmas
@@ -20,9 +21,11 @@ pub mod JoinedLemmas
 pub mod JudgeLemmas
 pub mod JudgingLemmas
 pub mod KnownLemmas
+pub mod LenientLemmas
 pub mod LineLemmas
 pub mod LinePieceLemmas
 pub mod LineRowLemmas
+pub mod NoteLemmas
 pub mod OutputLemmas
 pub mod PhaseLemmas
 pub mod PieceLemmas

@@ -7,7 +7,7 @@ use Rattle.cj_stream.specs.declared.ending.End.{End}
 use Rattle.cj_stream.specs.declared.ending.End.TheVariants.{Complete, Refused}
 use Rattle.cj_stream.specs.declared.ending.LineEnd.{LineEnd}
 use Rattle.cj_stream.specs.declared.ending.LineEnd.TheVariants.{Complete as LineComplete, Refused as LineRefused, WriteFault as LineWriteFault}
-use Rattle.cj_stream.specs.Bound.{IsBounded, exact_peaks}
+use Rattle.cj_stream.specs.Bound.{IsBounded, IsExact}
 use Rattle.cj_stream.specs.Cut.{joined}
 use Rattle.cj_stream.specs.Ending.{line_end}
 use Rattle.cj_stream.specs.Engine.{Counts, Delivers}
@@ -48,7 +48,7 @@ module _ {S : Type 0} (takes leaves : S → Item → S → Type 0) (rules : Rule
       let there : kept rules (p ++ y) ≡ kept_first rules n (p ++ y) ++ d.added = same ∙ (here ∙ ap (λ z. z ++ d.added) (kept_first-either x y)) in
       rw (after-kept y d.added there, still) d.took
 
-  module _ (pieces : List (List ℕ)) (k m features : ℕ) (few : k ≤ length pieces) (counts : Counts rules (p ++ joined (take (k + 1) pieces)) m features) where
+  module _ (pieces : List (List ℕ)) (k m features refusals : ℕ) (few : k ≤ length pieces) (counts : Counts rules (p ++ joined (take (k + 1) pieces)) m features refusals) where
     abbrev given : List ℕ
     given = joined (take (k + 1) pieces)
 
@@ -59,12 +59,12 @@ module _ {S : Type 0} (takes leaves : S → Item → S → Type 0) (rules : Rule
     whole-refused e (inr h) ends =
         let more = refused-more rules (p ++ given) (joined (drop (k + 1) pieces)) e h in
         let text : (p ++ given) ++ joined (drop (k + 1) pieces) ≡ p ++ joined pieces = append_assoc p given (joined (drop (k + 1) pieces)) ∙ ap (λ z. p ++ z) (joined-cut (k + 1) pieces) in
-        rw text at more
+        let z = rw text at more in (z.0, z.1)
 
     -- what a sink took of pieces, by the end
     pub lines-put : (e : LineEnd) (peaks : Peaks) → Ends rules (p ++ given) m (joined pieces ≡ given) (line_end e)
         → Delivers takes leaves rules (p ++ given) n m s t (Some (line_end e)) → IsBounded rules.limits (p ++ given) peaks
-        → (e ≡ LineComplete → peaks ≡ exact_peaks rules.limits (p ++ given)) → PutsLines takes leaves rules p pieces n (record { taken = k; peaks = peaks; ended = e }) s t
+        → (e ≡ LineComplete → IsExact rules.limits (p ++ given) peaks) → PutsLines takes leaves rules p pieces n (record { taken = k; peaks = peaks; ended = e }) s t
     lines-put LineComplete peaks ends d held exact =
         let same = ends.2 in
         record {

@@ -44,9 +44,9 @@ Took-all takes leaves rules r n s t e h still all =
     let k : h.added ≡ kept rules r = sym h.kept ∙ kept_first-good rules n r all in
     rw (← k, still) h.took
 
-module _ {S : Type 0} (takes leaves : S → Item → S → Type 0) (rules : Rules) (r : List ℕ) (at_end : Type 0) (s t : S) (n features : ℕ) where
+module _ {S : Type 0} (takes leaves : S → Item → S → Type 0) (rules : Rules) (r : List ℕ) (at_end : Type 0) (s t : S) (n features refusals : ℕ) where
   -- what a sink took, by the end of the run
-  puts-told : (e : End) → Ends rules r n at_end e → Counts rules r n features → Delivers takes leaves rules r 0 n s t (Some e) → Puts takes leaves rules r e s t
+  puts-told : (e : End) → Ends rules r n at_end e → Counts rules r n features refusals → Delivers takes leaves rules r 0 n s t (Some e) → Puts takes leaves rules r e s t
   puts-told Complete ends counts d = Took-all takes leaves rules r n s t Complete d d.fault ends.1
   puts-told (Refused number place reason) ends counts d = Took-all takes leaves rules r n s t (Refused number place reason) d d.fault ends.1
   puts-told ReadFault ends counts d =
@@ -83,7 +83,7 @@ pub Runs-told : {S : Type 0} (takes leaves : S → Item → S → Type 0) (run :
 Runs-told takes leaves run at_end s t account sink = record {
   account = account;
   sink = sink;
-  puts = puts-told takes leaves run.rules run.read at_end s t run.outcome.lines run.outcome.kept run.outcome.ended account.ends account.counts sink;
+  puts = puts-told takes leaves run.rules run.read at_end s t run.outcome.lines run.outcome.kept run.outcome.refused run.outcome.ended account.ends account.counts sink;
 }
 
 module _ {S : Type 0} (contents : S → Option (List ℕ)) where

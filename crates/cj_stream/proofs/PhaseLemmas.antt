@@ -1,13 +1,18 @@
 -- An engine by the state that it holds.
-use Rattle.std.proofs.Common.{◌≡◌, ℕ, Bool, true, false, List, Option, Some, None, Ok, Err, refl, sym, ◌∙◌, inl, inr, ◌⊎◌, ◌<◌}
+use Rattle.std.proofs.Common.{◌≡◌, ℕ, Bool, true, false, List, ◌++◌, take, drop, Option, Some, None, Result, Ok, Err, refl, sym, ap, ◌∙◌, append_assoc, inl, inr, ◌⊎◌, ◌<◌, ◌≤◌}
+use Rattle.std.proofs.lemmas.List.{take-append-drop}
 use Rattle.std.specs.Prelude.{not}
 use Rattle.cj_stream.specs.declared.engine.Phase.{Phase}
 use Rattle.cj_stream.specs.declared.engine.Phase.TheVariants.{Header, Lines}
 use Rattle.cj_stream.specs.declared.ending.End.{End}
 use Rattle.cj_stream.specs.Ending.{IsAccepted}
-use Rattle.cj_stream.specs.Engine.{EngineState, lines_of}
+use Rattle.cj_stream.specs.declared.reporting.Report.{Report}
+use Rattle.cj_stream.specs.Engine.{EngineState, StandsFor, rules_of, lines_of}
 use Rattle.cj_stream.specs.Feeding.{Feeds, IsFinished}
 use Rattle.cj_stream.specs.Item.{Item}
+use Rattle.cj_stream.specs.Reporting.{Notes}
+use Rattle.cj_stream.specs.Verdict.{reported_first}
+use Rattle.cj_stream.proofs.NoteLemmas.{Notes-first, Notes-then, Notes-over, reported_first-same}
 use Rattle.cj_stream.specs.Phase.{state_of, seen, IsUnderWay}
 use Rattle.cj_stream.proofs.Apart.{some-none, false-true}
 use Rattle.cj_stream.proofs.FeedingLemmas.{Feeds-untaken}
@@ -47,7 +52,7 @@ seen-taken None n ended = refl
 
 module _ {S : Type 0} (takes leaves : S → Item → S → Type 0) (failures : S → ℕ) (self : EngineState) (held : Option Phase) (phase next : Phase) (n : ℕ) (ended : Option End) (s t : S)
     (seen_is : self ≡ seen held n ended) (held_is : held ≡ Some phase) (none : ended ≡ None) (going : IsUnderWay phase n) where
-  self-is : self ≡ state_of phase
+  pub self-is : self ≡ state_of phase
   self-is = seen_is ∙ (rw held_is (seen-going phase n ended going none))
 
   pub Feeds-goes_on : (bytes : List ℕ) (m : ℕ) → IsUnderWay next m → Feeds takes leaves failures (state_of phase) bytes (Ok tt) (state_of next) s t
@@ -74,3 +79,35 @@ module _ {S : Type 0} (takes leaves : S → Item → S → Type 0) (failures : S
     memory = h.memory;
     sink = λ p st still. rw (← h.ended) (h.sink p st still);
   })
+
+-- ---- what is noted of a header: nothing
+
+module _ {S N : Type 0} (takes leaves : S → Item → S → Type 0) (failures : S → ℕ) (notes : N → Report → N → Type 0) (old : EngineState) (s : S) (going : old.ended ≡ None) (first : lines_of old ≡ 0) where
+  pub Notes-header : (bytes : List ℕ) (r : Result (Unit {0}) End) (new : EngineState) (t : S) (n : N) (p : List ℕ) → lines_of new ≤ 1 → Feeds takes leaves failures old bytes r new s t → StandsFor old p
+      → Notes notes (rules_of old) (p ++ bytes) (lines_of old) (lines_of new) n n
+  Notes-header bytes r new t n p few feeds st =
+      let now = let k = feeds.stands p st in rw going at k in
+      let good = rw feeds.rules at now.counts.good in
+      Notes-first notes (rules_of old) (p ++ bytes) (lines_of old) (lines_of new) n n first few good refl
+
+  pub Notes-header_finished : (e : End) (new : EngineState) (t : S) (n : N) (p : List ℕ) → lines_of new ≤ 1 → IsFinished takes leaves failures old e new s t → StandsFor old p
+      → Notes notes (rules_of old) p (lines_of old) (lines_of new) n n
+  Notes-header_finished e new t n p few finished st =
+      let now = finished.stands p st in
+      let good = rw finished.rules at now.counts.good in
+      Notes-first notes (rules_of old) p (lines_of old) (lines_of new) n n first few good refl
+
+  -- a piece of which the first part is of the header, and the rest of later lines
+  pub Notes-join : (bytes : List ℕ) (k : ℕ) (middle : EngineState) (t : S) (count : ℕ) (n m : N) (p : List ℕ) → lines_of middle ≤ 1 → Feeds takes leaves failures old (take k bytes) (Ok tt) middle s t
+      → ((q : List ℕ) → StandsFor middle q → Notes notes (rules_of middle) (q ++ drop k bytes) (lines_of middle) count n m) → StandsFor old p
+      → Notes notes (rules_of old) (p ++ bytes) (lines_of old) count n m
+  Notes-join bytes k middle t count n m p few feeds later st =
+      let text : (p ++ take k bytes) ++ drop k bytes ≡ p ++ bytes = append_assoc p (take k bytes) (drop k bytes) ∙ ap (λ z. p ++ z) (take-append-drop k bytes) in
+      let now = let z = feeds.stands p st in rw going at z in
+      let read = (now.going feeds.unended).0.lines in
+      let head = Notes-header (take k bytes) (Ok tt) middle t n p few feeds st in
+      let same : reported_first (rules_of old) (lines_of middle) (p ++ bytes) ≡ reported_first (rules_of old) (lines_of middle) (p ++ take k bytes) =
+      (let z = reported_first-same (rules_of old) (lines_of middle) (p ++ take k bytes) (drop k bytes) read in rw text at z) in
+      let none : reported_first (rules_of old) (lines_of old) (p ++ bytes) ≡ reported_first (rules_of old) (lines_of old) (p ++ take k bytes) = rw first refl in
+      let rest = let z = later (p ++ take k bytes) now in rw (text, feeds.rules) at z in
+      Notes-then notes (rules_of old) (p ++ bytes) (lines_of old) (lines_of middle) count n n m (Notes-over notes (rules_of old) (p ++ take k bytes) (p ++ bytes) (lines_of old) (lines_of middle) n n none same head) rest

@@ -4,17 +4,18 @@ use Rattle.std.specs.Prelude.{if◌then◌else◌, slice_get}
 use Rattle.std.proofs.lemmas.List.{append-nil}
 use Rattle.std.proofs.lemmas.Bool.Decides.{nat_tests}
 use Rattle.cj_budget.specs.Limits.{LimitPair}
+use Rattle.cj_spans.specs.declared.reason.Reason.{Reason}
 use Rattle.cj_spans.specs.declared.reason.Reason.TheVariants.{LineTooLong}
 use Rattle.cj_stream.specs.declared.ending.End.{End}
 use Rattle.cj_stream.specs.declared.ending.End.TheVariants.{Refused, WriteFault, Memory}
 use Rattle.cj_stream.specs.Lines.{lines, closed, begun, ended_line, NoLf}
 use Rattle.cj_stream.specs.Item.{Item}
 use Rattle.cj_stream.specs.Verdict.{Rules, Verdict, Refuse, Blank, Unwanted, Valid, verdict, item_after, refusal_of, is_kept, long_line}
-use Rattle.cj_stream.specs.Reading.{Reading, begun_of, next_verdict, next_item, IsLeft, Stores, Passes, Deals, Settles, Reads, kept_closed, Puts, Advances, IsNext, HasCause, Stops}
+use Rattle.cj_stream.specs.Reading.{Reading, begun_of, told_verdict, next_verdict, next_item, is_lenient, IsBegun, IsLeft, Unstored, Stores, Passes, Refuses, Deals, Settles, Reads, kept_closed, Puts, Advances, IsNext, HasCause, Stops}
 use Rattle.cj_stream.specs.Sink.{Took}
 use Rattle.cj_stream.proofs.LineLemmas.{closed-more, begun-more, closed-lf, begun-lf, none-from_length}
 use Rattle.cj_stream.proofs.VerdictLemmas.{verdict-long}
-use Rattle.cj_stream.proofs.ReadingLemmas.{left-same, Reads-left, Reads-stored, Reads-passed, next-verdict, next-item, kept_closed-lf, map_lines-append}
+use Rattle.cj_stream.proofs.ReadingLemmas.{left-same, Reads-left, Reads-stored, Reads-passed, is_refused, held-whole, dropped-long, told-verdict, next-verdict, next-item, kept_closed-lf, map_lines-append}
 use Rattle.cj_stream.proofs.EngineLemmas.{next-line}
 
 -- steps, and then others
@@ -49,50 +50,73 @@ module _ {S : Type 0} (takes leaves : S → Item → S → Type 0) where
   pub Advances-stored : (f g : Reading) (s : S) (p part : List ℕ) → Reads f p → NoLf part → Stores f part g → Advances takes f s p part g s
   Advances-stored f g s p part h n st = record {
     rules = st.rules;
-    reads = Reads-stored f g p part h n st;
+    reads = Reads-stored f g p part h st n;
     puts = Puts-none f.rules p (p ++ part) s (closed-more p part n);
   }
 
-  passed : (g h : Reading) (s t : S) (p : List ℕ) (put : Bool) → Reads g p → Passes put g h
-      → refusal_of (g.lines + 1) (next_verdict g (begun_of g)) ≡ None → put ≡ is_kept (next_verdict g (begun_of g))
+  passed : (g h : Reading) (s t : S) (p : List ℕ) (put refuses : Bool) → Reads g p → Passes put refuses g h
+      → refusal_of g.rules (g.lines + 1) (next_verdict g (begun p)) ≡ None → put ≡ is_kept (next_verdict g (begun p)) → refuses ≡ is_refused (next_verdict g (begun p))
       → Took takes s (if put then item_after g.rules (map ended_line (closed p)) (ended_line (begun p)) ∷ [] else []) t → Advances takes g s p (10 ∷ []) h t
-  passed g h s t p put r x fine k took = record {
+  passed g h s t p put refuses r x fine k bad took = record {
     rules = x.rules;
-    reads = Reads-passed g h p put r x fine k;
-    puts = (_, kept_closed-lf g.rules p put (k ∙ ap is_kept (next-verdict g p r (begun_of g) ∙ ap (λ c. verdict g.rules (map ended_line (closed p)) c) r.begun)), took);
+    reads = Reads-passed g h p put refuses r x fine k bad;
+    puts = (_, kept_closed-lf g.rules p put (k ∙ ap is_kept (next-verdict g p r (begun p))), took);
   }
 
-  dealt : (g h : Reading) (s t : S) (p : List ℕ) (v : Verdict) (r : Result (Unit {0}) End) → Reads g p → next_verdict g (begun_of g) ≡ v
-      → Deals takes leaves v (next_item g (ended_line (begun_of g))) g s r h t → r ≡ Ok tt → Advances takes g s p (10 ∷ []) h t
-  dealt g h s t p (Refuse place reason) r reads e d ok = absurd (clash r _ d.0 ok)
-    where
-      clash : (r : Result (Unit {0}) End) (x : End) → r ≡ Err x → r ≡ Ok tt → ⊥
-      clash r x a b = cc
-  dealt g h s t p Blank r reads e d ok = passed g h s t p false reads d.1 (rw e refl) (rw e refl) d.2
-  dealt g h s t p Unwanted r reads e d ok = passed g h s t p false reads d.1 (rw e refl) (rw e refl) d.2
-  dealt g h s t p Valid (Err x) reads e d ok = absurd (clash x ok)
-    where
-      clash : (x : End) → ◌≡◌ {A = Result (Unit {0}) End} (Err x) (Ok tt) → ⊥
-      clash x a = cc
+  clash-err : (r : Result (Unit {0}) End) (x : End) → r ≡ Err x → r ≡ Ok tt → ⊥
+  clash-err r x a b = cc
+
+  -- a refused line that reading goes on after
+  gone-on : (g h : Reading) (s t : S) (p : List ℕ) (place : ℕ) (reason : Reason) (on : Bool) (r : Result (Unit {0}) End) → Reads g p → next_verdict g (begun p) ≡ Refuse place reason
+      → is_lenient g ≡ on → Refuses on place reason g r h → t ≡ s → r ≡ Ok tt → Advances takes g s p (10 ∷ []) h t
+  gone-on g h s t p place reason true r reads e is d still ok = passed g h s t p false true reads d.1 (rw (e, is) refl) (rw e refl) (rw e refl) still
+  gone-on g h s t p place reason false r reads e is d still ok = absurd (clash-err r _ d.0 ok)
+
+  dealt : (g h : Reading) (s t : S) (p : List ℕ) (v : Verdict) (r : Result (Unit {0}) End) → Reads g p → next_verdict g (begun p) ≡ v
+      → Deals takes leaves (is_lenient g) v (next_item g (ended_line (begun p))) g s r h t → r ≡ Ok tt → Advances takes g s p (10 ∷ []) h t
+  dealt g h s t p (Refuse place reason) r reads e d ok = gone-on g h s t p place reason (is_lenient g) r reads e refl d.0 d.1 ok
+  dealt g h s t p Blank r reads e d ok = passed g h s t p false false reads d.1 (rw e refl) (rw e refl) (rw e refl) d.2
+  dealt g h s t p Unwanted r reads e d ok = passed g h s t p false false reads d.1 (rw e refl) (rw e refl) (rw e refl) d.2
+  dealt g h s t p Valid (Err x) reads e d ok = absurd (clash-err (Err x) x refl ok)
   dealt g h s t p Valid (Ok x) reads e d ok =
-      let is = next-item g p reads (ended_line (begun_of g)) ∙ ap (λ c. item_after g.rules (map ended_line (closed p)) (ended_line c)) reads.begun in
-      passed g h s t p true reads d.0 (rw e refl) (rw e refl) (t, rw (← is) d.1, refl)
+      let is = next-item g p reads (ended_line (begun p)) in
+      passed g h s t p true false reads d.0 (rw e refl) (rw e refl) (rw e refl) (t, rw (← is) d.1, refl)
 
   settled : (g h : Reading) (s t : S) (p : List ℕ) (r : Result (Unit {0}) End) → Reads g p
-      → Settles takes leaves (next_verdict g (begun_of g)) (next_item g (ended_line (begun_of g))) g s r h t → r ≡ Ok tt → Advances takes g s p (10 ∷ []) h t
+      → Settles takes leaves (is_lenient g) (next_verdict g (begun p)) (next_item g (ended_line (begun p))) g s r h t → r ≡ Ok tt → Advances takes g s p (10 ∷ []) h t
   settled g h s t p r reads (inl d) ok = dealt g h s t p _ r reads refl d ok
-  settled g h s t p r reads (inr m) ok = absurd (clash r m.0 ok)
+  settled g h s t p r reads (inr m) ok = absurd (clash-err r Memory m.0 ok)
+
+  -- what came of the begun line, told by its content, of which nothing is known where it is dropped
+  pub Settles-begun : (on : Bool) (g h : Reading) (s t : S) (c : List ℕ) (lf : Bool) (r : Result (Unit {0}) End) → IsBegun g c
+      → Settles takes leaves on (told_verdict g) (next_item g (record { content = begun_of g; lf = lf })) g s r h t
+      → Settles takes leaves on (next_verdict g c) (next_item g (record { content = c; lf = lf })) g s r h t
+  Settles-begun on g h s t c lf r is d = go g.dropped refl (subst (λ v. Settles takes leaves on v (next_item g (record { content = begun_of g; lf = lf })) g s r h t) (told-verdict g c is) d)
     where
-      clash : (r : Result (Unit {0}) End) → r ≡ Err Memory → r ≡ Ok tt → ⊥
-      clash r a b = cc
+      no-item : (x : Item) (place : ℕ) (reason : Reason) (v : Verdict) → v ≡ Refuse place reason → Settles takes leaves on v x g s r h t
+          → Settles takes leaves on v (next_item g (record { content = c; lf = lf })) g s r h t
+      no-item x place reason v e k = rw e (other (rw e at k))
+        where
+          other : Settles takes leaves on (Refuse place reason) x g s r h t → Settles takes leaves on (Refuse place reason) (next_item g (record { content = c; lf = lf })) g s r h t
+          other (inl d) = inl d
+          other (inr m) = absurd (apart m.4)
+            where
+              apart : Refuse place reason ≡ Valid → ⊥
+              apart z = cc
+
+      go : (b : Bool) → g.dropped ≡ b → Settles takes leaves on (next_verdict g c) (next_item g (record { content = begun_of g; lf = lf })) g s r h t
+          → Settles takes leaves on (next_verdict g c) (next_item g (record { content = c; lf = lf })) g s r h t
+      go true dropped k = no-item _ g.rules.limits.line LineTooLong (next_verdict g c) (verdict-long g.rules _ _ c (dropped-long g c is dropped)) k
+      go false held k = subst (λ x. Settles takes leaves on (next_verdict g c) (next_item g (record { content = x; lf = lf })) g s r h t) (held-whole g c is held).0 k
 
   -- a part and an LF
   pub Advances-line : (f g h : Reading) (s t : S) (p part : List ℕ) (r : Result (Unit {0}) End) → Reads f p → NoLf part → Stores f part g
-      → Settles takes leaves (next_verdict g (begun_of g)) (next_item g (ended_line (begun_of g))) g s r h t → r ≡ Ok tt
+      → Settles takes leaves (is_lenient g) (told_verdict g) (next_item g (ended_line (begun_of g))) g s r h t → r ≡ Ok tt
       → Advances takes f s p (part ++ 10 ∷ []) h t
   Advances-line f g h s t p part r reads n st d ok =
       let a = Advances-stored f g s p part reads n st in
-      Advances-then f g h s s t p part (10 ∷ []) a (settled g h s t (p ++ part) r a.reads d ok)
+      let told = Settles-begun (is_lenient g) g h s t (begun (p ++ part)) true r a.reads.begun d in
+      Advances-then f g h s s t p part (10 ∷ []) a (settled g h s t (p ++ part) r a.reads told ok)
 
   pub Stops-later : (f g h : Reading) (s t u : S) (p a b : List ℕ) (e : End) → Advances takes f s p a g t → Stops takes leaves g t (p ++ a) b e h u → Stops takes leaves f s p (a ++ b) e h u
   Stops-later f g h s t u p a b e x y = record {
@@ -125,16 +149,13 @@ module _ {S : Type 0} (takes leaves : S → Item → S → Type 0) where
     rw (closed-more p part n, begun-more p part n, long_line-long limits (begun p ++ part) long) refl,
   )
 
-  -- why a part is not stored
-  abbrev pub Unstored : Reading → List ℕ → End → Type 0
-  Unstored f part e = (e ≡ Refused (f.lines + 1) f.rules.limits.line LineTooLong) × (f.rules.limits.line < length (begun_of f) + length part)
-
   Unstored-cause : (f : Reading) (s : S) (p part q : List ℕ) (lf : Bool) (e : End) → Reads f p → Unstored f part e
       → (f.rules.limits.line < length (begun p ++ part) → IsNext f.rules.limits p q (record { content = begun p ++ part; lf = lf }))
       → HasCause leaves f.rules p q f.lines s s e
   Unstored-cause f s p part q lf e reads d next =
-      let long : f.rules.limits.line < length (begun p ++ part) = rw (length-append (begun p) part, ← reads.begun) d.1 in
-      rw d.0 (record { content = begun p ++ part; lf = lf }, next long, refl, verdict-long f.rules _ _ (begun p ++ part) long, refl)
+      let whole = held-whole f (begun p) reads.begun d.3 in
+      let long : f.rules.limits.line < length (begun p ++ part) = omega (arith, length-append (begun p) part, ap length whole.0, d.1) in
+      rw d.0 (record { content = begun p ++ part; lf = lf }, next long, refl, verdict-long f.rules _ _ (begun p ++ part) long, refl, d.2)
 
   stopped : (f : Reading) (s : S) (p more : List ℕ) (e : End) → Reads f p → HasCause leaves f.rules p (p ++ more) f.lines s s e → Stops takes leaves f s p more e f s
   stopped f s p more e reads cause = record {
@@ -164,35 +185,43 @@ module _ {S : Type 0} (takes leaves : S → Item → S → Type 0) where
   good-bad : (r : Result (Unit {0}) End) (e : End) → r ≡ Ok tt → r ≡ Err e → ⊥
   good-bad r e x y = cc
 
-  -- a line that has begun, and was not dealt with: g has read p, whose last bytes they are
-  undealt : (g h : Reading) (s t : S) (p part more : List ℕ) (v : Verdict) (r : Result (Unit {0}) End) (e : End) → NoLf part → Reads g (p ++ part) → begun_of g ≡ begun p ++ part
-      → next_verdict g (begun_of g) ≡ v → Deals takes leaves v (next_item g (ended_line (begun_of g))) g s r h t → r ≡ Err e
+  -- a refused line that is the end
+  unforgiven : (g h : Reading) (s t : S) (p part more : List ℕ) (place : ℕ) (reason : Reason) (on : Bool) (r : Result (Unit {0}) End) (e : End) → NoLf part → Reads g (p ++ part)
+      → next_verdict g (begun (p ++ part)) ≡ Refuse place reason → is_lenient g ≡ on → Refuses on place reason g r h → t ≡ s → r ≡ Err e
       → IsLeft g h × HasCause leaves g.rules (p ++ part) (p ++ (part ++ 10 ∷ more)) g.lines s t e
-  undealt g h s t p part more (Refuse place reason) r e n reads b is d err =
+  unforgiven g h s t p part more place reason true r e n reads is on d still err = absurd (good-bad r e d.0 err)
+  unforgiven g h s t p part more place reason false r e n reads is on d still err =
       let same : e ≡ Refused (g.lines + 1) place reason = cc in
-      let told = sym (next-verdict g (p ++ part) reads (begun_of g)) ∙ is in
-      (left-same g h d.1, rw same (ended_line (begun p ++ part), IsNext-ended g.rules.limits p part more n, refl, rw b at told, d.2))
-  undealt g h s t p part more Blank r e n reads b is d err = absurd (good-bad r e d.0 err)
-  undealt g h s t p part more Unwanted r e n reads b is d err = absurd (good-bad r e d.0 err)
-  undealt g h s t p part more Valid (Ok x) e n reads b is d err = absurd (clash err)
+      let told = sym (next-verdict g (p ++ part) reads (begun (p ++ part))) ∙ is in
+      (left-same g h d.1, rw same (ended_line (begun p ++ part), IsNext-ended g.rules.limits p part more n, refl, rw (begun-more p part n) at told, still, on))
+
+  -- a line that has begun, and was not dealt with: g has read p, whose last bytes they are
+  undealt : (g h : Reading) (s t : S) (p part more : List ℕ) (v : Verdict) (r : Result (Unit {0}) End) (e : End) → NoLf part → Reads g (p ++ part)
+      → next_verdict g (begun (p ++ part)) ≡ v → Deals takes leaves (is_lenient g) v (next_item g (ended_line (begun (p ++ part)))) g s r h t → r ≡ Err e
+      → IsLeft g h × HasCause leaves g.rules (p ++ part) (p ++ (part ++ 10 ∷ more)) g.lines s t e
+  undealt g h s t p part more (Refuse place reason) r e n reads is d err = unforgiven g h s t p part more place reason (is_lenient g) r e n reads is refl d.0 d.1 err
+  undealt g h s t p part more Blank r e n reads is d err = absurd (good-bad r e d.0 err)
+  undealt g h s t p part more Unwanted r e n reads is d err = absurd (good-bad r e d.0 err)
+  undealt g h s t p part more Valid (Ok x) e n reads is d err = absurd (clash err)
     where
       clash : ◌≡◌ {A = Result (Unit {0}) End} (Ok x) (Err e) → ⊥
       clash y = cc
-  undealt g h s t p part more Valid (Err x) e n reads b is d err =
+  undealt g h s t p part more Valid (Err x) e n reads is d err =
       let same : e ≡ WriteFault = cc in
-      let told : is_kept (verdict g.rules (map ended_line (closed (p ++ part))) (begun_of g)) ≡ true = ap is_kept (sym (next-verdict g (p ++ part) reads (begun_of g)) ∙ is) in
-      let item = next-item g (p ++ part) reads (ended_line (begun_of g)) in
-      let left : leaves s (item_after g.rules (map ended_line (closed (p ++ part))) (ended_line (begun_of g))) t = rw (← item) d.2 in
+      let b = begun-more p part n in
+      let told : is_kept (verdict g.rules (map ended_line (closed (p ++ part))) (begun (p ++ part))) ≡ true = ap is_kept (sym (next-verdict g (p ++ part) reads (begun (p ++ part))) ∙ is) in
+      let item = next-item g (p ++ part) reads (ended_line (begun (p ++ part))) in
+      let left : leaves s (item_after g.rules (map ended_line (closed (p ++ part))) (ended_line (begun (p ++ part)))) t = rw (← item) d.2 in
       (d.1, rw same (ended_line (begun p ++ part), IsNext-ended g.rules.limits p part more n, rw b at told, rw b at left))
 
-  unsettled : (g h : Reading) (s t : S) (p part more : List ℕ) (r : Result (Unit {0}) End) (e : End) → NoLf part → Reads g (p ++ part) → begun_of g ≡ begun p ++ part
-      → Settles takes leaves (next_verdict g (begun_of g)) (next_item g (ended_line (begun_of g))) g s r h t → r ≡ Err e
+  unsettled : (g h : Reading) (s t : S) (p part more : List ℕ) (r : Result (Unit {0}) End) (e : End) → NoLf part → Reads g (p ++ part)
+      → Settles takes leaves (is_lenient g) (next_verdict g (begun (p ++ part))) (next_item g (ended_line (begun (p ++ part)))) g s r h t → r ≡ Err e
       → IsLeft g h × HasCause leaves g.rules (p ++ part) (p ++ (part ++ 10 ∷ more)) g.lines s t e
-  unsettled g h s t p part more r e n reads b (inl d) err = undealt g h s t p part more _ r e n reads b refl d err
-  unsettled g h s t p part more r e n reads b (inr m) err =
+  unsettled g h s t p part more r e n reads (inl d) err = undealt g h s t p part more _ r e n reads refl d err
+  unsettled g h s t p part more r e n reads (inr m) err =
       let same : e ≡ Memory = cc in
       let none : closed (p ++ part) ≡ [] = none-from_length (closed (p ++ part)) (sym reads.lines ∙ m.3) in
-      let valid = sym (next-verdict g (p ++ part) reads (begun_of g)) ∙ m.4 in
+      let valid = sym (next-verdict g (p ++ part) reads (begun (p ++ part))) ∙ m.4 in
       let next = next-line g.rules.limits g.lines (p ++ part) (p ++ (part ++ 10 ∷ more)) (ended_line (begun p ++ part)) (IsNext-ended g.rules.limits p part more n) reads.lines in (
         m.1,
         rw same (
@@ -201,19 +230,19 @@ module _ {S : Type 0} (takes leaves : S → Item → S → Type 0) where
             none = m.3;
             header = begun p ++ part;
             first = subst (λ k. slice_get (lines (p ++ (part ++ 10 ∷ more))) k ≡ Some (ended_line (begun p ++ part))) m.3 next;
-            valid = rw (none, b) at valid;
+            valid = rw (none, begun-more p part n) at valid;
           },
         ),
       )
 
   -- a part that is stored, and a line that is not dealt with
   pub Stops-undealt : (f g h : Reading) (s t : S) (p part more : List ℕ) (r : Result (Unit {0}) End) (e : End) → Reads f p → NoLf part → Stores f part g
-      → Settles takes leaves (next_verdict g (begun_of g)) (next_item g (ended_line (begun_of g))) g s r h t → r ≡ Err e
+      → Settles takes leaves (is_lenient g) (told_verdict g) (next_item g (ended_line (begun_of g))) g s r h t → r ≡ Err e
       → Stops takes leaves f s p (part ++ 10 ∷ more) e h t
   Stops-undealt f g h s t p part more r e reads n st d err =
       let a = Advances-stored f g s p part reads n st in
-      let b : begun_of g ≡ begun p ++ part = a.reads.begun ∙ begun-more p part n in
-      let u = unsettled g h s t p part more r e n a.reads b d err in
+      let told = Settles-begun (is_lenient g) g h s t (begun (p ++ part)) true r a.reads.begun d in
+      let u = unsettled g h s t p part more r e n a.reads told err in
       record {
         done = part;
         left = 10 ∷ more;

@@ -1,18 +1,21 @@
 -- What a framer has read after it stored a part, and after it dealt with a line.
-use Rattle.std.proofs.Common.{◌≡◌, ℕ, ◌+◌, ◌<◌, ◌⊎◌, inl, inr, max, zero, suc, List, [], ◌∷◌, ◌++◌, Bool, true, false, cond, eqb, length, map, None, arith, refl, sym, ap, ◌∙◌, length-append}
+use Rattle.std.proofs.Common.{◌≡◌, ℕ, ◌+◌, ◌<◌, ◌≤◌, ◌⊎◌, inl, inr, max, zero, suc, List, [], ◌∷◌, ◌++◌, Bool, true, false, cond, eqb, ltb, length, map, None, arith, refl, sym, ap, ◌∙◌, append_assoc, length-append}
 use Rattle.std.specs.Prelude.{◌&&◌, nat_lt, if◌then◌else◌}
 use Rattle.std.proofs.lemmas.List.{append-nil}
+use Rattle.std.proofs.lemmas.Bool.{ltb-true}
 use Rattle.std.proofs.lemmas.Bool.Decides.{nat_tests}
 use Rattle.cj_budget.specs.Bounded.{IsWithin}
+use Rattle.cj_budget.specs.Limits.{LimitPair}
+use Rattle.cj_spans.specs.declared.reason.Reason.TheVariants.{LineTooLong}
 use Rattle.cj_stream.specs.Lines.{Line, closed, begun, begun_after, begun_later, ended_line, first_of, first_content, later_of, NoLf}
 use Rattle.std.specs.List.{filter}
 use Rattle.cj_spans.specs.Tree.{Tree}
 use Rattle.cj_stream.specs.Item.{Item, is_feature, item_at, tree_of}
-use Rattle.cj_stream.specs.Verdict.{Rules, verdict_at, tree_verdict, verdict, header_of, item_after, refusal_of, is_kept, kept_from}
-use Rattle.cj_stream.specs.Bound.{greatest}
-use Rattle.cj_stream.specs.Reading.{Reading, begun_of, begun_verdict, held_header, next_verdict, next_item, widened, IsLeft, Stores, Passes, Reads, kept_closed}
+use Rattle.cj_stream.specs.Verdict.{Rules, Verdict, Refuse, Blank, Unwanted, Valid, verdict_at, tree_verdict, verdict, header_of, item_after, goes_on, refusal_of, report_of, is_kept, kept_from, reported_from}
+use Rattle.cj_stream.specs.Bound.{greatest, held_length}
+use Rattle.cj_stream.specs.Reading.{Reading, begun_of, begun_verdict, told_verdict, held_header, next_verdict, next_item, is_lenient, stored, IsBegun, widened, IsLeft, Fits, Drops, StaysDropped, Stores, Passes, Reads, kept_closed}
 use Rattle.cj_stream.proofs.LineLemmas.{closed-more, begun-more, closed-lf, begun-lf, first_of-some, first_of-lf, begun_after-some, begun_after-empty, none-from_length}
-use Rattle.cj_stream.proofs.VerdictLemmas.{verdict-first, refusal-append, kept-append}
+use Rattle.cj_stream.proofs.VerdictLemmas.{verdict-first, verdict-long, before-more, refusal-append, kept-append}
 
 pub zero_or : (n : ℕ) → (n ≡ 0) ⊎ (0 < n)
 zero_or zero = inl refl
@@ -29,70 +32,222 @@ pub begun_verdict-first : (f : Reading) → f.lines ≡ 0
     → begun_verdict f ≡ tree_verdict f.rules 1 (tree_of f.rules.limits.depth f.header.elements) (tree_of f.rules.limits.depth f.header.elements)
 begun_verdict-first f h = rw h refl
 
-pub begun_of-stored : (f g : Reading) (part : List ℕ) → Stores f part g → begun_of g ≡ begun_of f ++ part
-begun_of-stored f g part s = go (zero_or f.lines)
+-- ---- what is held of a content
+
+pub stored-short : (limit : ℕ) (c : List ℕ) → length c ≤ limit → (stored limit c ≡ c) × (ltb limit (length c) ≡ false)
+stored-short limit c short = let e : ltb limit (length c) ≡ false = grind (arith, nat_tests) in (rw e refl, e)
+
+pub stored-long : (limit : ℕ) (c : List ℕ) → limit < length c → (stored limit c ≡ []) × (ltb limit (length c) ≡ true)
+stored-long limit c long = let e : ltb limit (length c) ≡ true = grind (arith, nat_tests) in (rw e refl, e)
+
+pub short-from : (limit n : ℕ) → ltb limit n ≡ false → n ≤ limit
+short-from limit n e = grind (arith, nat_tests)
+
+pub long-from : (limit n : ℕ) → ltb limit n ≡ true → limit < n
+long-from limit n e = ltb-true limit n e
+
+pub greatest-held : (limits : LimitPair) (cs : List (List ℕ)) → greatest (held_length limits) cs ≤ limits.line
+greatest-held limits [] = omega arith
+greatest-held limits (c ∷ cs) = omega (arith, greatest-held limits cs)
+
+-- reading goes on after later lines alone
+pub goes_on-later : (rules : Rules) (n : ℕ) → goes_on rules (n + 1) ≡ true → 0 < n
+goes_on-later rules n e = go (ltb 1 (n + 1)) refl e
   where
-    go : (f.lines ≡ 0) ⊎ (0 < f.lines) → begun_of g ≡ begun_of f ++ part
-    go (inl z) = begun_of-first g (s.lines ∙ z) ∙ ((s.first z).0.elements ∙ ap (λ x. x ++ part) (sym (begun_of-first f z)))
-    go (inr z) = begun_of-later g (omega (arith, s.lines)) ∙ ((s.later z).0.elements ∙ ap (λ x. x ++ part) (sym (begun_of-later f z)))
+    go : (b : Bool) → ltb 1 (n + 1) ≡ b → b && rules.options.keep_going ≡ true → 0 < n
+    go true is h = let lt = ltb-true 1 (n + 1) is in omega (arith, lt)
+    go false is h = cc
 
-pub Reads-stored : (f g : Reading) (p part : List ℕ) → Reads f p → NoLf part → Stores f part g → Reads g (p ++ part)
-Reads-stored f g p part h n s = record {
-  lines = s.lines ∙ (h.lines ∙ ap length (sym more));
-  begun = begun_of-stored f g part s ∙ (ap (λ x. x ++ part) h.begun ∙ sym (begun-more p part n));
-  header = header (zero_or f.lines);
-  line = line (zero_or f.lines);
-  good = rw (more, s.rules) h.good;
-  kept = rw (more, s.rules, s.kept) h.kept;
-  peak = peak (zero_or f.lines);
-  line_peak = line_peak (zero_or f.lines);
-  header_within = header_within (zero_or f.lines);
-  line_within = line_within (zero_or f.lines);
-}
+pub true-false : (b : Bool) → b ≡ true → b ≡ false → ⊥
+true-false true x y = cc
+true-false false x y = cc
+
+-- the begun line is held whole where it is not dropped
+pub held-whole : (f : Reading) (c : List ℕ) → IsBegun f c → f.dropped ≡ false → (begun_of f ≡ c) × (length c ≤ f.rules.limits.line)
+held-whole f c is held =
+    let short : length c ≤ f.rules.limits.line = short-from f.rules.limits.line (length c) (sym is.dropped ∙ held) in
+    (is.content ∙ (stored-short f.rules.limits.line c short).0, short)
+
+pub dropped-long : (f : Reading) (c : List ℕ) → IsBegun f c → f.dropped ≡ true → f.rules.limits.line < length c
+dropped-long f c is dropped = long-from f.rules.limits.line (length c) (sym is.dropped ∙ dropped)
+
+-- whether a line has begun
+pub has-begun : (f : Reading) (c : List ℕ) → IsBegun f c → (0 < length (begun_of f)) ⊎ (f.dropped ≡ true) → 0 < length c
+has-begun f c is (inr dropped) = omega (arith, dropped-long f c is dropped)
+has-begun f c is (inl some) = go f.dropped refl
   where
-    more : closed (p ++ part) ≡ closed p
-    more = closed-more p part n
+    go : (b : Bool) → f.dropped ≡ b → 0 < length c
+    go true d = omega (arith, dropped-long f c is d)
+    go false d = omega (arith, ap length (held-whole f c is d).0, some)
 
-    header : (f.lines ≡ 0) ⊎ (0 < f.lines) → g.header.elements ≡ first_content (p ++ part)
-    header (inl z) =
-        let none : closed p ≡ [] = none-from_length (closed p) (sym h.lines ∙ z) in
-        rw (more, begun-more p part n, none) ((s.first z).0.elements ∙ ap (λ x. x ++ part) (sym (begun_of-first f z) ∙ h.begun))
-    header (inr z) = ap (λ x. x.elements) (s.later z).1 ∙ (h.header ∙ (first_of-some (closed p) (begun p) (begun (p ++ part)) (omega (arith, h.lines)) ∙ ap (λ x. first_of x (begun (p ++ part))) (sym more)))
+-- its verdict, by what is known of it
+pub told-verdict : (f : Reading) (c : List ℕ) → IsBegun f c → told_verdict f ≡ next_verdict f c
+told-verdict f c is = go f.dropped refl
+  where
+    go : (b : Bool) → f.dropped ≡ b → cond f.dropped (Refuse f.rules.limits.line LineTooLong) (next_verdict f (begun_of f)) ≡ next_verdict f c
+    go true d = rw d (sym (verdict-long f.rules (f.lines + 1) (held_header f) c (dropped-long f c is d)))
+    go false d = rw d (ap (next_verdict f) (held-whole f c is d).0)
 
-    line : (f.lines ≡ 0) ⊎ (0 < f.lines) → g.line.elements ≡ begun_later (p ++ part)
-    line (inl z) =
-        let none : closed p ≡ [] = none-from_length (closed p) (sym h.lines ∙ z) in
-        let before = rw none at h.line in
-        rw (more, none) (ap (λ x. x.elements) (s.first z).1 ∙ before)
-    line (inr z) =
-        let some : 0 < length (closed p) = omega (arith, h.lines) in
-        let before : f.line.elements ≡ begun p = h.line ∙ begun_after-some (closed p) (begun p) some in
-        rw (more, begun-more p part n, begun_after-some (closed p) (begun p ++ part) some) ((s.later z).0.elements ∙ ap (λ x. x ++ part) before)
+-- ---- a part of a line
 
-    peak : (f.lines ≡ 0) ⊎ (0 < f.lines) → g.header.peak ≡ length g.header.elements
-    peak (inl z) = let b = (s.first z).0 in rw (b.peak, b.elements, h.peak) (omega (arith, length-append f.header.elements part))
-    peak (inr z) = rw (s.later z).1 h.peak
+module _ (f g : Reading) (p part : List ℕ) (h : Reads f p) (s : Stores f part g) where
+  -- of the first line, all is held
+  first-fits : f.lines ≡ 0 → Fits f part g
+  first-fits z = go s.grows
+    where
+      go : Fits f part g ⊎ Drops f part g ⊎ StaysDropped f g → Fits f part g
+      go (inl w) = w
+      go (inr (inl w)) = let later = goes_on-later f.rules f.lines w.lenient in absurd (omega (arith, z))
+      go (inr (inr w)) = let later = goes_on-later f.rules f.lines (h.lenient w.0) in absurd (omega (arith, z))
 
-    line_peak : (f.lines ≡ 0) ⊎ (0 < f.lines) → g.line.peak ≡ max (greatest length (later_of (closed (p ++ part)))) (length (begun_later (p ++ part)))
-    line_peak (inl z) =
-        let none : closed p ≡ [] = none-from_length (closed p) (sym h.lines ∙ z) in
-        let before = rw none at h.line_peak in
-        rw (more, none) (ap (λ x. x.peak) (s.first z).1 ∙ before)
-    line_peak (inr z) =
-        let some : 0 < length (closed p) = omega (arith, h.lines) in
-        let before = rw (begun_after-some (closed p) (begun p) some) at h.line_peak in
-        let grown = (s.later z).0.peak in
-        let held : length f.line.elements ≡ length (begun p) = ap length (h.line ∙ begun_after-some (closed p) (begun p) some) in
-        rw (more, begun-more p part n, begun_after-some (closed p) (begun p ++ part) some)
-        (omega (arith, grown, before, held, length-append f.line.elements part, length-append (begun p) part))
+  same-header_later : 0 < f.lines → g.header ≡ f.header
+  same-header_later z = go s.grows
+    where
+      go : Fits f part g ⊎ Drops f part g ⊎ StaysDropped f g → g.header ≡ f.header
+      go (inl w) = (w.later z).1
+      go (inr (inl w)) = w.header
+      go (inr (inr w)) = ap (λ x. x.header) w.1
 
-    header_within : (f.lines ≡ 0) ⊎ (0 < f.lines) → IsWithin g.header
-    header_within (inl z) = (s.first z).0.within
-    header_within (inr z) = rw (s.later z).1 h.header_within
+  grown : Fits f part g → begun_of g ≡ begun_of f ++ part
+  grown w = go (zero_or f.lines)
+    where
+      go : (f.lines ≡ 0) ⊎ (0 < f.lines) → begun_of g ≡ begun_of f ++ part
+      go (inl z) = begun_of-first g (s.lines ∙ z) ∙ ((w.first z).0.elements ∙ ap (λ x. x ++ part) (sym (begun_of-first f z)))
+      go (inr z) = begun_of-later g (omega (arith, s.lines)) ∙ ((w.later z).0.elements ∙ ap (λ x. x ++ part) (sym (begun_of-later f z)))
 
-    line_within : (f.lines ≡ 0) ⊎ (0 < f.lines) → IsWithin g.line
-    line_within (inl z) = rw (s.first z).1 h.line_within
-    line_within (inr z) = (s.later z).0.within
+  limit : g.rules.limits.line ≡ f.rules.limits.line
+  limit = ap (λ x. x.limits.line) s.rules
+
+  -- what has begun then is that line with the part
+  pub IsBegun-stored : IsBegun g (begun p ++ part)
+  IsBegun-stored = go s.grows
+    where
+      go : Fits f part g ⊎ Drops f part g ⊎ StaysDropped f g → IsBegun g (begun p ++ part)
+      go (inl w) =
+          let whole = held-whole f (begun p) h.begun w.held in
+          let short : length (begun p ++ part) ≤ f.rules.limits.line = omega (arith, w.short, ap length whole.0, length-append (begun p) part) in
+          let now = stored-short f.rules.limits.line (begun p ++ part) short in
+          record {
+            content = rw limit (grown w ∙ (ap (λ x. x ++ part) whole.0 ∙ sym now.0));
+            dropped = rw limit (w.dropped ∙ sym now.1);
+          }
+      go (inr (inl w)) =
+          let whole = held-whole f (begun p) h.begun w.held in
+          let long : f.rules.limits.line < length (begun p ++ part) = omega (arith, w.long, ap length whole.0, length-append (begun p) part) in
+          let now = stored-long f.rules.limits.line (begun p ++ part) long in
+          let later = goes_on-later f.rules f.lines w.lenient in
+          record {
+            content = rw limit (begun_of-later g (omega (arith, s.lines, later)) ∙ (w.line.elements ∙ sym now.0));
+            dropped = rw limit (w.dropped ∙ sym now.1);
+          }
+      go (inr (inr w)) =
+          let before = dropped-long f (begun p) h.begun w.0 in
+          let long : f.rules.limits.line < length (begun p ++ part) = omega (arith, before, length-append (begun p) part) in
+          let now = stored-long f.rules.limits.line (begun p ++ part) long in
+          let was = stored-long f.rules.limits.line (begun p) before in
+          record {
+            content = rw w.1 (h.begun.content ∙ (was.0 ∙ sym now.0));
+            dropped = rw w.1 (w.0 ∙ sym now.1);
+          }
+
+  lenient-stored : g.dropped ≡ true → is_lenient g ≡ true
+  lenient-stored d = go s.grows
+    where
+      same : is_lenient g ≡ is_lenient f
+      same = rw (s.rules, s.lines) refl
+
+      go : Fits f part g ⊎ Drops f part g ⊎ StaysDropped f g → is_lenient g ≡ true
+      go (inl w) = absurd (true-false g.dropped d w.dropped)
+      go (inr (inl w)) = same ∙ w.lenient
+      go (inr (inr w)) = same ∙ h.lenient w.0
+
+  -- the most that was held of later lines
+  peak-stored : 0 < f.lines → g.line.peak ≡ max (greatest (held_length f.rules.limits) (later_of (closed p))) (held_length f.rules.limits (begun p ++ part))
+  peak-stored z = go s.grows
+    where
+      some : 0 < length (closed p)
+      some = omega (arith, h.lines, z)
+
+      before : f.line.peak ≡ max (greatest (held_length f.rules.limits) (later_of (closed p))) (held_length f.rules.limits (begun p))
+      before = rw (begun_after-some (closed p) (begun p) some) at h.line_peak
+
+      joined : length (begun p ++ part) ≡ length (begun p) + length part
+      joined = length-append (begun p) part
+
+      go : Fits f part g ⊎ Drops f part g ⊎ StaysDropped f g → g.line.peak ≡ max (greatest (held_length f.rules.limits) (later_of (closed p))) (held_length f.rules.limits (begun p ++ part))
+      go (inl w) =
+          let whole = held-whole f (begun p) h.begun w.held in
+          let held : length f.line.elements ≡ length (begun p) = ap length (sym (begun_of-later f z) ∙ whole.0) in
+          omega (arith, (w.later z).0.peak, before, held, w.short, ap length whole.0, length-append f.line.elements part, joined)
+      go (inr (inl w)) =
+          let whole = held-whole f (begun p) h.begun w.held in
+          omega (arith, w.line.peak, w.long, ap length whole.0, joined, greatest-held f.rules.limits (later_of (closed p)))
+      go (inr (inr w)) = omega (arith, ap (λ x. x.line.peak) w.1, before, dropped-long f (begun p) h.begun w.0, joined)
+
+  line_within-stored : IsWithin g.line
+  line_within-stored = go s.grows (zero_or f.lines)
+    where
+      go : Fits f part g ⊎ Drops f part g ⊎ StaysDropped f g → (f.lines ≡ 0) ⊎ (0 < f.lines) → IsWithin g.line
+      go (inl w) (inl z) = rw (w.first z).1 h.line_within
+      go (inl w) (inr z) = (w.later z).0.within
+      go (inr (inl w)) z = w.line.within
+      go (inr (inr w)) z = rw w.1 h.line_within
+
+  pub Reads-stored : NoLf part → Reads g (p ++ part)
+  Reads-stored n = record {
+    lines = s.lines ∙ (h.lines ∙ ap length (sym more));
+    begun = rw (begun-more p part n) IsBegun-stored;
+    lenient = lenient-stored;
+    header = header (zero_or f.lines);
+    line = line (zero_or f.lines);
+    good = rw (more, s.rules) h.good;
+    kept = rw (more, s.rules, s.kept) h.kept;
+    refused = rw (more, s.rules, s.refused) h.refused;
+    peak = peak (zero_or f.lines);
+    line_peak = line_peak (zero_or f.lines);
+    header_within = header_within (zero_or f.lines);
+    line_within = line_within-stored;
+  }
+    where
+      more : closed (p ++ part) ≡ closed p
+      more = closed-more p part n
+
+      nothing : stored g.rules.limits.line [] ≡ []
+      nothing = (stored-short g.rules.limits.line [] (omega arith)).0
+
+      header : (f.lines ≡ 0) ⊎ (0 < f.lines) → g.header.elements ≡ first_content (p ++ part)
+      header (inl z) =
+          let none : closed p ≡ [] = none-from_length (closed p) (sym h.lines ∙ z) in
+          let w = first-fits z in
+          let whole = held-whole f (begun p) h.begun w.held in
+          rw (more, begun-more p part n, none) ((w.first z).0.elements ∙ ap (λ x. x ++ part) (sym (begun_of-first f z) ∙ whole.0))
+      header (inr z) = ap (λ x. x.elements) (same-header_later z) ∙ (h.header ∙ (first_of-some (closed p) (begun p) (begun (p ++ part)) (omega (arith, h.lines, z)) ∙ ap (λ x. first_of x (begun (p ++ part))) (sym more)))
+
+      line : (f.lines ≡ 0) ⊎ (0 < f.lines) → g.line.elements ≡ stored g.rules.limits.line (begun_later (p ++ part))
+      line (inl z) =
+          let none : closed p ≡ [] = none-from_length (closed p) (sym h.lines ∙ z) in
+          let before = rw none at h.line in
+          rw (more, none) (ap (λ x. x.elements) ((first-fits z).first z).1 ∙ (before ∙ ((stored-short f.rules.limits.line [] (omega arith)).0 ∙ sym nothing)))
+      line (inr z) =
+          let some : 0 < length (closed p) = omega (arith, h.lines, z) in
+          rw (more, begun-more p part n, begun_after-some (closed p) (begun p ++ part) some) (sym (begun_of-later g (omega (arith, s.lines, z))) ∙ IsBegun-stored.content)
+
+      peak : (f.lines ≡ 0) ⊎ (0 < f.lines) → g.header.peak ≡ length g.header.elements
+      peak (inl z) = let b = ((first-fits z).first z).0 in rw (b.peak, b.elements, h.peak) (omega (arith, length-append f.header.elements part))
+      peak (inr z) = rw (same-header_later z) h.peak
+
+      line_peak : (f.lines ≡ 0) ⊎ (0 < f.lines) → g.line.peak ≡ max (greatest (held_length g.rules.limits) (later_of (closed (p ++ part)))) (held_length g.rules.limits (begun_later (p ++ part)))
+      line_peak (inl z) =
+          let none : closed p ≡ [] = none-from_length (closed p) (sym h.lines ∙ z) in
+          let before = rw none at h.line_peak in
+          rw (more, none, s.rules) (ap (λ x. x.peak) ((first-fits z).first z).1 ∙ before)
+      line_peak (inr z) =
+          let some : 0 < length (closed p) = omega (arith, h.lines, z) in
+          rw (more, begun-more p part n, begun_after-some (closed p) (begun p ++ part) some, s.rules) (peak-stored z)
+
+      header_within : (f.lines ≡ 0) ⊎ (0 < f.lines) → IsWithin g.header
+      header_within (inl z) = ((first-fits z).first z).0.within
+      header_within (inr z) = rw (same-header_later z) h.header_within
 
 -- ---- the same but for the room for later lines and its refusals
 
@@ -100,14 +255,16 @@ pub left-same : (f g : Reading) → g ≡ f → IsLeft f g
 left-same f g e = rw e (record { kept = λ x. x; same = refl })
 
 -- what is dealt with after more room was made, and none refused
-pub passed-left : (put : Bool) (f g h : Reading) → IsLeft f g → g.line.refused ≡ f.line.refused → Passes put g h → Passes put f h
-passed-left put f g h left none x = go (rw left.same at x)
+pub passed-left : (put refused : Bool) (f g h : Reading) → IsLeft f g → g.line.refused ≡ f.line.refused → Passes put refused g h → Passes put refused f h
+passed-left put refused f g h left none x = go (rw left.same at x)
   where
-    go : Passes put (widened f g.line.reserved g.line.refused) h → Passes put f h
+    go : Passes put refused (widened f g.line.reserved g.line.refused) h → Passes put refused f h
     go x = record {
       rules = x.rules;
       lines = x.lines;
       kept = x.kept;
+      refused = x.refused;
+      dropped = x.dropped;
       header = x.header;
       line = record {
         elements = x.line.elements;
@@ -125,11 +282,13 @@ left-then f g h a b = record { kept = λ r. b.kept (a.kept r); same = b.same ∙
 pub Reads-left : (f g : Reading) (p : List ℕ) → IsLeft f g → Reads f p → Reads g p
 Reads-left f g p left h = rw left.same (record {
   lines = h.lines;
-  begun = h.begun;
+  begun = record { content = h.begun.content; dropped = h.begun.dropped };
+  lenient = h.lenient;
   header = h.header;
   line = h.line;
   good = h.good;
   kept = h.kept;
+  refused = h.refused;
   peak = h.peak;
   line_peak = h.line_peak;
   header_within = h.header_within;
@@ -214,9 +373,9 @@ after-feature rules (x ∷ xs) l =
     rw (no_header, later) refl
 
 -- the features that are kept, after one line more
-pub kept-next : (f g : Reading) (xs : List Line) (l : Line) (put : Bool) → f.lines ≡ length xs → f.kept ≡ length (filter is_feature (kept_from f.rules [] xs))
-    → Passes put f g → put ≡ is_kept (verdict f.rules xs l.content) → g.kept ≡ length (filter is_feature (kept_from f.rules [] (xs ++ l ∷ [])))
-kept-next f g xs l put n k s e =
+pub kept-next : (f g : Reading) (xs : List Line) (l : Line) (put refused : Bool) → f.lines ≡ length xs → f.kept ≡ length (filter is_feature (kept_from f.rules [] xs))
+    → Passes put refused f g → put ≡ is_kept (verdict f.rules xs l.content) → g.kept ≡ length (filter is_feature (kept_from f.rules [] (xs ++ l ∷ [])))
+kept-next f g xs l put refused n k s e =
     rw (s.kept, kept-append f.rules [] xs (l ∷ []), ← e, n) (count-feature put (nat_lt 0 (length xs)) (item_after f.rules xs l) f.kept (kept_from f.rules [] xs) (after-feature f.rules xs l) k)
 
 pub greatest-append : (measure : List ℕ → ℕ) (cs : List (List ℕ)) (c : List ℕ) → greatest measure (cs ++ c ∷ []) ≡ max (greatest measure cs) (measure c)
@@ -226,31 +385,81 @@ greatest-append measure (d ∷ cs) c = omega (arith, greatest-append measure cs 
 pub max-zero : (n : ℕ) → max n 0 ≡ n
 max-zero n = omega arith
 
--- the longest later content, after one line more
-pub longest-later : (cs : List (List ℕ)) (b : List ℕ) → max (greatest length (later_of (cs ++ b ∷ []))) 0 ≡ max (greatest length (later_of cs)) (length (begun_after cs b))
-longest-later [] b = refl
-longest-later (c ∷ cs) b = omega (arith, greatest-append length cs b)
+-- the greatest of later contents by a measure of which nothing has 0, after one line more
+pub greatest-later : (measure : List ℕ → ℕ) → measure [] ≡ 0 → (cs : List (List ℕ)) (b : List ℕ)
+    → max (greatest measure (later_of (cs ++ b ∷ []))) (measure []) ≡ max (greatest measure (later_of cs)) (measure (begun_after cs b))
+greatest-later measure none [] b = refl
+greatest-later measure none (c ∷ cs) b = omega (arith, greatest-append measure cs b, none)
 
-pub Reads-passed : (f g : Reading) (p : List ℕ) (put : Bool) → Reads f p → Passes put f g
-    → refusal_of (f.lines + 1) (next_verdict f (begun_of f)) ≡ None → put ≡ is_kept (next_verdict f (begun_of f))
+pub held-nothing : (limits : LimitPair) → held_length limits [] ≡ 0
+held-nothing limits = omega arith
+
+-- ---- what is reported
+
+pub reported-append : (rules : Rules) (before xs ys : List Line) → reported_from rules before (xs ++ ys) ≡ reported_from rules before xs ++ reported_from rules (before ++ xs) ys
+reported-append rules before [] ys = rw (append-nil before) refl
+reported-append rules before (x ∷ xs) ys =
+    let r = reported-append rules (before ++ x ∷ []) xs ys in
+    let now = report_of (length before + 1) (verdict rules before x.content) in
+    ap (λ z. now ++ z) (r ∙ ap (λ z. reported_from rules (before ++ x ∷ []) xs ++ reported_from rules z ys) (before-more before x xs))
+    ∙ sym (append_assoc now (reported_from rules (before ++ x ∷ []) xs) (reported_from rules (before ++ x ∷ xs) ys))
+
+-- a refused line
+abbrev pub is_refused : Verdict → Bool
+is_refused (Refuse place reason) = true
+is_refused Blank = false
+is_refused Unwanted = false
+is_refused Valid = false
+
+pub count-reported : (n : ℕ) (v : Verdict) → length (report_of n v) ≡ (if is_refused v then 1 else 0)
+count-reported n (Refuse place reason) = refl
+count-reported n Blank = refl
+count-reported n Unwanted = refl
+count-reported n Valid = refl
+
+one-more : (b : Bool) (n m : ℕ) → m ≡ (if b then 1 else 0) → (if b then n + 1 else n) ≡ n + m
+one-more true n m e = omega (arith, e)
+one-more false n m e = omega (arith, e)
+
+-- the lines that were refused, after one line more
+pub refused-next : (f g : Reading) (xs : List Line) (l : Line) (put refused : Bool) → f.refused ≡ length (reported_from f.rules [] xs) → Passes put refused f g
+    → refused ≡ is_refused (verdict f.rules xs l.content) → g.refused ≡ length (reported_from f.rules [] (xs ++ l ∷ []))
+refused-next f g xs l put refused k s e =
+    let v = verdict f.rules xs l.content in
+    let now = report_of (length xs + 1) v in
+    let count : length (report_of (length xs + 1) (verdict f.rules xs l.content)) ≡ (if refused then 1 else 0) = rw e (count-reported (length xs + 1) v) in
+    rw (s.refused, reported-append f.rules [] xs (l ∷ []), append-nil (report_of (length xs + 1) (verdict f.rules xs l.content)))
+    (one-more refused f.refused (length now) count ∙ (ap (λ z. z + length now) k ∙ sym (length-append (reported_from f.rules [] xs) now)))
+
+pub Reads-passed : (f g : Reading) (p : List ℕ) (put refused : Bool) → Reads f p → Passes put refused f g
+    → refusal_of f.rules (f.lines + 1) (next_verdict f (begun p)) ≡ None → put ≡ is_kept (next_verdict f (begun p)) → refused ≡ is_refused (next_verdict f (begun p))
     → Reads g (p ++ 10 ∷ [])
-Reads-passed f g p put h s fine k = record {
+Reads-passed f g p put refused h s fine k bad = record {
   lines = rw (closed-lf p [], s.lines, h.lines) (sym (length-append (closed p) (begun p ∷ [])));
-  begun = begun_of-later g (omega (arith, s.lines)) ∙ (s.line.elements ∙ sym (begun-lf p []));
+  begun = rw (begun-lf p []) (record { content = begun_of-later g (omega (arith, s.lines)) ∙ (s.line.elements ∙ sym nothing.0); dropped = s.dropped ∙ sym nothing.1 });
+  lenient = λ d. absurd (true-false g.dropped d s.dropped);
   header = rw (closed-lf p [], begun-lf p [], s.header) (h.header ∙ sym (first_of-lf (closed p) (begun p)));
-  line = rw (closed-lf p [], begun-lf p [], begun_after-empty (closed p ++ begun p ∷ [])) s.line.elements;
+  line = rw (closed-lf p [], begun-lf p [], begun_after-empty (closed p ++ begun p ∷ [])) (s.line.elements ∙ sym nothing.0);
   good = rw (closed-lf p [], map_lines-append (closed p) (begun p ∷ []), s.rules, refusal-append f.rules [] (map ended_line (closed p)) (map ended_line (begun p ∷ [])) h.good, ← is, ← at, fine) refl;
   kept =
       rw (closed-lf p [], map_lines-append (closed p) (begun p ∷ []), s.rules)
-      (kept-next f g (map ended_line (closed p)) (ended_line (begun p)) put (h.lines ∙ sym (length-map_lines (closed p))) h.kept s (k ∙ ap is_kept is));
+      (kept-next f g (map ended_line (closed p)) (ended_line (begun p)) put refused (h.lines ∙ sym (length-map_lines (closed p))) h.kept s (k ∙ ap is_kept is));
+  refused =
+      rw (closed-lf p [], map_lines-append (closed p) (begun p ∷ []), s.rules)
+      (refused-next f g (map ended_line (closed p)) (ended_line (begun p)) put refused h.refused s (bad ∙ ap is_refused is));
   peak = rw s.header h.peak;
-  line_peak = rw (closed-lf p [], begun-lf p [], begun_after-empty (closed p ++ begun p ∷ [])) (s.line.peak ∙ (ap (λ n. max n 0) h.line_peak ∙ (max-zero _ ∙ sym (longest-later (closed p) (begun p)))));
+  line_peak =
+      rw (closed-lf p [], begun-lf p [], begun_after-empty (closed p ++ begun p ∷ []), s.rules)
+      (s.line.peak ∙ (ap (λ n. max n 0) h.line_peak ∙ (max-zero _ ∙ sym (greatest-later (held_length f.rules.limits) (held-nothing f.rules.limits) (closed p) (begun p)))));
   header_within = rw s.header h.header_within;
   line_within = s.line.within;
 }
   where
+    nothing : (stored g.rules.limits.line [] ≡ []) × (ltb g.rules.limits.line 0 ≡ false)
+    nothing = stored-short g.rules.limits.line [] (omega arith)
+
     at : f.lines + 1 ≡ length (map ended_line (closed p)) + 1
     at = omega (arith, length-map_lines (closed p), h.lines)
 
-    is : next_verdict f (begun_of f) ≡ verdict f.rules (map ended_line (closed p)) (begun p)
-    is = next-verdict f p h (begun_of f) ∙ ap (λ c. verdict f.rules (map ended_line (closed p)) c) h.begun
+    is : next_verdict f (begun p) ≡ verdict f.rules (map ended_line (closed p)) (begun p)
+    is = next-verdict f p h (begun p)

@@ -27,7 +27,8 @@ use Rattle.cj_stream.specs.Item.{raw_item, judged_tree, tree_of}
 use Rattle.cj_stream.specs.Lines.{Line, raw, ended_line}
 use Rattle.cj_stream.specs.Rows.{small_header, small_feature, lost_feature, euro_feature, wide_rules, tight_rules, Gives, WholeRow, BlankRow, OrderRow, BadRow, LongRow}
 use Rattle.cj_stream.specs.Criteria.{everything, holds}
-use Rattle.cj_stream.specs.Verdict.{Rules, is_wanted, Refuse, Blank, Valid, is_blank_byte, verdict, verdict_at, text_verdict, by_least, tree_verdict, ending_of, good_from, kept_from}
+use Rattle.cj_stream.specs.Options.{usual_options}
+use Rattle.cj_stream.specs.Verdict.{Rules, goes_on, is_wanted, Refuse, Blank, Valid, is_blank_byte, verdict, verdict_at, text_verdict, by_least, tree_verdict, ending_of, good_from, kept_from}
 use Rattle.cj_stream.proofs.VerdictLemmas.{verdict-long, verdict-json, verdict-blank, tree-valid}
 
 -- ---- trees
@@ -80,7 +81,7 @@ holds-everything header t = refl
 -- the verdict on a line of this tree
 module _ (n : ℕ) (header : Tree) (c : List ℕ) (t : Tree) (json : Json c t) (shallow : nest t ≤ 64) where
   abbrev under : ℕ → Rules
-  under line = record { limits = record { line = line; depth = 64 }; criteria = everything }
+  under line = record { limits = record { line = line; depth = 64 }; criteria = everything; options = usual_options }
 
   sound : (line : ℕ) → length c ≤ line → IsUtf8 c → nat_lt 1 n && list_all is_blank_byte c ≡ false → verdict_at (under line) n header c ≡ tree_verdict (under line) n header t
   sound line short is_text full = verdict-json (under line) n header c short is_text full ∙ by-tree t json shallow (under line) n header (judgement c 64)
@@ -108,7 +109,7 @@ header_tree = judged plain_header header_json (lit≤ tt) (judgement small_heade
 pub header_first : (t : Tree) → verdict_at wide_rules 1 t small_header ≡ Valid
 header_first t = sound 1 t small_header plain_header header_json (lit≤ tt) 8388608 (lit≤ tt) header_text refl ∙ tree-valid wide_rules 1 t plain_header plain_header-valid refl
 
-header_tight : (t : Tree) → verdict_at tight_rules 1 t small_header ≡ Valid
+pub header_tight : (t : Tree) → verdict_at tight_rules 1 t small_header ≡ Valid
 header_tight t = sound 1 t small_header plain_header header_json (lit≤ tt) 116 (lit≤ tt) header_text refl ∙ tree-valid tight_rules 1 t plain_header plain_header-valid refl
 
 euro_second : verdict_at wide_rules 2 (tree_of 64 small_header) euro_feature ≡ Valid
@@ -123,7 +124,7 @@ pub feature_third : verdict_at wide_rules 3 (tree_of 64 small_header) small_feat
 feature_third =
     rw header_tree (sound 3 plain_header small_feature plain_feature.tree feature_json (lit≤ tt) 8388608 (lit≤ tt) feature_text refl ∙ tree-valid wide_rules 3 plain_header plain_feature.tree plain_feature-valid (holds-everything plain_header plain_feature.tree))
 
-feature_first : (t : Tree) → verdict_at wide_rules 1 t small_feature ≡ Refuse 0 MissingMember
+pub feature_first : (t : Tree) → verdict_at wide_rules 1 t small_feature ≡ Refuse 0 MissingMember
 feature_first t = sound 1 t small_feature plain_feature.tree feature_json (lit≤ tt) 8388608 (lit≤ tt) feature_text refl ∙ ap (by_least true) feature-no_header
 
 header_second : verdict_at wide_rules 2 (tree_of 64 small_header) small_header ≡ Refuse 0 MissingMember
@@ -144,7 +145,7 @@ module _ (header : Tree) where
   unfolding verdict_at is_utf8 chars encode utf8_valid_len
   cut_second = refl
 
-  comma_second : verdict_at wide_rules 2 header comma ≡ Refuse 26 Syntax
+  pub comma_second : verdict_at wide_rules 2 header comma ≡ Refuse 26 Syntax
   unfolding verdict_at is_utf8 chars encode judgement over by_step by_depth at_end by_end text_of no_end ends_at
   comma_second = refl
 
@@ -172,12 +173,14 @@ module _ (rules : Rules) where
     first-refused l rest bad = rw bad (refl, refl)
 
     module _ (h : Line) (valid : verdict rules [] h.content ≡ Valid) where
-      second-refused : (l : Line) (rest : List Line) → verdict rules (h ∷ []) l.content ≡ Refuse place reason → (ending_of rules (h ∷ l ∷ rest) ≡ Refused 2 place reason) × (written (h ∷ l ∷ rest) ≡ raw h ++ [])
-      second-refused l rest bad = rw (valid, bad) (refl, rw valid refl)
+      second-refused : goes_on rules 2 ≡ false → (l : Line) (rest : List Line) → verdict rules (h ∷ []) l.content ≡ Refuse place reason → (ending_of rules (h ∷ l ∷ rest) ≡ Refused 2 place reason) × (written (h ∷ l ∷ rest) ≡ raw h ++ [])
+      unfolding verdict_at
+      second-refused on l rest bad = rw (valid, bad, on) (refl, rw valid refl)
 
-      third-refused : (f l : Line) (rest : List Line) → verdict rules (h ∷ []) f.content ≡ Valid → verdict rules (h ∷ f ∷ []) l.content ≡ Refuse place reason
+      third-refused : goes_on rules 3 ≡ false → (f l : Line) (rest : List Line) → verdict rules (h ∷ []) f.content ≡ Valid → verdict rules (h ∷ f ∷ []) l.content ≡ Refuse place reason
           → (ending_of rules (h ∷ f ∷ l ∷ rest) ≡ Refused 3 place reason) × (written (h ∷ f ∷ l ∷ rest) ≡ raw h ++ (raw f ++ []))
-      third-refused f l rest good bad = rw (valid, good, bad) (refl, rw (valid, good) refl)
+      unfolding verdict_at
+      third-refused on f l rest good bad = rw (valid, good, bad, on) (refl, rw (valid, good) refl)
 
   module _ (h : Line) (valid : verdict rules [] h.content ≡ Valid) where
     two-good : (f : Line) → verdict rules (h ∷ []) f.content ≡ Valid → (ending_of rules (h ∷ f ∷ []) ≡ Complete) × (written (h ∷ f ∷ []) ≡ raw h ++ (raw f ++ []))
@@ -198,17 +201,17 @@ blank = blank-between wide_rules (ended_line small_header) (header_first _) (end
 pub order : OrderRow
 order = (
   first-refused wide_rules 0 MissingMember (ended_line small_feature) (record { content = small_header; lf = false } ∷ []) (feature_first _),
-  second-refused wide_rules 0 MissingMember (ended_line small_header) (header_first _) (record { content = small_header; lf = false }) [] header_second,
+  second-refused wide_rules 0 MissingMember (ended_line small_header) (header_first _) refl (record { content = small_header; lf = false }) [] header_second,
 )
 
 pub bad : BadRow
-bad = third-refused wide_rules 31 IdNotFound (ended_line small_header) (header_first _) (ended_line small_feature) (ended_line lost_feature) (ended_line small_feature ∷ []) feature_second lost_third
+bad = third-refused wide_rules 31 IdNotFound (ended_line small_header) (header_first _) refl (ended_line small_feature) (ended_line lost_feature) (ended_line small_feature ∷ []) feature_second lost_third
 
 -- the last line, after the small header
 module _ (c : List ℕ) (place : ℕ) (reason : Reason) where
   pub after_header : verdict_at wide_rules 2 (tree_of 64 small_header) c ≡ Refuse place reason → (l : Line) → l.content ≡ c
       → (ending_of wide_rules (ended_line small_header ∷ l ∷ []) ≡ Refused 2 place reason) × (written wide_rules (ended_line small_header ∷ l ∷ []) ≡ small_header ++ 10 ∷ [])
-  after_header refused l same = second-refused wide_rules place reason (ended_line small_header) (header_first _) l [] (rw same refused)
+  after_header refused l same = second-refused wide_rules place reason (ended_line small_header) (header_first _) refl l [] (rw same refused)
 
 abbrev pub open_line : List ℕ → Line
 open_line c = record { content = c; lf = false }
@@ -216,7 +219,7 @@ open_line c = record { content = c; lf = false }
 module _ (l : Line) (same : l.content ≡ small_header ++ 32 ∷ []) where
   long_second : (ending_of tight_rules (ended_line small_header ∷ l ∷ []) ≡ Refused 2 116 LineTooLong) × (written tight_rules (ended_line small_header ∷ l ∷ []) ≡ small_header ++ 10 ∷ [])
   long_second =
-      second-refused tight_rules 116 LineTooLong (ended_line small_header) (header_tight _) l [] (rw same (verdict-long tight_rules 2 (tree_of 64 small_header) (small_header ++ 32 ∷ []) (lit< tt)))
+      second-refused tight_rules 116 LineTooLong (ended_line small_header) (header_tight _) refl l [] (rw same (verdict-long tight_rules 2 (tree_of 64 small_header) (small_header ++ 32 ∷ []) (lit< tt)))
 
   long_first : (ending_of tight_rules (l ∷ []) ≡ Refused 1 116 LineTooLong) × (written tight_rules (l ∷ []) ≡ [])
   long_first = first-refused tight_rules 116 LineTooLong l [] (rw same (verdict-long tight_rules 1 (tree_of 64 []) (small_header ++ 32 ∷ []) (lit< tt)))

@@ -59,7 +59,7 @@ Ends-finished rules r n at_end Memory h c = tt
 
 pub refusal-stays : (rules : Rules) (before xs ys : List Line) (e : End) → refusal_from rules before xs ≡ Some e → refusal_from rules before (xs ++ ys) ≡ Some e
 refusal-stays rules before [] ys e h = absurd (none-some e h)
-refusal-stays rules before (x ∷ xs) ys e h = step (refusal_of (length before + 1) (verdict rules before x.content)) _ _ (refusal-stays rules (before ++ x ∷ []) xs ys e) h
+refusal-stays rules before (x ∷ xs) ys e h = step (refusal_of rules (length before + 1) (verdict rules before x.content)) _ _ (refusal-stays rules (before ++ x ∷ []) xs ys e) h
   where
     step : (first rest all : Option End) → (rest ≡ Some e → all ≡ Some e) → cond (is_some first) first rest ≡ Some e → cond (is_some first) first all ≡ Some e
     step None rest all k h = k h
@@ -128,12 +128,12 @@ Consumes-none None = tt
 Consumes-none (Some a) = refl
 
 pub Runs-refused : {S : Type 0} (takes leaves : S → Item → S → Type 0) (rules : Rules) (at_end : Type 0) (s : S)
-    → Runs takes leaves (record { rules = rules; read = []; outcome = record { lines = 0; kept = 0; peaks = record { bytes = 0; tokens = 0; depth = 0 }; ended = Memory } }) at_end s s
+    → Runs takes leaves (record { rules = rules; read = []; outcome = record { lines = 0; kept = 0; refused = 0; peaks = record { bytes = 0; tokens = 0; depth = 0 }; ended = Memory } }) at_end s s
 Runs-refused takes leaves rules at_end s = record {
   account = record {
     bounded = record { bytes = omega arith; tokens = omega arith; depth = omega arith };
     exact = λ e. cc;
-    counts = record { few = omega arith; good = refl; kept = refl };
+    counts = record { few = omega arith; good = refl; kept = refl; refused = refl };
     ends = tt;
   };
   sink = record { added = []; middle = s; kept = refl; took = refl; fault = refl };
@@ -206,7 +206,7 @@ enough-refused (Some a) reads e is = λ few limit. absurd (apart (sym is ∙ lim
     apart h = cc
 
 -- by no read no line is dealt with
-pub none-counted : (rules : Rules) (reads : ℕ) (r : List ℕ) (n features : ℕ) (e : End) → reads ≡ 0 → e ≡ ReadLimit → IsReadWithin reads r e → Counts rules r n features → (n ≡ 0) × (features ≡ 0)
-none-counted rules reads [] zero features e nothing is w h = (refl, h.kept)
-none-counted rules reads [] (suc n) features e nothing is w h = let few : suc n ≤ 0 = h.few in absurd (omega arith)
-none-counted rules reads (x ∷ r) n features e nothing is w h = absurd (omega (arith, all-gave reads (x ∷ r) e is w, w.most))
+pub none-counted : (rules : Rules) (reads : ℕ) (r : List ℕ) (n features refusals : ℕ) (e : End) → reads ≡ 0 → e ≡ ReadLimit → IsReadWithin reads r e → Counts rules r n features refusals → (n ≡ 0) × (features ≡ 0)
+none-counted rules reads [] zero features refusals e nothing is w h = (refl, h.kept)
+none-counted rules reads [] (suc n) features refusals e nothing is w h = let few : suc n ≤ 0 = h.few in absurd (omega arith)
+none-counted rules reads (x ∷ r) n features refusals e nothing is w h = absurd (omega (arith, all-gave reads (x ∷ r) e is w, w.most))

@@ -1,22 +1,30 @@
 -- What is held of the trees of lines, from line to line.
-use Rattle.std.proofs.Common.{◌≡◌, ℕ, ◌+◌, ◌*◌, ◌<◌, ◌≤◌, ◌⊎◌, inl, inr, max, List, [], ◌∷◌, ◌++◌, Bool, true, false, ltb, length, Result, Ok, Err, arith, refl, sym, ap, ◌∙◌, append_assoc}
-use Rattle.std.specs.Prelude.{OnErr, IsTrue}
+use Rattle.std.proofs.Common.{◌≡◌, ℕ, ◌+◌, ◌*◌, ◌<◌, ◌≤◌, ◌⊎◌, inl, inr, max, suc, List, [], ◌∷◌, ◌++◌, Bool, true, false, ltb, length, Result, Ok, Err, arith, refl, sym, ap, subst, ◌∙◌, append_assoc}
+use Rattle.std.specs.List.{list_all}
+use Rattle.std.specs.Prelude.{OnErr, IsTrue, ◌&&◌}
 use Rattle.std.specs.Str.{is_utf8}
 use Rattle.std.proofs.lemmas.Bool.{ltb-true}
+use Rattle.std.proofs.lemmas.Bool.Decides.{nat_tests}
+use Rattle.std.proofs.lemmas.List.Folds.{list_all-append}
 use Rattle.cj_budget.specs.Bounded.{BoundedList, IsWithin}
 use Rattle.cj_budget.specs.Limits.{LimitPair}
 use Rattle.cj_spans.specs.declared.token.Token.{Token}
-use Rattle.cj_spans.specs.Judgement.{judged_size, judged_nest}
+use Rattle.cj_spans.specs.Marks.{bare}
+use Rattle.cj_spans.specs.Judgement.{Judgement, spelled, broken, sunk, judged_size, judged_nest}
+use Rattle.cj_spans.specs.declared.reason.Reason.{Reason}
 use Rattle.cj_spans.specs.Scan.{KeepsLaw}
 use Rattle.cj_spans.proofs.Judgements.{judgement}
 use Rattle.cj_stream.specs.declared.judge.Content.{Content}
 use Rattle.cj_stream.specs.declared.judge.Content.TheVariants.{Faulty, BlankLine, Sound}
 use Rattle.cj_stream.specs.Lines.{closed, begun, first_of, first_content, NoLf}
-use Rattle.cj_stream.specs.Bound.{is_text, tree_size, tree_nest}
-use Rattle.cj_stream.specs.Scanning.{Scanning, HasRoom, IsReady, IsStill, Scanned, HoldsFew, Rises, Judges, JudgesLine, Forgets}
-use Rattle.cj_stream.specs.Reading.{Reading, begun_of, Stores, Passes, Reads}
+use Rattle.cj_stream.specs.Bound.{is_text, tree_size, tree_nest, is_spelled, is_readable}
+use Rattle.cj_stream.specs.Scanning.{Scanning, HasRoom, IsReady, IsStill, HasHeld, are_readable, Scanned, ScansNext, HoldsFew, HoldsFewNext, Rises, Judges, JudgesLine, Forgets}
+use Rattle.cj_stream.specs.Verdict.{is_blank_byte}
+use Rattle.cj_stream.specs.Judging.{Misreads}
+use Rattle.cj_stream.specs.Reading.{Reading, begun_of, Fits, Drops, StaysDropped, Stores, Passes, Reads}
 use Rattle.cj_stream.proofs.LineLemmas.{not_true, closed-more, begun-more, closed-lf, first_content-grows}
-use Rattle.cj_stream.proofs.ReadingLemmas.{zero_or, greatest-append, begun_of-stored}
+use Rattle.cj_stream.proofs.ReadingLemmas.{zero_or, true-false, goes_on-later, greatest-append, held-whole, IsBegun-stored}
+use Rattle.cj_stream.proofs.VerdictLemmas.{and-both}
 
 pub Rises-same : (f g : Scanning) → g ≡ f → Rises f g
 Rises-same f g e = rw e (record { header = omega arith; line = omega arith; opened = omega arith })
@@ -51,7 +59,7 @@ rises-forgets f g k = record {
 -- ---- lists of which nothing has changed but the room for later lines and its refusals
 
 pub still-same : (f g : Scanning) → g ≡ f → IsStill f g
-still-same f g e = rw e (record { kept = λ r. r; same = refl })
+still-same f g e = rw e (record { kept = λ r. r; count = refl; same = refl })
 
 pub still-err : {T E : Type 0} (f g : Scanning) (r : Result T E) → OnErr r (g ≡ f) → OnErr r (IsStill f g)
 still-err f g (Ok x) h = h
@@ -64,7 +72,7 @@ room-still limits f g still r = rw still.same (record {
   line = r.line;
   opened = r.opened;
   header_within = r.header_within;
-  line_within = record { below_peak = r.line_within.below_peak; below_limit = r.line_within.below_limit };
+  line_within = record { below_peak = omega (arith, still.count, r.line_within.below_peak); below_limit = r.line_within.below_limit };
   opened_within = r.opened_within;
 })
 
@@ -77,7 +85,7 @@ few-still limits h f g still few = rw still.same few
 pub forgets-still : (f g h : Scanning) → IsStill f g → g.line.refused ≡ f.line.refused → Forgets g h → Forgets f h
 forgets-still f g h still none k = go (rw still.same at k)
   where
-    go : Forgets (record f { line = record f.line { reserved = g.line.reserved; refused = g.line.refused } }) h → Forgets f h
+    go : Forgets (record f { line = record f.line { elements = g.line.elements; reserved = g.line.reserved; refused = g.line.refused } }) h → Forgets f h
     go k = record {
       header = k.header;
       line = record {
@@ -94,25 +102,43 @@ forgets-still f g h still none k = go (rw still.same at k)
 pub still-then : (f g h : Scanning) → IsStill f g → IsStill g h → IsStill f h
 still-then f g h a b = record {
   kept = λ r. b.kept (a.kept r);
-  same = b.same ∙ ap (λ (x : Scanning). record x { line = record x.line { reserved = h.line.reserved; refused = h.line.refused } }) a.same;
+  count = b.count ∙ a.count;
+  same = b.same ∙ ap (λ (x : Scanning). record x { line = record x.line { elements = h.line.elements; reserved = h.line.reserved; refused = h.line.refused } }) a.same;
 }
+
+-- tokens that are the same but for their marks are as many
+pub length-bare : (ts : List Token) → length (bare ts) ≡ length ts
+length-bare [] = refl
+length-bare (t ∷ ts) = ap suc (length-bare ts)
 
 -- ---- room for the next line
 
 -- once a line was dealt with, where there is room for a later one
-pub ready-passed : (put : Bool) (f g : Reading) (s t : Scanning) → IsTrue f.line.reserved → IsTrue s.line.reserved → IsTrue s.opened.reserved → Passes put f g → Forgets s t → IsReady g t
-ready-passed put f g s t bytes tokens opened x k = record {
+pub ready-passed : (put refuses : Bool) (f g : Reading) (s t : Scanning) → IsTrue f.line.reserved → IsTrue s.line.reserved → IsTrue s.opened.reserved → Passes put refuses f g → Forgets s t → IsReady g t
+ready-passed put refuses f g s t bytes tokens opened x k = record {
   first = λ z. absurd (omega (arith, z, x.lines));
   later = λ _. (x.line.room bytes, k.line.room tokens);
   opened = k.opened.room opened;
 }
 
 pub ready-stored : (f g : Reading) (part : List ℕ) (s : Scanning) → Stores f part g → IsReady f s → IsReady g s
-ready-stored f g part s st r = record {
-  first = λ z. let now = sym st.lines ∙ z in ((st.first now).0.room (r.first now).0, (r.first now).1);
-  later = λ z. let now = rw st.lines at z in ((st.later now).0.room (r.later now).0, (r.later now).1);
-  opened = r.opened;
-}
+ready-stored f g part s st r = go st.grows
+  where
+    later-now : 0 < g.lines → 0 < f.lines
+    later-now z = rw st.lines at z
+
+    go : Fits f part g ⊎ Drops f part g ⊎ StaysDropped f g → IsReady g s
+    go (inl w) = record {
+      first = λ z. let now = sym st.lines ∙ z in ((w.first now).0.room (r.first now).0, (r.first now).1);
+      later = λ z. let now = later-now z in ((w.later now).0.room (r.later now).0, (r.later now).1);
+      opened = r.opened;
+    }
+    go (inr (inl w)) = record {
+      first = λ z. let later = goes_on-later f.rules f.lines w.lenient in absurd (omega (arith, z, st.lines));
+      later = λ z. let now = later-now z in (w.line.room (r.later now).0, (r.later now).1);
+      opened = r.opened;
+    }
+    go (inr (inr w)) = rw w.1 r
 
 -- ---- lists that judging has changed
 
@@ -207,7 +233,7 @@ pub few-judges : (limits : LimitPair) (cs : List (List ℕ)) (c : List ℕ) (f g
 few-judges limits [] c f g r room short s j =
     let k = kept-judges c f.header g.header f.opened g.opened r (j.first refl).0 in
     let line : g.line.peak ≡ f.line.peak = ap (λ z. z.peak) (j.first refl).1 in
-    omega (arith, k.few room.opened_within, s.header_peak, s.line_peak, line, room.opened, short)
+    omega (arith, k.few room.opened_within, s.header_peak, s.line_peak.exact refl, line, room.opened, short)
 few-judges limits (d ∷ ds) c f g r room short s j =
     let k = kept-judges c f.line g.line f.opened g.opened r (j.later (omega arith)).0 in
     let header : g.header.peak ≡ f.header.peak = ap (λ z. z.peak) (j.later (omega arith)).1 in
@@ -219,52 +245,104 @@ few-forgets limits h f g k s = let header : g.header.peak ≡ f.header.peak = ap
 
 -- ---- a line that was dealt with
 
-module _ (limits : LimitPair) (c : List ℕ) (f g h : Scanning) (room : HasRoom limits f) (short : length c ≤ limits.line) (k : Forgets g h) where
-  text-is : is_utf8 c ≡ true → is_text limits c ≡ true
-  text-is u =
-      let fits : ltb limits.line (length c) ≡ false = not_true (ltb limits.line (length c)) (λ y. let long = ltb-true limits.line (length c) y in absurd (omega arith)) in
-      rw (fits, u) refl
+-- what lists have held, once all is known of it
+held-exact : (all : Bool) (n peak : ℕ) → peak ≡ n → HasHeld all n peak
+held-exact all n peak e = record { least = omega (arith, e); exact = λ _. e }
 
-  size-is : is_utf8 c ≡ true → judged_size (judgement c f.opened.limit) ≡ tree_size limits c
-  size-is u = rw (text-is u, room.opened) refl
+-- the later lines of some, and one more, can be read: so they can, and so can it
+readable-more : (limits : LimitPair) (ds : List (List ℕ)) (c : List ℕ) → list_all (is_readable limits) (ds ++ c ∷ []) ≡ true
+    → (list_all (is_readable limits) ds ≡ true) × (is_readable limits c ≡ true)
+readable-more limits ds c h =
+    let both = and-both (list_all (is_readable limits) ds) (list_all (is_readable limits) (c ∷ [])) (sym (list_all-append (is_readable limits) ds (c ∷ [])) ∙ h) in
+    (both.0, (and-both (is_readable limits c) true both.1).0)
 
-  nest-is : is_utf8 c ≡ true → judged_nest (judgement c f.opened.limit) ≡ tree_nest limits c
-  nest-is u = rw (text-is u, room.opened) refl
+module _ (limits : LimitPair) (d : List ℕ) (ds : List (List ℕ)) (c : List ℕ) (n peak now m next : ℕ) where
+  -- a line more that can be read: the greater of what was held and of what it holds
+  held-more : HasHeld (are_readable limits (d ∷ ds)) n peak → now ≡ max peak m → next ≡ max n m → HasHeld (are_readable limits (d ∷ ds ++ c ∷ [])) next now
+  held-more h e f = record {
+    least = omega (arith, h.least, e, f);
+    exact = λ all. omega (arith, h.exact (readable-more limits ds c all).0, e, f);
+  }
 
-  pub scanned-valid : (cs : List (List ℕ)) → Scanned limits cs f → JudgesLine (length cs) c f g Sound → Scanned limits (cs ++ c ∷ []) h
-  scanned-valid [] s j =
-      let t = (j.first refl).0.0 in
-      let law = (j.first refl).0.1 in
-      let line : g.line.peak ≡ f.line.peak = ap (λ z. z.peak) (j.first refl).1 in
-      let size : judged_size (judgement c f.opened.limit) ≡ tree_size limits c = size-is t.text in
-      let header : h.header.peak ≡ g.header.peak = ap (λ z. z.peak) k.header in
-      let none : length g.opened.elements ≡ 0 = ap length t.closed in
-      record {
-        header = ap (λ z. length z.elements) k.header ∙ (t.count ∙ size);
-        header_peak = omega (arith, header, t.peak, size, s.header_peak);
-        line = k.line.elements;
-        line_peak = omega (arith, k.line.peak, line, s.line_peak);
-        opened = k.opened.elements;
-        opened_peak = omega (arith, k.opened.peak, t.opened_peak, nest-is t.text, s.opened_peak);
-        header_law = omega (arith, header, t.peak, t.count, s.header_peak, law.law, none, short);
-        line_law = omega (arith, k.line.peak, line, s.line_peak);
-      }
-  scanned-valid (d ∷ ds) s j =
-      let t = (j.later (omega arith)).0.0 in
-      let law = (j.later (omega arith)).0.1 in
-      let same = (j.later (omega arith)).1 in
-      let size : judged_size (judgement c f.opened.limit) ≡ tree_size limits c = size-is t.text in
-      let none : length g.opened.elements ≡ 0 = ap length t.closed in
-      record {
-        header = ap (λ z. length z.elements) (k.header ∙ same) ∙ s.header;
-        header_peak = ap (λ z. z.peak) (k.header ∙ same) ∙ s.header_peak;
-        line = k.line.elements;
-        line_peak = omega (arith, k.line.peak, t.peak, size, s.line_peak, greatest-append (tree_size limits) ds c);
-        opened = k.opened.elements;
-        opened_peak = omega (arith, k.opened.peak, t.opened_peak, nest-is t.text, s.opened_peak, greatest-append (tree_nest limits) (d ∷ ds) c);
-        header_law = rw (k.header, same) s.header_law;
-        line_law = omega (arith, k.line.peak, t.peak, t.count, law.law, none, s.line_law, short);
-      }
+  -- and one that cannot
+  held-unread : HasHeld (are_readable limits (d ∷ ds)) n peak → peak ≤ now → next ≡ n → is_readable limits c ≡ false → HasHeld (are_readable limits (d ∷ ds ++ c ∷ [])) next now
+  held-unread h e f bad = record {
+    least = omega (arith, h.least, e, f);
+    exact = λ all. absurd (true-false (is_readable limits c) (readable-more limits ds c all).1 bad);
+  }
+
+-- a content that is none that can be read has no tree
+pub record IsUnread (limits : LimitPair) (c : List ℕ) : Type 0 where
+  pub bad : is_readable limits c ≡ false
+  pub size : tree_size limits c ≡ 0
+  pub nest : tree_nest limits c ≡ 0
+
+pub unread-long : (limits : LimitPair) (c : List ℕ) → limits.line < length c → IsUnread limits c
+unread-long limits c long =
+    let e : ltb limits.line (length c) ≡ true = grind (arith, nat_tests) in
+    record { bad = rw e refl; size = rw e refl; nest = rw e refl }
+
+unspelled : {c : List ℕ} {depth : ℕ} (j : Judgement c depth) → is_spelled j ≡ false → (judged_size j ≡ 0) × (judged_nest j ≡ 0)
+unspelled (spelled t json shallow) h = cc
+unspelled (broken i at none) h = (refl, refl)
+unspelled (sunk i at) h = (refl, refl)
+
+pub unread-told : (limits : LimitPair) (c : List ℕ) → list_all is_blank_byte c ≡ false → is_utf8 c && is_spelled (judgement c limits.depth) ≡ false → IsUnread limits c
+unread-told limits c blank bad = go (ltb limits.line (length c)) (is_utf8 c) (is_spelled (judgement c limits.depth)) refl refl refl bad
+  where
+    go : (long text found : Bool) → ltb limits.line (length c) ≡ long → is_utf8 c ≡ text → is_spelled (judgement c limits.depth) ≡ found → text && found ≡ false → IsUnread limits c
+    go true text found l t s h = record { bad = rw l refl; size = rw l refl; nest = rw l refl }
+    go false false found l t s h = record { bad = rw (l, t) refl; size = rw (l, t) refl; nest = rw (l, t) refl }
+    go false true true l t s h = cc
+    go false true false l t s h = let k = unspelled (judgement c limits.depth) s in record { bad = rw (l, t, blank, s) refl; size = rw (l, t) k.0; nest = rw (l, t) k.1 }
+
+module _ (limits : LimitPair) (c : List ℕ) (f g h : Scanning) (k : Forgets g h) where
+  module _ (room : HasRoom limits f) (short : length c ≤ limits.line) where
+    text-is : is_utf8 c ≡ true → is_text limits c ≡ true
+    text-is u =
+        let fits : ltb limits.line (length c) ≡ false = not_true (ltb limits.line (length c)) (λ y. let long = ltb-true limits.line (length c) y in absurd (omega arith)) in
+        rw (fits, u) refl
+
+    size-is : is_utf8 c ≡ true → judged_size (judgement c f.opened.limit) ≡ tree_size limits c
+    size-is u = rw (text-is u, room.opened) refl
+
+    nest-is : is_utf8 c ≡ true → judged_nest (judgement c f.opened.limit) ≡ tree_nest limits c
+    nest-is u = rw (text-is u, room.opened) refl
+
+    pub scanned-valid : (cs : List (List ℕ)) → Scanned limits cs f → JudgesLine (length cs) c f g Sound → Scanned limits (cs ++ c ∷ []) h
+    scanned-valid [] s j =
+        let t = (j.first refl).0.0 in
+        let law = (j.first refl).0.1 in
+        let line : g.line.peak ≡ f.line.peak = ap (λ z. z.peak) (j.first refl).1 in
+        let size : judged_size (judgement c f.opened.limit) ≡ tree_size limits c = size-is t.text in
+        let header : h.header.peak ≡ g.header.peak = ap (λ z. z.peak) k.header in
+        let none : length g.opened.elements ≡ 0 = ap length t.closed in
+        record {
+          header = ap (λ z. length z.elements) k.header ∙ (t.count ∙ size);
+          header_peak = omega (arith, header, t.peak, size, s.header_peak);
+          line = k.line.elements;
+          line_peak = held-exact true 0 h.line.peak (omega (arith, k.line.peak, line, s.line_peak.exact refl));
+          opened = k.opened.elements;
+          opened_peak = held-exact true (max (tree_nest limits c) 0) h.opened.peak (omega (arith, k.opened.peak, t.opened_peak, nest-is t.text, s.opened_peak.exact refl));
+          header_law = omega (arith, header, t.peak, t.count, s.header_peak, law.law, none, short);
+          line_law = omega (arith, k.line.peak, line, s.line_peak.exact refl);
+        }
+    scanned-valid (d ∷ ds) s j =
+        let t = (j.later (omega arith)).0.0 in
+        let law = (j.later (omega arith)).0.1 in
+        let same = (j.later (omega arith)).1 in
+        let size : judged_size (judgement c f.opened.limit) ≡ tree_size limits c = size-is t.text in
+        let none : length g.opened.elements ≡ 0 = ap length t.closed in
+        record {
+          header = ap (λ z. length z.elements) (k.header ∙ same) ∙ s.header;
+          header_peak = ap (λ z. z.peak) (k.header ∙ same) ∙ s.header_peak;
+          line = k.line.elements;
+          line_peak = held-more limits d ds c _ f.line.peak h.line.peak (tree_size limits c) _ s.line_peak (omega (arith, k.line.peak, t.peak, size)) (greatest-append (tree_size limits) ds c);
+          opened = k.opened.elements;
+          opened_peak = held-more limits d ds c _ f.opened.peak h.opened.peak (tree_nest limits c) _ s.opened_peak (omega (arith, k.opened.peak, t.opened_peak, nest-is t.text)) (greatest-append (tree_nest limits) (d ∷ ds) c);
+          header_law = rw (k.header, same) s.header_law;
+          line_law = omega (arith, k.line.peak, t.peak, t.count, law.law, none, s.line_law, short);
+        }
 
   pub scanned-blank : (cs : List (List ℕ)) → 0 < length cs → (tree_size limits c ≡ 0) × (tree_nest limits c ≡ 0) → Scanned limits cs f → JudgesLine (length cs) c f g BlankLine
       → Scanned limits (cs ++ c ∷ []) h
@@ -277,12 +355,43 @@ module _ (limits : LimitPair) (c : List ℕ) (f g h : Scanning) (room : HasRoom 
         header = ap (λ z. length z.elements) (k.header ∙ same) ∙ s.header;
         header_peak = ap (λ z. z.peak) (k.header ∙ same) ∙ s.header_peak;
         line = k.line.elements;
-        line_peak = omega (arith, k.line.peak, line, s.line_peak, greatest-append (tree_size limits) ds c, zero.0);
+        line_peak = held-more limits d ds c _ f.line.peak h.line.peak (tree_size limits c) _ s.line_peak (omega (arith, k.line.peak, line, zero.0)) (greatest-append (tree_size limits) ds c);
         opened = k.opened.elements;
-        opened_peak = omega (arith, k.opened.peak, opened, s.opened_peak, greatest-append (tree_nest limits) (d ∷ ds) c, zero.1);
+        opened_peak = held-more limits d ds c _ f.opened.peak h.opened.peak (tree_nest limits c) _ s.opened_peak (omega (arith, k.opened.peak, opened, zero.1)) (greatest-append (tree_nest limits) (d ∷ ds) c);
         header_law = rw (k.header, same) s.header_law;
         line_law = omega (arith, k.line.peak, line, s.line_law);
       }
+
+  -- a later line that cannot be read, by which no list has held more than the bytes allow
+  pub scanned-unread : (cs : List (List ℕ)) → 0 < length cs → IsUnread limits c → Scanned limits cs f → g.header ≡ f.header → f.line.peak ≤ g.line.peak → f.opened.peak ≤ g.opened.peak
+      → 2 * g.line.peak ≤ limits.line + limits.depth + 1 → Scanned limits (cs ++ c ∷ []) h
+  scanned-unread [] later u s same line opened law = absurd (omega arith)
+  scanned-unread (d ∷ ds) later u s same line opened law = record {
+    header = ap (λ z. length z.elements) (k.header ∙ same) ∙ s.header;
+    header_peak = ap (λ z. z.peak) (k.header ∙ same) ∙ s.header_peak;
+    line = k.line.elements;
+    line_peak = held-unread limits d ds c _ f.line.peak h.line.peak 0 _ s.line_peak (omega (arith, k.line.peak, line)) (omega (arith, greatest-append (tree_size limits) ds c, u.size)) u.bad;
+    opened = k.opened.elements;
+    opened_peak = held-unread limits d ds c _ f.opened.peak h.opened.peak 0 _ s.opened_peak (omega (arith, k.opened.peak, opened)) (omega (arith, greatest-append (tree_nest limits) (d ∷ ds) c, u.nest)) u.bad;
+    header_law = rw (k.header, same) s.header_law;
+    line_law = omega (arith, k.line.peak, law);
+  }
+
+-- a later line that judging has found to be none that can be read
+pub scanned-faulty : (limits : LimitPair) (n : ℕ) (c : List ℕ) (f g h : Scanning) (place : ℕ) (reason : Reason) → HasRoom limits f → length c ≤ limits.line → 0 < n
+    → Misreads (n + 1) c limits.depth (Faulty place reason) → JudgesLine n c f g (Faulty place reason) → Forgets g h → (cs : List (List ℕ)) → length cs ≡ n → Scanned limits cs f
+    → Scanned limits (cs ++ c ∷ []) h
+scanned-faulty limits n c f g h place reason room short later bad j k cs count s =
+    let kept = kept-judges c f.line g.line f.opened g.opened (Faulty place reason) (j.later later).0 in
+    let after_first : ltb 1 (n + 1) ≡ true = grind (arith, nat_tests) in
+    let not_blank : list_all is_blank_byte c ≡ false = let z = rw after_first at bad.0 in z in
+    scanned-unread limits c f g h k cs (omega (arith, count, later)) (unread-told limits c not_blank bad.1) s (j.later later).1 kept.peak kept.opened_peak
+    (omega (arith, kept.few room.opened_within, s.line_law, room.opened, short))
+
+-- what is told of the lists by what is held of the begun line, where that is not dropped
+pub next-held : (f : Reading) (old new : Scanning) → f.dropped ≡ false
+    → ((cs : List (List ℕ)) → length cs ≡ f.lines → Scanned f.rules.limits cs old → Scanned f.rules.limits (cs ++ begun_of f ∷ []) new) → ScansNext f old new
+next-held f old new held h = λ cs c count is s. subst (λ z. Scanned f.rules.limits (cs ++ z ∷ []) new) (held-whole f c is held).0 (h cs count s)
 
 -- ---- lines of bytes
 
@@ -310,23 +419,19 @@ few-more limits h i f le s = omega (arith, le, s)
 -- ---- a part that was stored, and its line dealt with
 
 module _ (f g : Reading) (p part : List ℕ) (now mid new : Scanning) (reads : Reads f p) (n : NoLf part) (st : Stores f part g) (same : mid ≡ now) (s : Scanned f.rules.limits (closed p) now) where
-  begun-is : begun_of g ≡ begun p ++ part
-  begun-is = begun_of-stored f g part st ∙ ap (λ z. z ++ part) reads.begun
-
   before : Scanned g.rules.limits (closed p) mid
   before = rw (same, st.rules) s
 
-  pub scanned-line : ((cs : List (List ℕ)) → length cs ≡ g.lines → Scanned g.rules.limits cs mid → Scanned g.rules.limits (cs ++ begun_of g ∷ []) new) → Scanned f.rules.limits (closed (p ++ (part ++ 10 ∷ []))) new
+  pub scanned-line : ScansNext g mid new → Scanned f.rules.limits (closed (p ++ (part ++ 10 ∷ []))) new
   scanned-line deal =
-      let k = deal (closed p) (sym (st.lines ∙ reads.lines)) before in
-      let j = rw (begun-is, st.rules) at k in
+      let k = deal (closed p) (begun p ++ part) (sym (st.lines ∙ reads.lines)) (IsBegun-stored f g p part reads st) before in
+      let j = rw st.rules at k in
       rw (closed-line p part n) j
 
-  pub few-line : (more : List ℕ) → ((cs : List (List ℕ)) → length cs ≡ g.lines → Scanned g.rules.limits cs mid → HoldsFew g.rules.limits (length (first_of cs (begun_of g))) new)
-      → HoldsFew f.rules.limits (length (first_content (p ++ (part ++ 10 ∷ more)))) new
+  pub few-line : (more : List ℕ) → HoldsFewNext g mid new → HoldsFew f.rules.limits (length (first_content (p ++ (part ++ 10 ∷ more)))) new
   few-line more deal =
-      let k = deal (closed p) (sym (st.lines ∙ reads.lines)) before in
-      let j = rw (begun-is, st.rules) at k in
+      let k = deal (closed p) (begun p ++ part) (sym (st.lines ∙ reads.lines)) (IsBegun-stored f g p part reads st) before in
+      let j = rw st.rules at k in
       few-more f.rules.limits (length (first_of (closed p) (begun p ++ part))) (length (first_content (p ++ (part ++ 10 ∷ more)))) new (first-part p part more n) j
 
 -- ---- one part of a text after another

@@ -1,10 +1,14 @@
 -- What stays of a reading, whatever comes of some bytes.
-use Rattle.std.proofs.Common.{◌≡◌, ℕ, ◌+◌, ◌<◌, ◌≤◌, ◌⊎◌, inl, inr, List, Bool, true, false, cond, length, Result, Ok, Err, arith, refl, sym, ap, ◌∙◌}
+use Rattle.std.proofs.Common.{◌≡◌, ℕ, ◌+◌, ◌<◌, ◌≤◌, ◌⊎◌, inl, inr, List, Bool, true, false, cond, length, Option, Some, None, Result, Ok, Err, arith, refl, sym, ap, ◌∙◌}
+use Rattle.cj_budget.specs.Bounded.{IsWithin}
+use Rattle.cj_spans.specs.declared.reason.Reason.{Reason}
 use Rattle.cj_stream.specs.declared.ending.End.{End}
+use Rattle.cj_stream.specs.declared.ending.End.TheVariants.{Refused, WriteFault, Memory}
 use Rattle.cj_stream.specs.Item.{Item}
-use Rattle.cj_stream.specs.Verdict.{Verdict, Refuse, Blank, Unwanted, Valid}
-use Rattle.cj_stream.specs.Reading.{Reading, begun_of, IsSound, Stays, IsLeft, Stores, Passes, Deals, Settles}
-use Rattle.cj_stream.proofs.ReadingLemmas.{begun_of-first, begun_of-later, zero_or}
+use Rattle.cj_stream.specs.Verdict.{Verdict, Refuse, Blank, Unwanted, Valid, goes_on, refusal_of}
+use Rattle.cj_stream.proofs.Apart.{none-some}
+use Rattle.cj_stream.specs.Reading.{Reading, IsSound, Stays, IsLeft, Fits, Drops, StaysDropped, Stores, Passes, Refuses, Deals, Settles}
+use Rattle.cj_stream.proofs.ReadingLemmas.{zero_or}
 
 pub Stays-same : (f g : Reading) → g ≡ f → Stays f g
 Stays-same f g e = rw e (record { rules = refl; header_rises = omega arith; line_rises = omega arith })
@@ -19,79 +23,111 @@ Stays-then f g h a b = record {
   line_rises = omega (arith, a.line_rises, b.line_rises);
 }
 
--- the begun line is stored: the peak of the list that grew has risen
-pub Stays-stored : (f g : Reading) (part : List ℕ) → Stores f part g → Stays f g
-Stays-stored f g part s = go (zero_or f.lines)
-  where
-    go : (f.lines ≡ 0) ⊎ (0 < f.lines) → Stays f g
-    go (inl z) =
-        let b = (s.first z).0 in
-        let same = (s.first z).1 in
-        record { rules = s.rules; header_rises = omega (arith, b.peak); line_rises = rw same (omega arith) }
-    go (inr z) =
-        let b = (s.later z).0 in
-        let same = (s.later z).1 in
-        record { rules = s.rules; header_rises = rw same (omega arith); line_rises = omega (arith, b.peak) }
-
 pub sound-left : (f g : Reading) → IsSound f → IsLeft f g → IsSound g
-sound-left f g h left = rw left.same (record { range = h.range; header = h.header; line = h.line; kept = h.kept })
+sound-left f g h left = rw left.same (record { range = h.range; header = h.header; line = h.line; kept = h.kept; refused = h.refused })
 
 pub sound-stored : (f g : Reading) (part : List ℕ) → IsSound f → Stores f part g → IsSound g
-sound-stored f g part h s = go (zero_or f.lines)
+sound-stored f g part h s = go s.grows (zero_or f.lines)
   where
-    go : (f.lines ≡ 0) ⊎ (0 < f.lines) → IsSound g
-    go (inl z) =
-        let b = (s.first z).0 in
-        let same = (s.first z).1 in
-        record { range = rw s.rules h.range; header = b.limit ∙ (h.header ∙ ap (λ x. x.limits.line) (sym s.rules)); line = rw (same, s.rules) h.line; kept = rw (s.kept, s.lines) h.kept }
-    go (inr z) =
-        let b = (s.later z).0 in
-        let same = (s.later z).1 in
-        record { range = rw s.rules h.range; header = rw (same, s.rules) h.header; line = b.limit ∙ (h.line ∙ ap (λ x. x.limits.line) (sym s.rules)); kept = rw (s.kept, s.lines) h.kept }
+    line_limit : f.line.limit ≡ g.rules.limits.line
+    line_limit = h.line ∙ ap (λ x. x.limits.line) (sym s.rules)
 
--- the begun line is within the limit
-pub begun-short : (f g : Reading) (part : List ℕ) → IsSound f → Stores f part g → length (begun_of g) ≤ g.rules.limits.line
-begun-short f g part h s = go (zero_or f.lines)
-  where
-    go : (f.lines ≡ 0) ⊎ (0 < f.lines) → length (begun_of g) ≤ g.rules.limits.line
-    go (inl z) = let w = (s.first z).0 in rw (begun_of-first g (s.lines ∙ z), s.rules) (omega (arith, w.within.below_peak, w.within.below_limit, w.limit, h.header))
-    go (inr z) = let w = (s.later z).0 in rw (begun_of-later g (omega (arith, s.lines)), s.rules) (omega (arith, w.within.below_peak, w.within.below_limit, w.limit, h.line))
+    header_limit : f.header.limit ≡ g.rules.limits.line
+    header_limit = h.header ∙ ap (λ x. x.limits.line) (sym s.rules)
+
+    made : g.header.limit ≡ f.header.limit → g.line.limit ≡ f.line.limit → IsSound g
+    made a b = record {
+      range = rw s.rules h.range;
+      header = a ∙ header_limit;
+      line = b ∙ line_limit;
+      kept = omega (arith, s.kept, s.lines, h.kept);
+      refused = omega (arith, s.refused, s.lines, h.refused);
+    }
+
+    go : Fits f part g ⊎ Drops f part g ⊎ StaysDropped f g → (f.lines ≡ 0) ⊎ (0 < f.lines) → IsSound g
+    go (inl w) (inl z) = made (w.first z).0.limit (ap (λ x. x.limit) (w.first z).1)
+    go (inl w) (inr z) = made (ap (λ x. x.limit) (w.later z).1) (w.later z).0.limit
+    go (inr (inl w)) z = made (ap (λ x. x.limit) w.header) w.line.limit
+    go (inr (inr w)) z = rw w.1 h
 
 kept_at_most : (b : Bool) (n m : ℕ) → n ≤ m → cond b (n + 1) n ≤ m + 1
 kept_at_most true n m h = omega arith
 kept_at_most false n m h = omega arith
 
-pub Stays-passed : (put : Bool) (f g : Reading) → Passes put f g → Stays f g
-Stays-passed put f g s = record { rules = s.rules; header_rises = rw s.header (omega arith); line_rises = omega (arith, s.line.peak) }
+pub Stays-passed : (put refuses : Bool) (f g : Reading) → Passes put refuses f g → Stays f g
+Stays-passed put refuses f g s = record { rules = s.rules; header_rises = rw s.header (omega arith); line_rises = omega (arith, s.line.peak) }
 
-pub sound-passed : (put : Bool) (f g : Reading) → IsSound f → Passes put f g → IsSound g
-sound-passed put f g h s = record {
+pub sound-passed : (put refuses : Bool) (f g : Reading) → IsSound f → Passes put refuses f g → IsSound g
+sound-passed put refuses f g h s = record {
   range = rw s.rules h.range;
   header = rw (s.header, s.rules) h.header;
   line = s.line.limit ∙ (h.line ∙ ap (λ x. x.limits.line) (sym s.rules));
   kept = rw (s.kept, s.lines) (kept_at_most _ f.kept f.lines h.kept);
+  refused = rw (s.refused, s.lines) (kept_at_most refuses f.refused f.lines h.refused);
 }
 
-module _ {S : Type 0} (takes leaves : S → Item → S → Type 0) (l : Item) (f g : Reading) (s t : S) where
-  pub Stays-dealt : (v : Verdict) (r : Result (Unit {0}) End) → Deals takes leaves v l f s r g t → Stays f g
-  Stays-dealt (Refuse place reason) r d = Stays-same f g d.1
-  Stays-dealt Blank r d = Stays-passed false f g d.1
-  Stays-dealt Unwanted r d = Stays-passed false f g d.1
-  Stays-dealt Valid (Ok x) d = Stays-passed true f g d.0
+-- one line more at most
+few-passed : (put refuses : Bool) (f g : Reading) → Passes put refuses f g → g.lines ≤ f.lines + 1
+few-passed put refuses f g x = omega (arith, x.lines)
+
+Stays-refused : (on : Bool) (place : ℕ) (reason : Reason) (f g : Reading) (r : Result (Unit {0}) End) → Refuses on place reason f r g → Stays f g
+Stays-refused true place reason f g r d = Stays-passed false true f g d.1
+Stays-refused false place reason f g r d = Stays-same f g d.1
+
+few-refused : (on : Bool) (place : ℕ) (reason : Reason) (f g : Reading) (r : Result (Unit {0}) End) → Refuses on place reason f r g → g.lines ≤ f.lines + 1
+few-refused true place reason f g r d = few-passed false true f g d.1
+few-refused false place reason f g r d = rw d.1 (omega arith)
+
+module _ {S : Type 0} (takes leaves : S → Item → S → Type 0) (l : Item) (f g : Reading) (s t : S) (on : Bool) where
+  pub Stays-dealt : (v : Verdict) (r : Result (Unit {0}) End) → Deals takes leaves on v l f s r g t → Stays f g
+  Stays-dealt (Refuse place reason) r d = Stays-refused on place reason f g r d.0
+  Stays-dealt Blank r d = Stays-passed false false f g d.1
+  Stays-dealt Unwanted r d = Stays-passed false false f g d.1
+  Stays-dealt Valid (Ok x) d = Stays-passed true false f g d.0
   Stays-dealt Valid (Err x) d = Stays-left f g d.1
 
-  -- one line more at most
-  pub few-dealt : (v : Verdict) (r : Result (Unit {0}) End) → Deals takes leaves v l f s r g t → g.lines ≤ f.lines + 1
-  few-dealt (Refuse place reason) r d = rw d.1 (omega arith)
-  few-dealt Blank r d = omega (arith, d.1.lines)
-  few-dealt Unwanted r d = omega (arith, d.1.lines)
-  few-dealt Valid (Ok x) d = omega (arith, d.0.lines)
+  pub few-dealt : (v : Verdict) (r : Result (Unit {0}) End) → Deals takes leaves on v l f s r g t → g.lines ≤ f.lines + 1
+  few-dealt (Refuse place reason) r d = few-refused on place reason f g r d.0
+  few-dealt Blank r d = few-passed false false f g d.1
+  few-dealt Unwanted r d = few-passed false false f g d.1
+  few-dealt Valid (Ok x) d = few-passed true false f g d.0
   few-dealt Valid (Err x) d = rw d.1.same (omega arith)
 
-  pub Stays-settled : (v : Verdict) (r : Result (Unit {0}) End) → Settles takes leaves v l f s r g t → Stays f g
+  pub Stays-settled : (v : Verdict) (r : Result (Unit {0}) End) → Settles takes leaves on v l f s r g t → Stays f g
   Stays-settled v r (inl d) = Stays-dealt v r d
   Stays-settled v r (inr m) = Stays-left f g m.1
 
-  pub few-settled : (v : Verdict) (r : Result (Unit {0}) End) → Settles takes leaves v l f s r g t → g.lines ≤ f.lines + 1
+  pub few-settled : (v : Verdict) (r : Result (Unit {0}) End) → Settles takes leaves on v l f s r g t → g.lines ≤ f.lines + 1
   few-settled v r (inl d) = few-dealt v r d
   few-settled v r (inr m) = rw m.1.same (omega arith)
+
+-- a refusal that is an end, told by what is done with it
+pub Settles-ended : {S : Type 0} (takes leaves : S → Item → S → Type 0) (v : Verdict) (i : Item) (f : Reading) (s : S) (e : End) → refusal_of f.rules (f.lines + 1) v ≡ Some e
+    → Settles takes leaves false v i f s (Err e) f s
+Settles-ended takes leaves (Refuse place reason) i f s e h = inl (go (goes_on f.rules (f.lines + 1)) h)
+  where
+    go : (on : Bool) → cond on None (Some (Refused (f.lines + 1) place reason)) ≡ Some e → Refuses false place reason f (Err e) f × (s ≡ s)
+    go true k = absurd (none-some e k)
+    go false k = let same : e ≡ Refused (f.lines + 1) place reason = cc in ((ap Err same, refl), refl)
+Settles-ended takes leaves Blank i f s e h = absurd (none-some e h)
+Settles-ended takes leaves Unwanted i f s e h = absurd (none-some e h)
+Settles-ended takes leaves Valid i f s e h = absurd (none-some e h)
+
+-- a refusal that is an end has changed nothing of what is held of bytes
+pub refused-same : {S : Type 0} (takes leaves : S → Item → S → Type 0) (v : Verdict) (i : Item) (f g : Reading) (s t : S) (r : Result (Unit {0}) End) (n place : ℕ) (reason : Reason)
+    → Settles takes leaves false v i f s r g t → r ≡ Err (Refused n place reason) → g ≡ f
+refused-same takes leaves (Refuse at why) i f g s t r n place reason (inl d) e = d.0.1
+refused-same takes leaves Blank i f g s t r n place reason (inl d) e = let ok : r ≡ Ok tt = d.0 in cc
+refused-same takes leaves Unwanted i f g s t r n place reason (inl d) e = let ok : r ≡ Ok tt = d.0 in cc
+refused-same takes leaves Valid i f g s t (Ok x) n place reason (inl d) e = cc
+refused-same takes leaves Valid i f g s t (Err x) n place reason (inl d) e = let fault : x ≡ WriteFault = d.0 in cc
+refused-same takes leaves v i f g s t r n place reason (inr m) e = let lacks : r ≡ Err Memory = m.0 in cc
+
+-- an error leaves the count of lines
+pub settled-err : {S : Type 0} (takes leaves : S → Item → S → Type 0) (on : Bool) (v : Verdict) (i : Item) (f g : Reading) (s t : S) (e : End) → Settles takes leaves on v i f s (Err e) g t → g.lines ≡ f.lines
+settled-err takes leaves true (Refuse at why) i f g s t e (inl d) = let ok : ◌≡◌ {A = Result (Unit {0}) End} (Err e) (Ok tt) = d.0.0 in cc
+settled-err takes leaves false (Refuse at why) i f g s t e (inl d) = ap (λ x. x.lines) d.0.1
+settled-err takes leaves on Blank i f g s t e (inl d) = let ok : ◌≡◌ {A = Result (Unit {0}) End} (Err e) (Ok tt) = d.0 in cc
+settled-err takes leaves on Unwanted i f g s t e (inl d) = let ok : ◌≡◌ {A = Result (Unit {0}) End} (Err e) (Ok tt) = d.0 in cc
+settled-err takes leaves on Valid i f g s t e (inl d) = ap (λ x. x.lines) d.1.same
+settled-err takes leaves on v i f g s t e (inr m) = ap (λ x. x.lines) m.1.same

@@ -144,7 +144,7 @@ before-more before x xs = append_assoc before (x ∷ []) xs
 pub refusal-append : (rules : Rules) (before xs ys : List Line) → refusal_from rules before xs ≡ None → refusal_from rules before (xs ++ ys) ≡ refusal_from rules (before ++ xs) ys
 refusal-append rules before [] ys h = rw (append-nil before) refl
 refusal-append rules before (x ∷ xs) ys h =
-    let s = refusal-step (refusal_of (length before + 1) (verdict rules before x.content)) (refusal_from rules (before ++ x ∷ []) xs) h in
+    let s = refusal-step (refusal_of rules (length before + 1) (verdict rules before x.content)) (refusal_from rules (before ++ x ∷ []) xs) h in
     let r = refusal-append rules (before ++ x ∷ []) xs ys s.1 in
     rw s.0 (r ∙ ap (λ z. refusal_from rules z ys) (before-more before x xs))
 

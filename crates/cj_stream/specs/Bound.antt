@@ -1,11 +1,13 @@
 -- The most that may be held, and how much was held at most.
-use Rattle.std.specs.Prelude.{ℕ, ◌+◌, ◌/◌, ◌≤◌, List, [], ◌∷◌, Bool, not, nat_lt, ◌&&◌, if◌then◌else◌, length, map, max, min}
+use Rattle.std.specs.Prelude.{◌≡◌, ℕ, ◌+◌, ◌/◌, ◌≤◌, List, [], ◌∷◌, Bool, true, false, not, nat_lt, ◌&&◌, ◌||◌, if◌then◌else◌, length, map, max, min}
+use Rattle.std.specs.List.{list_all}
 use Rattle.std.specs.Str.{is_utf8}
 use Rattle.cj_budget.specs.Limits.{LimitPair}
 use Rattle.cj_budget.specs.declared.limits.Peaks.{Peaks}
-use Rattle.cj_spans.specs.Judgement.{judged_size, judged_nest}
+use Rattle.cj_spans.specs.Judgement.{Judgement, spelled, broken, sunk, judged_size, judged_nest}
 use Rattle.cj_spans.proofs.Judgements.{judgement}
 use Rattle.cj_stream.specs.Lines.{lines, later_of, first_content}
+use Rattle.cj_stream.specs.Verdict.{is_blank_byte}
 
 -- the bytes of a stream's first line, cut at the line limit
 abbrev pub first_bytes : LimitPair → List ℕ → ℕ
@@ -57,11 +59,36 @@ greatest measure (c ∷ cs) = max (measure c) (greatest measure cs)
 abbrev pub contents : List ℕ → List (List ℕ)
 contents s = map (λ l. l.content) (lines s)
 
--- what is held at most of a stream without a refused line: the bytes and tokens of the first line with those of the
--- later line that has the most, and the most open containers of all lines
+-- the bytes that are held of a content: those up to the line limit
+abbrev pub held_length : LimitPair → List ℕ → ℕ
+held_length limits c = min (length c) limits.line
+
+-- what is held at most of a stream: the bytes and tokens of the first line with those of the later line that has the
+-- most, and the most open containers of all lines
 abbrev pub exact_peaks : LimitPair → List ℕ → Peaks
 exact_peaks limits s = record {
-  bytes = length (first_content s) + greatest length (later_of (contents s));
+  bytes = length (first_content s) + greatest (held_length limits) (later_of (contents s));
   tokens = of_first (tree_size limits) (contents s) + greatest (tree_size limits) (later_of (contents s));
   depth = greatest (tree_nest limits) (contents s);
 }
+
+-- a tree was found
+abbrev pub is_spelled : {c : List ℕ} {depth : ℕ} → Judgement c depth → Bool
+is_spelled (spelled tree json shallow) = true
+is_spelled (broken place syntax shallow) = false
+is_spelled (sunk place deep) = false
+
+-- a content that is looked at as a JSON text is blank, or spells a tree
+abbrev pub is_readable : LimitPair → List ℕ → Bool
+is_readable limits c = is_text limits c && (list_all is_blank_byte c || is_spelled (judgement c limits.depth))
+
+-- all later lines of a stream are so
+abbrev pub is_legible : LimitPair → List ℕ → Bool
+is_legible limits s = list_all (is_readable limits) (later_of (contents s))
+
+-- What is told of what was held at most of a complete stream. The bytes are exact. Tokens and open containers are, too,
+-- where all later lines are blank or spell a tree; a line that is neither may have added to these before that was seen.
+pub record IsExact (limits : LimitPair) (s : List ℕ) (peaks : Peaks) : Type 0 where
+  pub bytes : peaks.bytes ≡ (exact_peaks limits s).bytes
+  pub least : IsBelow (exact_peaks limits s) peaks
+  pub legible : is_legible limits s ≡ true → peaks ≡ exact_peaks limits s

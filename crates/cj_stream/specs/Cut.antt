@@ -7,7 +7,7 @@ use Rattle.cj_stream.specs.declared.ending.End.TheVariants.{Complete, Refused, R
 use Rattle.cj_stream.specs.Lines.{closed, lines, whole}
 use Rattle.cj_stream.specs.Item.{Item}
 use Rattle.cj_stream.specs.Verdict.{Rules, refusal_in, judged, kept, ending, output}
-use Rattle.cj_stream.specs.Bound.{IsBounded, IsBelow, exact_peaks}
+use Rattle.cj_stream.specs.Bound.{IsBounded, IsBelow, IsExact}
 use Rattle.cj_stream.specs.Engine.{EngineState, Delivers, rules_of, held_by, peaks_of}
 use Rattle.cj_stream.specs.Sink.{Took, TookFront, LeavesNext, AppendsPart}
 
@@ -88,7 +88,7 @@ pub record Fed (rules : Rules) (pieces : List (List ℕ)) (outcome : PiecesOutco
   pub peaks : outcome.peaks ≡ peaks_of engine
   pub held : IsBelow (held_by engine) outcome.peaks
   pub bounded : IsBounded rules.limits (joined (take (outcome.taken + 1) pieces)) outcome.peaks
-  pub exact : outcome.ended ≡ Complete → outcome.peaks ≡ exact_peaks rules.limits (joined pieces)
+  pub exact : outcome.ended ≡ Complete → IsExact rules.limits (joined pieces) outcome.peaks
 
 -- a sink took what is kept of the first n pieces, of whose whole lines none was refused, and then came to an end by the
 -- next piece, or after the last

@@ -6,9 +6,9 @@ use Rattle.cj_stream.specs.declared.ending.End.{End}
 use Rattle.cj_stream.specs.declared.ending.End.TheVariants.{Complete, Refused, ReadFault, ReadLimit, WriteFault, Memory}
 use Rattle.cj_stream.specs.Lines.{Line, closed, lines, whole, first_content, begun_later}
 use Rattle.cj_stream.specs.Item.{Item}
-use Rattle.cj_stream.specs.Verdict.{Rules, refusal_in, judged, verdict, item_after, is_kept, good, ending, kept_first, features_first}
+use Rattle.cj_stream.specs.Verdict.{Rules, refusal_in, judged, verdict, item_after, is_kept, good, ending, kept_first, features_first, reported_first}
 use Rattle.cj_stream.specs.Bound.{IsBounded, IsBelow, of_first, tree_size}
-use Rattle.cj_stream.specs.Reading.{Reading, Reads}
+use Rattle.cj_stream.specs.Reading.{Reading, Reads, stored}
 use Rattle.cj_stream.specs.Scanning.{Scanning, Scanned, RefusesRoom}
 use Rattle.cj_stream.specs.Sink.{Took}
 
@@ -27,9 +27,12 @@ rules_of e = e.reading.rules
 abbrev pub limits_of : EngineState → LimitPair
 limits_of e = e.reading.rules.limits
 
--- the lines that were dealt with
+-- the lines that were dealt with, and those of them that were refused
 abbrev pub lines_of : EngineState → ℕ
 lines_of e = e.reading.lines
+
+abbrev pub refused_of : EngineState → ℕ
+refused_of e = e.reading.refused
 
 -- what is held now
 abbrev pub held_by : EngineState → Peaks
@@ -47,18 +50,19 @@ peaks_of e = record {
   depth = e.scanning.opened.peak;
 }
 
--- the first n lines of p are good, and this many features are kept of them
-pub record Counts (rules : Rules) (p : List ℕ) (n features : ℕ) : Type 0 where
+-- the first n lines of p are good, and this many features are kept of them, and lines refused
+pub record Counts (rules : Rules) (p : List ℕ) (n features refusals : ℕ) : Type 0 where
   pub few : n ≤ length (lines p)
   pub good : refusal_in rules (take n (lines p)) ≡ None
   pub kept : features ≡ length (features_first rules n p)
+  pub refused : refusals ≡ length (reported_first rules n p)
 
 -- the engine stands for these bytes: what it holds is within their bound, its counts are of their lines, and
 -- before an end it has read them all
 pub record StandsFor (e : EngineState) (p : List ℕ) : Type 0 where
   pub held : IsBelow (held_by e) (peaks_of e)
   pub bounded : IsBounded (limits_of e) p (peaks_of e)
-  pub counts : Counts (rules_of e) p (lines_of e) e.reading.kept
+  pub counts : Counts (rules_of e) p (lines_of e) e.reading.kept (refused_of e)
   pub going : e.ended ≡ None → Reads e.reading p × Scanned (limits_of e) (closed p) e.scanning × (e.taken ≡ length p)
 
 -- room for later lines was refused: the count of that has risen, of one of their two lists
@@ -92,13 +96,13 @@ pub record Delivers {S : Type 0} (takes leaves : S → Item → S → Type 0) (r
   pub took : Took takes s added middle
   pub fault : Faults leaves rules q to middle t ended
 
--- nothing that could be judged of these bytes was refused: all whole lines are dealt with, and what is held are the
--- bytes of the first line and of the begun one, and the tokens of the first line if it is whole
+-- nothing that could be judged of these bytes was the end: all whole lines are dealt with, and what is held are the
+-- bytes of the first line and of the begun one, unless that is too long, and the tokens of the first line if it is whole
 pub record Going (e : EngineState) (q : List ℕ) : Type 0 where
   pub good : refusal_in (rules_of e) (judged (limits_of e) q) ≡ None
   pub lines : lines_of e ≡ length (lines (whole q))
   pub held : held_by e ≡ record {
-    bytes = length (first_content q) + length (begun_later q);
+    bytes = length (first_content q) + length (stored (limits_of e).line (begun_later q));
     tokens = of_first (tree_size (limits_of e)) (closed q);
     depth = 0;
   }

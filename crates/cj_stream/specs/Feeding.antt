@@ -2,7 +2,7 @@
 use Rattle.std.specs.Prelude.{◌≡◌, ◌≢◌, ℕ, ◌≤◌, List, ◌++◌, None, Some, Result, OnOk, IfErr, IsErrOf}
 use Rattle.cj_stream.specs.declared.ending.End.{End}
 use Rattle.cj_stream.specs.declared.ending.End.TheVariants.{Complete, WriteFault, Memory}
-use Rattle.cj_stream.specs.Bound.{IsBelow, exact_peaks}
+use Rattle.cj_stream.specs.Bound.{IsBelow, IsExact}
 use Rattle.cj_stream.specs.Engine.{EngineState, StandsFor, IsRefusedRoom, given, rules_of, limits_of, lines_of, peaks_of, Delivers, Going, Tells, Concludes}
 use Rattle.cj_stream.specs.Item.{Item}
 use Rattle.cj_stream.specs.Reading.{LacksMemory}
@@ -28,7 +28,7 @@ pub record Feeds {S : Type 0} (takes leaves : S → Item → S → Type 0) (fail
 
 -- the stream ended here, and this was answered, which is never want of memory. A write fault has its cause in the sink;
 -- what it stands for and may hold goes on; and the answer is the ending of all bytes, after all good lines, with what was
--- held at most exactly where it is complete, and what the sink has taken by that.
+-- held at most where it is complete, and what the sink has taken by that.
 pub record IsFinished {S : Type 0} (takes leaves : S → Item → S → Type 0) (failures : S → ℕ) (old : EngineState) (answer : End) (new : EngineState) (s t : S) : Type 0 where
   pub ended : new.ended ≡ Some answer
   pub counts : failures s ≤ failures t
@@ -37,6 +37,6 @@ pub record IsFinished {S : Type 0} (takes leaves : S → Item → S → Type 0) 
   pub stands : (p : List ℕ) → StandsFor old p → StandsFor new p
   pub rises : IsBelow (peaks_of old) (peaks_of new)
   pub concludes : (p : List ℕ) → StandsFor old p → old.ended ≡ None → Concludes (rules_of old) p (lines_of new) answer
-  pub exact : (p : List ℕ) → StandsFor old p → old.ended ≡ None → answer ≡ Complete → peaks_of new ≡ exact_peaks (limits_of old) p
+  pub exact : (p : List ℕ) → StandsFor old p → old.ended ≡ None → answer ≡ Complete → IsExact (limits_of old) p (peaks_of new)
   pub memory : old.ended ≡ None → answer ≢ Memory
   pub sink : (p : List ℕ) → StandsFor old p → old.ended ≡ None → Delivers takes leaves (rules_of old) p (lines_of old) (lines_of new) s t new.ended

@@ -11,11 +11,11 @@ pub record IsFront (ls all : List Line) : Type 0 where
   pub rest : List Line
   pub whole : all ≡ ls ++ rest
 
--- none of these lines is refused, each one after those before it
+-- the refusal of none of these lines is an end, each one after those before it
 abbrev pub NoneRefused : Rules → List Line → Type 0
-NoneRefused rules ls = (before : List Line) (l : Line) (after : List Line) → ls ≡ before ++ l ∷ after → refusal_of (length before + 1) (verdict rules before l.content) ≡ None
+NoneRefused rules ls = (before : List Line) (l : Line) (after : List Line) → ls ≡ before ++ l ∷ after → refusal_of rules (length before + 1) (verdict rules before l.content) ≡ None
 
--- the longest prefix of the lines of a stream of which none is refused
+-- the longest prefix of the lines of a stream of which no refusal is an end
 pub record AreGood (rules : Rules) (s : List ℕ) (ls : List Line) : Type 0 where
   pub front : IsFront ls (lines s)
   pub unrefused : NoneRefused rules ls
@@ -26,7 +26,7 @@ abbrev pub EndsWell : List Line → End → Type 0
 EndsWell [] e = e ≡ Refused 1 0 NoHeader
 EndsWell (l ∷ ls) e = e ≡ Complete
 
--- the end of a stream by its good lines and those after them: the first of these is refused
+-- the end of a stream by its good lines and those after them: the refusal of the first of these
 abbrev pub EndsAfter : Rules → List Line → List Line → End → Type 0
 EndsAfter rules ls [] e = EndsWell ls e
-EndsAfter rules ls (next ∷ rest) e = refusal_of (length ls + 1) (verdict rules ls next.content) ≡ Some e
+EndsAfter rules ls (next ∷ rest) e = refusal_of rules (length ls + 1) (verdict rules ls next.content) ≡ Some e

@@ -1,18 +1,24 @@
 -- What is told of a line as a text, and what its tokens show.
-use Rattle.std.specs.Prelude.{◌≡◌, ℕ, ◌<◌, ◌≤◌, List, length, Option, Some}
+use Rattle.std.specs.Prelude.{◌≡◌, ℕ, ◌<◌, ◌≤◌, List, length, Option, Some, false, ◌&&◌, IsTrue}
+use Rattle.std.specs.Str.{is_utf8}
 use Rattle.cj_spans.specs.declared.token.Token.{Token}
+use Rattle.cj_budget.specs.Limits.{LimitPair}
 use Rattle.cj_spans.specs.Tree.{Tree}
 use Rattle.cj_spans.specs.Json.{Json}
 use Rattle.cj_spans.specs.Sound.{AreOf}
+use Rattle.cj_spans.proofs.Judgements.{judgement}
 use Rattle.cj_feature.specs.declared.header.reading.HeaderParts.{HeaderParts}
+use Rattle.cj_feature.specs.Reached.{AreMarks}
 use Rattle.cj_feature.specs.Shown.{ArePartsOf, parts_box}
 use Rattle.cj_stream.specs.declared.judge.Content.{Content}
 use Rattle.cj_stream.specs.declared.judge.Content.TheVariants.{Faulty, BlankLine, Sound}
+use Rattle.cj_stream.specs.Bound.{is_spelled}
 use Rattle.cj_stream.specs.Criteria.{needs_box}
 use Rattle.cj_stream.specs.Item.{tree_of}
+use Rattle.cj_stream.specs.Options.{OptionSet}
 use Rattle.cj_stream.specs.Reading.{Reading}
 use Rattle.cj_stream.specs.Scanning.{Scanning}
-use Rattle.cj_stream.specs.Verdict.{Rules, Refuse, Blank, verdict_at, tree_verdict}
+use Rattle.cj_stream.specs.Verdict.{Rules, Refuse, Blank, is_blank_line, verdict_at, tree_verdict}
 
 -- what a content is says this of its verdict
 abbrev pub Decides : Rules → ℕ → Tree → List ℕ → Content → Type 0
@@ -24,10 +30,20 @@ Decides rules number header c Sound = verdict_at rules number header c ≡ tree_
 abbrev pub Says : ℕ → List ℕ → ℕ → Content → Type 0
 Says number c depth x = (rules : Rules) (header : Tree) → length c ≤ rules.limits.line → rules.limits.depth ≡ depth → Decides rules number header c x
 
+-- a content that is told to be faulty is none that can be read: it is not blank, and no text that spells a tree
+abbrev pub Misreads : ℕ → List ℕ → ℕ → Content → Type 0
+Misreads number c depth (Faulty place reason) = (is_blank_line number c ≡ false) × (is_utf8 c && is_spelled (judgement c depth) ≡ false)
+Misreads number c depth BlankLine = Unit {0}
+Misreads number c depth Sound = Unit {0}
+
 -- the tokens are those of the content, which spells its tree
 pub record ShowsTree (c : List ℕ) (depth : ℕ) (tokens : List Token) : Type 0 where
   pub tokens_of : AreOf c tokens
   pub json : Json c (tree_of depth c)
+
+-- the tokens of a later line have the marks that its rules ask for: of the city objects that are reached, where each has to be
+abbrev pub HasMarks : List ℕ → LimitPair → OptionSet → List Token → Type 0
+HasMarks c limits options tokens = IsTrue options.tree → AreMarks (tree_of limits.depth c) c tokens
 
 -- parts of a header of this tree, read for a box where one is asked for
 pub record IsHeaderOf (t : Tree) (rules : Rules) (known : HeaderParts) : Type 0 where

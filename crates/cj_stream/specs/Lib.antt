@@ -16,6 +16,7 @@ pub mod Engine
 pub mod Extent
 pub mod Feeding
 pub mod Front
+pub mod GoingRows
 pub mod Headline
 pub mod Ids
 pub mod IsGood
@@ -25,11 +26,13 @@ pub mod Judging
 pub mod LinePieces
 pub mod LineRows
 pub mod Lines
+pub mod Options
 pub mod Output
 pub mod Phase
 pub mod Query
 pub mod QueryRows
 pub mod Reading
+pub mod Reporting
 pub mod Rows
 pub mod Run
 pub mod Scanning

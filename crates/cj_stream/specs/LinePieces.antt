@@ -6,13 +6,14 @@ use Rattle.cj_budget.specs.declared.limits.Peaks.{Peaks}
 use Rattle.cj_stream.specs.declared.ending.LineEnd.{LineEnd}
 use Rattle.cj_stream.specs.declared.ending.LineEnd.TheVariants.{Complete, WriteFault}
 use Rattle.cj_stream.specs.declared.line_pieces.LinesOutcome.{LinesOutcome}
-use Rattle.cj_stream.specs.Bound.{IsBounded, exact_peaks}
+use Rattle.cj_stream.specs.declared.reporting.Report.{Report}
+use Rattle.cj_stream.specs.Bound.{IsBounded, IsExact}
 use Rattle.cj_stream.specs.Cut.{joined}
 use Rattle.cj_stream.specs.Ending.{line_end}
 use Rattle.cj_stream.specs.Item.{Item, raw_item}
 use Rattle.cj_stream.specs.Output.{Channel}
 use Rattle.cj_stream.specs.Sink.{Took, TookFront, LeavesNext, HasRisen}
-use Rattle.cj_stream.specs.Verdict.{Rules, kept, kept_first, ending}
+use Rattle.cj_stream.specs.Verdict.{Rules, kept, kept_first, reported, reported_first, ending}
 
 -- what is kept of a stream, but for what is kept of its first n lines; and what is written of that
 abbrev pub kept_after : Rules → ℕ → List ℕ → List Item
@@ -20,6 +21,10 @@ kept_after rules n s = drop (length (kept_first rules n s)) (kept rules s)
 
 abbrev pub output_after : Rules → ℕ → List ℕ → List ℕ
 output_after rules n s = flat_map raw_item (kept_after rules n s)
+
+-- and what is reported of it but for those lines
+abbrev pub reported_after : Rules → ℕ → List ℕ → List Report
+reported_after rules n s = drop (length (reported_first rules n s)) (reported rules s)
 
 -- A reader of lines that stood for the bytes p, with n lines dealt with, was given these pieces and then the end, until it
 -- ended. Unless a step of the sink failed, the end is the ending of the whole stream, and the sink took what is kept of
@@ -31,14 +36,21 @@ pub record PutsLines {S : Type 0} (takes leaves : S → Item → S → Type 0) (
   pub took : outcome.ended ≢ WriteFault → Took takes s (kept_after rules n (p ++ joined pieces)) t
   pub fault : outcome.ended ≡ WriteFault → TookFront takes (LeavesNext leaves) (kept_after rules n (p ++ joined (take (outcome.taken + 1) pieces))) [] s t
   pub held : IsBounded rules.limits (p ++ joined (take (outcome.taken + 1) pieces)) outcome.peaks
-  pub exact : outcome.ended ≡ Complete → outcome.peaks ≡ exact_peaks rules.limits (p ++ joined pieces)
+  pub exact : outcome.ended ≡ Complete → IsExact rules.limits (p ++ joined pieces) outcome.peaks
+
+-- the same of reports: after a fault of the sink a prefix was noted of what is reported of the pieces that were given
+pub record NotesLines {N : Type 0} (notes : N → Report → N → Type 0) (rules : Rules) (p : List ℕ) (pieces : List (List ℕ)) (n : ℕ) (outcome : LinesOutcome) (a b : N) : Type 0 where
+  pub noted : outcome.ended ≢ WriteFault → Took notes a (reported_after rules n (p ++ joined pieces)) b
+  pub fault : outcome.ended ≡ WriteFault → TookFront notes (λ others x y. y ≡ x) (reported_after rules n (p ++ joined (take (outcome.taken + 1) pieces))) [] a b
 
 -- The headline of a stream whose first n lines were dealt with: there is no case for want of memory. Where no write failed,
--- the writer has got exactly what the output has after those lines, and the end is the ending of the whole; a write fault is
--- told only where a write has failed; and whatever came, what was held is within the bound, and exact at a complete end.
-pub record HeadlineOfLines (rules : Rules) (text given : List ℕ) (n : ℕ) (end : LineEnd) (peaks : Peaks) (old new : Channel) : Type 0 where
+-- the writer has got exactly what the output has after those lines, what is reported of the others was noted, and the end is
+-- the ending of the whole; a write fault is told only where a write has failed; and whatever came, what was held is within the
+-- bound, and told at a complete end.
+pub record HeadlineOfLines {N : Type 0} (notes : N → Report → N → Type 0) (rules : Rules) (text given : List ℕ) (n : ℕ) (end : LineEnd) (peaks : Peaks) (old new : Channel) (a b : N) : Type 0 where
   pub writes : end ≢ WriteFault → Appends old.bytes new.bytes (output_after rules n text)
+  pub gives : end ≢ WriteFault → Took notes a (reported_after rules n text) b
   pub ends : end ≢ WriteFault → line_end end ≡ ending rules text
   pub cause : end ≡ WriteFault → HasRisen old.failures new.failures
   pub held : IsBounded rules.limits given peaks
-  pub exact : end ≡ Complete → peaks ≡ exact_peaks rules.limits text
+  pub exact : end ≡ Complete → IsExact rules.limits text peaks

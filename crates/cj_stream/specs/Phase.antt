@@ -7,6 +7,7 @@ use Rattle.cj_stream.specs.declared.ending.End.{End}
 use Rattle.cj_stream.specs.Criteria.{everything}
 use Rattle.cj_stream.specs.Ending.{IsAccepted}
 use Rattle.cj_stream.specs.Engine.{EngineState}
+use Rattle.cj_stream.specs.Options.{usual_options}
 
 -- what is seen of either state
 abbrev pub state_of : Phase → EngineState
@@ -22,7 +23,15 @@ no_list = record { elements = []; limit = 0; peak = 0; reserved = false; refused
 abbrev pub seen : Option Phase → ℕ → Option End → EngineState
 seen (Some phase) taken ended = record (state_of phase) { taken = taken; ended = ended }
 seen None taken ended = record {
-  reading = record { rules = record { limits = record { line = 0; depth = 0 }; criteria = everything }; header = no_list; line = no_list; lines = 0; kept = 0 };
+  reading = record {
+    rules = record { limits = record { line = 0; depth = 0 }; criteria = everything; options = usual_options };
+    header = no_list;
+    line = no_list;
+    lines = 0;
+    kept = 0;
+    refused = 0;
+    dropped = false;
+  };
   scanning = record { header = no_list; line = no_list; opened = no_list };
   taken = taken;
   ended = ended;

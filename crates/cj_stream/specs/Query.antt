@@ -4,6 +4,7 @@ use Rattle.cj_budget.specs.Limits.{LimitPair}
 use Rattle.cj_stream.specs.declared.query.Query.{Query}
 use Rattle.cj_stream.specs.declared.query.bounds.Bounds.{Bounds}
 use Rattle.cj_stream.specs.Criteria.{Criteria, Box}
+use Rattle.cj_stream.specs.Options.{OptionSet}
 use Rattle.cj_stream.specs.Verdict.{Rules}
 
 -- the box of these bounds
@@ -27,6 +28,6 @@ criteria q = record {
 abbrev pub query_refusals : Query → ℕ
 query_refusals q = q.refusals
 
--- what lines are judged by under limits and for a query
-abbrev pub rules_for : LimitPair → Query → Rules
-rules_for limits q = record { limits = limits; criteria = criteria q }
+-- what lines are judged by under limits, for a query, and by what is told beside these
+abbrev pub rules_for : LimitPair → Query → OptionSet → Rules
+rules_for limits q options = record { limits = limits; criteria = criteria q; options = options }

@@ -6,30 +6,41 @@ use Rattle.cj_budget.specs.Bounded.{BoundedList, IsWithin, Becomes}
 use Rattle.cj_budget.specs.Limits.{LimitPair, InLine}
 use Rattle.cj_stream.specs.declared.desk.Desk.{Desk}
 use Rattle.cj_stream.specs.declared.store.Store.{Store}
-use Rattle.cj_spans.specs.declared.reason.Reason.TheVariants.{NoHeader}
+use Rattle.cj_spans.specs.declared.reason.Reason.{Reason}
+use Rattle.cj_spans.specs.declared.reason.Reason.TheVariants.{NoHeader, LineTooLong}
 use Rattle.cj_stream.specs.declared.ending.End.{End}
 use Rattle.cj_stream.specs.declared.ending.End.TheVariants.{Complete, Refused, ReadFault, ReadLimit, WriteFault, Memory}
 use Rattle.cj_stream.specs.Lines.{Line, lines, closed, begun, begun_later, ended_line, first_content, later_of}
 use Rattle.cj_stream.specs.Item.{Item, is_feature, tree_of, item_at}
 use Rattle.cj_stream.specs.Query.{rules_for}
-use Rattle.cj_stream.specs.Verdict.{Rules, Verdict, Refuse, Blank, Unwanted, Valid, tree_verdict, verdict_at, verdict, item_after, is_kept, refusal_in, kept_from, judged}
-use Rattle.cj_stream.specs.Bound.{greatest}
+use Rattle.cj_stream.specs.Verdict.{Rules, Verdict, Refuse, Blank, Unwanted, Valid, tree_verdict, verdict_at, verdict, item_after, is_kept, goes_on, refusal_in, kept_from, reported_from, judged}
+use Rattle.cj_stream.specs.Bound.{greatest, held_length}
 use Rattle.cj_stream.specs.Sink.{Took}
 
--- the rules, the content of the first line, the content of a later line that has begun, and how many lines
--- were dealt with and how many features kept
+-- the rules, the content of the first line, the content of a later line that has begun, how many lines were dealt with,
+-- how many features were kept and how many lines refused, and whether the begun line is dropped since it is too long
 pub record Reading : Type 0 where
   pub rules : Rules
   pub header : BoundedList ℕ
   pub line : BoundedList ℕ
   pub lines : ℕ
   pub kept : ℕ
+  pub refused : ℕ
+  pub dropped : Bool
 
--- what is held of bytes, beside what they are judged by and how many features were kept
-abbrev pub reading : Store → Desk → ℕ → Reading
-reading s d kept = record { rules = rules_for d.limits d.query.now; header = s.header; line = s.line; lines = s.lines; kept = kept }
+-- what is held of bytes, beside what they are judged by, how many features were kept and how many lines refused
+abbrev pub reading : Store → Desk → ℕ → ℕ → Reading
+reading s d kept refused = record {
+  rules = rules_for d.limits d.query.now d.options;
+  header = s.header;
+  line = s.line;
+  lines = s.lines;
+  kept = kept;
+  refused = refused;
+  dropped = s.dropped;
+}
 
--- the content of the begun line
+-- what is held of the content of the begun line
 abbrev pub begun_of : Reading → List ℕ
 begun_of f = if f.lines == 0 then f.header.elements else f.line.elements
 
@@ -48,26 +59,71 @@ begun_verdict f = tree_verdict f.rules (f.lines + 1) (held_header f) (tree_of f.
 abbrev pub next_item : Reading → Line → Item
 next_item f l = item_at f.rules.limits.depth (f.lines + 1) (held_header f) l
 
--- the line limit is in range, both lists have it, and no more features are kept than there are lines
+-- reading goes on after the begun line, if it is refused
+abbrev pub is_lenient : Reading → Bool
+is_lenient f = goes_on f.rules (f.lines + 1)
+
+-- what is held of a content: nothing, where it is too long
+abbrev pub stored : ℕ → List ℕ → List ℕ
+stored limit c = if nat_lt limit (length c) then [] else c
+
+-- the begun line has this content: it is held, or it is dropped since it is too long
+pub record IsBegun (f : Reading) (c : List ℕ) : Type 0 where
+  pub content : begun_of f ≡ stored f.rules.limits.line c
+  pub dropped : f.dropped ≡ nat_lt f.rules.limits.line (length c)
+
+-- the verdict on the begun line, by what is known of it
+abbrev pub told_verdict : Reading → Verdict
+told_verdict f = if f.dropped then Refuse f.rules.limits.line LineTooLong else next_verdict f (begun_of f)
+
+-- the line limit is in range, both lists have it, and no more features are kept, nor lines refused, than there are lines
 pub record IsSound (f : Reading) : Type 0 where
   pub range : InLine f.rules.limits.line
   pub header : f.header.limit ≡ f.rules.limits.line
   pub line : f.line.limit ≡ f.rules.limits.line
   pub kept : f.kept ≤ f.lines
+  pub refused : f.refused ≤ f.lines
+
+-- the begun line has grown by these bytes, which are held
+pub record Fits (old : Reading) (part : List ℕ) (new : Reading) : Type 0 where
+  pub held : old.dropped ≡ false
+  pub short : length (begun_of old) + length part ≤ old.rules.limits.line
+  pub dropped : new.dropped ≡ false
+  pub first : old.lines ≡ 0 → Becomes old.header (old.header.elements ++ part) new.header × (new.line ≡ old.line)
+  pub later : 0 < old.lines → Becomes old.line (old.line.elements ++ part) new.line × (new.header ≡ old.header)
+
+-- a later line is too long by these bytes: what fits of them was held, and now the line is dropped
+pub record Drops (old : Reading) (part : List ℕ) (new : Reading) : Type 0 where
+  pub held : old.dropped ≡ false
+  pub long : old.rules.limits.line < length (begun_of old) + length part
+  pub lenient : is_lenient old ≡ true
+  pub dropped : new.dropped ≡ true
+  pub header : new.header ≡ old.header
+  pub line : Becomes (record old.line { peak = old.rules.limits.line }) [] new.line
+
+-- the begun line is dropped, and stays so
+abbrev pub StaysDropped : Reading → Reading → Type 0
+StaysDropped old new = (old.dropped ≡ true) × (new ≡ old)
+
+-- why a part of a line is not stored: the line is too long by it, and that is the end
+abbrev pub Unstored : Reading → List ℕ → End → Type 0
+Unstored f part e = (e ≡ Refused (f.lines + 1) f.rules.limits.line LineTooLong) × (f.rules.limits.line < length (begun_of f) + length part) × (is_lenient f ≡ false) × (f.dropped ≡ false)
 
 -- the begun line has grown by these bytes
 pub record Stores (old : Reading) (part : List ℕ) (new : Reading) : Type 0 where
   pub rules : new.rules ≡ old.rules
   pub lines : new.lines ≡ old.lines
   pub kept : new.kept ≡ old.kept
-  pub first : old.lines ≡ 0 → Becomes old.header (old.header.elements ++ part) new.header × (new.line ≡ old.line)
-  pub later : 0 < old.lines → Becomes old.line (old.line.elements ++ part) new.line × (new.header ≡ old.header)
+  pub refused : new.refused ≡ old.refused
+  pub grows : Fits old part new ⊎ Drops old part new ⊎ StaysDropped old new
 
--- the begun line was dealt with, and put to the sink or not
-pub record Passes (put : Bool) (old new : Reading) : Type 0 where
+-- the begun line was dealt with, and put to the sink or not, and refused or not
+pub record Passes (put refuses : Bool) (old new : Reading) : Type 0 where
   pub rules : new.rules ≡ old.rules
   pub lines : new.lines ≡ old.lines + 1
   pub kept : new.kept ≡ (if put && nat_lt 0 old.lines then old.kept + 1 else old.kept)
+  pub refused : new.refused ≡ (if refuses then old.refused + 1 else old.refused)
+  pub dropped : new.dropped ≡ false
   pub header : new.header ≡ old.header
   pub line : Becomes old.line [] new.line
 
@@ -80,32 +136,39 @@ pub record IsLeft (f g : Reading) : Type 0 where
   pub kept : IsTrue f.line.reserved → IsTrue g.line.reserved
   pub same : g ≡ widened f g.line.reserved g.line.refused
 
--- what comes of a line with this verdict
-abbrev pub Deals : {S : Type 0} → (S → Item → S → Type 0) → (S → Item → S → Type 0) → Verdict → Item → Reading → S → Result (Unit {0}) End → Reading → S → Type 0
-Deals takes leaves (Refuse place reason) i f s r g t = (r ≡ Err (Refused (f.lines + 1) place reason)) × (g ≡ f) × (t ≡ s)
-Deals takes leaves Blank i f s r g t = (r ≡ Ok tt) × Passes false f g × (t ≡ s)
-Deals takes leaves Unwanted i f s r g t = (r ≡ Ok tt) × Passes false f g × (t ≡ s)
-Deals takes leaves Valid i f s r g t = MatchResult r (λ _. Passes true f g × takes s i t) (λ e. (e ≡ WriteFault) × IsLeft f g × leaves s i t)
+-- a line was refused: where reading goes on after it, it is dealt with, and else it is the end
+abbrev pub Refuses : Bool → ℕ → Reason → Reading → Result (Unit {0}) End → Reading → Type 0
+Refuses true place reason f r g = (r ≡ Ok tt) × Passes false true f g
+Refuses false place reason f r g = (r ≡ Err (Refused (f.lines + 1) place reason)) × (g ≡ f)
+
+-- what comes of a line with this verdict, where reading goes on after a refused one, or not
+abbrev pub Deals : {S : Type 0} → (S → Item → S → Type 0) → (S → Item → S → Type 0) → Bool → Verdict → Item → Reading → S → Result (Unit {0}) End → Reading → S → Type 0
+Deals takes leaves on (Refuse place reason) i f s r g t = Refuses on place reason f r g × (t ≡ s)
+Deals takes leaves on Blank i f s r g t = (r ≡ Ok tt) × Passes false false f g × (t ≡ s)
+Deals takes leaves on Unwanted i f s r g t = (r ≡ Ok tt) × Passes false false f g × (t ≡ s)
+Deals takes leaves on Valid i f s r g t = MatchResult r (λ _. Passes true false f g × takes s i t) (λ e. (e ≡ WriteFault) × IsLeft f g × leaves s i t)
 
 -- what comes of a line with this verdict, or no memory was granted for later lines, and nothing comes of it; so it is
 -- only with a valid first line that LF ended
-abbrev pub Settles : {S : Type 0} → (S → Item → S → Type 0) → (S → Item → S → Type 0) → Verdict → Item → Reading → S → Result (Unit {0}) End → Reading → S → Type 0
-Settles takes leaves v i f s r g t = Deals takes leaves v i f s r g t ⊎ ((r ≡ Err Memory) × IsLeft f g × (t ≡ s) × (f.lines ≡ 0) × (v ≡ Valid) × (i.line.lf ≡ true))
+abbrev pub Settles : {S : Type 0} → (S → Item → S → Type 0) → (S → Item → S → Type 0) → Bool → Verdict → Item → Reading → S → Result (Unit {0}) End → Reading → S → Type 0
+Settles takes leaves on v i f s r g t = Deals takes leaves on v i f s r g t ⊎ ((r ≡ Err Memory) × IsLeft f g × (t ≡ s) × (f.lines ≡ 0) × (v ≡ Valid) × (i.line.lf ≡ true))
 
--- these bytes have been read, and no line of them was refused
+-- these bytes have been read, and no line of them was the end
 pub record Reads (f : Reading) (p : List ℕ) : Type 0 where
   pub lines : f.lines ≡ length (closed p)
-  pub begun : begun_of f ≡ begun p
+  pub begun : IsBegun f (begun p)
+  pub lenient : f.dropped ≡ true → is_lenient f ≡ true
   pub header : f.header.elements ≡ first_content p
-  pub line : f.line.elements ≡ begun_later p
+  pub line : f.line.elements ≡ stored f.rules.limits.line (begun_later p)
   pub good : refusal_in f.rules (map ended_line (closed p)) ≡ None
   pub kept : f.kept ≡ length (filter is_feature (kept_from f.rules [] (map ended_line (closed p))))
+  pub refused : f.refused ≡ length (reported_from f.rules [] (map ended_line (closed p)))
   pub peak : f.header.peak ≡ length f.header.elements
-  pub line_peak : f.line.peak ≡ max (greatest length (later_of (closed p))) (length (begun_later p))
+  pub line_peak : f.line.peak ≡ max (greatest (held_length f.rules.limits) (later_of (closed p))) (held_length f.rules.limits (begun_later p))
   pub header_within : IsWithin f.header
   pub line_within : IsWithin f.line
 
--- the kept ones of the lines that LF ended, of a stream without a refused line
+-- the kept ones of the lines that LF ended, of a stream of which none of these is the end
 abbrev pub kept_closed : Rules → List ℕ → List Item
 kept_closed rules s = kept_from rules [] (map ended_line (closed s))
 
@@ -135,7 +198,7 @@ pub record LacksMemory (rules : Rules) (q : List ℕ) (n : ℕ) : Type 0 where
 abbrev pub HasCause : {S : Type 0} → (S → Item → S → Type 0) → Rules → List ℕ → List ℕ → ℕ → S → S → End → Type 0
 HasCause leaves rules p q n s t Complete = ⊥
 HasCause leaves rules p q n s t (Refused number place reason) =
-    (l : Line) × IsNext rules.limits p q l × (number ≡ n + 1) × (verdict rules (map ended_line (closed p)) l.content ≡ Refuse place reason) × (t ≡ s)
+    (l : Line) × IsNext rules.limits p q l × (number ≡ n + 1) × (verdict rules (map ended_line (closed p)) l.content ≡ Refuse place reason) × (t ≡ s) × (goes_on rules number ≡ false)
 HasCause leaves rules p q n s t ReadFault = ⊥
 HasCause leaves rules p q n s t ReadLimit = ⊥
 HasCause leaves rules p q n s t WriteFault =
@@ -163,7 +226,7 @@ pub record Stays (f g : Reading) : Type 0 where
 abbrev pub FinishesWith : {S : Type 0} → (S → Item → S → Type 0) → (S → Item → S → Type 0) → List ℕ → Reading → S → Result (Unit {0}) End → Reading → S → Type 0
 FinishesWith takes leaves [] f s r g t = (r ≡ (if f.lines == 0 then Err (Refused 1 0 NoHeader) else Ok tt)) × (g ≡ f) × (t ≡ s)
 FinishesWith takes leaves (b ∷ c) f s r g t =
-    Settles takes leaves (next_verdict f (b ∷ c)) (next_item f (record { content = b ∷ c; lf = false })) f s r g t
+    Settles takes leaves (is_lenient f) (next_verdict f (b ∷ c)) (next_item f (record { content = b ∷ c; lf = false })) f s r g t
 
 abbrev pub Finishes : {S : Type 0} → (S → Item → S → Type 0) → (S → Item → S → Type 0) → Reading → S → List ℕ → Result (Unit {0}) End → Reading → S → Type 0
 Finishes takes leaves f s p r g t = FinishesWith takes leaves (begun p) f s r g t

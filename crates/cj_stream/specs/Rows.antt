@@ -4,6 +4,7 @@ use Rattle.cj_spans.specs.declared.reason.Reason.TheVariants.{NoHeader, LineTooL
 use Rattle.cj_stream.specs.declared.ending.End.{End}
 use Rattle.cj_stream.specs.declared.ending.End.TheVariants.{Complete, Refused}
 use Rattle.cj_stream.specs.Criteria.{everything}
+use Rattle.cj_stream.specs.Options.{usual_options}
 use Rattle.cj_stream.specs.Verdict.{Rules, output, ending}
 
 -- a small header, a small feature, and one whose id no city object has
@@ -22,10 +23,10 @@ euro_feature = codes "{\"type\":\"CityJSONFeature\",\"id\":\"" ++ 226 ∷ 130 �
 
 -- limits that no row but one with many brackets comes to, and limits that the small header just meets
 abbrev pub wide_rules : Rules
-wide_rules = record { limits = record { line = 8388608; depth = 64 }; criteria = everything }
+wide_rules = record { limits = record { line = 8388608; depth = 64 }; criteria = everything; options = usual_options }
 
 abbrev pub tight_rules : Rules
-tight_rules = record { limits = record { line = 116; depth = 64 }; criteria = everything }
+tight_rules = record { limits = record { line = 116; depth = 64 }; criteria = everything; options = usual_options }
 
 -- a stream ends so, and this is written of it
 abbrev pub Gives : Rules → List ℕ → End → List ℕ → Type 0

@@ -3,12 +3,14 @@ use Rattle.std.specs.Prelude.{◌≡◌, ◌⊎◌, ℕ, ◌*◌, ◌<◌, ◌�
 use Rattle.std.specs.Io.KnownBytes.{Appends}
 use Rattle.cj_stream.specs.declared.ending.End.{End}
 use Rattle.cj_stream.specs.declared.ending.End.TheVariants.{Complete, Refused, ReadFault, ReadLimit, WriteFault, Memory}
+use Rattle.cj_stream.specs.declared.reporting.Report.{Report}
 use Rattle.cj_stream.specs.declared.running.Outcome.{Outcome}
 use Rattle.cj_stream.specs.Lines.{lines, whole}
 use Rattle.cj_stream.specs.Item.{Item}
 use Rattle.cj_stream.specs.Verdict.{Rules, refusal_in, judged, good, kept, ending, output}
-use Rattle.cj_stream.specs.Bound.{IsBounded, exact_peaks}
-use Rattle.cj_stream.specs.Engine.{EngineState, Counts, Delivers, lines_of, peaks_of}
+use Rattle.cj_stream.specs.Bound.{IsBounded, IsExact}
+use Rattle.cj_stream.specs.Engine.{EngineState, Counts, Delivers, lines_of, refused_of, peaks_of}
+use Rattle.cj_stream.specs.Reporting.{Notes, NotesRun}
 use Rattle.cj_stream.specs.Sink.{Took, TookFront, LeavesNext, AppendsPart}
 
 -- a run: the rules that its lines are judged by, the bytes that it read, and how it went
@@ -19,7 +21,7 @@ pub record Run : Type 0 where
 
 -- how a run went that left its engine so, and came to this end
 abbrev pub outcome_of : EngineState → End → Outcome
-outcome_of e end = record { lines = lines_of e; kept = e.reading.kept; peaks = peaks_of e; ended = end }
+outcome_of e end = record { lines = lines_of e; kept = e.reading.kept; refused = refused_of e; peaks = peaks_of e; ended = end }
 
 -- what the end of a run tells of the bytes r that it read, after n of their lines; `at_end` says that r is all there
 -- was. A line is refused before that only if LF ended it or it is too long.
@@ -32,12 +34,12 @@ Ends rules r n at_end ReadLimit = (refusal_in rules (lines (whole r)) ≡ None) 
 Ends rules r n at_end WriteFault = Unit {0}
 Ends rules r n at_end Memory = Unit {0}
 
--- the account of a run: so many lines were dealt with and so many features kept, no more was held, and it ended so;
+-- the account of a run: so many lines were dealt with, so many features kept and lines refused, no more was held, and it ended so;
 -- what it held at most is exact where it is complete; `at_end` says that what it read is all there was
 pub record Account (run : Run) (at_end : Type 0) : Type 0 where
   pub bounded : IsBounded run.rules.limits run.read run.outcome.peaks
-  pub exact : run.outcome.ended ≡ Complete → run.outcome.peaks ≡ exact_peaks run.rules.limits run.read
-  pub counts : Counts run.rules run.read run.outcome.lines run.outcome.kept
+  pub exact : run.outcome.ended ≡ Complete → IsExact run.rules.limits run.read run.outcome.peaks
+  pub counts : Counts run.rules run.read run.outcome.lines run.outcome.kept run.outcome.refused
   pub ends : Ends run.rules run.read run.outcome.lines at_end run.outcome.ended
 
 -- what a sink took of the bytes r, by the end of the run: what is kept of them, or of their whole lines where a read
@@ -74,6 +76,11 @@ pub record Runs {S : Type 0} (takes leaves : S → Item → S → Type 0) (run :
   pub account : Account run at_end
   pub sink : Delivers takes leaves run.rules run.read 0 run.outcome.lines old new (Some run.outcome.ended)
   pub puts : Puts takes leaves run.rules run.read run.outcome.ended old new
+
+-- and from one state of a sink of reports to another: what it noted, by the lines and by the end
+pub record RunsNoting {N : Type 0} (notes : N → Report → N → Type 0) (run : Run) (old new : N) : Type 0 where
+  pub reports : Notes notes run.rules run.read 0 run.outcome.lines old new
+  pub noted : NotesRun notes run.rules run.read run.outcome.ended old new
 
 -- the bytes that a writer got of r, by the end of the run: the output of r, or of its whole lines where a read
 -- failed, or a prefix of the output where a write failed or memory was refused

@@ -1,5 +1,6 @@
 -- What is held of the trees of a stream's lines.
-use Rattle.std.specs.Prelude.{◌≡◌, ◌⊎◌, ℕ, ◌+◌, ◌*◌, ◌/◌, ◌<◌, ◌≤◌, List, [], true, IsTrue, length, max, min}
+use Rattle.std.specs.Prelude.{◌≡◌, ◌⊎◌, ℕ, ◌+◌, ◌*◌, ◌/◌, ◌<◌, ◌≤◌, List, [], ◌∷◌, ◌++◌, Bool, true, IsTrue, length, max, min}
+use Rattle.std.specs.List.{list_all}
 use Rattle.std.specs.Str.{is_utf8}
 use Rattle.cj_budget.specs.Bounded.{BoundedList, IsWithin, Becomes}
 use Rattle.cj_budget.specs.Counts.{HasRisen}
@@ -12,8 +13,8 @@ use Rattle.cj_stream.specs.declared.desk.Desk.{Desk}
 use Rattle.cj_stream.specs.declared.judge.Content.{Content}
 use Rattle.cj_stream.specs.declared.judge.Content.TheVariants.{Faulty, BlankLine, Sound}
 use Rattle.cj_stream.specs.Lines.{first_of, later_of}
-use Rattle.cj_stream.specs.Reading.{Reading}
-use Rattle.cj_stream.specs.Bound.{tree_size, tree_nest, of_first, greatest}
+use Rattle.cj_stream.specs.Reading.{Reading, IsBegun}
+use Rattle.cj_stream.specs.Bound.{tree_size, tree_nest, is_readable, of_first, greatest}
 
 -- the tokens of the first line, those of the line that is judged, and its open containers
 pub record Scanning : Type 0 where
@@ -36,21 +37,38 @@ pub record HasRoom (limits : LimitPair) (s : Scanning) : Type 0 where
   pub line_within : IsWithin s.line
   pub opened_within : IsWithin s.opened
 
+-- a list has held at most so much: at least what is counted, and exactly that where all that was counted can be read
+pub record HasHeld (all : Bool) (count peak : ℕ) : Type 0 where
+  pub least : count ≤ peak
+  pub exact : all ≡ true → peak ≡ count
+
+-- the later ones of these contents can all be read
+abbrev pub are_readable : LimitPair → List (List ℕ) → Bool
+are_readable limits cs = list_all (is_readable limits) (later_of cs)
+
 -- the lines with these contents were dealt with: the tokens of the first are held, and of the later ones none; what
--- was held at most is exact, and within what the bytes allow
+-- was held at most is exact, unless a later line cannot be read, and within what the bytes allow
 pub record Scanned (limits : LimitPair) (cs : List (List ℕ)) (s : Scanning) : Type 0 where
   pub header : length s.header.elements ≡ of_first (tree_size limits) cs
   pub header_peak : s.header.peak ≡ of_first (tree_size limits) cs
   pub line : s.line.elements ≡ []
-  pub line_peak : s.line.peak ≡ greatest (tree_size limits) (later_of cs)
+  pub line_peak : HasHeld (are_readable limits cs) (greatest (tree_size limits) (later_of cs)) s.line.peak
   pub opened : s.opened.elements ≡ []
-  pub opened_peak : s.opened.peak ≡ greatest (tree_nest limits) cs
+  pub opened_peak : HasHeld (are_readable limits cs) (greatest (tree_nest limits) cs) s.opened.peak
   pub header_law : 2 * s.header.peak ≤ min (length (first_of cs [])) limits.line + 1
   pub line_law : 2 * s.line.peak ≤ limits.line + limits.depth + 1
 
 -- what was held at most, at any exit, where the first line has so many bytes at least
 abbrev pub HoldsFew : LimitPair → ℕ → Scanning → Type 0
 HoldsFew limits h s = 2 * (s.header.peak + s.line.peak) ≤ min h limits.line + limits.line + limits.depth + 2
+
+-- the begun line of f was dealt with: what is held of trees is that of one line more, whatever lines came before it
+abbrev pub ScansNext : Reading → Scanning → Scanning → Type 0
+ScansNext f old new = (cs : List (List ℕ)) (c : List ℕ) → length cs ≡ f.lines → IsBegun f c → Scanned f.rules.limits cs old → Scanned f.rules.limits (cs ++ c ∷ []) new
+
+-- whatever came of that line, no more was held than the bytes allow
+abbrev pub HoldsFewNext : Reading → Scanning → Scanning → Type 0
+HoldsFewNext f old new = (cs : List (List ℕ)) (c : List ℕ) → length cs ≡ f.lines → IsBegun f c → Scanned f.rules.limits cs old → HoldsFew f.rules.limits (length (first_of cs c)) new
 
 -- peaks that do not fall
 pub record Rises (old new : Scanning) : Type 0 where
@@ -90,10 +108,12 @@ pub record IsOpen (before : ℕ) (s : Scanning) : Type 0 where
   pub later : 0 < before → IsTrue s.line.reserved
   pub opened : IsTrue s.opened.reserved
 
--- nothing has changed but that there may be more room for later lines, or that it was refused
+-- nothing has changed but that the tokens of a later line may have marks, and that there may be more room for such lines, or
+-- that it was refused
 pub record IsStill (old new : Scanning) : Type 0 where
   pub kept : IsTrue old.line.reserved → IsTrue new.line.reserved
-  pub same : new ≡ record old { line = record old.line { reserved = new.line.reserved; refused = new.line.refused } }
+  pub count : length new.line.elements ≡ length old.line.elements
+  pub same : new ≡ record old { line = record old.line { elements = new.line.elements; reserved = new.line.reserved; refused = new.line.refused } }
 
 -- room for later lines was refused: the count of that has risen, of their bytes or of their tokens
 abbrev pub RefusesRoom : Reading → Scanning → Reading → Scanning → Type 0

@@ -15,14 +15,17 @@ use Rattle.cj_feature.specs.Header.{header as header_findings}
 use Rattle.cj_feature.specs.Feature.{feature as feature_findings}
 use Rattle.cj_stream.specs.declared.ending.End.{End}
 use Rattle.cj_stream.specs.declared.ending.End.TheVariants.{Complete, Refused}
+use Rattle.cj_stream.specs.declared.reporting.Report.{Report}
 use Rattle.cj_stream.specs.Criteria.{Criteria, needs_box, holds}
 use Rattle.cj_stream.specs.Lines.{Line, lines, closed, begun, ended_line, last_line}
 use Rattle.cj_stream.specs.Item.{Item, raw_item, is_feature, tree_of, item_at}
+use Rattle.cj_stream.specs.Options.{OptionSet}
 
--- what lines are judged by: the limits, and what is asked of features
+-- what lines are judged by: the limits, what is asked of features, and what is told beside these
 pub record Rules : Type 0 where
   pub limits : LimitPair
   pub criteria : Criteria
+  pub options : OptionSet
 
 -- a line is refused at a byte of its content for a reason, or blank, or a valid feature that is not asked for, or valid
 -- and to be kept
@@ -40,13 +43,18 @@ is_blank_byte b = b == 32 || (b == 9 || b == 13)
 abbrev pub is_blank_line : ℕ → List ℕ → Bool
 is_blank_line number content = nat_lt 1 number && list_all is_blank_byte content
 
--- the findings of the tree of a line: of a header on the first line, and of a feature beside the header on a later one
+-- the findings of the tree of a line: of a header on the first line, and of a feature beside the header on a later one, of
+-- which each city object has to be reached where that is told
 abbrev pub findings : Rules → ℕ → Tree → Tree → List Finding
-findings rules number header t = if number == 1 then header_findings (needs_box rules.criteria) t else feature_findings header t
+findings rules number header t = if number == 1 then header_findings (needs_box rules.criteria) t else feature_findings header t rules.options.tree
 
--- a header is asked for, and a feature that satisfies what is asked
+-- a feature is asked for that satisfies what is asked, or, where such are left out, one that does not
+abbrev pub is_asked : Rules → Tree → Tree → Bool
+is_asked rules header t = if rules.options.exclude then not (holds rules.criteria header t) else holds rules.criteria header t
+
+-- a header is wanted, and a feature that is asked for
 abbrev pub is_wanted : Rules → ℕ → Tree → Tree → Bool
-is_wanted rules number header t = number == 1 || holds rules.criteria header t
+is_wanted rules number header t = number == 1 || is_asked rules header t
 
 -- the verdict by the least of some findings; where there is none, by whether the tree is asked for
 abbrev pub by_least : Bool → Option Finding → Verdict
@@ -90,12 +98,23 @@ verdict rules before content = verdict_at rules (length before + 1) (header_of r
 abbrev pub item_after : Rules → List Line → Line → Item
 item_after rules before l = item_at rules.limits.depth (length before + 1) (header_of rules before) l
 
--- the end that a refusal makes
-abbrev pub refusal_of : ℕ → Verdict → Option End
-refusal_of number (Refuse place reason) = Some (Refused number place reason)
-refusal_of number Blank = None
-refusal_of number Unwanted = None
-refusal_of number Valid = None
+-- reading goes on after a refused line with this number: where it is told to, and the line is not the first
+abbrev pub goes_on : Rules → ℕ → Bool
+goes_on rules number = nat_lt 1 number && rules.options.keep_going
+
+-- the end that a refusal makes, where reading does not go on after it
+abbrev pub refusal_of : Rules → ℕ → Verdict → Option End
+refusal_of rules number (Refuse place reason) = if goes_on rules number then None else Some (Refused number place reason)
+refusal_of rules number Blank = None
+refusal_of rules number Unwanted = None
+refusal_of rules number Valid = None
+
+-- what is reported of a line with this number, where reading goes on after it: its refusal, if it is refused
+abbrev pub report_of : ℕ → Verdict → List Report
+report_of number (Refuse place reason) = record { line = number; place = place; reason = reason } ∷ []
+report_of number Blank = []
+report_of number Unwanted = []
+report_of number Valid = []
 
 -- a valid line that is asked for is kept
 abbrev pub is_kept : Verdict → Bool
@@ -104,18 +123,18 @@ is_kept Blank = false
 is_kept Unwanted = false
 is_kept Valid = true
 
--- the first refusal among lines that come after others
+-- the first refusal that is an end, among lines that come after others
 abbrev pub refusal_from : Rules → List Line → List Line → Option End
 refusal_from rules before [] = None
 refusal_from rules before (l ∷ ls) =
-    let first = refusal_of (length before + 1) (verdict rules before l.content) in
+    let first = refusal_of rules (length before + 1) (verdict rules before l.content) in
     if is_some first then first else refusal_from rules (before ++ l ∷ []) ls
 
--- the longest prefix without a refused line
+-- the longest prefix without a refusal that is an end
 abbrev pub good_from : Rules → List Line → List Line → List Line
 good_from rules before [] = []
 good_from rules before (l ∷ ls) =
-    if is_some (refusal_of (length before + 1) (verdict rules before l.content)) then [] else l ∷ good_from rules (before ++ l ∷ []) ls
+    if is_some (refusal_of rules (length before + 1) (verdict rules before l.content)) then [] else l ∷ good_from rules (before ++ l ∷ []) ls
 
 -- the items of the lines that are kept: the header, and each feature that satisfies what is asked
 abbrev pub kept_from : Rules → List Line → List Line → List Item
@@ -124,11 +143,16 @@ kept_from rules before (l ∷ ls) =
     if is_kept (verdict rules before l.content) then item_after rules before l ∷ kept_from rules (before ++ l ∷ []) ls
     else kept_from rules (before ++ l ∷ []) ls
 
--- the first refusal among the lines of a stream, or of a prefix of them
+-- what is reported of lines that come after others
+abbrev pub reported_from : Rules → List Line → List Line → List Report
+reported_from rules before [] = []
+reported_from rules before (l ∷ ls) = report_of (length before + 1) (verdict rules before l.content) ++ reported_from rules (before ++ l ∷ []) ls
+
+-- the first such refusal among the lines of a stream, or of a prefix of them
 abbrev pub refusal_in : Rules → List Line → Option End
 refusal_in rules ls = refusal_from rules [] ls
 
--- the lines up to the first refused one
+-- the lines up to the first whose refusal is the end; where reading goes on, all of them if the first is not refused
 abbrev pub good : Rules → List ℕ → List Line
 good rules s = good_from rules [] (lines s)
 
@@ -136,11 +160,15 @@ good rules s = good_from rules [] (lines s)
 abbrev pub kept : Rules → List ℕ → List Item
 kept rules s = kept_from rules [] (good rules s)
 
+-- the refused lines among them, each with its number, place and reason: those that reading has gone on after
+abbrev pub reported : Rules → List ℕ → List Report
+reported rules s = reported_from rules [] (good rules s)
+
 -- what is written of a stream
 abbrev pub output : Rules → List ℕ → List ℕ
 output rules s = flat_map raw_item (kept rules s)
 
--- the end of these lines: a stream without a line is refused, and else the first refused line is
+-- the end of these lines: a stream without a line is refused, and else the first line whose refusal is an end
 abbrev pub ending_of : Rules → List Line → End
 ending_of rules [] = Refused 1 0 NoHeader
 ending_of rules (l ∷ ls) = unwrap_or (refusal_in rules (l ∷ ls)) Complete
@@ -164,3 +192,7 @@ kept_first rules n s = kept_from rules [] (take n (lines s))
 -- the features among them
 abbrev pub features_first : Rules → ℕ → List ℕ → List Item
 features_first rules n s = filter is_feature (kept_first rules n s)
+
+-- what is reported of the first n lines
+abbrev pub reported_first : Rules → ℕ → List ℕ → List Report
+reported_first rules n s = reported_from rules [] (take n (lines s))

@@ -8,6 +8,7 @@
 ghost use Rattle.std.specs.Prelude.{◌≡◌, ◌+◌, ◌<◌, ◌≤◌, ◌^◌, ◌/◌, List, length, [], OnOk, OnErr, IfOk, IfErr, IsErrOf, MatchResult, IsTrue, None, Some};
 ghost use Rattle.cj_budget.specs.Bounded.{IsNew, Becomes};
 ghost use Rattle.cj_budget.specs.Limits.{InLine};
+ghost use Rattle.cj_spans.specs.Marks.{AreUnmarked};
 ghost use Rattle.cj_stream.specs.Ending.{IsLaterEnd};
 ghost use Rattle.cj_stream.specs.Item.{tree_of, item_at};
 ghost use Rattle.cj_stream.specs.Sink.{HasRisen};
@@ -15,10 +16,11 @@ ghost use Rattle.cj_stream.specs.Verdict.{Valid, refusal_of, tree_verdict};
 
 use crate::ending::End;
 use crate::judge::{Content, judge};
+use crate::options::Options;
 use crate::query::Query;
 use crate::sink::LineSink;
 use cj_budget::{Bounded, Limits, Stack};
-use cj_feature::{Header, HeaderParts, check_feature, check_header};
+use cj_feature::{Header, HeaderParts, check_feature, check_header, mark_reached};
 use cj_spans::{Doc, Finding, Token};
 use std::alloc::Global;
 
@@ -27,6 +29,7 @@ use std::alloc::Global;
 pub struct Desk<'q> {
     pub limits: Limits,
     pub query: &'q Query,
+    pub options: Options,
     /// The tokens of the first line.
     pub header_tokens: Bounded<Token>,
     /// The tokens of the later line that is judged.
@@ -38,14 +41,15 @@ pub struct Desk<'q> {
 
 impl<'q> Desk<'q> {
     ghost use Rattle.cj_stream.specs.Delivering.{Hands};
-    ghost use Rattle.cj_stream.specs.Judging.{Says, ShowsTree, IsHeaderOf, KeepsHeader};
+    ghost use Rattle.cj_stream.specs.Judging.{Says, Misreads, ShowsTree, HasMarks, IsHeaderOf, KeepsHeader};
     ghost use Rattle.cj_stream.specs.Query.{rules_for};
     ghost use Rattle.cj_stream.specs.Scanning.{scanning, HasRoom, IsOpen, JudgesLine, Forgets};
 
     /// A desk that no line has come to. It takes no memory.
-    pub fn new(alloc: Global, limits: Limits, query: &'q Query) -> Desk<'q>
+    pub fn new(alloc: Global, limits: Limits, query: &'q Query, options: Options) -> Desk<'q>
         ensures limits { result.limits ≡ limits }
         ensures query { result.query.now ≡ query.now }
+        ensures options { result.options ≡ options }
         ensures header { IsNew ((limits.line + limits.depth + 1) / 2) result.header_tokens }
         ensures line { IsNew ((limits.line + limits.depth + 1) / 2) result.line_tokens }
         ensures opened { IsNew limits.depth result.opened }
@@ -56,6 +60,7 @@ impl<'q> Desk<'q> {
         Desk {
             limits,
             query,
+            options,
             header_tokens: Bounded::new(alloc, tokens),
             line_tokens: Bounded::new(alloc, tokens),
             opened: Stack::new(alloc, depth),
@@ -81,7 +86,9 @@ impl<'q> Desk<'q> {
             → ShowsTree content.now self.old.limits.depth (scanning self.new).header.elements }
         ensures later { result ≡ Content.Sound → 0 < before
             → ShowsTree content.now self.old.limits.depth (scanning self.new).line.elements }
+        ensures unmarked { result ≡ Content.Sound → 0 < before → AreUnmarked (scanning self.new).line.elements }
         ensures lists { JudgesLine before content.now (scanning self.old) (scanning self.new) result }
+        ensures unreadable { Misreads (before + 1) content.now self.old.limits.depth result }
         ensures open { IsOpen before (scanning self.new) }
     {
         if before == 0 {
@@ -95,10 +102,11 @@ impl<'q> Desk<'q> {
     pub fn check_first(&self, content: &[u8]) -> Result<HeaderParts, End>
         requires shows { ShowsTree content.now self.now.limits.depth self.now.header_tokens.elements }
         ensures ok { IfOk result (λ parts. IsHeaderOf (tree_of self.now.limits.depth content.now)
-            (rules_for self.now.limits self.now.query.now) parts) }
-        ensures valid { OnOk result (tree_verdict (rules_for self.now.limits self.now.query.now) 1
+            (rules_for self.now.limits self.now.query.now self.now.options) parts) }
+        ensures valid { OnOk result (tree_verdict (rules_for self.now.limits self.now.query.now self.now.options) 1
             (tree_of self.now.limits.depth content.now) (tree_of self.now.limits.depth content.now) ≡ Valid) }
-        ensures refused { IfErr result (λ e. refusal_of 1 (tree_verdict (rules_for self.now.limits self.now.query.now) 1
+        ensures refused { IfErr result (λ e. refusal_of (rules_for self.now.limits self.now.query.now self.now.options) 1
+            (tree_verdict (rules_for self.now.limits self.now.query.now self.now.options) 1
             (tree_of self.now.limits.depth content.now) (tree_of self.now.limits.depth content.now)) ≡ Some e) }
     {
         let doc = Doc::of(content, self.header_tokens.as_slice());
@@ -118,7 +126,7 @@ impl<'q> Desk<'q> {
     ) -> Result<(), End>
         requires shows { ShowsTree content.now self.old.limits.depth self.old.header_tokens.elements }
         requires parts { IsHeaderOf (tree_of self.old.limits.depth content.now)
-            (rules_for self.old.limits self.old.query.now) parts }
+            (rules_for self.old.limits self.old.query.now self.old.options) parts }
         ensures counts { S.failures sink.old ≤ S.failures sink.new }
         ensures cause { IsErrOf result End.WriteFault → HasRisen (S.failures sink.old) (S.failures sink.new) }
         ensures puts { MatchResult result
@@ -128,7 +136,7 @@ impl<'q> Desk<'q> {
             (tree_of self.old.limits.depth content.now) (record { content = content.now; lf = lf })) sink.new) }
         ensures same { OnErr result (self.new ≡ self.old) }
         ensures rest { OnOk result (self.new ≡ record self.old { parts = self.new.parts }) }
-        ensures keeps { OnOk result (KeepsHeader content.now (rules_for self.old.limits self.old.query.now)
+        ensures keeps { OnOk result (KeepsHeader content.now (rules_for self.old.limits self.old.query.now self.old.options)
             self.old.header_tokens.elements self.new.parts) }
     {
         let doc = Doc::of(content, self.header_tokens.as_slice());
@@ -139,6 +147,21 @@ impl<'q> Desk<'q> {
         let parts = header.parts();
         self.parts = Some(parts);
         Ok(())
+    }
+
+    /// Marks the city objects of a later line that are reached, where each has to be.
+    pub fn mark(&mut self, content: &[u8])
+        requires shows { ShowsTree content.now self.old.limits.depth self.old.line_tokens.elements }
+        requires unmarked { AreUnmarked self.old.line_tokens.elements }
+        ensures rest { self.new ≡ record self.old { line_tokens = self.new.line_tokens } }
+        ensures marks { HasMarks content.now self.old.limits self.old.options self.new.line_tokens.elements }
+        ensures shows { ShowsTree content.now self.old.limits.depth self.new.line_tokens.elements }
+        ensures count { length self.new.line_tokens.elements ≡ length self.old.line_tokens.elements }
+        ensures list { self.new.line_tokens ≡ record self.old.line_tokens { elements = self.new.line_tokens.elements } }
+    {
+        if self.options.asks_for_trees() {
+            mark_reached(content, &mut self.line_tokens);
+        }
     }
 
     /// Judges the tree of the line after so many, and puts it to the sink if it is a valid feature that is asked for:
@@ -154,11 +177,12 @@ impl<'q> Desk<'q> {
         requires room { before < 2 ^ 62 }
         requires later { 0 < before }
         requires shows { ShowsTree content.now self.now.limits.depth self.now.line_tokens.elements }
-        requires keeps { KeepsHeader first.now (rules_for self.now.limits self.now.query.now)
+        requires marks { HasMarks content.now self.now.limits self.now.options self.now.line_tokens.elements }
+        requires keeps { KeepsHeader first.now (rules_for self.now.limits self.now.query.now self.now.options)
             self.now.header_tokens.elements self.now.parts }
         ensures counts { S.failures sink.old ≤ S.failures sink.new }
         ensures cause { IsErrOf result End.WriteFault → HasRisen (S.failures sink.old) (S.failures sink.new) }
-        ensures hands { Hands S.takes S.leaves (tree_verdict (rules_for self.now.limits self.now.query.now) (before + 1)
+        ensures hands { Hands S.takes S.leaves (tree_verdict (rules_for self.now.limits self.now.query.now self.now.options) (before + 1)
             (tree_of self.now.limits.depth first.now) (tree_of self.now.limits.depth content.now)) (before + 1)
             (item_at self.now.limits.depth (before + 1) (tree_of self.now.limits.depth first.now)
             (record { content = content.now; lf = lf })) sink.old result sink.new }
@@ -170,11 +194,11 @@ impl<'q> Desk<'q> {
         let header_doc = Doc::of(first, self.header_tokens.as_slice());
         let header = Header::of(header_doc, parts);
         let doc = Doc::of(content, self.line_tokens.as_slice());
-        let feature = match check_feature(doc, &header) {
+        let feature = match check_feature(doc, &header, self.options.asks_for_trees()) {
             Ok(feature) => feature,
             Err(finding) => return Err(refused(before + 1, finding)),
         };
-        if !self.query.holds(&feature, &header) {
+        if self.query.holds(&feature, &header) == self.options.excludes() {
             return Ok(false);
         }
         if sink.put(&feature, lf).is_err() {

@@ -4,33 +4,39 @@
 //! and then it is passed: it counts, and the lists of the line are emptied. The store has the bytes, and the desk the
 //! trees and what is read of the header; that the header's belong together (`KeepsFirst`), that all lists have their
 //! limits, and that none is above its own (`IsFramed`) always holds, and is the invariant here. A line is counted only
-//! where the sink has taken it. A line that is too long is refused when the byte past the limit comes.
+//! where the sink has taken it, or, if reading goes on after invalid lines, where it is refused: then it is reported, and
+//! counts among the refused ones. A line that is too long is refused when the byte past the limit comes; where reading goes
+//! on, it is dropped from then on, and reported when it ends.
 //!
 //! Memory is asked for twice: for the lists of the first line by `open`, and for those of later lines by `make_room`,
 //! once the first line is valid and LF has ended it, before the sink gets it. So the lists that the next line goes
 //! into have their room (`IsReady`), and nothing else here asks for any. A refusal by `make_room`, or a fault of the
 //! sink after it, leaves all as it was but for that room and its count of refusals (`IsLeft`, `IsStill`). Each list
 //! counts the growths of it that were refused, and want of memory is told only where such a count has risen.
-ghost use Rattle.std.specs.Prelude.{◌≡◌, ◌+◌, ◌^◌, ◌<◌, ◌≤◌, ℕ, List, [], ◌∷◌, ◌++◌, ◌⊎◌, true, length, take, if◌then◌else◌, OnOk, OnErr, IfOk, IfErr, IsErrOf, IsTrue, Some};
+ghost use Rattle.std.specs.Prelude.{◌≡◌, ◌+◌, ◌^◌, ◌<◌, ◌≤◌, ℕ, List, [], ◌∷◌, ◌++◌, ◌⊎◌, true, false, length, take, if◌then◌else◌, OnOk, OnErr, IfOk, IfErr, IsErrOf, IsTrue, Some};
 ghost use Rattle.cj_budget.specs.Bounded.{IsWithin};
+ghost use Rattle.cj_spans.specs.Marks.{AreUnmarked};
 ghost use Rattle.cj_stream.specs.Bound.{contents};
 ghost use Rattle.cj_stream.specs.Carrying.{IsFramed, Carries};
 ghost use Rattle.cj_stream.specs.Ending.{IsFirstEnd, IsLaterEnd};
 ghost use Rattle.cj_stream.specs.Lines.{newline, NoLf, closed, first_of, first_content};
 ghost use Rattle.cj_stream.specs.Front.{IsFront};
 ghost use Rattle.cj_stream.specs.Item.{tree_of};
-ghost use Rattle.cj_stream.specs.Judging.{Says, ShowsTree, IsHeaderOf};
+ghost use Rattle.cj_stream.specs.Judging.{Says, Misreads, ShowsTree, IsHeaderOf};
 ghost use Rattle.cj_stream.specs.Query.{rules_for};
-ghost use Rattle.cj_stream.specs.Reading.{begun_of, begun_verdict, next_verdict, next_item, IsLeft, Stores, Passes, Deals, Settles, Reads, Advances, Stops, Finishes};
-ghost use Rattle.cj_stream.specs.Scanning.{IsReady, IsStill, RefusesRoom, Scanned, HoldsFew, JudgesLine, Forgets};
-ghost use Rattle.cj_stream.specs.Sink.{HasRisen};
-ghost use Rattle.cj_stream.specs.Verdict.{Valid};
+ghost use Rattle.cj_stream.specs.Reading.{begun_of, begun_verdict, told_verdict, next_item, is_lenient, IsLeft, Stores, Unstored, Passes, Deals, Settles, Reads, Advances, Stops, Stays, Finishes};
+ghost use Rattle.cj_stream.specs.Reporting.{Notes};
+ghost use Rattle.cj_stream.specs.Scanning.{Scanning, IsReady, IsStill, RefusesRoom, Scanned, ScansNext, HoldsFew, HoldsFewNext, JudgesLine, Forgets};
+ghost use Rattle.cj_stream.specs.Sink.{HasRisen, Took};
+ghost use Rattle.cj_stream.specs.Verdict.{Valid, report_of};
 
 use crate::desk::Desk;
 use crate::ending::End;
 use crate::header_reader::Progress;
 use crate::judge::Content;
+use crate::options::Options;
 use crate::query::Query;
+use crate::reporting::{NoReports, Report, ReportSink};
 use crate::sink::LineSink;
 use crate::store::{Store, TooLong};
 use cj_budget::{Limits, NoMemory, Peaks};
@@ -49,6 +55,7 @@ pub struct Framer<'q> {
     store: Store,
     desk: Desk<'q>,
     kept: u64,
+    refused: u64,
 }
 
 impl<'q> Model for Framer<'q> {
@@ -59,17 +66,22 @@ impl<'q> Model for Framer<'q> {
 
     ghost Value = { FramerState };
 
-    ghost view = { λ f. record { reading = reading f.store f.desk f.kept; scanning = scanning f.desk } };
+    ghost view = { λ f. record { reading = reading f.store f.desk f.kept f.refused; scanning = scanning f.desk } };
 
-    ghost invariant = { λ f. IsFramed (record { reading = reading f.store f.desk f.kept; scanning = scanning f.desk })
-        × KeepsFirst (reading f.store f.desk f.kept) (scanning f.desk) f.desk.parts };
+    ghost invariant = { λ f. IsFramed (record { reading = reading f.store f.desk f.kept f.refused; scanning = scanning f.desk })
+        × KeepsFirst (reading f.store f.desk f.kept f.refused) (scanning f.desk) f.desk.parts };
 }
 
 impl<'q> Framer<'q> {
     /// A framer that has read nothing, with room for the first line. It asks for memory for its bytes and its tokens,
     /// and for open containers where the depth limit is above 64.
-    pub fn open(alloc: Global, limits: Limits, query: &'q Query) -> Result<Framer<'q>, NoMemory>
-        ensures rules { IfOk result (λ f. f.reading.rules ≡ rules_for limits query.now) }
+    pub fn open(
+        alloc: Global,
+        limits: Limits,
+        query: &'q Query,
+        options: Options,
+    ) -> Result<Framer<'q>, NoMemory>
+        ensures rules { IfOk result (λ f. f.reading.rules ≡ rules_for limits query.now options) }
         ensures fresh { IfOk result (λ f. f.reading.lines ≡ 0) }
         ensures empty { IfOk result (λ f. Reads f.reading []) }
         ensures framed { IfOk result (λ f. IsFramed f) }
@@ -77,12 +89,13 @@ impl<'q> Framer<'q> {
         ensures scanned { IfOk result (λ f. Scanned limits [] f.scanning) }
     {
         let mut store = Store::new(alloc, limits.line() as usize);
-        let mut desk = Desk::new(alloc, limits, query);
+        let mut desk = Desk::new(alloc, limits, query, options);
         reserve_first(&mut store, &mut desk)?;
         Ok(Framer {
             store,
             desk,
             kept: 0,
+            refused: 0,
         })
     }
 
@@ -94,26 +107,57 @@ impl<'q> Framer<'q> {
         self.store.begun()
     }
 
-    /// Stores a part of the begun line.
+    /// Whether a line has begun: some of it is held, or it is dropped.
+    fn has_begun(&self) -> bool
+        ensures none { result ≡ false → (begun_of self.now.reading ≡ []) × (self.now.reading.dropped ≡ false) }
+        ensures some { result ≡ true → (0 < length (begun_of self.now.reading)) ⊎ (self.now.reading.dropped ≡ true) }
+        ensures framed { IsFramed self.now }
+    {
+        self.store.dropped || !self.begun().is_empty()
+    }
+
+    /// Whether reading goes on after the begun line, if it is refused.
+    fn is_lenient(&self) -> bool
+        requires room { self.now.reading.lines < 2 ^ 62 }
+        ensures { result ≡ is_lenient self.now.reading }
+    {
+        self.store.lines + 1 > 1 && self.desk.options.keeps_going()
+    }
+
+    /// The refusal of the begun line for its length.
+    fn too_long(&self) -> End
+        requires room { self.now.reading.lines < 2 ^ 62 }
+        ensures { result ≡ End.Refused (self.now.reading.lines + 1) self.now.reading.rules.limits.line Reason.LineTooLong }
+    {
+        End::Refused {
+            line: self.store.lines + 1,
+            place: self.desk.limits.line(),
+            reason: Reason::LineTooLong,
+        }
+    }
+
+    /// Stores a part of the begun line, unless that is dropped. One that is too long by it is dropped, or refused.
     fn store(&mut self, part: &[u8]) -> Result<(), End>
         requires room { self.old.reading.lines < 2 ^ 62 }
         requires ready { IsReady self.old.reading self.old.scanning }
         ensures ok { OnOk result (Stores self.old.reading part.now self.new.reading) }
         ensures err { OnErr result (self.new ≡ self.old) }
-        ensures cause { IfErr result (λ e.
-            (e ≡ End.Refused (self.old.reading.lines + 1) self.old.reading.rules.limits.line Reason.LineTooLong)
-            × (self.old.reading.rules.limits.line < length (begun_of self.old.reading) + length part.now)) }
+        ensures cause { IfErr result (λ e. Unstored self.old.reading part.now e) }
+        ensures stays { Stays self.old.reading self.new.reading }
         ensures lists { self.new.scanning ≡ self.old.scanning }
         ensures framed { IsFramed self.new }
         ensures ready { IsReady self.new.reading self.new.scanning }
     {
+        if self.store.dropped {
+            return Ok(());
+        }
         match self.store.add(part) {
             Ok(()) => Ok(()),
-            Err(TooLong) => Err(End::Refused {
-                line: self.store.lines + 1,
-                place: self.desk.limits.line(),
-                reason: Reason::LineTooLong,
-            }),
+            Err(TooLong) if self.is_lenient() => {
+                self.store.drop_line(part);
+                Ok(())
+            }
+            Err(TooLong) => Err(self.too_long()),
         }
     }
 
@@ -136,13 +180,26 @@ impl<'q> Framer<'q> {
     fn pass(&mut self, put: bool)
         requires room { self.old.reading.lines < 2 ^ 62 }
         requires later { 0 < self.old.reading.lines }
-        ensures passes { Passes put self.old.reading self.new.reading }
+        ensures passes { Passes put false self.old.reading self.new.reading }
         ensures forgets { Forgets self.old.scanning self.new.scanning }
         ensures framed { IsFramed self.new }
     {
         if put {
             self.kept += 1;
         }
+        self.store.pass();
+        self.desk.forget();
+    }
+
+    /// The begun line was refused, and is done with.
+    fn pass_refused(&mut self)
+        requires room { self.old.reading.lines < 2 ^ 62 }
+        requires later { 0 < self.old.reading.lines }
+        ensures passes { Passes false true self.old.reading self.new.reading }
+        ensures forgets { Forgets self.old.scanning self.new.scanning }
+        ensures framed { IsFramed self.new }
+    {
+        self.refused += 1;
         self.store.pass();
         self.desk.forget();
     }
@@ -164,6 +221,10 @@ impl<'q> Framer<'q> {
             self.new.scanning.line.elements }
         ensures lists { JudgesLine self.old.reading.lines (begun_of self.old.reading) self.old.scanning
             self.new.scanning result }
+        ensures unmarked { result ≡ Content.Sound → 0 < self.old.reading.lines
+            → AreUnmarked self.new.scanning.line.elements }
+        ensures unreadable { Misreads (self.old.reading.lines + 1) (begun_of self.old.reading)
+            self.old.reading.rules.limits.depth result }
         ensures framed { IsFramed self.new }
         ensures ready { IsReady self.new.reading self.new.scanning }
     {
@@ -184,7 +245,7 @@ impl<'q> Framer<'q> {
             self.old.reading.rules parts }
         ensures counts { S.failures sink.old ≤ S.failures sink.new }
         ensures cause { IsErrOf result End.WriteFault → HasRisen (S.failures sink.old) (S.failures sink.new) }
-        ensures deals { Deals S.takes S.leaves Valid
+        ensures deals { Deals S.takes S.leaves false Valid
             (next_item self.old.reading (record { content = begun_of self.old.reading; lf = lf }))
             self.old.reading sink.old result self.new.reading sink.new }
         ensures forgets { OnOk result (Forgets self.old.scanning self.new.scanning) }
@@ -212,7 +273,7 @@ impl<'q> Framer<'q> {
             self.old.scanning.header.elements }
         ensures counts { S.failures sink.old ≤ S.failures sink.new }
         ensures cause { IsErrOf result End.WriteFault → HasRisen (S.failures sink.old) (S.failures sink.new) }
-        ensures settles { Settles S.takes S.leaves (begun_verdict self.old.reading)
+        ensures settles { Settles S.takes S.leaves false (begun_verdict self.old.reading)
             (next_item self.old.reading (record { content = begun_of self.old.reading; lf = lf }))
             self.old.reading sink.old result self.new.reading sink.new }
         ensures forgets { OnOk result (Forgets self.old.scanning self.new.scanning) }
@@ -243,19 +304,22 @@ impl<'q> Framer<'q> {
         requires ready { IsReady self.old.reading self.old.scanning }
         requires shows { ShowsTree (begun_of self.old.reading) self.old.reading.rules.limits.depth
             self.old.scanning.line.elements }
+        requires unmarked { AreUnmarked self.old.scanning.line.elements }
         ensures counts { S.failures sink.old ≤ S.failures sink.new }
         ensures cause { IsErrOf result End.WriteFault → HasRisen (S.failures sink.old) (S.failures sink.new) }
-        ensures deals { Deals S.takes S.leaves (begun_verdict self.old.reading)
+        ensures deals { Deals S.takes S.leaves false (begun_verdict self.old.reading)
             (next_item self.old.reading (record { content = begun_of self.old.reading; lf = lf }))
             self.old.reading sink.old result self.new.reading sink.new }
         ensures forgets { OnOk result (Forgets self.old.scanning self.new.scanning) }
-        ensures same { OnErr result (self.new.scanning ≡ self.old.scanning) }
+        ensures still { OnErr result (IsStill self.old.scanning self.new.scanning) }
+        ensures unrefused { self.new.scanning.line.refused ≡ self.old.scanning.line.refused }
         ensures framed { IsFramed self.new }
         ensures ready { IsReady self.new.reading self.new.scanning }
         ensures end { IfErr result IsLaterEnd }
     {
         let first = self.store.header.as_slice();
         let content = self.store.line.as_slice();
+        self.desk.mark(content);
         match self
             .desk
             .put_later(self.store.lines, first, content, lf, sink)
@@ -276,9 +340,10 @@ impl<'q> Framer<'q> {
             self.old.reading.rules.limits.depth self.old.scanning.header.elements }
         requires later { 0 < self.old.reading.lines → ShowsTree (begun_of self.old.reading)
             self.old.reading.rules.limits.depth self.old.scanning.line.elements }
+        requires unmarked { 0 < self.old.reading.lines → AreUnmarked self.old.scanning.line.elements }
         ensures counts { S.failures sink.old ≤ S.failures sink.new }
         ensures cause { IsErrOf result End.WriteFault → HasRisen (S.failures sink.old) (S.failures sink.new) }
-        ensures settles { Settles S.takes S.leaves (begun_verdict self.old.reading)
+        ensures settles { Settles S.takes S.leaves false (begun_verdict self.old.reading)
             (next_item self.old.reading (record { content = begun_of self.old.reading; lf = lf }))
             self.old.reading sink.old result self.new.reading sink.new }
         ensures forgets { OnOk result (Forgets self.old.scanning self.new.scanning) }
@@ -290,6 +355,8 @@ impl<'q> Framer<'q> {
             self.new.reading self.new.scanning }
         ensures late { 0 < self.old.reading.lines
             → IsReady self.new.reading self.new.scanning × IfErr result IsLaterEnd }
+        ensures unrefused { 0 < self.old.reading.lines
+            → self.new.scanning.line.refused ≡ self.old.scanning.line.refused }
     {
         if self.lines() == 0 {
             self.put_header(lf, sink)
@@ -298,23 +365,25 @@ impl<'q> Framer<'q> {
         }
     }
 
-    /// Judges the begun line, and puts it to the sink if it is kept.
-    fn deal<S: LineSink>(&mut self, lf: bool, sink: &mut S) -> Result<(), End>
+    /// Judges the begun line, and puts it to the sink if it is kept. One that is dropped is too long.
+    fn settle<S: LineSink>(&mut self, lf: bool, sink: &mut S) -> Result<(), End>
         requires ready { IsReady self.old.reading self.old.scanning }
         requires room { self.old.reading.lines < 2 ^ 62 }
         ensures carries { Carries S.failures self.old self.new result sink.old sink.new }
         ensures one { OnOk result (self.new.reading.lines ≡ self.old.reading.lines + 1) }
         ensures grows { self.old.reading.lines ≤ self.new.reading.lines }
-        ensures settles { Settles S.takes S.leaves (next_verdict self.old.reading (begun_of self.old.reading))
+        ensures settles { Settles S.takes S.leaves false (told_verdict self.old.reading)
             (next_item self.old.reading (record { content = begun_of self.old.reading; lf = lf }))
             self.old.reading sink.old result self.new.reading sink.new }
         ensures ready { OnOk result (IsTrue lf → IsReady self.new.reading self.new.scanning) }
-        ensures scanned { OnOk result
-            ((cs : List (List ℕ)) → length cs ≡ self.old.reading.lines → Scanned self.old.reading.rules.limits cs self.old.scanning
-            → Scanned self.old.reading.rules.limits (cs ++ begun_of self.old.reading ∷ []) self.new.scanning) }
-        ensures few { (cs : List (List ℕ)) → length cs ≡ self.old.reading.lines → Scanned self.old.reading.rules.limits cs self.old.scanning
-            → HoldsFew self.old.reading.rules.limits (length (first_of cs (begun_of self.old.reading))) self.new.scanning }
+        ensures scanned { OnOk result (ScansNext self.old.reading self.old.scanning self.new.scanning) }
+        ensures few { HoldsFewNext self.old.reading self.old.scanning self.new.scanning }
+        ensures left { OnErr result (0 < self.old.reading.lines → (s : Scanning) → Forgets self.new.scanning s
+            → ScansNext self.old.reading self.old.scanning s) }
     {
+        if self.store.dropped {
+            return Err(self.too_long());
+        }
         match self.judge() {
             Content::Faulty { place, reason } => Err(End::Refused {
                 line: self.lines() + 1,
@@ -329,8 +398,56 @@ impl<'q> Framer<'q> {
         }
     }
 
+    /// Judges the begun line, and puts it to the sink if it is kept. One that is refused is reported, if reading goes on
+    /// after it.
+    fn deal<S: LineSink, N: ReportSink>(
+        &mut self,
+        lf: bool,
+        sink: &mut S,
+        reports: &mut N,
+    ) -> Result<(), End>
+        requires ready { IsReady self.old.reading self.old.scanning }
+        requires room { self.old.reading.lines < 2 ^ 62 }
+        ensures carries { Carries S.failures self.old self.new result sink.old sink.new }
+        ensures one { OnOk result (self.new.reading.lines ≡ self.old.reading.lines + 1) }
+        ensures grows { self.old.reading.lines ≤ self.new.reading.lines }
+        ensures settles { Settles S.takes S.leaves (is_lenient self.old.reading) (told_verdict self.old.reading)
+            (next_item self.old.reading (record { content = begun_of self.old.reading; lf = lf }))
+            self.old.reading sink.old result self.new.reading sink.new }
+        ensures ready { OnOk result (IsTrue lf → IsReady self.new.reading self.new.scanning) }
+        ensures scanned { OnOk result (ScansNext self.old.reading self.old.scanning self.new.scanning) }
+        ensures few { HoldsFewNext self.old.reading self.old.scanning self.new.scanning }
+        ensures noted { OnOk result (Took N.notes reports.old
+            (report_of (self.old.reading.lines + 1) (told_verdict self.old.reading)) reports.new) }
+        ensures silent { OnErr result (reports.new ≡ reports.old) }
+    {
+        match self.settle(lf, sink) {
+            Err(
+                End::Refused {
+                    line,
+                    place,
+                    reason,
+                },
+            ) if self.is_lenient() => {
+                reports.report(Report {
+                    line,
+                    place,
+                    reason,
+                });
+                self.pass_refused();
+                Ok(())
+            }
+            answer => answer,
+        }
+    }
+
     /// Takes the last part of a line that LF ends.
-    fn take_line<S: LineSink>(&mut self, part: &[u8], sink: &mut S) -> Result<(), End>
+    fn take_line<S: LineSink, N: ReportSink>(
+        &mut self,
+        part: &[u8],
+        sink: &mut S,
+        reports: &mut N,
+    ) -> Result<(), End>
         requires ready { IsReady self.old.reading self.old.scanning }
         requires room { self.old.reading.lines < 2 ^ 62 }
         requires one { NoLf part.now }
@@ -351,14 +468,16 @@ impl<'q> Framer<'q> {
             ((p more : List ℕ) → Reads self.old.reading p → Scanned self.old.reading.rules.limits (closed p) self.old.scanning
             → HoldsFew self.old.reading.rules.limits (length (first_content (p ++ (part.now ++ newline ∷ more))))
             self.new.scanning) }
+        ensures reports { (p more : List ℕ) → Reads self.old.reading p → Notes N.notes self.old.reading.rules
+            (p ++ (part.now ++ newline ∷ more)) self.old.reading.lines self.new.reading.lines reports.old reports.new }
     {
         self.store(part)?;
-        self.deal(true, sink)?;
+        self.deal(true, sink, reports)?;
         Ok(())
     }
 
     /// Takes a piece of the stream up to and with the first LF, and deals with the line that it ends; or all of it,
-    /// if there is none.
+    /// if there is none. Nothing is reported of it: the first line is none that reading goes on after.
     pub fn take_front<S: LineSink>(&mut self, piece: &[u8], sink: &mut S) -> Result<Progress, End>
         requires ready { IsReady self.old.reading self.old.scanning }
         requires room { self.old.reading.lines < 2 ^ 62 }
@@ -386,7 +505,7 @@ impl<'q> Framer<'q> {
                 accepted: false,
             });
         };
-        self.take_line(&piece[..at], sink)?;
+        self.take_line(&piece[..at], sink, &mut NoReports)?;
         Ok(Progress {
             used: at + 1,
             accepted: true,
@@ -394,7 +513,12 @@ impl<'q> Framer<'q> {
     }
 
     /// Takes a piece of the stream, and deals with each line that it ends.
-    pub fn take_piece<S: LineSink>(&mut self, piece: &[u8], sink: &mut S) -> Result<(), End>
+    pub fn take_piece<S: LineSink, N: ReportSink>(
+        &mut self,
+        piece: &[u8],
+        sink: &mut S,
+        reports: &mut N,
+    ) -> Result<(), End>
         requires ready { IsReady self.old.reading self.old.scanning }
         requires room { self.old.reading.lines + length piece.now < 2 ^ 62 }
         ensures carries { Carries S.failures self.old self.new result sink.old sink.new }
@@ -411,10 +535,12 @@ impl<'q> Framer<'q> {
         ensures held { OnErr result
             ((p : List ℕ) → Reads self.old.reading p → Scanned self.old.reading.rules.limits (closed p) self.old.scanning
             → HoldsFew self.old.reading.rules.limits (length (first_content (p ++ piece.now))) self.new.scanning) }
+        ensures reports { (p : List ℕ) → Reads self.old.reading p → Notes N.notes self.old.reading.rules (p ++ piece.now)
+            self.old.reading.lines self.new.reading.lines reports.old reports.new }
     {
         let mut rest = piece;
         while let Some(at) = memchr(b'\n', rest) {
-            self.take_line(&rest[..at], sink)?;
+            self.take_line(&rest[..at], sink, reports)?;
             rest = &rest[at + 1..];
         }
         self.store(rest)?;
@@ -422,7 +548,11 @@ impl<'q> Framer<'q> {
     }
 
     /// Deals with a last line that LF has not ended, and with a stream that has no line.
-    pub fn finish<S: LineSink>(&mut self, sink: &mut S) -> Result<(), End>
+    pub fn finish<S: LineSink, N: ReportSink>(
+        &mut self,
+        sink: &mut S,
+        reports: &mut N,
+    ) -> Result<(), End>
         requires ready { IsReady self.old.reading self.old.scanning }
         requires room { self.old.reading.lines < 2 ^ 62 }
         ensures carries { Carries S.failures self.old self.new result sink.old sink.new }
@@ -437,9 +567,11 @@ impl<'q> Framer<'q> {
         ensures held { (p : List ℕ) → Reads self.old.reading p
             → Scanned self.old.reading.rules.limits (closed p) self.old.scanning
             → HoldsFew self.old.reading.rules.limits (length (first_content p)) self.new.scanning }
+        ensures reports { (p : List ℕ) → Reads self.old.reading p → Notes N.notes self.old.reading.rules p
+            self.old.reading.lines self.new.reading.lines reports.old reports.new }
     {
-        if !self.begun().is_empty() {
-            return self.deal(false, sink);
+        if self.has_begun() {
+            return self.deal(false, sink, reports);
         }
         if self.lines() == 0 {
             return Err(End::Refused {
@@ -463,6 +595,13 @@ impl<'q> Framer<'q> {
         ensures { result ≡ self.now.reading.kept }
     {
         self.kept
+    }
+
+    /// How many lines were refused, and reading went on after them.
+    pub fn refused(&self) -> u64
+        ensures { result ≡ self.now.reading.refused }
+    {
+        self.refused
     }
 
     /// What is held now.

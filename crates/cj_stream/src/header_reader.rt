@@ -9,12 +9,14 @@ ghost use Rattle.cj_stream.specs.Ending.{header_end, IsAccepted};
 ghost use Rattle.cj_stream.specs.Feeding.{Feeds, IsFinished};
 ghost use Rattle.cj_stream.specs.Front.{IsFront};
 ghost use Rattle.cj_stream.specs.Query.{rules_for};
-ghost use Rattle.cj_stream.specs.Engine.{StandsFor, rules_of, lines_of, held_by, peaks_of};
+ghost use Rattle.cj_stream.specs.Engine.{StandsFor, rules_of, lines_of, refused_of, held_by, peaks_of};
 
 use crate::ending::HeaderEnd;
 use crate::framer::Framer;
 use crate::line_reader::LineReader;
+use crate::options::Options;
 use crate::query::Query;
+use crate::reporting::NoReports;
 use crate::sink::LineSink;
 use cj_budget::{Limits, NoMemory, Peaks};
 use std::alloc::Global;
@@ -60,12 +62,13 @@ impl<'q> HeaderReader<'q> {
         alloc: Global,
         limits: Limits,
         query: &'q Query,
+        options: Options,
     ) -> Result<HeaderReader<'q>, NoMemory>
         ensures empty { IfOk result
-            (λ e. StandsFor e [] × (rules_of e ≡ rules_for limits query.now) × (e.ended ≡ None) × (e.taken ≡ 0)) }
+            (λ e. StandsFor e [] × (rules_of e ≡ rules_for limits query.now options) × (e.ended ≡ None) × (e.taken ≡ 0)) }
     {
         Ok(HeaderReader {
-            framer: Framer::open(alloc, limits, query)?,
+            framer: Framer::open(alloc, limits, query, options)?,
             taken: 0,
             ended: None,
         })
@@ -85,6 +88,7 @@ impl<'q> HeaderReader<'q> {
         ensures accepted { IfOk result (λ t. IsTrue t.accepted ↔ IsAccepted self.new) }
         ensures taken { IfOk result (λ t. self.new.taken ≡ self.old.taken + t.used) }
         ensures untaken { OnErr result (self.new.taken ≡ self.old.taken) }
+        ensures few { lines_of self.new ≤ 1 }
 
         // What the answer says of all bytes so far, and of the sink: of those that were used, or of the whole piece
         // where it ended in them.
@@ -115,13 +119,14 @@ impl<'q> HeaderReader<'q> {
         ensures again { (e : HeaderEnd) → self.old.ended ≡ Some (header_end e) →
             (result ≡ e) × (self.new ≡ self.old) × (sink.new ≡ sink.old) }
         ensures untaken { self.new.taken ≡ self.old.taken }
+        ensures few { lines_of self.new ≤ 1 }
         ensures finished { IsFinished S.takes S.leaves S.failures self.old (header_end result) self.new
             sink.old sink.new }
     {
         if let Some(end) = self.ended {
             return end;
         }
-        let end = HeaderEnd::after(self.framer.finish(sink));
+        let end = HeaderEnd::after(self.framer.finish(sink, &mut NoReports));
         self.ended = Some(end);
         end
     }
@@ -181,5 +186,12 @@ impl<'q> HeaderReader<'q> {
         ensures { result ≡ self.now.reading.kept }
     {
         self.framer.kept()
+    }
+
+    /// How many lines were refused, and reading went on after them: none.
+    pub fn refused(&self) -> u64
+        ensures { result ≡ refused_of self.now }
+    {
+        self.framer.refused()
     }
 }

@@ -4,8 +4,9 @@
 ghost use Rattle.std.specs.Prelude.{◌≡◌, ◌≤◌, ◌+◌, ◌/◌, length, IsTrue};
 ghost use Rattle.std.specs.List.{list_all};
 ghost use Rattle.cj_stream.specs.Verdict.{is_blank_byte, is_blank_line};
-ghost use Rattle.cj_stream.specs.Judging.{Says, ShowsTree};
+ghost use Rattle.cj_stream.specs.Judging.{Says, Misreads, ShowsTree};
 ghost use Rattle.cj_stream.specs.Scanning.{Judges};
+ghost use Rattle.cj_spans.specs.Marks.{AreUnmarked};
 
 use cj_budget::{Bounded, Stack};
 use cj_spans::{LineFault, Reason, Token, scan_reserved};
@@ -50,6 +51,8 @@ pub fn judge(
     requires reserved { IsTrue tokens.old.reserved × IsTrue opened.old.reserved }
     ensures says { Says number content.now opened.old.limit result }
     ensures tree { result ≡ Content.Sound → ShowsTree content.now opened.old.limit tokens.new.elements }
+    ensures unmarked { result ≡ Content.Sound → AreUnmarked tokens.new.elements }
+    ensures unreadable { Misreads number content.now opened.old.limit result }
     ensures lists { Judges content.now tokens.old tokens.new opened.old opened.new result }
     ensures reserved { IsTrue tokens.new.reserved × IsTrue opened.new.reserved }
 {

@@ -5,11 +5,13 @@
 //!
 //! ```text
 //! let mut tally = TallySink::new();
-//! let outcome = run(alloc, &mut reader, &mut tally, limits, &query);
+//! let outcome = run(alloc, &mut reader, &mut tally, &mut NoReports, limits, &query, Options::new());
 //! laws::puts_are_tallied();                     // so the tally is that of what is kept
 //! ```
-ghost use Rattle.std.specs.Prelude.{◌≡◌, ◌≢◌, ◌++◌, ℕ, List, Option, length};
+ghost use Rattle.std.specs.Prelude.{◌≡◌, ◌≢◌, ◌++◌, ℕ, List, [], Option, Some, None, true, false, length, take};
 ghost use Rattle.std.specs.Io.KnownBytes.{IsAtEnd};
+ghost use Rattle.cj_budget.specs.declared.limits.Peaks.{Peaks};
+ghost use Rattle.cj_stream.specs.Bound.{IsExact, exact_peaks};
 ghost use Rattle.cj_stream.specs.CountSink.{no_counts, Counts, CountsRun, CountsPieces};
 ghost use Rattle.cj_stream.specs.Cut.{Copies, PutsPieces};
 ghost use Rattle.cj_stream.specs.Ending.{line_end};
@@ -18,15 +20,17 @@ ghost use Rattle.cj_stream.specs.IsGood.{AreGood, EndsAfter};
 ghost use Rattle.cj_stream.specs.IsLines.{IsLines, IsWhole};
 ghost use Rattle.cj_stream.specs.Lines.{Line, lines, whole};
 ghost use Rattle.cj_stream.specs.Output.{output_writer, output_failures, channel, WritesItem, WritesPart};
-ghost use Rattle.cj_stream.specs.Run.{Puts, Run, Runs, Writes};
+ghost use Rattle.cj_stream.specs.Reporting.{Collects};
+ghost use Rattle.cj_stream.specs.Run.{Account, Puts, Run, Runs, RunsNoting, Writes};
 ghost use Rattle.cj_stream.specs.Sink.{HasRisen};
 ghost use Rattle.cj_stream.specs.TallySink.{Tally, no_tally, Tallies, TalliesRun, TalliesPieces};
-ghost use Rattle.cj_stream.specs.Verdict.{Rules, good, kept, kept_first, ending};
+ghost use Rattle.cj_stream.specs.Verdict.{Rules, refusal_in, good, kept, kept_first, reported, reported_first, ending};
 ghost use Rattle.cj_stream.specs.declared.ending.End.{End};
 ghost use Rattle.cj_stream.specs.declared.ending.LineEnd.{LineEnd};
 ghost use Rattle.cj_stream.specs.declared.output.Output.{Output};
 ghost use Rattle.cj_stream.specs.declared.sink.CountSink.{CountSink};
 
+use crate::reporting::ReportSink;
 use std::io::Write;
 
 /// The lines of a stream are the one list of contents without LF that gives the stream when each is
@@ -40,7 +44,7 @@ pub fn lines_are_the_lines(stream: &[u8])
     let _ = stream;
 }
 
-/// The good lines of a stream are the longest prefix of its lines of which none is refused, and its ending
+/// The good lines of a stream are the longest prefix of its lines of which no refusal is an end, and its ending
 /// is that of the line after them: under all rules.
 pub fn good_lines_are_the_longest(stream: &[u8])
     ensures are { (rules : Rules) → AreGood rules stream.now (good rules stream.now) }
@@ -51,10 +55,31 @@ pub fn good_lines_are_the_longest(stream: &[u8])
     let _ = stream;
 }
 
-/// After as many lines as are good, what is kept of these is what is kept of all.
+/// Where reading goes on after invalid lines, the good lines are all lines, unless the first one is refused: then there
+/// are none.
+pub fn good_lines_are_all_or_none()
+    ensures all { (rules : Rules) (r : List ℕ) → rules.options.keep_going ≡ true → refusal_in rules (take 1 (lines r)) ≡ None
+        → good rules r ≡ lines r }
+    ensures none { (rules : Rules) (r : List ℕ) (e : End) → refusal_in rules (take 1 (lines r)) ≡ Some e
+        → good rules r ≡ [] }
+{}
+
+/// Where the first invalid line is the end, none of the good lines is refused, so none is reported; and what is held at
+/// most of a complete stream is told exactly, as each of its later lines is blank or spells a tree.
+pub fn first_invalid_line_is_the_end()
+    ensures unreported { (rules : Rules) (r : List ℕ) → rules.options.keep_going ≡ false → reported rules r ≡ [] }
+    ensures unreported_first { (rules : Rules) (r : List ℕ) (n : ℕ) → rules.options.keep_going ≡ false
+        → refusal_in rules (take n (lines r)) ≡ None → reported_first rules n r ≡ [] }
+    ensures peaks { (rules : Rules) (r : List ℕ) (peaks : Peaks) → rules.options.keep_going ≡ false
+        → ending rules r ≡ End.Complete → IsExact rules.limits r peaks → peaks ≡ exact_peaks rules.limits r }
+{}
+
+/// After as many lines as are good, what is kept of these is what is kept of all, and likewise what is reported.
 pub fn good_lines_are_kept()
-    ensures { (rules : Rules) (r : List ℕ) (n : ℕ) → n ≡ length (good rules r)
+    ensures kept { (rules : Rules) (r : List ℕ) (n : ℕ) → n ≡ length (good rules r)
         → kept_first rules n r ≡ kept rules r }
+    ensures reported { (rules : Rules) (r : List ℕ) (n : ℕ) → n ≡ length (good rules r)
+        → reported_first rules n r ≡ reported rules r }
 {}
 
 /// What a `CountSink` that has counted nothing takes is counted: in a run, by its end, and of pieces.
@@ -75,17 +100,32 @@ pub fn puts_are_tallied()
 
 /// What an `Output` takes is written: in a run, by its end, and of pieces; and of a run the headline holds, the cause of a
 /// write fault with it.
-pub fn puts_are_written<W: Write + Drop>()
+pub fn puts_are_written<W: Write + Drop, N: ReportSink>()
     ensures runs { (rules : Rules) (r : List ℕ) (e : End) (a b : Output W)
         → Puts (WritesItem W.contents) (WritesPart W.contents) rules r e a b
         → Writes rules r e (W.contents (output_writer a)) (W.contents (output_writer b)) }
-    ensures headline { (run : Run) (left : Option (List ℕ)) (a b : Output W)
+    ensures headline { (run : Run) (left : Option (List ℕ)) (a b : Output W) (n m : N)
         → Runs (WritesItem W.contents) (WritesPart W.contents) run (IsAtEnd left) a b
+        → RunsNoting N.notes run n m
         → (run.outcome.ended ≡ End.WriteFault → HasRisen (output_failures a) (output_failures b))
-        → HeadlineOfRun run (IsAtEnd left) (channel W.contents a) (channel W.contents b) }
+        → HeadlineOfRun N.notes run (IsAtEnd left) (channel W.contents a) (channel W.contents b) n m }
     ensures pieces { (rules : Rules) (pieces : List (List ℕ)) (n : ℕ) (e : End) (a b : Output W)
         → PutsPieces (WritesItem W.contents) (WritesPart W.contents) rules pieces n e a b
         → Copies rules pieces n e (W.contents (output_writer a)) (W.contents (output_writer b)) }
+{}
+
+/// The reports of a run, seen as the list of what is reported of the lines that it dealt with: a sink that collects them has
+/// got this list, and with it the headline holds where the lines go to an `Output`.
+pub fn reports_are_collected<W: Write + Drop>()
+    ensures runs { (run : Run) (left : Option (List ℕ)) → Account run (IsAtEnd left)
+        → (run.outcome.ended ≡ End.Memory → run.outcome.lines ≡ 0)
+        → RunsNoting Collects run [] (reported_first run.rules run.outcome.lines run.read) }
+    ensures headline { (run : Run) (left : Option (List ℕ)) (a b : Output W)
+        → Runs (WritesItem W.contents) (WritesPart W.contents) run (IsAtEnd left) a b
+        → (run.outcome.ended ≡ End.Memory → run.outcome.lines ≡ 0)
+        → (run.outcome.ended ≡ End.WriteFault → HasRisen (output_failures a) (output_failures b))
+        → HeadlineOfRun Collects run (IsAtEnd left) (channel W.contents a) (channel W.contents b)
+        [] (reported_first run.rules run.outcome.lines run.read) }
 {}
 
 /// No end of a reader of lines is want of memory: its end, seen as an end of the stream, is another.

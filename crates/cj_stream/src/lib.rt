@@ -4,14 +4,16 @@
 //! An [`Engine`] is fed pieces of a stream. Its framer cuts them into lines. Each line is judged when it is
 //! whole: as a text, and then by the rules of `cj_feature`, the first line as a header and each later one as
 //! a feature beside it. A valid header and the valid features that a [`Query`] asks for are lent to a
-//! [`LineSink`]; the first line that is not valid is the end. [`run`] does so with what a reader gives. What
-//! the engine holds are five lists with limits, and the six numbers of the header's transform, so it never
-//! grows past the bound, whatever comes.
+//! [`LineSink`]; the first line that is not valid is the end, or, by [`Options`], each later one is lent to a
+//! [`ReportSink`] and the next is read. [`run`] does so with what a reader gives. What the engine holds are
+//! five lists with limits, and the six numbers of the header's transform, so it never grows past the bound,
+//! whatever comes.
 //!
 //! ```text
 //! let mut out = Output::new(writer);
 //! let query = Query::all(alloc);
-//! let outcome = run(alloc, &mut reader, &mut out, Limits::new(8_388_608, 64)?, &query);
+//! let limits = Limits::new(8_388_608, 64)?;
+//! let outcome = run(alloc, &mut reader, &mut out, &mut NoReports, limits, &query, Options::new());
 //! match outcome.ended {
 //!     End::Complete => {}                           // all lines were read, and none was refused
 //!     End::Refused { line, place, reason } => {}    // the first bad line: number, byte and reason
@@ -27,7 +29,8 @@
 //!   `line_pieces`: both of what comes after a header ([`put_lines`], [`headline_of_lines`]);
 //! - `sink`: what a sink is ([`LineSink`]), one that ignores and one that counts; `output`: the one that writes
 //!   ([`Output`]); `tally`: the one that tallies ([`TallySink`]);
-//! - `query`: what is asked of features ([`Query`]);
+//! - `query`: what is asked of features ([`Query`]); `options`: what is told beside that ([`Options`]); `reporting`: what a
+//!   sink of reports is ([`ReportSink`]), one that counts and one that ignores;
 //! - `engine`: the stream so far ([`Engine`]), in one of its two states, `header_reader` ([`HeaderReader`]) and
 //!   `line_reader` ([`LineReader`]); `ending`: how it ended ([`End`]);
 //! - `framer`: each line cut and dealt with; `store`: its bytes until it is whole; `desk`: judged and put to the sink, with
@@ -46,9 +49,11 @@ mod judge;
 pub mod laws;
 mod line_pieces;
 mod line_reader;
+mod options;
 mod output;
 mod pieces;
 mod query;
+mod reporting;
 pub mod row_laws;
 mod running;
 mod sink;
@@ -67,9 +72,11 @@ pub use engine::Engine;
 pub use header_reader::{HeaderReader, Progress};
 pub use line_pieces::{LinesOutcome, headline_of_lines, put_lines};
 pub use line_reader::LineReader;
+pub use options::Options;
 pub use output::{Output, WriteFault, WriteSink};
 pub use pieces::{PiecesOutcome, headline, put_pieces};
 pub use query::{Query, QueryFault};
+pub use reporting::{CountReports, NoReports, Report, ReportSink};
 pub use running::{Outcome, run, run_within};
 pub use sink::{CountSink, IgnoreSink, LineSink};
 pub use tally::TallySink;

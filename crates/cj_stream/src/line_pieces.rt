@@ -4,13 +4,14 @@
 ghost use Rattle.std.specs.Prelude.{◌≡◌, ◌+◌, ◌++◌, ◌≤◌, ◌^◌, ℕ, List, None, length, map, take};
 ghost use Rattle.cj_stream.specs.Cut.{joined};
 ghost use Rattle.cj_stream.specs.Engine.{StandsFor, rules_of, lines_of};
-ghost use Rattle.cj_stream.specs.LinePieces.{PutsLines, HeadlineOfLines};
+ghost use Rattle.cj_stream.specs.LinePieces.{PutsLines, NotesLines, HeadlineOfLines};
 ghost use Rattle.cj_stream.specs.Output.{channel};
 ghost use Rattle.cj_stream.specs.Sink.{HasRisen};
 
 use crate::ending::LineEnd;
 use crate::line_reader::LineReader;
 use crate::output::Output;
+use crate::reporting::ReportSink;
 use crate::sink::LineSink;
 use cj_budget::Peaks;
 use std::io::Write;
@@ -29,21 +30,24 @@ pub struct LinesOutcome {
 
 /// Gives all pieces to a reader of lines that has not ended, and then the end, until it ends. However they are
 /// cut, the sink takes what is kept of the stream after the lines that were dealt with, one after another, and the
-/// end is the ending of the whole stream, unless a step of the sink fails: then it took a prefix of that. It takes no
-/// memory.
-pub fn put_lines<S: LineSink>(
+/// end is the ending of the whole stream, unless a step of the sink fails: then it took a prefix of that. The sink of
+/// reports notes what is reported of these lines. It takes no memory.
+pub fn put_lines<S: LineSink, N: ReportSink>(
     reader: &mut LineReader,
     pieces: &[&[u8]],
     sink: &mut S,
+    reports: &mut N,
 ) -> LinesOutcome
     requires going { reader.old.ended ≡ None }
     requires short { reader.old.taken + length (joined (map (λ piece. piece.now) pieces.now)) ≤ 2 ^ 60 }
     ensures puts { (p : List ℕ) → StandsFor reader.old p → PutsLines S.takes S.leaves (rules_of reader.old) p
         (map (λ piece. piece.now) pieces.now) (lines_of reader.old) result sink.old sink.new }
+    ensures notes { (p : List ℕ) → StandsFor reader.old p → NotesLines N.notes (rules_of reader.old) p
+        (map (λ piece. piece.now) pieces.now) (lines_of reader.old) result reports.old reports.new }
     ensures cause { result.ended ≡ LineEnd.WriteFault → HasRisen (S.failures sink.old) (S.failures sink.new) }
 {
     for (taken, piece) in pieces.iter().enumerate() {
-        if let Err(ended) = reader.feed(piece, sink) {
+        if let Err(ended) = reader.feed(piece, sink, reports) {
             return LinesOutcome {
                 taken,
                 peaks: reader.peaks(),
@@ -51,7 +55,7 @@ pub fn put_lines<S: LineSink>(
             };
         }
     }
-    let ended = reader.finish(sink);
+    let ended = reader.finish(sink, reports);
     LinesOutcome {
         taken: pieces.len(),
         peaks: reader.peaks(),
@@ -60,22 +64,24 @@ pub fn put_lines<S: LineSink>(
 }
 
 /// Writes what comes after the lines that were dealt with: for every stream however it is cut, exactly the valid
-/// features that satisfy the query, byte for byte, in order, up to the first invalid line, and refuses that line
-/// with its number, place and reason, unless a write fails. No memory is taken, so no end tells that it lacks.
+/// features that satisfy the query, byte for byte, in order, up to the first invalid line or, told to go on, all of
+/// them, and gives each invalid line with its number, place and reason, unless a write fails. No memory is taken, so no
+/// end tells that it lacks.
 ///
 /// The stream is one that the reader stands for, with these pieces after it: where the header came to it through
 /// [`crate::HeaderReader`], that begins with the first line.
-pub fn headline_of_lines<W: Write + Drop>(
+pub fn headline_of_lines<W: Write + Drop, N: ReportSink>(
     reader: &mut LineReader,
     pieces: &[&[u8]],
     sink: &mut Output<W>,
+    reports: &mut N,
 ) -> LinesOutcome
     requires going { reader.old.ended ≡ None }
     requires short { reader.old.taken + length (joined (map (λ piece. piece.now) pieces.now)) ≤ 2 ^ 60 }
     ensures headline { let cut = map (λ piece. piece.now) pieces.now in
-        (p : List ℕ) → StandsFor reader.old p → HeadlineOfLines (rules_of reader.old) (p ++ joined cut)
+        (p : List ℕ) → StandsFor reader.old p → HeadlineOfLines N.notes (rules_of reader.old) (p ++ joined cut)
         (p ++ joined (take (result.taken + 1) cut)) (lines_of reader.old) result.ended result.peaks
-        (channel W.contents sink.old) (channel W.contents sink.new) }
+        (channel W.contents sink.old) (channel W.contents sink.new) reports.old reports.new }
 {
-    put_lines(reader, pieces, sink)
+    put_lines(reader, pieces, sink, reports)
 }

@@ -3,14 +3,16 @@
 //! [`crate::HeaderReader::into_lines`] makes it of an accepted header. The lists that a line goes into have their
 //! room reserved, which is a part of what always holds of it, so none of its calls asks for memory, and its end has
 //! no variant for that.
-ghost use Rattle.std.specs.Prelude.{◌≡◌, ◌+◌, ◌^◌, ◌≤◌, ◌<◌, length, OnOk, OnErr, MatchResult, Some, None, Ok, Err};
+ghost use Rattle.std.specs.Prelude.{◌≡◌, ◌+◌, ◌++◌, ◌^◌, ◌≤◌, ◌<◌, ℕ, List, length, OnOk, OnErr, MatchResult, Some, None, Ok, Err};
 ghost use Rattle.cj_stream.specs.Ending.{line_end};
 ghost use Rattle.cj_stream.specs.Feeding.{Feeds, IsFinished};
 ghost use Rattle.cj_stream.specs.Scanning.{IsReady};
-ghost use Rattle.cj_stream.specs.Engine.{EngineState, lines_of, held_by, peaks_of};
+ghost use Rattle.cj_stream.specs.Engine.{EngineState, StandsFor, rules_of, lines_of, refused_of, held_by, peaks_of};
+ghost use Rattle.cj_stream.specs.Reporting.{Notes};
 
 use crate::ending::LineEnd;
 use crate::framer::Framer;
+use crate::reporting::ReportSink;
 use crate::sink::LineSink;
 use cj_budget::Peaks;
 use std::marker::Model;
@@ -61,17 +63,24 @@ impl<'q> LineReader<'q> {
     }
 
     /// Takes a piece of the stream. An error is the end of the stream.
-    pub fn feed<S: LineSink>(&mut self, piece: &[u8], sink: &mut S) -> Result<(), LineEnd>
+    pub fn feed<S: LineSink, N: ReportSink>(
+        &mut self,
+        piece: &[u8],
+        sink: &mut S,
+        reports: &mut N,
+    ) -> Result<(), LineEnd>
         requires { self.old.taken + length piece.now ≤ 2 ^ 60 }
 
         // After an end, nothing changes.
         ensures again { (e : LineEnd) → self.old.ended ≡ Some (line_end e) →
-            (result ≡ Err e) × (self.new ≡ self.old) × (sink.new ≡ sink.old) }
+            (result ≡ Err e) × (self.new ≡ self.old) × (sink.new ≡ sink.old) × (reports.new ≡ reports.old) }
         ensures taken { OnOk result (self.new.taken ≡ self.old.taken + length piece.now) }
         ensures untaken { OnErr result (self.new.taken ≡ self.old.taken) }
         ensures reserved { IsReady self.new.reading self.new.scanning × (0 < lines_of self.new) }
 
-        // What the answer says of all bytes so far, and of the sink.
+        // What the answer says of all bytes so far, and of the sinks.
+        ensures reports { (p : List ℕ) → StandsFor self.old p → self.old.ended ≡ None → Notes N.notes (rules_of self.old)
+            (p ++ piece.now) (lines_of self.old) (lines_of self.new) reports.old reports.new }
         ensures feeds { MatchResult result
             (λ _. Feeds S.takes S.leaves S.failures self.old piece.now (Ok tt) self.new sink.old sink.new)
             (λ e. Feeds S.takes S.leaves S.failures self.old piece.now (Err (line_end e)) self.new sink.old sink.new) }
@@ -79,7 +88,7 @@ impl<'q> LineReader<'q> {
         if let Some(end) = self.ended {
             return Err(end);
         }
-        match self.framer.take_piece(piece, sink) {
+        match self.framer.take_piece(piece, sink, reports) {
             Ok(()) => {
                 self.taken += piece.len() as u64;
                 Ok(())
@@ -93,18 +102,20 @@ impl<'q> LineReader<'q> {
     }
 
     /// Ends the stream, and deals with a last line that LF has not ended.
-    pub fn finish<S: LineSink>(&mut self, sink: &mut S) -> LineEnd
+    pub fn finish<S: LineSink, N: ReportSink>(&mut self, sink: &mut S, reports: &mut N) -> LineEnd
         ensures again { (e : LineEnd) → self.old.ended ≡ Some (line_end e) →
-            (result ≡ e) × (self.new ≡ self.old) × (sink.new ≡ sink.old) }
+            (result ≡ e) × (self.new ≡ self.old) × (sink.new ≡ sink.old) × (reports.new ≡ reports.old) }
         ensures untaken { self.new.taken ≡ self.old.taken }
         ensures reserved { IsReady self.new.reading self.new.scanning × (0 < lines_of self.new) }
+        ensures reports { (p : List ℕ) → StandsFor self.old p → self.old.ended ≡ None → Notes N.notes (rules_of self.old) p
+            (lines_of self.old) (lines_of self.new) reports.old reports.new }
         ensures finished { IsFinished S.takes S.leaves S.failures self.old (line_end result) self.new
             sink.old sink.new }
     {
         if let Some(end) = self.ended {
             return end;
         }
-        let end = LineEnd::after(self.framer.finish(sink));
+        let end = LineEnd::after(self.framer.finish(sink, reports));
         self.ended = Some(end);
         end
     }
@@ -132,7 +143,7 @@ impl<'q> LineReader<'q> {
         self.framer.peaks()
     }
 
-    /// How many lines were dealt with: the header, features and blank lines.
+    /// How many lines were dealt with: the header, features, blank lines, and those that reading went on after.
     pub fn lines(&self) -> u64
         ensures value { result ≡ lines_of self.now }
         ensures header { 0 < result }
@@ -145,5 +156,12 @@ impl<'q> LineReader<'q> {
         ensures { result ≡ self.now.reading.kept }
     {
         self.framer.kept()
+    }
+
+    /// How many lines were refused, and reading went on after them.
+    pub fn refused(&self) -> u64
+        ensures { result ≡ refused_of self.now }
+    {
+        self.framer.refused()
     }
 }

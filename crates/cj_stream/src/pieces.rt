@@ -6,12 +6,14 @@ ghost use Rattle.cj_stream.specs.Cut.{joined, Copies, PutsPieces, TookWhole, Fed
 ghost use Rattle.cj_stream.specs.Engine.{IsFresh, rules_of, lines_of};
 ghost use Rattle.cj_stream.specs.Headline.{Headline};
 ghost use Rattle.cj_stream.specs.Output.{output_writer, channel};
-ghost use Rattle.cj_stream.specs.Run.{Runs, outcome_of};
+ghost use Rattle.cj_stream.specs.Reporting.{NotesPieces};
+ghost use Rattle.cj_stream.specs.Run.{Runs, RunsNoting, outcome_of};
 ghost use Rattle.cj_stream.specs.Sink.{HasRisen};
 
 use crate::ending::End;
 use crate::engine::Engine;
 use crate::output::Output;
+use crate::reporting::ReportSink;
 use crate::sink::LineSink;
 use cj_budget::Peaks;
 use std::io::Write;
@@ -29,7 +31,12 @@ pub struct PiecesOutcome {
 }
 
 /// Feeds all pieces, and finishes, until an end.
-fn feed_all<S: LineSink>(engine: &mut Engine, pieces: &[&[u8]], sink: &mut S) -> PiecesOutcome
+fn feed_all<S: LineSink, N: ReportSink>(
+    engine: &mut Engine,
+    pieces: &[&[u8]],
+    sink: &mut S,
+    reports: &mut N,
+) -> PiecesOutcome
     requires fresh { IsFresh engine.old }
     requires short { length (joined (map (λ piece. piece.now) pieces.now)) ≤ 2 ^ 60 }
     ensures fed { Fed (rules_of engine.old) (map (λ piece. piece.now) pieces.now) result engine.new }
@@ -37,13 +44,18 @@ fn feed_all<S: LineSink>(engine: &mut Engine, pieces: &[&[u8]], sink: &mut S) ->
         Runs S.takes S.leaves
         (record { rules = rules_of engine.old; read = given; outcome = outcome_of engine.new result.ended })
         (given ≡ joined (map (λ piece. piece.now) pieces.now)) sink.old sink.new }
+    ensures noting { let given = joined (take (result.taken + 1) (map (λ piece. piece.now) pieces.now)) in
+        RunsNoting N.notes
+        (record { rules = rules_of engine.old; read = given; outcome = outcome_of engine.new result.ended })
+        reports.old reports.new }
     ensures taken { TookWhole S.takes S.leaves (rules_of engine.old) (map (λ piece. piece.now) pieces.now) result.taken
         (lines_of engine.new) sink.old sink.new result.ended }
     ensures cause { result.ended ≡ End.WriteFault → HasRisen (S.failures sink.old) (S.failures sink.new) }
-    ensures memory { result.ended ≡ End.Memory → (lines_of engine.new ≡ 0) × (sink.new ≡ sink.old) }
+    ensures memory { result.ended ≡ End.Memory → (lines_of engine.new ≡ 0) × (sink.new ≡ sink.old)
+        × (reports.new ≡ reports.old) }
 {
     for (taken, piece) in pieces.iter().enumerate() {
-        if let Err(ended) = engine.feed(piece, sink) {
+        if let Err(ended) = engine.feed(piece, sink, reports) {
             return PiecesOutcome {
                 taken,
                 peaks: engine.peaks(),
@@ -51,7 +63,7 @@ fn feed_all<S: LineSink>(engine: &mut Engine, pieces: &[&[u8]], sink: &mut S) ->
             };
         }
     }
-    let ended = engine.finish(sink);
+    let ended = engine.finish(sink, reports);
     PiecesOutcome {
         taken: pieces.len(),
         peaks: engine.peaks(),
@@ -63,43 +75,54 @@ fn feed_all<S: LineSink>(engine: &mut Engine, pieces: &[&[u8]], sink: &mut S) ->
 /// ends. However the stream is cut, the sink takes what is kept of it, one after another, and the
 /// end is its ending, unless a step of the sink fails or memory is refused: then it took a prefix of what
 /// is kept of the pieces that were given, with all that is kept of the whole lines of those that were
-/// wholly taken.
-pub fn put_pieces<S: LineSink>(engine: &mut Engine, pieces: &[&[u8]], sink: &mut S) -> PiecesOutcome
+/// wholly taken. The sink of reports notes what is reported, by the same measure.
+pub fn put_pieces<S: LineSink, N: ReportSink>(
+    engine: &mut Engine,
+    pieces: &[&[u8]],
+    sink: &mut S,
+    reports: &mut N,
+) -> PiecesOutcome
     requires fresh { IsFresh engine.old }
     requires short { length (joined (map (λ piece. piece.now) pieces.now)) ≤ 2 ^ 60 }
     ensures fed { Fed (rules_of engine.old) (map (λ piece. piece.now) pieces.now) result engine.new }
     ensures puts { PutsPieces S.takes S.leaves (rules_of engine.old) (map (λ piece. piece.now) pieces.now)
         result.taken result.ended sink.old sink.new }
+    ensures notes { NotesPieces N.notes (rules_of engine.old) (map (λ piece. piece.now) pieces.now)
+        result.taken result.ended reports.old reports.new }
     ensures cause { result.ended ≡ End.WriteFault → HasRisen (S.failures sink.old) (S.failures sink.new) }
-    ensures memory { result.ended ≡ End.Memory → (lines_of engine.new ≡ 0) × (sink.new ≡ sink.old) }
+    ensures memory { result.ended ≡ End.Memory → (lines_of engine.new ≡ 0) × (sink.new ≡ sink.old)
+        × (reports.new ≡ reports.old) }
 {
-    feed_all(engine, pieces, sink)
+    feed_all(engine, pieces, sink, reports)
 }
 
-/// For every stream however it is cut, every line limit L, depth limit D and query, the engine writes
-/// exactly the header and the valid features that satisfy the query, byte for byte, in order, up to the
-/// first invalid line, refuses that line with its number, place and reason, and never holds more than
-/// `h + L` bytes, `(h + L + D) / 2 + 1` tokens and D open containers, where h is the length of the first
-/// line, cut at L.
+/// For every stream however it is cut, all limits L and D, query and options, the engine writes exactly the
+/// header and the valid features that satisfy the query, byte for byte, in order, up to the first invalid
+/// line or, told to go on past a valid header, all of them, gives each invalid line met with number, place
+/// and reason, and never holds more than `h + L` bytes, `(h + L + D) / 2 + 1` tokens and D open containers,
+/// where h is the length of the first line, cut at L.
 ///
-/// The engine is one that `Engine::open` has made for the limits and the query, and that has been given
-/// nothing. What is written, and how it ends, is said where no write fails and no memory is refused, of
-/// a writer that tells its bytes; what is held, whatever comes. After a fault the writer has a prefix of
-/// the output of the pieces that were given, with all of the output of those that were wholly taken.
-pub fn headline<W: Write + Drop>(
+/// An invalid line that is the end is given by that end, and one that reading goes on after by a report. The
+/// engine is one that `Engine::open` has made for the limits, the query and the options, and that has been
+/// given nothing. What is written and reported, and how it ends, is said where no write fails and no memory is
+/// refused, of a writer that tells its bytes; what is held, whatever comes. After a fault the writer has a
+/// prefix of the output of the pieces that were given, with all of the output of those that were wholly taken.
+pub fn headline<W: Write + Drop, N: ReportSink>(
     engine: &mut Engine,
     pieces: &[&[u8]],
     sink: &mut Output<W>,
+    reports: &mut N,
 ) -> PiecesOutcome
     requires fresh { IsFresh engine.old }
     requires short { length (joined (map (λ piece. piece.now) pieces.now)) ≤ 2 ^ 60 }
     ensures headline { let cut = map (λ piece. piece.now) pieces.now in
-        Headline (rules_of engine.old) (joined cut) (joined (take (result.taken + 1) cut)) result.ended result.peaks
-        (channel W.contents sink.old) (channel W.contents sink.new) }
+        Headline N.notes (rules_of engine.old) (joined cut) (joined (take (result.taken + 1) cut)) result.ended
+        result.peaks (channel W.contents sink.old) (channel W.contents sink.new) reports.old reports.new }
     ensures fed { Fed (rules_of engine.old) (map (λ piece. piece.now) pieces.now) result engine.new }
     ensures copies { Copies (rules_of engine.old) (map (λ piece. piece.now) pieces.now) result.taken result.ended
         (W.contents (output_writer sink.old)) (W.contents (output_writer sink.new)) }
-    ensures memory { result.ended ≡ End.Memory → (lines_of engine.new ≡ 0) × (sink.new ≡ sink.old) }
+    ensures memory { result.ended ≡ End.Memory → (lines_of engine.new ≡ 0) × (sink.new ≡ sink.old)
+        × (reports.new ≡ reports.old) }
 {
-    put_pieces(engine, pieces, sink)
+    put_pieces(engine, pieces, sink, reports)
 }

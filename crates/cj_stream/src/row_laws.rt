@@ -4,6 +4,7 @@ ghost use Rattle.cj_stream.specs.BoundRows.{EmptyRow as BoundOfNothing, HeaderRo
 ghost use Rattle.cj_stream.specs.BoxRows.{BoxRow, FieldRows, RangeRows, EmptyRow as BoxOfNothing, OrderRows};
 ghost use Rattle.cj_stream.specs.CountRows.{RiseRows, ClassRows, LodRows as LodCounts};
 ghost use Rattle.cj_stream.specs.EndRows.{UnhinderedRow, UnreadRow};
+ghost use Rattle.cj_stream.specs.GoingRows.{BetweenRow, FirstRow as GoingFirst, LastRow};
 ghost use Rattle.cj_stream.specs.LineRows.{TabRow, HeaderRow};
 ghost use Rattle.cj_stream.specs.QueryRows.{IdRows, TypeRows, LodRows, InstanceRows, InBoxRows, OutOfBoxRows, EachPartRows};
 ghost use Rattle.cj_stream.specs.Rows.{EmptyRow, WholeRow, BlankRow, OrderRow, BadRow, LongRow, TextRow, SyntaxRow, DeepRow};
@@ -19,6 +20,13 @@ pub fn rows_compute()
     ensures text { TextRow }
     ensures syntax { SyntaxRow }
     ensures deep { DeepRow }
+{}
+
+/// How a stream ends in which reading goes on after invalid lines, and what is written and reported of it.
+pub fn going_rows_compute()
+    ensures between { BetweenRow }
+    ensures first { GoingFirst }
+    ensures last { LastRow }
 {}
 
 /// The bound on what is held, and what is held at most.

@@ -4,14 +4,16 @@ ghost use Rattle.std.specs.Io.KnownBytes.{Consumes, IsAtEnd};
 ghost use Rattle.cj_stream.specs.Sink.{HasRisen};
 ghost use Rattle.cj_stream.specs.Engine.{IsFresh, rules_of, lines_of};
 ghost use Rattle.cj_stream.specs.Query.{rules_for};
-ghost use Rattle.cj_stream.specs.Run.{IsReadWithin, Runs, outcome_of};
+ghost use Rattle.cj_stream.specs.Run.{IsReadWithin, Runs, RunsNoting, outcome_of};
 ghost use Rattle.cj_stream.specs.Source.{source_reader, source_name, reads_of, has_failed};
 
 mod source;
 
 use crate::ending::End;
 use crate::engine::Engine;
+use crate::options::Options;
 use crate::query::Query;
+use crate::reporting::ReportSink;
 use crate::sink::LineSink;
 use cj_budget::{Limits, NoMemory, Peaks};
 use source::{ReadFault, Source};
@@ -29,10 +31,12 @@ const PIECE_LENGTH: usize = 8_192;
 /// How a run went.
 #[derive(Clone, Copy, Debug, PartialEq, Eq)]
 pub struct Outcome {
-    /// The lines that were wholly dealt with: the header, features and blank lines.
+    /// The lines that were wholly dealt with: the header, features, blank lines, and those that reading went on after.
     pub lines: u64,
     /// The features that the sink took.
     pub kept: u64,
+    /// The lines that were refused, and that reading went on after.
+    pub refused: u64,
     /// The most that was held.
     pub peaks: Peaks,
     /// How it ended.
@@ -41,13 +45,14 @@ pub struct Outcome {
 
 impl Outcome {
     /// The outcome of a run that was refused its memory before the first read.
-    fn refused() -> Outcome
+    fn without_memory() -> Outcome
         ensures { result
-            ≡ record { lines = 0; kept = 0; peaks = record { bytes = 0; tokens = 0; depth = 0 }; ended = End.Memory } }
+            ≡ record { lines = 0; kept = 0; refused = 0; peaks = record { bytes = 0; tokens = 0; depth = 0 }; ended = End.Memory } }
     {
         Outcome {
             lines: 0,
             kept: 0,
+            refused: 0,
             peaks: Peaks {
                 bytes: 0,
                 tokens: 0,
@@ -60,11 +65,12 @@ impl Outcome {
 
 /// Feeds what the source gives, by pieces of at most the buffer's length, and finishes at its end. The
 /// first read that fails is the end, and so is the last of the reads, if none of them gave one.
-fn drive<R: Read, S: LineSink>(
+fn drive<R: Read, S: LineSink, N: ReportSink>(
     engine: &mut Engine,
     buffer: &mut [u8],
     source: &mut Source<'_, R>,
     sink: &mut S,
+    reports: &mut N,
     reads: u64,
 ) -> End
     requires piece { length buffer.old ≡ PIECE_LENGTH }
@@ -79,10 +85,13 @@ fn drive<R: Read, S: LineSink>(
         × IsReadWithin reads r result
         × Runs S.takes S.leaves
         (record { rules = rules_of engine.old; read = r; outcome = outcome_of engine.new result })
-        (IsAtEnd (R.remaining (source_reader source.new))) sink.old sink.new }
+        (IsAtEnd (R.remaining (source_reader source.new))) sink.old sink.new
+        × RunsNoting N.notes
+        (record { rules = rules_of engine.old; read = r; outcome = outcome_of engine.new result })
+        reports.old reports.new }
     ensures cause { result ≡ End.WriteFault → HasRisen (S.failures sink.old) (S.failures sink.new) }
     ensures none { reads ≡ 0 → (source_reader source.new ≡ source_reader source.old) × (sink.new ≡ sink.old)
-        × (result ≡ End.ReadLimit) }
+        × (result ≡ End.ReadLimit) × (reports.new ≡ reports.old) }
     ensures reads { reads_of source.new ≤ reads }
     ensures limit { result ≡ End.ReadLimit → reads_of source.new ≡ reads }
     ensures failed { IsTrue (has_failed source.new) ↔ (result ≡ End.ReadFault) }
@@ -91,9 +100,9 @@ fn drive<R: Read, S: LineSink>(
     for _i in 0..reads {
         match source.read(buffer) {
             Err(ReadFault) => return End::ReadFault,
-            Ok(0) => return engine.finish(sink),
+            Ok(0) => return engine.finish(sink, reports),
             Ok(n) => {
-                if let Err(end) = engine.feed(&buffer[..n], sink) {
+                if let Err(end) = engine.feed(&buffer[..n], sink, reports) {
                     return end;
                 }
             }
@@ -102,25 +111,33 @@ fn drive<R: Read, S: LineSink>(
     End::ReadLimit
 }
 
-/// Puts the kept lines of what the reader gives to the sink, until its end or a fault.
+/// Puts the kept lines of what the reader gives to the sink, until its end or a fault. Told to go on after an invalid line
+/// that is not the first, it reports that line, and reads the next one.
 ///
 /// It makes at most 2^40 reads, as [`run_within`] says. Memory is refused before the sink has taken anything, or not
 /// at all.
-pub fn run<R: Read, S: LineSink>(
+pub fn run<R: Read, S: LineSink, N: ReportSink>(
     alloc: Global,
     reader: &mut R,
     sink: &mut S,
+    reports: &mut N,
     limits: Limits,
     query: &Query,
+    options: Options,
 ) -> Outcome
     ensures runs { (r : List ℕ) × Consumes (R.remaining reader.old) (R.remaining reader.new) r
-        × Runs S.takes S.leaves (record { rules = rules_for limits query.now; read = r; outcome = result })
-        (IsAtEnd (R.remaining reader.new)) sink.old sink.new }
+        × Runs S.takes S.leaves (record { rules = rules_for limits query.now options; read = r; outcome = result })
+        (IsAtEnd (R.remaining reader.new)) sink.old sink.new
+        × RunsNoting N.notes (record { rules = rules_for limits query.now options; read = r; outcome = result })
+        reports.old reports.new }
     ensures cause { result.ended ≡ End.WriteFault → HasRisen (S.failures sink.old) (S.failures sink.new) }
     ensures enough { IfSome (R.remaining reader.old) (λ bytes. length bytes < 2 ^ 40 → result.ended ≢ End.ReadLimit) }
-    ensures memory { result.ended ≡ End.Memory → (result.lines ≡ 0) × (sink.new ≡ sink.old) }
+    ensures memory { result.ended ≡ End.Memory → (result.lines ≡ 0) × (sink.new ≡ sink.old)
+        × (reports.new ≡ reports.old) }
 {
-    run_within(alloc, reader, sink, limits, query, MOST_READS)
+    run_within(
+        alloc, reader, sink, reports, limits, query, options, MOST_READS,
+    )
 }
 
 /// Does what [`run`] does, with at most `reads` reads, of at most 8,192 bytes each.
@@ -130,35 +147,41 @@ pub fn run<R: Read, S: LineSink>(
 /// with, and the line that had begun was not judged. So with no read that is the end of each input, also of an empty
 /// one, unless memory for the first line is refused, and the reader and the sink stay as they are. One read more than
 /// the input has bytes is always enough, even if each gives one byte.
-pub fn run_within<R: Read, S: LineSink>(
+pub fn run_within<R: Read, S: LineSink, N: ReportSink>(
     alloc: Global,
     reader: &mut R,
     sink: &mut S,
+    reports: &mut N,
     limits: Limits,
     query: &Query,
+    options: Options,
     reads: u64,
 ) -> Outcome
     requires few { reads ≤ 2 ^ 40 }
     ensures runs { (r : List ℕ) × Consumes (R.remaining reader.old) (R.remaining reader.new) r
         × IsReadWithin reads r result.ended
-        × Runs S.takes S.leaves (record { rules = rules_for limits query.now; read = r; outcome = result })
-        (IsAtEnd (R.remaining reader.new)) sink.old sink.new }
+        × Runs S.takes S.leaves (record { rules = rules_for limits query.now options; read = r; outcome = result })
+        (IsAtEnd (R.remaining reader.new)) sink.old sink.new
+        × RunsNoting N.notes (record { rules = rules_for limits query.now options; read = r; outcome = result })
+        reports.old reports.new }
     ensures cause { result.ended ≡ End.WriteFault → HasRisen (S.failures sink.old) (S.failures sink.new) }
     ensures enough { IfSome (R.remaining reader.old) (λ bytes. length bytes < reads → result.ended ≢ End.ReadLimit) }
-    ensures none { reads ≡ 0 → (reader.new ≡ reader.old) × (sink.new ≡ sink.old)
+    ensures none { reads ≡ 0 → (reader.new ≡ reader.old) × (sink.new ≡ sink.old) × (reports.new ≡ reports.old)
         × ((result.ended ≡ End.ReadLimit) ⊎ (result.ended ≡ End.Memory)) × (result.lines ≡ 0) × (result.kept ≡ 0) }
-    ensures memory { result.ended ≡ End.Memory → (result.lines ≡ 0) × (sink.new ≡ sink.old) }
+    ensures memory { result.ended ≡ End.Memory → (result.lines ≡ 0) × (sink.new ≡ sink.old)
+        × (reports.new ≡ reports.old) }
 {
-    let mut engine = match Engine::open(alloc, limits, query) {
+    let mut engine = match Engine::open(alloc, limits, query, options) {
         Ok(engine) => engine,
-        Err(NoMemory) => return Outcome::refused(),
+        Err(NoMemory) => return Outcome::without_memory(),
     };
     let mut buffer = [0u8; PIECE_LENGTH];
     let mut source = Source::new(reader);
-    let ended = drive(&mut engine, &mut buffer, &mut source, sink, reads);
+    let ended = drive(&mut engine, &mut buffer, &mut source, sink, reports, reads);
     Outcome {
         lines: engine.lines(),
         kept: engine.kept(),
+        refused: engine.refused(),
         peaks: engine.peaks(),
         ended,
     }

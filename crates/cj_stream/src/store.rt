@@ -3,7 +3,10 @@
 //! The first line has a list of its own, since it stays while lines come and go; so its peak and that of the later
 //! lines add up, and exactly. Each line is put together here before it is judged, also where it stands whole in a
 //! piece, so that what is held does not depend on how the stream is cut. LF is no content: it is not stored.
-ghost use Rattle.std.specs.Prelude.{◌≡◌, ◌+◌, ◌<◌, ◌≤◌, ◌^◌, ◌==◌, ◌++◌, [], length, if◌then◌else◌, OnOk, OnErr, IsTrue};
+//!
+//! A later line that is too long may be dropped: what fits of it is stored first, whatever the cut, and from then on nothing of
+//! it is held, up to its LF.
+ghost use Rattle.std.specs.Prelude.{◌≡◌, ◌+◌, ◌<◌, ◌≤◌, ◌^◌, ◌==◌, ◌++◌, [], false, true, length, if◌then◌else◌, OnOk, OnErr, IsTrue};
 ghost use Rattle.cj_budget.specs.Bounded.{IsNew, IsWithin, Becomes};
 
 use cj_budget::Bounded;
@@ -20,6 +23,8 @@ pub struct Store {
     pub line: Bounded<u8>,
     /// How many lines were dealt with.
     pub lines: u64,
+    /// Whether the begun line is dropped, since it is too long.
+    pub dropped: bool,
 }
 
 impl Store {
@@ -28,11 +33,13 @@ impl Store {
         ensures header { IsNew limit result.header }
         ensures line { IsNew limit result.line }
         ensures lines { result.lines ≡ 0 }
+        ensures held { result.dropped ≡ false }
     {
         Store {
             header: Bounded::new(alloc, limit),
             line: Bounded::new(alloc, limit),
             lines: 0,
+            dropped: false,
         }
     }
 
@@ -52,6 +59,9 @@ impl Store {
         requires first { self.old.lines ≡ 0 → IsTrue self.old.header.reserved }
         requires later { 0 < self.old.lines → IsTrue self.old.line.reserved }
         ensures lines { self.new.lines ≡ self.old.lines }
+        ensures same { self.new.dropped ≡ self.old.dropped }
+        ensures short { OnOk result (length (if self.old.lines == 0 then self.old.header.elements else self.old.line.elements)
+            + length part.now ≤ self.old.header.limit) }
         ensures first { OnOk result (self.old.lines ≡ 0
             → Becomes self.old.header (self.old.header.elements ++ part.now) self.new.header
             × (self.new.line ≡ self.old.line)) }
@@ -73,14 +83,32 @@ impl Store {
         Ok(())
     }
 
+    /// Drops the later line that has begun, which this part makes too long, once what fits of it was stored.
+    pub fn drop_line(&mut self, part: &[u8])
+        requires reserved { IsTrue self.old.line.reserved }
+        requires long { self.old.line.limit < length self.old.line.elements + length part.now }
+        ensures lines { self.new.lines ≡ self.old.lines }
+        ensures dropped { self.new.dropped ≡ true }
+        ensures header { self.new.header ≡ self.old.header }
+        ensures line { Becomes (record self.old.line { peak = self.old.line.limit }) [] self.new.line }
+        ensures rises { self.old.line.peak ≤ self.new.line.peak }
+    {
+        let room = self.line.limit() - self.line.len();
+        self.line.extend_reserved(&part[..room]);
+        self.line.clear();
+        self.dropped = true;
+    }
+
     /// The begun line is done with. The first one stays.
     pub fn pass(&mut self)
         requires room { self.old.lines < 2 ^ 62 }
         ensures lines { self.new.lines ≡ self.old.lines + 1 }
+        ensures held { self.new.dropped ≡ false }
         ensures header { self.new.header ≡ self.old.header }
         ensures line { Becomes self.old.line [] self.new.line }
     {
         self.lines += 1;
+        self.dropped = false;
         self.line.clear();
     }
 }

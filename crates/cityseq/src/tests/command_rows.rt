@@ -6,7 +6,7 @@ use crate::ask::{Ask, perform};
 use crate::report::{status, write_fault_line};
 use cj_budget::Limits;
 use cj_spans::Reason;
-use cj_stream::{End, Output, Query};
+use cj_stream::{End, Options, Output, Query};
 use std::alloc::Global;
 use std::io::Write;
 use std::process::Abort;
@@ -36,7 +36,7 @@ fn filter_to<W: Write, E: Write>(
     out: &mut W,
     err: &mut E,
 ) -> u8 {
-    let ask = Ask::Filter(limits, Query::all(alloc));
+    let ask = Ask::Filter(limits, Query::all(alloc), Options::new());
     perform(
         alloc,
         &ask,

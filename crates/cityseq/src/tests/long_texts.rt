@@ -5,7 +5,7 @@ use super::texts::{FEATURE, HEADER};
 use crate::OUTPUT_BUFFER;
 use crate::ask::{Ask, perform};
 use cj_budget::Limits;
-use cj_stream::{Output, Query};
+use cj_stream::{Options, Output, Query};
 use std::alloc::Global;
 use std::io::BufWriter;
 use std::process::Abort;
@@ -28,7 +28,7 @@ fn filter_through(
     writer: &mut SlowWriter,
     err: &mut Vec<u8>,
 ) -> Result<u8, Fail> {
-    let ask = Ask::Filter(Limits::usual(), Query::all(alloc));
+    let ask = Ask::Filter(Limits::usual(), Query::all(alloc), Options::new());
     let mut reader = SlowReader::new(text, 10_000);
     let buffer = BufWriter::with_capacity(alloc, OUTPUT_BUFFER, writer)?;
     Ok(perform(

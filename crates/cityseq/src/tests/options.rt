@@ -1,10 +1,12 @@
 //! Rows of the command line: which words ask for what.
+ghost use Rattle.cityseq.specs.Performed.{TakesOptions};
+
 use super::calls::{check_bytes, check_number, check_written, commanded, joined};
 use super::devices::{SlowReader, SlowWriter};
 use super::texts::{FEATURE, HEADER};
 use crate::ask::{Ask, perform};
 use cj_budget::Limits;
-use cj_stream::Output;
+use cj_stream::{Options, Output};
 use std::alloc::Global;
 use std::process::Abort;
 use std::test::Fail;
@@ -276,6 +278,12 @@ fn wrong_words_are_refused_unread(rt: HostRuntime) -> Result<(), Fail> {
     check_wrong_words(
         &rt,
         rt.alloc(),
+        &["info", "--keep-going"],
+        "error: unexpected argument '--keep-going' found",
+    )?;
+    check_wrong_words(
+        &rt,
+        rt.alloc(),
         &["filter", "filter"],
         "error: unexpected argument 'filter' found",
     )?;
@@ -339,7 +347,9 @@ fn check_failing_text(
     ask: &Ask,
     fails_at: u64,
     wanted: &[u8],
-) -> Result<(), Fail> {
+) -> Result<(), Fail>
+    requires { TakesOptions ask.now }
+{
     let mut out = SlowWriter::new(Vec::new(alloc), 5);
     out.fails_at = fails_at;
     out.flush_fails = fails_at == 0;
@@ -360,11 +370,11 @@ fn check_failing_text(
 
 #[test]
 fn a_text_that_cannot_be_written(rt: HostRuntime) -> Result<(), Fail> {
-    let check = Ask::Check(Limits::new(140, 3)?);
+    let check = Ask::Check(Limits::new(140, 3)?, Options::new());
     check_failing_text(&rt, rt.alloc(), &check, 1, b"")?;
     check_failing_text(&rt, rt.alloc(), &check, 3, b"valid line")?;
     check_failing_text(&rt, rt.alloc(), &check, 0, b"valid lines=1 features=0\n")?;
-    let info = Ask::Info(Limits::new(140, 3)?);
+    let info = Ask::Info(Limits::new(140, 3)?, Options::new());
     check_failing_text(&rt, rt.alloc(), &info, 1, b"")?;
     check_failing_text(&rt, rt.alloc(), &info, 2, b"lines")
 }

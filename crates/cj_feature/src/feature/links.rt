@@ -184,7 +184,7 @@ fn count_items(object: Node, list: &str, count: usize) -> usize {
 }
 
 /// Whether there are more than `FEW` city objects and items of their lists.
-fn has_many(objects: Node) -> bool {
+pub fn has_many(objects: Node) -> bool {
     if objects.bytes().len() <= FEW_BYTES {
         return false;
     }

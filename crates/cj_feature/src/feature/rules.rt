@@ -1,24 +1,27 @@
 //! The rules on features, one after another, and the verdict by them.
-ghost use Rattle.std.specs.Prelude.{◌≡◌, [], Some, MatchResult, IfOk, false, codes, length, option_map};
+ghost use Rattle.std.specs.Prelude.{◌≡◌, [], Some, MatchResult, IfOk, IfSome, IsTrue, false, codes, length, option_map};
 ghost use Rattle.std.specs.List.{flat_map};
 ghost use Rattle.std.specs.Str.{chars};
 ghost use Rattle.cj_spans.specs.declared.reason.Reason.TheVariants.{NotThree};
 ghost use Rattle.cj_spans.specs.Finding.{least, IsLeast};
 ghost use Rattle.cj_spans.specs.Kinds.{is_object};
 ghost use Rattle.cj_spans.specs.Parts.{items_of, member_of};
-ghost use Rattle.cj_spans.specs.View.{tree, document, document_line};
+ghost use Rattle.cj_spans.specs.View.{tree, line_of, source_of, tokens_in, document, document_line, document_source};
 ghost use Rattle.cj_geometry.specs.Geometry.{count_if, count_of};
 ghost use Rattle.cj_geometry.specs.Given.{given};
 ghost use Rattle.cj_geometry.specs.Rule.{of_kind, needs, whole_number, of_length};
 ghost use Rattle.cj_feature.specs.Feature.{vertex_list, feature_rules, feature};
 ghost use Rattle.cj_feature.specs.HeaderView.{header_tree};
 ghost use Rattle.cj_feature.specs.Links.{links};
+ghost use Rattle.cj_feature.specs.Marking.{IsBeside};
+ghost use Rattle.cj_feature.specs.Reached.{AreMarks};
 ghost use Rattle.cj_feature.specs.View.{feature_tree, feature_line, feature_header};
 
 use crate::feature::Feature;
 use crate::feature::ids::check_id_member;
 use crate::feature::links::check_links;
 use crate::feature::objects::check_city_objects_member;
+use crate::feature::reached::check_reached;
 use crate::header::Header;
 use crate::member::{check_name_member, check_there};
 use cj_geometry::Templates;
@@ -91,19 +94,22 @@ fn check_links_if(linked: bool, objects: Option<Node>, found: &mut Least)
     }
 }
 
-/// The value is a feature, with these members, beside these templates. Vertices come before the city
-/// objects, which ask for their number.
+/// The value is a feature, with these members, beside these templates, and its city objects are connected, if that is
+/// asked for. Vertices come before the city objects, which ask for their number.
 fn check_root(
     node: Node,
     objects: Option<Node>,
     vertices: Option<Node>,
     templates: Templates,
+    connected: bool,
     found: &mut Least,
 )
     requires objects { option_map tree objects ≡ member_of (chars (codes "CityObjects")) (tree node) }
+    requires source { IfSome objects (λ n. IsBeside node n) }
     requires vertices { option_map tree vertices ≡ member_of (chars (codes "vertices")) (tree node) }
+    requires marks { IsTrue connected → AreMarks (tree node) (line_of node) (tokens_in (source_of node)) }
     ensures { found.new
-        ≡ least found.old (of_kind is_object (feature_rules (given templates.entry)) (tree node.entry)) }
+        ≡ least found.old (of_kind is_object (feature_rules (given templates.entry) connected) (tree node.entry)) }
 {
     if check_object(node, found) {
         check_names(node, found);
@@ -112,18 +118,26 @@ fn check_root(
         let count = check_vertices_member(node, vertices, found);
         let linked = check_city_objects_member(node, objects, count, templates, found);
         check_links_if(linked, objects, found);
+        check_reached(connected, node, objects, found);
     }
 }
 
 /// Judges a line as a feature (CityJSON 2.0, sections 2 and 8, and the CityJSONSeq page of cityjson.org)
-/// beside the header of its text: the least of its findings, if there are any.
+/// beside the header of its text: the least of its findings, if there are any. With `tree` each city object also has
+/// to be reached from the feature's id, as [`crate::mark_reached`] has marked those that are.
 ///
 /// # Errors
 ///
 /// The least finding by place and code.
-pub fn check_feature<'a>(doc: Doc<'a>, header: &'a Header<'a>) -> Result<Feature<'a>, Finding>
-    ensures verdict { MatchResult result (λ f. feature (header_tree header.now) (document doc.entry) ≡ [])
-        (λ f. IsLeast (feature (header_tree header.now) (document doc.entry)) (Some f)) }
+pub fn check_feature<'a>(
+    doc: Doc<'a>,
+    header: &'a Header<'a>,
+    tree: bool,
+) -> Result<Feature<'a>, Finding>
+    requires { IsTrue tree
+        → AreMarks (document doc) (document_line doc) (tokens_in (document_source doc)) }
+    ensures verdict { MatchResult result (λ f. feature (header_tree header.now) (document doc.entry) tree ≡ [])
+        (λ f. IsLeast (feature (header_tree header.now) (document doc.entry) tree) (Some f)) }
     ensures tree { IfOk result (λ f. feature_tree f ≡ document doc.entry) }
     ensures line { IfOk result (λ f. feature_line f ≡ document_line doc.entry) }
     ensures header { IfOk result (λ f. feature_header f ≡ header_tree header.now) }
@@ -133,7 +147,7 @@ pub fn check_feature<'a>(doc: Doc<'a>, header: &'a Header<'a>) -> Result<Feature
     let vertices = root.get("vertices");
     let templates = header.templates();
     let mut found = Least::new();
-    check_root(root, objects, vertices, templates, &mut found);
+    check_root(root, objects, vertices, templates, tree, &mut found);
     match found.get() {
         Some(finding) => Err(finding),
         None => Ok(Feature::of(doc, header.doc(), objects, vertices, templates)),

@@ -207,7 +207,7 @@ fn line_text(
     let header_tokens = tokens_of(rt, alloc, header_line);
     let tokens = tokens_of(rt, alloc, line);
     match check_header(Doc::of(header_line, header_tokens.as_slice()), false) {
-        Ok(header) => match check_feature(Doc::of(line, tokens.as_slice()), &header) {
+        Ok(header) => match check_feature(Doc::of(line, tokens.as_slice()), &header, false) {
             Ok(feature) => feature_text(alloc, &feature),
             Err(_) => panic!(rt; "no feature"),
         },

@@ -1,9 +1,13 @@
 //! What the tests share: comparisons, and the calls that are tested without what their contracts
 //! say. A test compares values when it runs, and its proof grows with each fact that a call leaves.
 use super::devices::{SlowReader, SlowWriter};
-use crate::{End, Engine, LineSink, Outcome, Output, Query, WriteSink, run};
+use crate::{
+    CountReports, End, Engine, LineSink, NoReports, Options, Outcome, Output, Query, ReportSink,
+    WriteSink, run,
+};
 use cj_budget::{Limits, Peaks};
 use cj_spans::Reason;
+use memchr::memchr;
 use std::alloc::Global;
 use std::process::Abort;
 use std::test::Fail;
@@ -52,6 +56,7 @@ pub const fn outcome(lines: u64, kept: u64, peaks: Peaks, ended: End) -> Outcome
     Outcome {
         lines,
         kept,
+        refused: 0,
         peaks,
         ended,
     }
@@ -65,7 +70,15 @@ pub fn joined(alloc: Global, parts: &[&[u8]]) -> Result<Vec<u8>, Fail> {
 /// Runs over what a reader gives: the outcome, and what was written.
 pub fn copied(alloc: Global, reader: &mut SlowReader, limits: Limits) -> (Outcome, Vec<u8>) {
     let mut sink = WriteSink::new(Vec::new(alloc));
-    let outcome = run(alloc, reader, &mut sink, limits, &Query::all(alloc));
+    let outcome = run(
+        alloc,
+        reader,
+        &mut sink,
+        &mut NoReports,
+        limits,
+        &Query::all(alloc),
+        Options::new(),
+    );
     (outcome, sink.into_inner())
 }
 
@@ -77,10 +90,43 @@ pub fn copied_to(
     limits: Limits,
 ) -> Outcome {
     let mut out = Output::new(writer);
-    run(alloc, reader, &mut out, limits, &Query::all(alloc))
+    run(
+        alloc,
+        reader,
+        &mut out,
+        &mut NoReports,
+        limits,
+        &Query::all(alloc),
+        Options::new(),
+    )
 }
 
-/// Gives a piece to an engine, which has to answer so.
+/// Gives a piece to an engine, which has to answer so. What it reports goes to a sink of reports.
+pub fn check_feed_noting<S: LineSink, N: ReportSink>(
+    rt: &impl Abort,
+    engine: &mut Engine,
+    piece: &[u8],
+    sink: &mut S,
+    reports: &mut N,
+    wanted: Result<(), End>,
+) {
+    assert!(rt; engine.taken() <= 1_000_000_000);
+    assert!(rt; piece.len() <= 1_000_000_000);
+    assert_eq!(rt; engine.feed(piece, sink, reports), wanted);
+}
+
+/// Ends the stream of an engine, which has to answer so.
+pub fn check_finish_noting<S: LineSink, N: ReportSink>(
+    rt: &impl Abort,
+    engine: &mut Engine,
+    sink: &mut S,
+    reports: &mut N,
+    wanted: End,
+) {
+    assert_eq!(rt; engine.finish(sink, reports), wanted);
+}
+
+/// Gives a piece to an engine, which has to answer so. Nothing is to be reported.
 pub fn check_feed<S: LineSink>(
     rt: &impl Abort,
     engine: &mut Engine,
@@ -88,14 +134,16 @@ pub fn check_feed<S: LineSink>(
     sink: &mut S,
     wanted: Result<(), End>,
 ) {
-    assert!(rt; engine.taken() <= 1_000_000_000);
-    assert!(rt; piece.len() <= 1_000_000_000);
-    assert_eq!(rt; engine.feed(piece, sink), wanted);
+    let mut reports = CountReports { reports: 0 };
+    check_feed_noting(rt, engine, piece, sink, &mut reports, wanted);
+    check_number(rt, reports.reports, 0, "reports", 0);
 }
 
-/// Ends the stream of an engine, which has to answer so.
+/// Ends the stream of an engine, which has to answer so. Nothing is to be reported.
 pub fn check_finish<S: LineSink>(rt: &impl Abort, engine: &mut Engine, sink: &mut S, wanted: End) {
-    assert_eq!(rt; engine.finish(sink), wanted);
+    let mut reports = CountReports { reports: 0 };
+    check_finish_noting(rt, engine, sink, &mut reports, wanted);
+    check_number(rt, reports.reports, 0, "reports", 0);
 }
 
 /// Compares what an engine counts.
@@ -109,4 +157,14 @@ pub fn check_counts(rt: &impl Abort, engine: &Engine, taken: u64, lines: u64, ke
 pub fn check_held(rt: &impl Abort, engine: &Engine, held: Peaks, peaks: Peaks) {
     assert_eq!(rt; engine.held(), held);
     assert_eq!(rt; engine.peaks(), peaks);
+}
+
+/// What was held at most of a text is within what its first line and the limits allow.
+pub fn check_bound(rt: &impl Abort, text: &[u8], limits: Limits, peaks: Peaks) {
+    let (line, depth) = (limits.line(), limits.depth());
+    let first = memchr(b'\n', text).unwrap_or(text.len());
+    let header = (first as u64).min(line);
+    assert!(rt; peaks.bytes <= header + line);
+    assert!(rt; peaks.tokens <= (header + line + depth) / 2 + 1);
+    assert!(rt; peaks.depth <= depth);
 }

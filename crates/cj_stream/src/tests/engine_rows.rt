@@ -4,7 +4,7 @@ use super::calls::{
     refused,
 };
 use super::rows::{FEATURE, HEADER, with_last_index};
-use crate::{End, Engine, Query, WriteSink};
+use crate::{End, Engine, Options, Query, WriteSink};
 use cj_budget::Limits;
 use cj_spans::Reason;
 use std::process::Abort;
@@ -34,7 +34,7 @@ fn an_end_stays_the_end(rt: HostRuntime) -> Result<(), Fail> {
     let text = joined(rt.alloc(), &[&written, FEATURE, b" \n"])?;
     check_number(&rt, text.len() as u64, 564, "bytes of the text", 0);
     let query = Query::all(rt.alloc());
-    let mut engine = Engine::open(rt.alloc(), Limits::new(210, 64)?, &query)?;
+    let mut engine = Engine::open(rt.alloc(), Limits::new(210, 64)?, &query, Options::new())?;
     let mut sink = WriteSink::new(Vec::new(rt.alloc()));
     check_counts(&rt, &engine, 0, 0, 0);
     let end = refused(3, 210, Reason::LineTooLong);
@@ -49,7 +49,12 @@ fn an_end_by_a_finding_stays_the_end(rt: HostRuntime) -> Result<(), Fail> {
     let written = joined(rt.alloc(), &[HEADER, b"\n", FEATURE, b"\n"])?;
     let text = joined(rt.alloc(), &[&written, &line, b"\n", FEATURE, b"\n"])?;
     let query = Query::all(rt.alloc());
-    let mut engine = Engine::open(rt.alloc(), Limits::new(8_388_608, 64)?, &query)?;
+    let mut engine = Engine::open(
+        rt.alloc(),
+        Limits::new(8_388_608, 64)?,
+        &query,
+        Options::new(),
+    )?;
     let mut sink = WriteSink::new(Vec::new(rt.alloc()));
     let end = refused(3, 144, Reason::VertexIndex);
     check_end(&rt, &mut engine, &text, &mut sink, end);
@@ -80,7 +85,12 @@ fn an_end_stays_by_single_bytes(rt: HostRuntime) -> Result<(), Fail> {
     let written = joined(rt.alloc(), &[HEADER, b"\n", FEATURE, b"\n"])?;
     let text = joined(rt.alloc(), &[&written, &line, b"\n", FEATURE, b"\n"])?;
     let query = Query::all(rt.alloc());
-    let mut engine = Engine::open(rt.alloc(), Limits::new(8_388_608, 64)?, &query)?;
+    let mut engine = Engine::open(
+        rt.alloc(),
+        Limits::new(8_388_608, 64)?,
+        &query,
+        Options::new(),
+    )?;
     let mut sink = WriteSink::new(Vec::new(rt.alloc()));
     let end = refused(3, 144, Reason::VertexIndex);
     check_single_bytes(&rt, &mut engine, &text, &mut sink, 562, end);
@@ -107,7 +117,12 @@ fn check_parts(rt: &impl Abort, engine: &mut Engine, sink: &mut WriteSink<Vec<u8
 #[test]
 fn what_is_held_is_told(rt: HostRuntime) -> Result<(), Fail> {
     let query = Query::all(rt.alloc());
-    let mut engine = Engine::open(rt.alloc(), Limits::new(8_388_608, 64)?, &query)?;
+    let mut engine = Engine::open(
+        rt.alloc(),
+        Limits::new(8_388_608, 64)?,
+        &query,
+        Options::new(),
+    )?;
     let mut sink = WriteSink::new(Vec::new(rt.alloc()));
     check_parts(&rt, &mut engine, &mut sink);
     Ok(())

@@ -5,7 +5,7 @@ use super::calls::{
 };
 use super::devices::{SlowReader, SlowWriter};
 use super::rows::{FEATURE, HEADER, with_last_index};
-use crate::{End, Engine, LineSink, Outcome, Output, Query, WriteSink, run};
+use crate::{End, Engine, LineSink, NoReports, Options, Outcome, Output, Query, WriteSink, run};
 use cj_budget::Limits;
 use cj_spans::Reason;
 use std::alloc::Global;
@@ -21,7 +21,15 @@ fn a_writer_that_takes_five_bytes_and_fails(rt: HostRuntime) -> Result<(), Fail>
     let mut sink = WriteSink::new(writer);
     let limits = Limits::new(8_388_608, 64)?;
     let query = Query::all(rt.alloc());
-    let outcome = run(rt.alloc(), &mut text.as_slice(), &mut sink, limits, &query);
+    let outcome = run(
+        rt.alloc(),
+        &mut text.as_slice(),
+        &mut sink,
+        &mut NoReports,
+        limits,
+        &query,
+        Options::new(),
+    );
     check_ended(&rt, outcome.ended, End::WriteFault, "five bytes", 0);
     check_number(&rt, outcome.lines, 0, "lines", 0);
     check_bytes(&rt, &sink.into_inner().bytes, b"{\"typ", "five bytes", 0);
@@ -97,7 +105,15 @@ fn a_writer_that_takes_one_byte_and_one_that_takes_none(rt: HostRuntime) -> Resu
 /// Runs over a reader up to a fault: the outcome, and what was written.
 fn run_over(alloc: Global, reader: &mut SlowReader, limits: Limits) -> (Outcome, Vec<u8>) {
     let mut sink = WriteSink::new(Vec::new(alloc));
-    let outcome = run(alloc, reader, &mut sink, limits, &Query::all(alloc));
+    let outcome = run(
+        alloc,
+        reader,
+        &mut sink,
+        &mut NoReports,
+        limits,
+        &Query::all(alloc),
+        Options::new(),
+    );
     (outcome, sink.into_inner())
 }
 
@@ -155,7 +171,18 @@ fn run_to<S: LineSink>(alloc: Global, text: &[u8], sink: &mut S) -> Result<End, 
     let limits = Limits::new(8_388_608, 64)?;
     let query = Query::all(alloc);
     let mut reader = SlowReader::new(text, 1_000);
-    Ok(run(alloc, &mut reader, sink, limits, &query).ended)
+    Ok(
+        run(
+            alloc,
+            &mut reader,
+            sink,
+            &mut NoReports,
+            limits,
+            &query,
+            Options::new(),
+        )
+        .ended,
+    )
 }
 
 fn check_fault_stays<S: LineSink>(rt: &impl Abort, engine: &mut Engine, sink: &mut S) {
@@ -171,7 +198,12 @@ fn check_fault_stays<S: LineSink>(rt: &impl Abort, engine: &mut Engine, sink: &m
 fn a_write_fault_stays_the_end(rt: HostRuntime) -> Result<(), Fail> {
     let mut writer = SlowWriter::new(Vec::new(rt.alloc()), 0);
     let query = Query::all(rt.alloc());
-    let mut engine = Engine::open(rt.alloc(), Limits::new(8_388_608, 64)?, &query)?;
+    let mut engine = Engine::open(
+        rt.alloc(),
+        Limits::new(8_388_608, 64)?,
+        &query,
+        Options::new(),
+    )?;
     check_fault_stays(&rt, &mut engine, &mut Output::new(&mut writer));
     check_number(&rt, writer.writes, 1, "writes", 0);
     let ended = run_to(rt.alloc(), HEADER, &mut Output::new(&mut writer))?;
@@ -207,7 +239,7 @@ fn check_fault_told_again(
     at: u64,
 ) -> Result<(), Fail> {
     let query = Query::all(alloc);
-    let mut engine = Engine::open(alloc, Limits::new(8_388_608, 64)?, &query)?;
+    let mut engine = Engine::open(alloc, Limits::new(8_388_608, 64)?, &query, Options::new())?;
     let lines = u64::from(at > 141);
     check_told_again(rt, &mut engine, text, &mut Output::new(&mut *writer), lines);
     let written = writer.bytes.as_slice();

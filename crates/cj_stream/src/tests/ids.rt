@@ -2,7 +2,7 @@
 use super::calls::{check_ended, check_number, joined};
 use super::devices::SlowReader;
 use super::rows::HEADER;
-use crate::{CountSink, End, Query, run};
+use crate::{CountSink, End, NoReports, Options, Query, run};
 use cj_budget::Limits;
 use std::alloc::Global;
 use std::process::Abort;
@@ -85,7 +85,15 @@ fn check_kept(
         features: 0,
     };
     let limits = Limits::new(8_388_608, 64)?;
-    let outcome = run(alloc, &mut reader, &mut sink, limits, query);
+    let outcome = run(
+        alloc,
+        &mut reader,
+        &mut sink,
+        &mut NoReports,
+        limits,
+        query,
+        Options::new(),
+    );
     check_ended(rt, outcome.ended, End::Complete, row, kept);
     check_number(rt, sink.features, kept, row, kept);
     Ok(())

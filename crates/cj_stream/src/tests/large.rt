@@ -4,7 +4,7 @@ use super::calls::{
 };
 use super::devices::SlowReader;
 use super::rows::{FEATURE, HEADER};
-use crate::{End, Outcome, Query, WriteSink, run};
+use crate::{End, NoReports, Options, Outcome, Query, WriteSink, run};
 use cj_budget::Limits;
 use cj_spans::Reason;
 use std::alloc::Global;
@@ -84,7 +84,15 @@ fn check_keeps(
     let mut reader = SlowReader::new(&text, 8_192);
     let mut sink = WriteSink::new(Vec::new(alloc));
     let limits = Limits::new(8_388_608, 64)?;
-    let outcome = run(alloc, &mut reader, &mut sink, limits, query);
+    let outcome = run(
+        alloc,
+        &mut reader,
+        &mut sink,
+        &mut NoReports,
+        limits,
+        query,
+        Options::new(),
+    );
     check_ended(rt, outcome.ended, End::Complete, row, 0);
     check_number(rt, outcome.kept, keeps.into(), row, 1);
     Ok(())

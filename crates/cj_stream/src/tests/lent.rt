@@ -2,7 +2,9 @@
 use super::calls::{check_bytes, check_outcome, held, joined, outcome};
 use super::devices::SlowReader;
 use super::rows::{FEATURE, HEADER};
-use crate::{CountSink, End, IgnoreSink, LineSink, Outcome, Query, WriteFault, run};
+use crate::{
+    CountSink, End, IgnoreSink, LineSink, NoReports, Options, Outcome, Query, WriteFault, run,
+};
 use cj_budget::Limits;
 use cj_feature::{Feature, Header};
 use std::alloc::{AllocError, Global};
@@ -116,7 +118,15 @@ fn run_by<S: LineSink>(
     let limits = Limits::new(8_388_608, 64)?;
     let query = Query::all(alloc);
     let mut reader = SlowReader::new(text, step);
-    Ok(run(alloc, &mut reader, sink, limits, &query))
+    Ok(run(
+        alloc,
+        &mut reader,
+        sink,
+        &mut NoReports,
+        limits,
+        &query,
+        Options::new(),
+    ))
 }
 
 fn check_notes(

@@ -1,7 +1,7 @@
 //! What comes behind a header, in pieces given to its reader of lines.
 use super::calls::{check_bytes, check_ended, held, joined, refused};
 use super::rows::{FEATURE, HEADER, with_last_index};
-use crate::{End, HeaderReader, Query, WriteSink, headline_of_lines};
+use crate::{End, HeaderReader, NoReports, Options, Query, WriteSink, headline_of_lines};
 use cj_budget::{Limits, Peaks};
 use cj_spans::Reason;
 use std::alloc::Global;
@@ -35,12 +35,17 @@ fn check_cut(
     assert!(rt; at <= rest.len() && rest.len() <= 1_000);
     let query = Query::all(alloc);
     let mut sink = WriteSink::new(Vec::new(alloc));
-    let mut header = HeaderReader::open(alloc, Limits::usual(), &query)?;
+    let mut header = HeaderReader::open(alloc, Limits::usual(), &query, Options::new())?;
     give_header(rt, &mut header, &mut sink);
     assert!(rt; header.accepted());
     let mut lines = header.into_lines();
     assert!(rt; lines.taken() == 141);
-    let copied = headline_of_lines(&mut lines, &[&rest[..at], &rest[at..]], &mut sink);
+    let copied = headline_of_lines(
+        &mut lines,
+        &[&rest[..at], &rest[at..]],
+        &mut sink,
+        &mut NoReports,
+    );
     check_ended(
         rt,
         End::from(copied.ended),

@@ -2,7 +2,7 @@
 use super::calls::{check_bytes, check_ended, check_number, joined, refused};
 use super::devices::SlowReader;
 use super::rows::{FEATURE, HEADER};
-use crate::{End, Outcome, Query, QueryFault, WriteSink, run};
+use crate::{End, NoReports, Options, Outcome, Query, QueryFault, WriteSink, run};
 use cj_budget::Limits;
 use cj_spans::Reason;
 use std::alloc::Global;
@@ -11,15 +11,15 @@ use std::test::Fail;
 
 /// The parts of a query, as a user gives them.
 #[derive(Clone, Copy)]
-struct Parts<'a> {
-    ids: Option<&'a [&'a str]>,
-    types: Option<&'a [&'a str]>,
-    lods: Option<&'a [&'a str]>,
-    bounds: Option<&'a str>,
+pub struct Parts<'a> {
+    pub ids: Option<&'a [&'a str]>,
+    pub types: Option<&'a [&'a str]>,
+    pub lods: Option<&'a [&'a str]>,
+    pub bounds: Option<&'a str>,
 }
 
 /// No part is set.
-const ALL: Parts = Parts {
+pub const ALL: Parts = Parts {
     ids: None,
     types: None,
     lods: None,
@@ -27,28 +27,28 @@ const ALL: Parts = Parts {
 };
 
 /// A query by ids, by types, by LoDs and by a box.
-const fn by_ids<'a>(ids: &'a [&'a str]) -> Parts<'a> {
+pub const fn by_ids<'a>(ids: &'a [&'a str]) -> Parts<'a> {
     Parts {
         ids: Some(ids),
         ..ALL
     }
 }
 
-const fn by_types<'a>(types: &'a [&'a str]) -> Parts<'a> {
+pub const fn by_types<'a>(types: &'a [&'a str]) -> Parts<'a> {
     Parts {
         types: Some(types),
         ..ALL
     }
 }
 
-const fn by_lods<'a>(lods: &'a [&'a str]) -> Parts<'a> {
+pub const fn by_lods<'a>(lods: &'a [&'a str]) -> Parts<'a> {
     Parts {
         lods: Some(lods),
         ..ALL
     }
 }
 
-const fn by_box(bounds: &str) -> Parts<'_> {
+pub const fn by_box(bounds: &str) -> Parts<'_> {
     Parts {
         bounds: Some(bounds),
         ..ALL
@@ -80,7 +80,7 @@ fn set_lods(query: &mut Query, lods: &[&str]) -> Result<(), QueryFault> {
 }
 
 /// The query of these parts.
-fn query_of(alloc: Global, parts: &Parts) -> Result<Query, QueryFault> {
+pub fn query_of(alloc: Global, parts: &Parts) -> Result<Query, QueryFault> {
     let mut query = Query::all(alloc);
     if let Some(ids) = parts.ids {
         set_ids(&mut query, ids)?;
@@ -101,7 +101,15 @@ fn query_of(alloc: Global, parts: &Parts) -> Result<Query, QueryFault> {
 fn kept_of(alloc: Global, text: &[u8], limits: Limits, query: &Query) -> (Outcome, Vec<u8>) {
     let mut reader = SlowReader::new(text, 8_192);
     let mut sink = WriteSink::new(Vec::new(alloc));
-    let outcome = run(alloc, &mut reader, &mut sink, limits, query);
+    let outcome = run(
+        alloc,
+        &mut reader,
+        &mut sink,
+        &mut NoReports,
+        limits,
+        query,
+        Options::new(),
+    );
     (outcome, sink.into_inner())
 }
 
@@ -119,9 +127,12 @@ const USUAL: Pair = Pair {
 
 /// A feature of a building with geometries of two LoDs, a road with one of a third, and a lake with none. Its
 /// vertices reach as far as those of the usual feature.
+pub const SEVERAL: &[u8] =
+    b"{\"type\":\"CityJSONFeature\",\"id\":\"b1\",\"CityObjects\":{\"b1\":{\"type\":\"Building\",\"geometry\":[{\"type\":\"MultiPoint\",\"lod\":\"1\",\"boundaries\":[0]},{\"type\":\"MultiPoint\",\"lod\":\"1.2\",\"boundaries\":[1]}]},\"r1\":{\"type\":\"Road\",\"geometry\":[{\"type\":\"MultiPoint\",\"lod\":\"2.2\",\"boundaries\":[2]}]},\"w1\":{\"type\":\"WaterBody\"}},\"vertices\":[[0,0,0],[1000,500,0],[500,1000,0]]}";
+
 const MIXED: Pair = Pair {
     header: HEADER,
-    feature: b"{\"type\":\"CityJSONFeature\",\"id\":\"b1\",\"CityObjects\":{\"b1\":{\"type\":\"Building\",\"geometry\":[{\"type\":\"MultiPoint\",\"lod\":\"1\",\"boundaries\":[0]},{\"type\":\"MultiPoint\",\"lod\":\"1.2\",\"boundaries\":[1]}]},\"r1\":{\"type\":\"Road\",\"geometry\":[{\"type\":\"MultiPoint\",\"lod\":\"2.2\",\"boundaries\":[2]}]},\"w1\":{\"type\":\"WaterBody\"}},\"vertices\":[[0,0,0],[1000,500,0],[500,1000,0]]}",
+    feature: SEVERAL,
 };
 
 /// Runs over a header and a feature, of which the feature has to be kept or not.

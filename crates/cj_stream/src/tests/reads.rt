@@ -2,7 +2,7 @@
 use super::calls::{check_bytes, check_ended, check_number, joined, refused};
 use super::devices::{EndlessReader, SlowReader};
 use super::rows::{FEATURE, HEADER};
-use crate::{End, Outcome, Query, WriteSink, run_within};
+use crate::{End, NoReports, Options, Outcome, Query, WriteSink, run_within};
 use cj_budget::Limits;
 use cj_spans::Reason;
 use std::alloc::Global;
@@ -20,7 +20,16 @@ fn run_by<R: Read>(
 ) -> (Outcome, Vec<u8>) {
     let mut sink = WriteSink::new(Vec::new(alloc));
     assert!(rt; reads <= 1_000_000);
-    let outcome = run_within(alloc, reader, &mut sink, limits, &Query::all(alloc), reads);
+    let outcome = run_within(
+        alloc,
+        reader,
+        &mut sink,
+        &mut NoReports,
+        limits,
+        &Query::all(alloc),
+        Options::new(),
+        reads,
+    );
     (outcome, sink.into_inner())
 }
 

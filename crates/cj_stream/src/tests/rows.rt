@@ -1,9 +1,12 @@
 //! Worked rows: inputs, what is written of them, and how they end.
 use super::calls::{
-    check_bytes, check_ended, check_outcome, copied, held, joined, outcome, refused,
+    check_bytes, check_ended, check_number, check_outcome, copied, held, joined, outcome, refused,
 };
 use super::devices::SlowReader;
-use crate::{End, Engine, Outcome, Query, WriteSink, headline, laws, row_laws};
+use crate::{
+    CountReports, End, Engine, NoReports, Options, Outcome, Query, WriteSink, headline, laws,
+    row_laws,
+};
 use cj_budget::{Limits, Peaks};
 use cj_spans::Reason;
 use std::alloc::Global;
@@ -62,11 +65,13 @@ fn check_cut(
     assert!(rt; text.len() <= 1_000);
     let query = Query::all(alloc);
     let mut sink = WriteSink::new(Vec::new(alloc));
+    let mut reports = CountReports { reports: 0 };
     let pieces = [&text[..at], &text[at..]];
-    let Ok(mut engine) = Engine::open(alloc, limits, &query) else {
+    let Ok(mut engine) = Engine::open(alloc, limits, &query, Options::new()) else {
         panic!(rt; "no memory to open");
     };
-    let copied = headline(&mut engine, &pieces, &mut sink);
+    let copied = headline(&mut engine, &pieces, &mut sink, &mut reports);
+    check_number(rt, reports.reports, 0, wanted.name, at as u64);
     let told = outcome(engine.lines(), engine.kept(), copied.peaks, copied.ended);
     check_outcome(rt, told, wanted.outcome, wanted.name, at as u64);
     let written = sink.into_inner();
@@ -97,10 +102,12 @@ fn no_line_at_all(rt: HostRuntime) -> Result<(), Fail> {
     check_every_cut(&rt, rt.alloc(), b"", limits, &wanted);
     laws::lines_are_the_lines(b"");
     laws::good_lines_are_the_longest(b"");
+    laws::good_lines_are_all_or_none();
+    laws::first_invalid_line_is_the_end();
     laws::good_lines_are_kept();
     laws::puts_are_counted();
     laws::puts_are_tallied();
-    laws::puts_are_written::<Vec<u8>>();
+    laws::puts_are_written::<Vec<u8>, NoReports>();
     row_laws::rows_compute();
     row_laws::boxes_compute();
     row_laws::bounds_compute();

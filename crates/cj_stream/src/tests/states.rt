@@ -5,8 +5,8 @@ use super::calls::{
 };
 use super::rows::{FEATURE, HEADER, SMALL, Wanted, with_last_index};
 use crate::{
-    End, Engine, HeaderEnd, HeaderReader, LineEnd, LineReader, LineSink, Outcome, Progress, Query,
-    WriteSink,
+    End, Engine, HeaderEnd, HeaderReader, LineEnd, LineReader, LineSink, NoReports, Options,
+    Outcome, Progress, Query, WriteSink,
 };
 use cj_budget::Limits;
 use cj_spans::Reason;
@@ -34,7 +34,7 @@ pub fn feed_lines<S: LineSink>(
     sink: &mut S,
 ) -> Result<(), LineEnd> {
     assert!(rt; lines.taken() <= 1_000_000 && piece.len() <= 1_000_000);
-    lines.feed(piece, sink)
+    lines.feed(piece, sink, &mut NoReports)
 }
 
 /// Ends a stream whose header was not accepted.
@@ -81,7 +81,7 @@ fn to_the_end<S: LineSink>(
             return end;
         }
     }
-    lines.finish(sink)
+    lines.finish(sink, &mut NoReports)
 }
 
 /// Gives what is left of the pieces behind a header to the reader of lines, and the end.
@@ -138,7 +138,7 @@ fn check_pieces(
 ) -> Result<(), Fail> {
     let query = Query::all(alloc);
     let mut sink = WriteSink::new(Vec::new(alloc));
-    let header = HeaderReader::open(alloc, limits, &query)?;
+    let header = HeaderReader::open(alloc, limits, &query, Options::new())?;
     let told = by_states(rt, header, pieces, &mut sink);
     check_outcome(rt, told, wanted.outcome, wanted.name, at);
     check_bytes(rt, &sink.into_inner(), wanted.written, wanted.name, at);
@@ -226,7 +226,7 @@ fn a_line_too_long_by_states(rt: HostRuntime) -> Result<(), Fail> {
     let text = joined(rt.alloc(), &[&written, FEATURE, b" \n"])?;
     let query = Query::all(rt.alloc());
     let mut sink = WriteSink::new(Vec::new(rt.alloc()));
-    let header = HeaderReader::open(rt.alloc(), Limits::new(210, 64)?, &query)?;
+    let header = HeaderReader::open(rt.alloc(), Limits::new(210, 64)?, &query, Options::new())?;
     let told = by_states(&rt, header, &[&text], &mut sink);
     check_ended(
         &rt,
@@ -253,7 +253,7 @@ pub fn check_progress(
 fn a_piece_that_begins_with_lf(rt: HostRuntime) -> Result<(), Fail> {
     let query = Query::all(rt.alloc());
     let mut sink = WriteSink::new(Vec::new(rt.alloc()));
-    let mut header = HeaderReader::open(rt.alloc(), Limits::usual(), &query)?;
+    let mut header = HeaderReader::open(rt.alloc(), Limits::usual(), &query, Options::new())?;
     check_progress(
         &rt,
         feed_header(&rt, &mut header, HEADER, &mut sink),
@@ -278,7 +278,7 @@ fn a_piece_whose_rest_is_refused(rt: HostRuntime) -> Result<(), Fail> {
     let query = Query::all(rt.alloc());
     let text = joined(rt.alloc(), &[HEADER, b"\n{}\n"])?;
     let mut sink = WriteSink::new(Vec::new(rt.alloc()));
-    let mut header = HeaderReader::open(rt.alloc(), Limits::usual(), &query)?;
+    let mut header = HeaderReader::open(rt.alloc(), Limits::usual(), &query, Options::new())?;
     check_progress(
         &rt,
         feed_header(&rt, &mut header, &text, &mut sink),
@@ -290,7 +290,7 @@ fn a_piece_whose_rest_is_refused(rt: HostRuntime) -> Result<(), Fail> {
     let wanted = refused(2, 0, Reason::MissingMember);
     check_ended(&rt, End::from(end), wanted, "the rest", 0);
     check_number(&rt, lines.taken(), 141, "taken by lines", 0);
-    let mut engine = Engine::open(rt.alloc(), Limits::usual(), &query)?;
+    let mut engine = Engine::open(rt.alloc(), Limits::usual(), &query, Options::new())?;
     check_feed(&rt, &mut engine, &text, &mut sink, Err(wanted));
     check_number(&rt, engine.taken(), 0, "taken by the engine", 0);
     Ok(())

@@ -2,7 +2,7 @@
 use super::calls::{check_bytes, joined};
 use super::devices::SlowReader;
 use super::rows::FEATURE;
-use crate::{Engine, LineSink, Query, TallySink, WriteFault, put_pieces, run};
+use crate::{Engine, LineSink, NoReports, Options, Query, TallySink, WriteFault, put_pieces, run};
 use cj_budget::Limits;
 use cj_feature::{Feature, Header};
 use std::alloc::{AllocError, Global};
@@ -149,9 +149,9 @@ fn check_cut(rt: &impl Abort, alloc: Global, text: &[u8], at: usize) -> Result<(
     let limits = Limits::new(8_388_608, 64)?;
     let query = Query::all(alloc);
     let pieces = [&text[..at], &text[at..]];
-    let mut engine = Engine::open(alloc, limits, &query)?;
+    let mut engine = Engine::open(alloc, limits, &query, Options::new())?;
     let mut tally = TallySink::new();
-    let _ = put_pieces(&mut engine, &pieces, &mut tally);
+    let _ = put_pieces(&mut engine, &pieces, &mut tally, &mut NoReports);
     let told = report(alloc, &tally)?;
     check_bytes(rt, told.as_bytes(), TALLY.as_bytes(), "pieces", at as u64);
     Ok(())
@@ -164,7 +164,15 @@ fn a_stream_is_tallied(rt: HostRuntime) -> Result<(), Fail> {
     let query = Query::all(rt.alloc());
     let mut reader = SlowReader::new(&text, 100);
     let mut tally = TallySink::new();
-    let _ = run(rt.alloc(), &mut reader, &mut tally, limits, &query);
+    let _ = run(
+        rt.alloc(),
+        &mut reader,
+        &mut tally,
+        &mut NoReports,
+        limits,
+        &query,
+        Options::new(),
+    );
     let told = report(rt.alloc(), &tally)?;
     check_bytes(&rt, told.as_bytes(), TALLY.as_bytes(), "stream", 0);
     Ok(())
@@ -195,7 +203,15 @@ fn city_objects_are_tallied_by_type(rt: HostRuntime) -> Result<(), Fail> {
         notes: String::new(rt.alloc()),
         lost: false,
     };
-    let _ = run(rt.alloc(), &mut reader, &mut sink, limits, &query);
+    let _ = run(
+        rt.alloc(),
+        &mut reader,
+        &mut sink,
+        &mut NoReports,
+        limits,
+        &query,
+        Options::new(),
+    );
     assert!(&rt; !sink.lost);
     check_bytes(&rt, sink.notes.as_bytes(), TYPES.as_bytes(), "types", 0);
     Ok(())

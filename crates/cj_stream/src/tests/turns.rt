@@ -5,8 +5,8 @@ use super::states::{
     behind_header, check_progress, feed_header, feed_lines, finish_header, turned, until_accepted,
 };
 use crate::{
-    CountSink, Engine, HeaderEnd, HeaderReader, LineEnd, LineReader, LineSink, Query, WriteSink,
-    put_pieces,
+    CountSink, Engine, HeaderEnd, HeaderReader, LineEnd, LineReader, LineSink, NoReports, Options,
+    Query, WriteSink, put_pieces,
 };
 use cj_budget::{Limits, Peaks};
 use cj_spans::Reason;
@@ -69,7 +69,7 @@ fn check_lines_finish<S: LineSink>(
     sink: &mut S,
     end: LineEnd,
 ) {
-    assert_eq!(rt; lines.finish(sink), end);
+    assert_eq!(rt; lines.finish(sink, &mut NoReports), end);
 }
 
 /// Compares what the reader of a header counts.
@@ -77,6 +77,7 @@ fn check_header_counts(rt: &impl Abort, header: &HeaderReader, taken: u64, lines
     check_number(rt, header.taken(), taken, "taken of a header", taken);
     check_number(rt, header.lines(), lines, "lines of a header", taken);
     check_number(rt, header.kept(), 0, "kept of a header", taken);
+    check_number(rt, header.refused(), 0, "refused of a header", taken);
 }
 
 /// Compares what the reader of lines counts.
@@ -84,6 +85,7 @@ fn check_lines_counts(rt: &impl Abort, reader: &LineReader, taken: u64, lines: u
     check_number(rt, reader.taken(), taken, "taken of lines", taken);
     check_number(rt, reader.lines(), lines, "lines", taken);
     check_number(rt, reader.kept(), kept, "kept of lines", taken);
+    check_number(rt, reader.refused(), 0, "refused of lines", taken);
 }
 
 /// Compares what the reader of a header holds.
@@ -134,7 +136,7 @@ fn both_states_tell_what_they_hold(rt: HostRuntime) -> Result<(), Fail> {
         headers: 0,
         features: 0,
     };
-    let mut header = HeaderReader::open(rt.alloc(), Limits::usual(), &query)?;
+    let mut header = HeaderReader::open(rt.alloc(), Limits::usual(), &query, Options::new())?;
     take_header(&rt, &mut header, &mut sink);
     let mut lines = turned(&rt, header);
     take_feature(&rt, &mut lines, &mut sink);
@@ -148,7 +150,7 @@ fn a_piece_that_ends_with_lf(rt: HostRuntime) -> Result<(), Fail> {
     let query = Query::all(rt.alloc());
     let piece = joined(rt.alloc(), &[HEADER, b"\n"])?;
     let mut sink = WriteSink::new(Vec::new(rt.alloc()));
-    let mut header = HeaderReader::open(rt.alloc(), Limits::usual(), &query)?;
+    let mut header = HeaderReader::open(rt.alloc(), Limits::usual(), &query, Options::new())?;
     check_progress(
         &rt,
         feed_header(&rt, &mut header, &piece, &mut sink),
@@ -180,7 +182,7 @@ fn take_header_alone<S: LineSink>(rt: &impl Abort, header: &mut HeaderReader, si
 fn a_header_without_lf_stays_the_end(rt: HostRuntime) -> Result<(), Fail> {
     let query = Query::all(rt.alloc());
     let mut sink = WriteSink::new(Vec::new(rt.alloc()));
-    let mut header = HeaderReader::open(rt.alloc(), Limits::usual(), &query)?;
+    let mut header = HeaderReader::open(rt.alloc(), Limits::usual(), &query, Options::new())?;
     take_header_alone(&rt, &mut header, &mut sink);
     check_bytes(&rt, &sink.into_inner(), HEADER, "a header alone", 0);
     Ok(())
@@ -209,7 +211,7 @@ fn an_end_of_a_header_stays_the_end(rt: HostRuntime) -> Result<(), Fail> {
     let query = Query::all(rt.alloc());
     let text = joined(rt.alloc(), &[FEATURE, b"\n", FEATURE, b"\n"])?;
     let mut sink = WriteSink::new(Vec::new(rt.alloc()));
-    let mut header = HeaderReader::open(rt.alloc(), Limits::usual(), &query)?;
+    let mut header = HeaderReader::open(rt.alloc(), Limits::usual(), &query, Options::new())?;
     let end = HeaderEnd::Refused {
         line: 1,
         place: 0,
@@ -244,7 +246,7 @@ fn an_end_of_lines_stays_the_end(rt: HostRuntime) -> Result<(), Fail> {
     assert_eq!(rt; text.len(), 774);
     let query = Query::all(rt.alloc());
     let mut sink = WriteSink::new(Vec::new(rt.alloc()));
-    let mut header = HeaderReader::open(rt.alloc(), Limits::usual(), &query)?;
+    let mut header = HeaderReader::open(rt.alloc(), Limits::usual(), &query, Options::new())?;
     check_progress(
         &rt,
         feed_header(&rt, &mut header, &text, &mut sink),
@@ -289,7 +291,7 @@ fn an_end_of_lines_stays_by_single_bytes(rt: HostRuntime) -> Result<(), Fail> {
     assert_eq!(rt; text.len(), 774);
     let query = Query::all(rt.alloc());
     let mut sink = WriteSink::new(Vec::new(rt.alloc()));
-    let mut header = HeaderReader::open(rt.alloc(), Limits::usual(), &query)?;
+    let mut header = HeaderReader::open(rt.alloc(), Limits::usual(), &query, Options::new())?;
     take_header_by_bytes(&rt, &mut header, &mut sink);
     let mut lines = turned(&rt, header);
     take_lines_by_bytes(&rt, &mut lines, &text[141..], &mut sink, 562 - 141, THIRD);
@@ -305,7 +307,7 @@ fn taken_by_states(rt: &impl Abort, alloc: Global, pieces: &[&[u8]]) -> Result<u
         headers: 0,
         features: 0,
     };
-    let mut header = HeaderReader::open(alloc, Limits::usual(), &query)?;
+    let mut header = HeaderReader::open(alloc, Limits::usual(), &query, Options::new())?;
     match until_accepted(rt, &mut header, pieces, &mut sink) {
         Ok(Some((at, used))) => {
             let mut lines = turned(rt, header);
@@ -326,8 +328,8 @@ fn taken_by_engine(rt: &impl Abort, alloc: Global, text: &[u8], at: usize) -> Re
         features: 0,
     };
     let pieces = [&text[..at], &text[at..]];
-    let mut engine = Engine::open(alloc, Limits::usual(), &query)?;
-    put_pieces(&mut engine, &pieces, &mut sink);
+    let mut engine = Engine::open(alloc, Limits::usual(), &query, Options::new())?;
+    put_pieces(&mut engine, &pieces, &mut sink, &mut NoReports);
     Ok(engine.taken())
 }
 

@@ -1,11 +1,13 @@
 //! The vectors of the folder `vectors/`, each whole, by single bytes, and cut in two at every place: two families, a feature cut
 //! short and one with a byte that is no UTF-8, at each place, and all others, which `table` has.
-use super::calls::{check_bytes, check_outcome};
+use super::calls::{check_bound, check_bytes, check_ended, check_outcome};
 use super::devices::{CutReader, SlowReader};
+use super::reports::going;
 use super::rows::{FEATURE, HEADER};
-use crate::{End, Outcome, Query, WriteSink, run};
-use cj_budget::{Limits, Peaks};
-use memchr::memchr;
+use crate::{
+    End, IgnoreSink, NoReports, Options, Outcome, Query, Report, ReportSink, WriteSink, run,
+};
+use cj_budget::Limits;
 use std::alloc::{AllocError, Global};
 use std::io::Read;
 use std::process::Abort;
@@ -48,16 +50,6 @@ fn told(alloc: Global, outcome: Outcome) -> Result<String, AllocError> {
     }
 }
 
-/// What was held at most is within what the first line and the limits allow.
-fn check_held(rt: &impl Abort, vector: &Vector, peaks: Peaks) {
-    let (line, depth) = (vector.limits.line(), vector.limits.depth());
-    let first = memchr(b'\n', vector.text).unwrap_or(vector.text.len());
-    let header = (first as u64).min(line);
-    assert!(rt; peaks.bytes <= header + line);
-    assert!(rt; peaks.tokens <= (header + line + depth) / 2 + 1);
-    assert!(rt; peaks.depth <= depth);
-}
-
 /// Runs over what a reader gives of a vector, which is cut at this place.
 fn run_over<R: Read>(
     rt: &impl Abort,
@@ -67,8 +59,16 @@ fn run_over<R: Read>(
     at: u64,
 ) -> Outcome {
     let mut sink = WriteSink::new(Vec::new(alloc));
-    let outcome = run(alloc, reader, &mut sink, vector.limits, vector.query);
-    check_held(rt, vector, outcome.peaks);
+    let outcome = run(
+        alloc,
+        reader,
+        &mut sink,
+        &mut NoReports,
+        vector.limits,
+        vector.query,
+        Options::new(),
+    );
+    check_bound(rt, vector.text, vector.limits, outcome.peaks);
     check_bytes(rt, &sink.into_inner(), vector.written, vector.name, at);
     outcome
 }
@@ -90,12 +90,68 @@ fn check_cut(rt: &impl Abort, alloc: Global, vector: &Vector, at: usize, first: 
     check_outcome(rt, got, wanted, vector.name, at as u64);
 }
 
+/// Keeps the first report.
+#[derive(Drop)]
+struct FirstReport {
+    report: Option<Report>,
+}
+
+impl ReportSink for FirstReport {
+    ghost use Rattle.std.specs.Prelude.{⊤};
+
+    ghost notes = { λ a r b. ⊤ };
+
+    fn report(&mut self, report: Report) {
+        self.report = self.report.or(Some(report));
+    }
+}
+
+/// How a stream ends where reading goes on, and its first report, by its end where reading does not: that is the report, unless
+/// it is of the first line.
+fn going_on(ended: End) -> (End, Option<Report>) {
+    match ended {
+        End::Refused {
+            line,
+            place,
+            reason,
+        } if line > 1 => (
+            End::Complete,
+            Some(Report {
+                line,
+                place,
+                reason,
+            }),
+        ),
+        ended => (ended, None),
+    }
+}
+
+/// A vector whose refused lines reading goes on after.
+fn check_going(rt: &impl Abort, alloc: Global, vector: &Vector, ended: End) {
+    let (wanted, report) = going_on(ended);
+    let mut reader = SlowReader::new(vector.text, 7);
+    let mut reports = FirstReport { report: None };
+    let outcome = run(
+        alloc,
+        &mut reader,
+        &mut IgnoreSink,
+        &mut reports,
+        vector.limits,
+        vector.query,
+        going(),
+    );
+    check_bound(rt, vector.text, vector.limits, outcome.peaks);
+    check_ended(rt, outcome.ended, wanted, vector.name, SINGLE_BYTES);
+    assert_eq!(rt; reports.report, report, "{}", vector.name);
+}
+
 /// A vector in every way.
 fn check(rt: &impl Abort, alloc: Global, vector: &Vector) -> Result<(), Fail> {
     let mut reader = SlowReader::new(vector.text, 1);
     let first = run_over(rt, alloc, vector, &mut reader, SINGLE_BYTES);
     let told = told(alloc, first)?;
     assert_eq!(rt; told.as_str(), vector.told, "{}", vector.name);
+    check_going(rt, alloc, vector, first.ended);
     for at in 0..=vector.text.len() {
         check_cut(rt, alloc, vector, at, first);
     }

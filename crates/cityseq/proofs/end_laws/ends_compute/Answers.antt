@@ -8,4 +8,5 @@ returns c = record {
   failed = λ e f. refl;
   good = λ e. refl;
   lines = ((refl, refl), (refl, refl), (refl, refl), (refl, refl), (refl, refl), (refl, refl), (refl, refl));
+  refused = (refl, refl, refl, refl, refl, refl, refl, λ e. refl);
 }

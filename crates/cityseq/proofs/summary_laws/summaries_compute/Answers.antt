@@ -5,4 +5,4 @@ use Rattle.cityseq.proofs.summary_laws.summaries_compute.Goals as goal
 
 pub returns : goal.returns
 unfolding object_types digits
-returns c = record { buildings = refl; nothing = refl; underground = refl; check = refl }
+returns c = record { buildings = refl; nothing = refl; underground = refl; check = (refl, refl) }

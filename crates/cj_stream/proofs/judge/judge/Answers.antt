@@ -1,15 +1,16 @@
-use Rattle.std.proofs.Common.{rules, ◌≡◌, false, sym, subst, ◌∙◌, ap, Err}
+use Rattle.std.proofs.Common.{rules, ◌≡◌, false, refl, sym, subst, ◌∙◌, ap, Err}
 use Rattle.std.specs.Prelude.{◌&&◌, nat_lt, IsUtf8}
 use Rattle.std.specs.List.{list_all}
 use Rattle.cj_spans.specs.Json.{Json}
 use Rattle.cj_spans.proofs.Judgements.{judgement}
-use Rattle.std.specs.Str.{IsValidUpTo}
-use Rattle.std.proofs.lemmas.Str.{utf8_valid_len-IsValidUpTo, is_utf8-from_IsUtf8}
+use Rattle.std.specs.Str.{IsValidUpTo, is_utf8}
+use Rattle.std.proofs.lemmas.Str.{utf8_valid_len-IsValidUpTo, is_utf8-from_IsUtf8, IsUtf8-from_is_utf8}
 use Rattle.cj_spans.specs.declared.fault.LineFault.TheVariants.{Syntax, TooDeep}
 use Rattle.cj_spans.specs.declared.reason.Reason.TheVariants.{NotUtf8}
 use Rattle.cj_stream.specs.Verdict.{Refuse, is_blank_byte}
 use Rattle.cj_stream.proofs.VerdictLemmas.{verdict-bytes, verdict-blank, verdict-json}
-use Rattle.cj_stream.proofs.JudgeLemmas.{ok-tree, ok-verdict, syntax-refused, deep-refused, not_text, syntax-text, deep-text}
+use Rattle.cj_stream.proofs.JudgeLemmas.{ok-tree, ok-verdict, syntax-refused, deep-refused, not_text, syntax-text, deep-text, syntax-unspelled, deep-unspelled}
+use Rattle.cj_stream.proofs.LineLemmas.{not_true}
 use Rattle.cj_stream.proofs.judge.judge.Goals as goal
 
 pub returns-then-is_blank-clause-says : goal.returns-then-is_blank-clause-says
@@ -61,3 +62,26 @@ returns-in-Err-TooDeep-clause-says c = λ rules header le same.
     let text : IsUtf8 c.args.content.now = c.scan_reserved.ensures.utf8 (deep-text c.scan_reserved.result c.in-Err-TooDeep.place is) in
     let answer = rw is at (c.scan_reserved.ensures.judged (judgement c.args.content.now c.args.opened.now.limit) text) in
     rw (verdict-json rules c.args.number header c.args.content.now le text not_blank, same) (deep-refused rules c.args.number header (judgement c.args.content.now c.args.opened.now.limit) c.in-Err-TooDeep.place answer)
+
+pub returns-in-Err-NotUtf8-clause-unreadable : goal.returns-in-Err-NotUtf8-clause-unreadable
+returns-in-Err-NotUtf8-clause-unreadable c =
+    let not_blank : nat_lt 1 c.args.number && list_all is_blank_byte c.args.content.now ≡ false = sym c.is_blank.ensures ∙ c.if-is_blank.false in
+    let place : IsValidUpTo c.args.content.now c.in-Err-NotUtf8.place = (c.scan_reserved.ensures.not_utf8 c.in-Err-NotUtf8.place).0 (c.in-Err-NotUtf8.is ∙ ap Err c.in-Err-NotUtf8.field-0-is) in
+    let bytes : is_utf8 c.args.content.now ≡ false = not_true (is_utf8 c.args.content.now) (λ y. not_text c.args.content.now c.in-Err-NotUtf8.place place (IsUtf8-from_is_utf8 c.args.content.now y)) in
+    (not_blank, rw bytes refl)
+
+pub returns-in-Err-Syntax-clause-unreadable : goal.returns-in-Err-Syntax-clause-unreadable
+returns-in-Err-Syntax-clause-unreadable c =
+    let not_blank : nat_lt 1 c.args.number && list_all is_blank_byte c.args.content.now ≡ false = sym c.is_blank.ensures ∙ c.if-is_blank.false in
+    let is : c.scan_reserved.result ≡ Err (Syntax c.in-Err-Syntax.place) = c.in-Err-Syntax.is ∙ ap Err c.in-Err-Syntax.field-0-is in
+    let text : IsUtf8 c.args.content.now = c.scan_reserved.ensures.utf8 (syntax-text c.scan_reserved.result c.in-Err-Syntax.place is) in
+    let answer = rw is at (c.scan_reserved.ensures.judged (judgement c.args.content.now c.args.opened.now.limit) text) in
+    (not_blank, rw (is_utf8-from_IsUtf8 c.args.content.now text) (syntax-unspelled (judgement c.args.content.now c.args.opened.now.limit) c.in-Err-Syntax.place answer))
+
+pub returns-in-Err-TooDeep-clause-unreadable : goal.returns-in-Err-TooDeep-clause-unreadable
+returns-in-Err-TooDeep-clause-unreadable c =
+    let not_blank : nat_lt 1 c.args.number && list_all is_blank_byte c.args.content.now ≡ false = sym c.is_blank.ensures ∙ c.if-is_blank.false in
+    let is : c.scan_reserved.result ≡ Err (TooDeep c.in-Err-TooDeep.place) = c.in-Err-TooDeep.is ∙ ap Err c.in-Err-TooDeep.field-0-is in
+    let text : IsUtf8 c.args.content.now = c.scan_reserved.ensures.utf8 (deep-text c.scan_reserved.result c.in-Err-TooDeep.place is) in
+    let answer = rw is at (c.scan_reserved.ensures.judged (judgement c.args.content.now c.args.opened.now.limit) text) in
+    (not_blank, rw (is_utf8-from_IsUtf8 c.args.content.now text) (deep-unspelled (judgement c.args.content.now c.args.opened.now.limit) c.in-Err-TooDeep.place answer))

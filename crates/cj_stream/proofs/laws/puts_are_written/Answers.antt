@@ -9,9 +9,9 @@ pub returns-clause-runs : goal.returns-clause-runs
 returns-clause-runs g c = λ rules r e a b puts. Writes-puts (λ o. g.W.Write.contents (output_writer o)) rules r a b e puts
 
 pub returns-clause-headline : goal.returns-clause-headline
-returns-clause-headline g c = λ run left a b runs cause.
-    Headline-run run (IsAtEnd left) (channel g.W.Write.contents a) (channel g.W.Write.contents b) runs.account
-    (Writes-puts (λ o. g.W.Write.contents (output_writer o)) run.rules run.read a b run.outcome.ended runs.puts) cause
+returns-clause-headline g c = λ run left a b n m runs noting cause.
+    Headline-run g.N.ReportSink.notes run (IsAtEnd left) (channel g.W.Write.contents a) (channel g.W.Write.contents b) n m runs.account
+    (Writes-puts (λ o. g.W.Write.contents (output_writer o)) run.rules run.read a b run.outcome.ended runs.puts) noting.noted cause
 
 pub returns-clause-pieces : goal.returns-clause-pieces
 returns-clause-pieces g c = λ rules pieces n e a b puts. Copies-puts (λ o. g.W.Write.contents (output_writer o)) rules pieces n a b e puts

@@ -12,6 +12,7 @@ returns g c = record {
       let puts = c.put_lines.ensures.puts p st in
       record {
         writes = λ h. Took-appends (λ s. g.W.Write.contents (output_writer s)) c.args.sink.now c.put_lines.new.sink (kept_after (rules_of c.args.reader.now) (lines_of c.args.reader.now) (p ++ joined (map (λ piece. piece.now) c.args.pieces.now))) (puts.took h);
+        gives = (c.put_lines.ensures.notes p st).noted;
         ends = puts.ends;
         cause = c.put_lines.ensures.cause;
         held = puts.held;

@@ -5,6 +5,7 @@ use Rattle.cj_stream.specs.Run.{outcome_of}
 use Rattle.cj_stream.specs.Cut.{joined}
 use Rattle.cj_stream.proofs.JoinedLemmas.{joined-more, joined-short, joined-all}
 use Rattle.cj_stream.proofs.CutLemmas.{TookWhole-left, EndsAt-told, EndsAt-concludes}
+use Rattle.cj_stream.proofs.NoteLemmas.{Notes-then, Notes-more, Noting-told, noted-none}
 use Rattle.cj_stream.proofs.OutputLemmas.{Runs-told}
 use Rattle.cj_stream.proofs.RunLemmas.{Delivers-then, kept_first-same, Ends-finished, Ends-fed, HasRisen-after, refused-sink, told-not_complete}
 use Rattle.cj_stream.proofs.pieces.feed_all.Goals as goal
@@ -84,6 +85,8 @@ loop-taken-preserved g c =
           rw more (Delivers-then g.S.LineSink.takes g.S.LineSink.leaves _ r (r ++ piece.now) _ _ _ _ _ _ (kept_first-same _ (lines_of c.loop-taken.engine) r piece.now (i.2.going i.0).0.lines) i.3 y),
       omega (arith, i.4, c.feed.ensures.feeds.counts),
       let x = (c.in_default.ensures.feeds.going r i.2).good in rw more (rw (c.feed.ensures.feeds.rules, i.1) at x),
+      let x = c.feed.ensures.reports r i.2 i.0 in
+          rw more (Notes-then g.N.ReportSink.notes _ (r ++ piece.now) 0 _ _ _ _ _ (Notes-more g.N.ReportSink.notes _ r piece.now _ _ _ (i.2.going i.0).0.lines i.6) (rw i.1 at x)),
     )
 
 pub returns-clause-fed : goal.returns-clause-fed
@@ -150,12 +153,43 @@ returns-clause-taken g c =
 pub returns-clause-cause : goal.returns-clause-cause
 returns-clause-cause g c = λ e. HasRisen-after _ _ _ c.loop-taken.invariant.4 (c.finish-ended.ensures.finished.cause c.loop-taken.invariant.0 e)
 
+pub returns-in-Err-clause-noting : goal.returns-in-Err-clause-noting
+returns-in-Err-clause-noting g c =
+    let i = c.loop-taken.invariant in
+    let k = c.loop-taken.taken in
+    let piece = get_or c.args.pieces.now c.loop-taken.taken (record { ref_ptr = (0, 0); now = [] }) in
+    let r = joined (take k (map (λ piece. piece.now) c.args.pieces.now)) in
+    let more = joined-more (λ piece. piece.now) c.args.pieces.now k (record { ref_ptr = (0, 0); now = [] }) (omega arith) in
+    let stands = c.feed.ensures.feeds.stands r i.2 in
+    rw more (Noting-told g.N.ReportSink.notes (record { rules = rules_of c.args.engine.now; read = r ++ piece.now; outcome = outcome_of c.feed.new.self c.in-Err.ended }) (Unit {0}) c.args.reports.now c.feed.new.reports
+    (let x = stands.counts.good in rw (i.0, c.feed.ensures.feeds.rules, i.1) at x)
+    (Ends-fed _ (r ++ piece.now) _ (Unit {0}) c.in-Err.ended (let x = c.in-Err.ensures.feeds.told r i.2 i.0 in rw i.1 at x))
+    (λ h. (c.feed.ensures.feeds.memory r i.2 i.0 (c.in-Err.is ∙ ap Err h)).0.none)
+    (let x = c.feed.ensures.reports r i.2 i.0 in
+    Notes-then g.N.ReportSink.notes _ (r ++ piece.now) 0 _ _ _ _ _ (Notes-more g.N.ReportSink.notes _ r piece.now _ _ _ (i.2.going i.0).0.lines i.6) (rw i.1 at x)))
+
+pub returns-clause-noting : goal.returns-clause-noting
+returns-clause-noting g c =
+    let i = c.loop-taken.invariant in
+    let k = c.loop-taken.taken in
+    let pieces = map (λ piece. piece.now) c.args.pieces.now in
+    let r = joined (take k (map (λ piece. piece.now) c.args.pieces.now)) in
+    let all = joined-all k pieces (omega (arith, length-map c.args.pieces.now (λ piece. piece.now))) in
+    let given = joined-all (length c.args.pieces.now + 1) pieces (omega (arith, length-map c.args.pieces.now (λ piece. piece.now))) in
+    let same : joined (take (length c.args.pieces.now + 1) (map (λ piece. piece.now) c.args.pieces.now)) ≡ joined (take k (map (λ piece. piece.now) c.args.pieces.now)) = given ∙ sym all in
+    let stands = c.finish-ended.ensures.finished.stands r i.2 in
+    rw same (Noting-told g.N.ReportSink.notes (record { rules = rules_of c.args.engine.now; read = r; outcome = outcome_of c.finish-ended.new.self c.finish-ended.result }) (Unit {0}) c.args.reports.now c.finish-ended.new.reports
+    (let x = stands.counts.good in rw (c.finish-ended.ensures.finished.rules, i.1) at x)
+    (Ends-finished _ r _ (Unit {0}) c.finish-ended.result tt (let x = c.finish-ended.ensures.finished.concludes r i.2 i.0 in rw i.1 at x))
+    (λ h. absurd (c.finish-ended.ensures.finished.memory i.0 h))
+    (let x = c.finish-ended.ensures.reports r i.2 i.0 in Notes-then g.N.ReportSink.notes _ r 0 _ _ _ _ _ i.6 (rw i.1 at x)))
+
 -- memory is refused before any line was dealt with
 pub returns-in-Err-clause-memory : goal.returns-in-Err-clause-memory
 returns-in-Err-clause-memory g c = λ refused.
     let i = c.loop-taken.invariant in
     let none = (c.feed.ensures.feeds.memory (joined (take c.loop-taken.taken (map (λ piece. piece.now) c.args.pieces.now))) i.2 i.0 (c.in-Err.is ∙ ap Err refused)).0.none in
-    (none, refused-sink g.S.LineSink.takes g.S.LineSink.leaves _ _ _ _ _ _ refused none (returns-in-Err-clause-runs g c).sink)
+    (none, refused-sink g.S.LineSink.takes g.S.LineSink.leaves _ _ _ _ _ _ refused none (returns-in-Err-clause-runs g c).sink, noted-none g.N.ReportSink.notes (rules_of c.args.engine.now) (joined (take (c.loop-taken.taken + 1) (map (λ piece. piece.now) c.args.pieces.now))) _ _ _ refused (returns-in-Err-clause-noting g c).noted)
 
 pub returns-clause-memory : goal.returns-clause-memory
 returns-clause-memory g c = λ refused. absurd (c.finish-ended.ensures.finished.memory c.loop-taken.invariant.0 refused)

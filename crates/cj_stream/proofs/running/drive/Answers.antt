@@ -1,14 +1,21 @@
 use Rattle.std.proofs.Common.{◌≡◌, ◌+◌, ◌++◌, ◌∙◌, length, length-append, length-take, take, refl, sym, ap, arith, Err}
 use Rattle.std.proofs.lemmas.List.{append-nil}
-use Rattle.cj_stream.specs.declared.ending.End.TheVariants.{ReadFault, ReadLimit}
+use Rattle.cj_stream.specs.declared.ending.End.TheVariants.{ReadFault, ReadLimit, Memory}
 use Rattle.cj_stream.specs.Engine.{rules_of, lines_of}
 use Rattle.cj_stream.specs.Run.{outcome_of}
 use Rattle.cj_stream.proofs.RunLemmas.{Consumes-then, Consumes-kept, Delivers-then, Runs-left, kept_first-same, Ends-finished, Ends-fed, whole-good, HasRisen-after, told-not_complete, fault-not_complete, limit-not_complete, Gave-finished, Gave-fed}
 use Rattle.std.specs.Prelude.{is_err}
 use Rattle.cj_stream.proofs.CutLemmas.{unread-told, unread-concludes}
+use Rattle.cj_stream.proofs.NoteLemmas.{Notes-then, Notes-more, Noting-told}
 use Rattle.cj_stream.proofs.OutputLemmas.{Runs-told}
 use Rattle.cj_stream.proofs.DeviceLemmas.{unfailed-end, unfailed-limit, unread-limit}
 use Rattle.cj_stream.proofs.running.drive.Goals as goal
+
+fault-apart : ReadFault ≡ Memory → ⊥
+fault-apart h = cc
+
+limit-apart : ReadLimit ≡ Memory → ⊥
+limit-apart h = cc
 
 pub returns-in-Err-clause-runs : goal.returns-in-Err-clause-runs
 returns-in-Err-clause-runs g c =
@@ -19,6 +26,8 @@ returns-in-Err-clause-runs g c =
       Consumes-kept _ _ _ r i.5.1 c.in-Err.ensures.bytes,
       record { giving = c.loop-i._i; gave = omega arith; least = i.5.4; most = omega (arith, i.1, (stands.going i.2).2) },
       rw (← i.3) (let k = rw (← i.3) at i.5.3 in Runs-left _ _ c.loop-i.engine r _ _ _ ReadFault fault-not_complete (whole-good c.loop-i.engine r (stands.going i.2).0) (λ m u e. e) stands k),
+      Noting-told g.N.ReportSink.notes (record { rules = rules_of c.args.engine.now; read = r; outcome = outcome_of c.loop-i.engine ReadFault }) (Unit {0}) c.args.reports.now c.loop-i.reports
+          (let k = stands.counts.good in rw i.3 at k) (let k = whole-good c.loop-i.engine r (stands.going i.2).0 in rw i.3 at k) (λ h. absurd (fault-apart h)) i.5.5,
     )
 
 pub returns-in-Ok-eq0-clause-runs : goal.returns-in-Ok-eq0-clause-runs
@@ -39,6 +48,11 @@ returns-in-Ok-eq0-clause-runs g c =
           (let k = c.finish.ensures.finished.sink r i.5.2 i.2 in
           let j = rw (i.3, c.finish.ensures.finished.ended) at k in
           Delivers-then g.S.LineSink.takes g.S.LineSink.leaves _ r r _ _ _ _ _ _ refl i.5.3 j),
+      Noting-told g.N.ReportSink.notes (record { rules = rules_of c.args.engine.now; read = r; outcome = outcome_of c.finish.new.self c.finish.result }) (Unit {0}) c.args.reports.now c.finish.new.reports
+          (let k = stands.counts.good in rw (c.finish.ensures.finished.rules, i.3) at k)
+          (Ends-finished _ r _ (Unit {0}) c.finish.result tt (let k = c.finish.ensures.finished.concludes r i.5.2 i.2 in rw i.3 at k))
+          (λ h. absurd (c.finish.ensures.finished.memory i.2 h))
+          (let k = c.finish.ensures.reports r i.5.2 i.2 in Notes-then g.N.ReportSink.notes _ r 0 _ _ _ _ _ i.5.5 (rw i.3 at k)),
     )
 
 pub returns-in-Ok-eq0-clause-cause : goal.returns-in-Ok-eq0-clause-cause
@@ -65,6 +79,12 @@ returns-in-Err-feed-clause-runs g c =
           (let k = c.feed.ensures.feeds.sink r i.5.2 i.2 in
           let j = rw (i.3, c.in-Err-feed.ensures.feeds.ended) at k in
           Delivers-then g.S.LineSink.takes g.S.LineSink.leaves _ r (r ++ piece) _ _ _ _ _ _ (kept_first-same _ (lines_of e) r piece (i.5.2.going i.2).0.lines) i.5.3 j),
+      Noting-told g.N.ReportSink.notes (record { rules = rules_of c.args.engine.now; read = r ++ piece; outcome = outcome_of c.feed.new.self c.in-Err-feed.end }) (Unit {0}) c.args.reports.now c.feed.new.reports
+          (let k = stands.counts.good in rw (i.2, c.feed.ensures.feeds.rules, i.3) at k)
+          (Ends-fed _ (r ++ piece) _ (Unit {0}) c.in-Err-feed.end (let k = c.in-Err-feed.ensures.feeds.told r i.5.2 i.2 in rw i.3 at k))
+          (λ h. (c.feed.ensures.feeds.memory r i.5.2 i.2 (c.in-Err-feed.is ∙ ap Err h)).0.none)
+          (let k = c.feed.ensures.reports r i.5.2 i.2 in
+          Notes-then g.N.ReportSink.notes _ (r ++ piece) 0 _ _ _ _ _ (Notes-more g.N.ReportSink.notes _ r piece _ _ _ (i.5.2.going i.2).0.lines i.5.5) (rw i.3 at k)),
     )
 
 pub returns-in-Err-feed-clause-cause : goal.returns-in-Err-feed-clause-cause
@@ -99,6 +119,8 @@ loop-i-preserved g c =
             let j = rw (i.3, c.in_default.ensures.feeds.unended) at k in
             Delivers-then g.S.LineSink.takes g.S.LineSink.leaves _ r (r ++ piece) _ _ _ _ _ _ (kept_first-same _ (lines_of e) r piece (i.5.2.going i.2).0.lines) i.5.3 j,
         omega (arith, i.5.4, grown),
+        let k = c.feed.ensures.reports r i.5.2 i.2 in
+            Notes-then g.N.ReportSink.notes _ (r ++ piece) 0 _ _ _ _ _ (Notes-more g.N.ReportSink.notes _ r piece _ _ _ (i.5.2.going i.2).0.lines i.5.5) (rw i.3 at k),
       ),
       c.read.ensures.failed ∙ ap is_err c.in-Ok.is,
       c.read.ensures.same_reference ∙ i.7,
@@ -129,6 +151,8 @@ returns-clause-runs g c =
       i.5.1,
       record { giving = c.args.reads; gave = refl; least = omega (arith, i.5.4); most = omega (arith, i.1, (stands.going i.2).2) },
       rw (← i.3) (let k = rw (← i.3) at i.5.3 in Runs-left _ _ c.loop-i.engine r _ _ _ ReadLimit limit-not_complete (whole-good c.loop-i.engine r (stands.going i.2).0) (λ m u e. e) stands k),
+      Noting-told g.N.ReportSink.notes (record { rules = rules_of c.args.engine.now; read = r; outcome = outcome_of c.loop-i.engine ReadLimit }) (Unit {0}) c.args.reports.now c.loop-i.reports
+          (let k = stands.counts.good in rw i.3 at k) (let k = whole-good c.loop-i.engine r (stands.going i.2).0 in rw i.3 at k) (λ h. absurd (limit-apart h)) i.5.5,
     )
 
 pub returns-in-Ok-eq0-clause-limit : goal.returns-in-Ok-eq0-clause-limit

@@ -1,5 +1,6 @@
 use Rattle.std.proofs.Common.{◌≡◌, ◌∙◌, [], inl, inr, refl, ap, sym}
 use Rattle.cj_stream.specs.Source.{source_reader}
+use Rattle.cj_stream.proofs.NoteLemmas.{Noting-refused, noted-none}
 use Rattle.cj_stream.proofs.RunLemmas.{Consumes-none, Runs-refused, refused-sink, memory-no_fault, unread-refused, enough-refused, enough-reads, none-counted}
 use Rattle.cj_stream.proofs.running.run_within.Goals as goal
 
@@ -7,23 +8,24 @@ use Rattle.cj_stream.proofs.running.run_within.Goals as goal
 pub returns : goal.returns
 returns g c =
     let back : c.reader-1.given.0 ≡ source_reader c.drive-ended.new.source = c.reader-1.given.1 (sym c.new-source.ensures.same_reference ∙ sym c.drive-ended.ensures.same_reference) in
-    let runs = rw (c.new-source.ensures.reader, ← back, ← c.lines.ensures, ← c.kept.ensures, ← c.peaks.ensures, c.in-Ok.ensures.empty.1) at c.drive-ended.ensures.runs in
+    let runs = rw (c.new-source.ensures.reader, ← back, ← c.lines.ensures, ← c.kept.ensures, ← c.refused.ensures, ← c.peaks.ensures, c.in-Ok.ensures.empty.1) at c.drive-ended.ensures.runs in
     record {
       runs = runs;
       cause = c.drive-ended.ensures.cause;
       enough = enough-reads _ _ _ runs.0 _ runs.1 runs.2;
       none = λ nothing.
           let left = c.drive-ended.ensures.none nothing in
-          let counts = none-counted _ _ runs.0 _ _ _ nothing left.2 runs.2 runs.3.account.counts in (
+          let counts = none-counted _ _ runs.0 _ _ _ _ nothing left.2 runs.2 runs.3.account.counts in (
             back ∙ left.0 ∙ c.new-source.ensures.reader,
             left.1,
+            left.3,
             inl left.2,
             counts.0,
             counts.1,
           );
       memory = λ refused.
           let none = c.lines.ensures ∙ c.drive-ended.ensures.memory refused in
-          (none, refused-sink g.S.LineSink.takes g.S.LineSink.leaves _ runs.0 _ _ _ _ refused none runs.3.sink);
+          (none, refused-sink g.S.LineSink.takes g.S.LineSink.leaves _ runs.0 _ _ _ _ refused none runs.3.sink, noted-none g.N.ReportSink.notes _ runs.0 _ _ _ refused runs.4.noted);
     }
 
 pub returns-in-Err : goal.returns-in-Err
@@ -31,11 +33,12 @@ returns-in-Err g c = record {
   runs = (
     [],
     Consumes-none _,
-    unread-refused _ _ (ap (λ o. o.ended) c.refused.ensures),
-    rw c.refused.ensures (Runs-refused g.S.LineSink.takes g.S.LineSink.leaves _ _ c.args.sink.now),
+    unread-refused _ _ (ap (λ o. o.ended) c.without_memory.ensures),
+    rw c.without_memory.ensures (Runs-refused g.S.LineSink.takes g.S.LineSink.leaves _ _ c.args.sink.now),
+    rw c.without_memory.ensures (Noting-refused g.N.ReportSink.notes _ c.args.reports.now),
   );
-  cause = λ fault. absurd (memory-no_fault (sym (ap (λ o. o.ended) c.refused.ensures) ∙ fault));
-  enough = enough-refused _ _ _ (ap (λ o. o.ended) c.refused.ensures);
-  none = λ _. (refl, refl, inr (ap (λ o. o.ended) c.refused.ensures), ap (λ o. o.lines) c.refused.ensures, ap (λ o. o.kept) c.refused.ensures);
-  memory = λ _. (ap (λ o. o.lines) c.refused.ensures, refl);
+  cause = λ fault. absurd (memory-no_fault (sym (ap (λ o. o.ended) c.without_memory.ensures) ∙ fault));
+  enough = enough-refused _ _ _ (ap (λ o. o.ended) c.without_memory.ensures);
+  none = λ _. (refl, refl, refl, inr (ap (λ o. o.ended) c.without_memory.ensures), ap (λ o. o.lines) c.without_memory.ensures, ap (λ o. o.kept) c.without_memory.ensures);
+  memory = λ _. (ap (λ o. o.lines) c.without_memory.ensures, refl, refl);
 }

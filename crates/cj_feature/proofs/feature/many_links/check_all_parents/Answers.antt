@@ -12,7 +12,7 @@ pub loop-name-preserved-then-not-check_parents : goal.loop-name-preserved-then-n
 loop-name-preserved-then-not-check_parents c =
     let all = members_of (tree c.args.objects) in
     let m = trees (c.in-Some.name, c.in-Some.object) in
-    let name = subst (λ s. tree_in s c.number-number.result ≡ tree c.in-Some.name) (c.in-Some.ensures.steps.4.0 ∙ c.loop-name.invariant.source) c.number-number.ensures in
+    let name = subst (λ s. tree_in s c.number-number.result ≡ tree c.in-Some.name) (c.in-Some.ensures.steps.4.0 ∙ c.loop-name.invariant.source) c.number-number.ensures.node in
     let first = subst (λ t. c.check_parents.new.found ≡ least c.loop-name.found (parents all (t, tree c.in-Some.object))) name c.check_parents.ensures.found in
     let second = subst (λ t. c.check_part.new.found ≡ least c.check_parents.new.found (part all (t, tree c.in-Some.object))) name c.check_part.ensures.found in
     record {
@@ -26,7 +26,7 @@ pub loop-name-preserved : goal.loop-name-preserved
 loop-name-preserved c =
     let all = members_of (tree c.args.objects) in
     let m = trees (c.in-Some.name, c.in-Some.object) in
-    let name = subst (λ s. tree_in s c.number-number.result ≡ tree c.in-Some.name) (c.in-Some.ensures.steps.4.0 ∙ c.loop-name.invariant.source) c.number-number.ensures in
+    let name = subst (λ s. tree_in s c.number-number.result ≡ tree c.in-Some.name) (c.in-Some.ensures.steps.4.0 ∙ c.loop-name.invariant.source) c.number-number.ensures.node in
     let first = subst (λ t. c.check_parents.new.found ≡ least c.loop-name.found (parents all (t, tree c.in-Some.object))) name c.check_parents.ensures.found in
     let told : c.check_parents.result ≡ true = grind (arith, nat_tests, c.if-not-check_parents.false) in
     let second : c.check_parents.new.found ≡ least c.check_parents.new.found (part all m) = ap (least c.check_parents.new.found) (sym (known_part all m (c.check_parents.ensures.known told))) in

@@ -11,7 +11,7 @@ use Rattle.cj_geometry.specs.Given.{given}
 use Rattle.cj_geometry.specs.Rule.{needs, distinct}
 use Rattle.cj_geometry.proofs.OfKind.{of_kind-then}
 use Rattle.cj_feature.specs.Header.{has_member_named}
-use Rattle.cj_feature.specs.Feature.{id_rule, city_objects, vertex_list, feature_rules}
+use Rattle.cj_feature.specs.Feature.{id_rule, city_objects, vertex_list, reach_if, feature_rules}
 use Rattle.cj_feature.specs.Links.{links}
 use Rattle.cj_feature.proofs.feature.rules.check_root.Goals as goal
 
@@ -30,4 +30,5 @@ returns-then-check_object c =
     let both = least-two c.check_id_member.new.found _ _ vertices objects c.check_vertices_member-count.ensures.found counted ∙ least-swap c.check_id_member.new.found vertices objects in
     let five = least-two o _ _ first (objects ++ vertices) three both ∙ ap (λ fs. least o fs) (sym (append_assoc first objects vertices)) in
     let six = least-two o _ _ (distinct n ++ type_rule ++ id_rule n ++ objects ++ vertices) (links (member_of (chars (codes "CityObjects")) n)) five linked in
-    of_kind-then is_object (feature_rules templates) n _ _ _ (sym c.if-check_object.ensures.is) c.check_object.ensures.found six
+    let seven = least-two o _ _ (distinct n ++ type_rule ++ id_rule n ++ objects ++ vertices ++ links (member_of (chars (codes "CityObjects")) n)) (reach_if c.args.connected n) six c.check_reached.ensures in
+    of_kind-then is_object (feature_rules templates c.args.connected) n _ _ _ (sym c.if-check_object.ensures.is) c.check_object.ensures.found seven

@@ -11,7 +11,7 @@ use Rattle.cj_stream.proofs.desk.Desk.check_first.Goals as goal
 
 pub returns-in-Err-clause-refused : goal.returns-in-Err-clause-refused
 returns-in-Err-clause-refused c =
-    let rules = rules_for c.args.self.now.limits c.args.self.now.query.now in
+    let rules = rules_for c.args.self.now.limits c.args.self.now.query.now c.args.self.now.options in
     let t = tree_of c.args.self.now.limits.depth c.args.content.now in
     let shown : t ≡ document c.of-doc.result = sym (c.of-doc.ensures.only t c.requires.shows.json) in
     let found : IsLeast (header_findings (needs_box rules.criteria) (document c.of-doc.result)) (Some c.in-Err.finding) =

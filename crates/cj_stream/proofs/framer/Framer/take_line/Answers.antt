@@ -1,9 +1,10 @@
 use Rattle.std.proofs.Common.{rules, ◌∷◌, ◌++◌}
 use Rattle.std.proofs.lemmas.Result.{err_from_is_err_and}
 use Rattle.cj_stream.specs.Lines.{closed}
+use Rattle.cj_stream.proofs.NoteLemmas.{Notes-line}
 use Rattle.cj_stream.proofs.PieceLemmas.{Stops-unstored, Stops-undealt, Advances-line}
 use Rattle.cj_stream.proofs.ScanningLemmas.{few-scanned, first-closed, few-line, scanned-line}
-use Rattle.cj_stream.proofs.StaysLemmas.{Stays-stored, Stays-then}
+use Rattle.cj_stream.proofs.StaysLemmas.{Stays-then}
 use Rattle.cj_stream.proofs.framer.Framer.take_line.Goals as goal
 
 pub returns-in_err-store-clause-err : goal.returns-in_err-store-clause-err
@@ -35,15 +36,29 @@ returns-clause-scanned g c = λ q reads s. scanned-line c.args.self.now.reading 
     reads c.requires.one c.in_ok-store.ensures.ok c.store.ensures.lists s c.in_ok-deal.ensures.scanned
 
 pub returns-in_err-deal-clause-carries : goal.returns-in_err-deal-clause-carries
-returns-in_err-deal-clause-carries g c =
-    let stored = Stays-stored c.args.self.now.reading c.store.new.self.reading c.args.part.now c.in_ok-store.ensures.ok in
-    record {
-      stays = Stays-then _ _ _ stored c.deal.ensures.carries.stays;
-      rises = search rules;
-      framed = search rules;
-      counts = search rules;
-      cause = search rules;
-      first = search rules;
-      memory = search rules;
-      late = search rules;
-    }
+returns-in_err-deal-clause-carries g c = record {
+  stays = Stays-then _ _ _ c.store.ensures.stays c.deal.ensures.carries.stays;
+  rises = search rules;
+  framed = search rules;
+  counts = search rules;
+  cause = search rules;
+  first = search rules;
+  memory = search rules;
+  late = search rules;
+}
+
+pub returns-clause-carries : goal.returns-clause-carries
+returns-clause-carries g c = record {
+  stays = Stays-then _ _ _ c.store.ensures.stays c.deal.ensures.carries.stays;
+  rises = search rules;
+  framed = search rules;
+  counts = search rules;
+  cause = search rules;
+  first = search rules;
+  memory = search rules;
+  late = search rules;
+}
+
+pub returns-clause-reports : goal.returns-clause-reports
+returns-clause-reports g c = λ q more reads. Notes-line g.N.ReportSink.notes c.args.self.now.reading c.store.new.self.reading c.deal.new.self.reading q c.args.part.now more c.args.reports.now c.deal.new.reports
+    reads c.requires.one c.in_ok-store.ensures.ok c.in_ok-deal.ensures.one c.in_ok-deal.ensures.noted

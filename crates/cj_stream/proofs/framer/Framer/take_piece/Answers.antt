@@ -1,7 +1,8 @@
-use Rattle.std.proofs.Common.{◌∷◌, [], ◌++◌, ◌+◌, take, drop, refl, ap, arith}
+use Rattle.std.proofs.Common.{◌≡◌, ◌∷◌, [], ◌++◌, ◌+◌, ◌∙◌, take, drop, refl, sym, ap, arith, append_assoc}
 use Rattle.std.proofs.lemmas.Result.{err_from_is_err_and}
 use Rattle.std.proofs.lemmas.List.{append-nil}
 use Rattle.cj_stream.specs.Lines.{closed}
+use Rattle.cj_stream.proofs.NoteLemmas.{Notes-none, Notes-then}
 use Rattle.cj_stream.proofs.PieceSlices.{lf_found, NoLf-before, NoLf-not_found, left_length, piece_more}
 use Rattle.cj_stream.proofs.PieceLemmas.{Stops-later, Stops-unstored_last, Advances-none, Advances-then, Advances-stored}
 use Rattle.cj_stream.proofs.StaysLemmas.{Stays-then, Stays-same}
@@ -49,6 +50,11 @@ loop-at-preserved g c =
             scanned-then limits c.loop-at.self.reading.rules.limits q i.0 (take k rest ++ 10 ∷ []) c.take_line.new.self.scanning same
             (c.in_ok-take_line.ensures.scanned (q ++ i.0) a.reads (scanned-under limits c.loop-at.self.reading.rules.limits (closed (q ++ i.0)) c.loop-at.self.scanning same (i.3 q reads s))),
       );
+      reports = λ q reads.
+          let text : (q ++ i.0) ++ (take k c.loop-at.rest.now ++ 10 ∷ drop (k + 1) c.loop-at.rest.now) ≡ q ++ c.args.piece.now =
+          append_assoc q i.0 (take k c.loop-at.rest.now ++ 10 ∷ drop (k + 1) c.loop-at.rest.now) ∙ ap (λ z. q ++ z) (ap (λ z. i.0 ++ z) (sym (lf_found rest k c.in-Some.ensures)) ∙ sym i.1) in
+          let now = rw (text, c.loop-at.invariant.stays.rules) at (c.take_line.ensures.reports (q ++ i.0) (drop (k + 1) rest) (i.2 q reads).reads) in
+          Notes-then g.N.ReportSink.notes c.args.self.now.reading.rules (q ++ c.args.piece.now) _ _ _ _ _ _ (c.loop-at.invariant.reports q reads) now;
     }
 
 pub returns-in_err-store-clause-err : goal.returns-in_err-store-clause-err
@@ -84,6 +90,7 @@ loop-at-init g c = record {
     λ q reads. Advances-none g.S.LineSink.takes g.S.LineSink.leaves c.args.self.now.reading c.args.sink.now q reads,
     λ q reads s. rw (append-nil q) s,
   );
+  reports = λ q reads. Notes-none g.N.ReportSink.notes c.args.self.now.reading.rules (q ++ c.args.piece.now) _ _ _ _ refl refl;
 }
 
 pub returns-in_err-take_line-clause-held : goal.returns-in_err-take_line-clause-held
@@ -115,3 +122,19 @@ returns-clause-scanned g c = λ q reads s.
     let limits = c.args.self.now.reading.rules.limits in
     rw i.1 (scanned-then limits limits q i.0 rest c.store.new.self.scanning refl
     (scanned-begun limits (q ++ i.0) rest c.loop-at.self.scanning c.store.new.self.scanning (NoLf-not_found rest c.memchr.result c.memchr.ensures c.in_default.not-Some) c.store.ensures.lists (i.3 q reads s)))
+
+pub returns-in_err-take_line-clause-reports : goal.returns-in_err-take_line-clause-reports
+returns-in_err-take_line-clause-reports g c = λ q reads.
+    let i = c.loop-at.invariant.read in
+    let rest = c.loop-at.rest.now in
+    let k = c.in-Some.at in
+    let text : (q ++ i.0) ++ (take k c.loop-at.rest.now ++ 10 ∷ drop (k + 1) c.loop-at.rest.now) ≡ q ++ c.args.piece.now =
+    append_assoc q i.0 (take k c.loop-at.rest.now ++ 10 ∷ drop (k + 1) c.loop-at.rest.now) ∙ ap (λ z. q ++ z) (ap (λ z. i.0 ++ z) (sym (lf_found rest k c.in-Some.ensures)) ∙ sym i.1) in
+    let now = rw (text, c.loop-at.invariant.stays.rules) at (c.take_line.ensures.reports (q ++ i.0) (drop (k + 1) rest) (i.2 q reads).reads) in
+    Notes-then g.N.ReportSink.notes c.args.self.now.reading.rules (q ++ c.args.piece.now) _ _ _ _ _ _ (c.loop-at.invariant.reports q reads) now
+
+pub returns-in_err-store-clause-reports : goal.returns-in_err-store-clause-reports
+returns-in_err-store-clause-reports g c = λ q reads. rw c.in_err-store.ensures.err (c.loop-at.invariant.reports q reads)
+
+pub returns-clause-reports : goal.returns-clause-reports
+returns-clause-reports g c = λ q reads. rw c.in_ok-store.ensures.ok.lines (c.loop-at.invariant.reports q reads)

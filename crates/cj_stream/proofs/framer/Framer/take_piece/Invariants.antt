@@ -1,6 +1,7 @@
 use Rattle.std.proofs.Common.{◌≡◌, ◌+◌, ◌≤◌, ◌++◌, ℕ, List, length}
 use Rattle.cj_stream.specs.Lines.{closed}
 use Rattle.cj_stream.specs.Reading.{Reads, Stays, Advances}
+use Rattle.cj_stream.specs.Reporting.{Notes}
 use Rattle.cj_stream.specs.Scanning.{Scanned, IsReady, Rises}
 use Rattle.cj_stream.proofs.framer.Framer.take_piece.Given as goal
 
@@ -15,6 +16,7 @@ invariant-loop-at g l = record {
   unrefused : l.self.reading.lines ≡ 0 → (l.self.reading.line.refused ≡ l.initial.self.reading.line.refused) × (l.self.scanning.line.refused ≡ l.initial.self.scanning.line.refused);
   read : (done : List ℕ) × (l.piece ≡ done ++ l.rest) × ((p : List ℕ) → Reads l.initial.self.reading p → Advances g.S.LineSink.takes l.initial.self.reading l.initial.sink p done l.self.reading l.sink)
       × ((p : List ℕ) → Reads l.initial.self.reading p → Scanned l.initial.self.reading.rules.limits (closed p) l.initial.self.scanning → Scanned l.initial.self.reading.rules.limits (closed (p ++ done)) l.self.scanning);
+  reports : (p : List ℕ) → Reads l.initial.self.reading p → Notes g.N.ReportSink.notes l.initial.self.reading.rules (p ++ l.piece) l.initial.self.reading.lines l.self.reading.lines l.initial.reports l.reports;
 }
 
 abbrev pub decreases-loop-at : goal.decreases-loop-at

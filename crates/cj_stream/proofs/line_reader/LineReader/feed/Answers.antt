@@ -2,7 +2,7 @@ use Rattle.std.proofs.Common.{◌≡◌, ap, ◌+◌, length, refl, ◌∙◌, S
 use Rattle.std.specs.Prelude.{option_map}
 use Rattle.cj_stream.specs.Ending.{line_end}
 use Rattle.cj_stream.proofs.EngineLemmas.{none_from_not_some}
-use Rattle.cj_stream.proofs.FeedingLemmas.{Feeds-again, Feeds-advances, Feeds-stops}
+use Rattle.cj_stream.proofs.FeedingLemmas.{not-going, Feeds-again, Feeds-advances, Feeds-stops}
 use Rattle.cj_stream.proofs.line_reader.LineReader.feed.Goals as goal
 
 pub returns-in-Some-clause-feeds : goal.returns-in-Some-clause-feeds
@@ -28,3 +28,12 @@ returns-in-Err-clause-feeds g c =
     (record { reading = c.take_piece.new.self.reading; scanning = c.take_piece.new.self.scanning; taken = c.self.inside.taken; ended = Some c.in-Err.end }) _
     going c.take_piece.ensures.carries.counts c.take_piece.ensures.carries.stays c.take_piece.ensures.carries.framed.sound c.take_piece.ensures.carries.framed.room c.take_piece.ensures.carries.rises
     c.args.piece.now c.in-Err.end refl (λ fault. c.take_piece.ensures.carries.cause (c.in-Err.is ∙ ap Err fault)) (λ refused. c.take_piece.ensures.carries.memory (c.in-Err.is ∙ ap Err refused)) c.in-Err.ensures.err c.in-Err.ensures.held)
+
+pub returns-in-Ok-clause-reports : goal.returns-in-Ok-clause-reports
+returns-in-Ok-clause-reports g c = rw (← c.self.view_is) (λ p st going. c.take_piece.ensures.reports p (st.going going).0)
+
+pub returns-in-Err-clause-reports : goal.returns-in-Err-clause-reports
+returns-in-Err-clause-reports g c = rw (← c.self.view_is) (λ p st going. c.take_piece.ensures.reports p (st.going going).0)
+
+pub returns-in-Some-clause-reports : goal.returns-in-Some-clause-reports
+returns-in-Some-clause-reports g c = λ p st going. absurd (not-going c.args.self.now.ended (line_end c.in-Some.end) (rw (← c.self.view_is) (ap (option_map line_end) c.in-Some.is)) going)

@@ -2,7 +2,7 @@ use Rattle.std.proofs.Common.{◌≡◌, ap, refl, None, Some}
 use Rattle.std.specs.Prelude.{option_map}
 use Rattle.cj_stream.specs.Ending.{line_end}
 use Rattle.cj_stream.proofs.EngineLemmas.{none_from_not_some}
-use Rattle.cj_stream.proofs.FeedingLemmas.{IsFinished-again, IsFinished-finishes}
+use Rattle.cj_stream.proofs.FeedingLemmas.{not-going, IsFinished-again, IsFinished-finishes}
 use Rattle.cj_stream.proofs.line_reader.LineReader.finish.Goals as goal
 
 pub returns-in-Some-clause-finished : goal.returns-in-Some-clause-finished
@@ -18,3 +18,9 @@ returns-clause-finished g c =
     (record { reading = c.finish.new.self.reading; scanning = c.finish.new.self.scanning; taken = c.self.inside.taken; ended = Some (line_end c.after-end.result) }) _
     going c.finish.ensures.carries.counts c.finish.ensures.carries.stays c.finish.ensures.carries.framed.sound c.finish.ensures.carries.framed.room c.finish.ensures.carries.rises
     (line_end c.after-end.result) c.finish.result refl c.after-end.ensures c.finish.ensures.carries.cause c.finish.ensures.memory c.finish.ensures.finishes c.finish.ensures.scanned c.finish.ensures.held)
+
+pub returns-clause-reports : goal.returns-clause-reports
+returns-clause-reports g c = rw (← c.self.view_is) (λ p st going. c.finish.ensures.reports p (st.going going).0)
+
+pub returns-in-Some-clause-reports : goal.returns-in-Some-clause-reports
+returns-in-Some-clause-reports g c = λ p st going. absurd (not-going c.args.self.now.ended (line_end c.in-Some.end) (rw (← c.self.view_is) (ap (option_map line_end) c.in-Some.is)) going)

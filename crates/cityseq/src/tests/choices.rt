@@ -1,0 +1,94 @@
+//! Rows of a program that is told to ask for trees, and to leave out what is asked for.
+use super::calls::{check_written, commanded, joined};
+use super::devices::SlowReader;
+use super::texts::{FEATURE, HEADER};
+use std::alloc::Global;
+use std::process::Abort;
+use std::test::Fail;
+
+/// The words ask for something of a header and a feature, which has to be answered so.
+fn check_choice(
+    rt: &impl Abort,
+    alloc: Global,
+    arguments: &[&str],
+    feature: &[u8],
+    status: u8,
+    out: &[u8],
+    err: &[u8],
+) -> Result<(), Fail> {
+    let input = joined(alloc, &[HEADER, b"\n", feature, b"\n"])?;
+    let written = commanded(alloc, arguments, &mut SlowReader::new(&input, 100))?;
+    check_written(rt, &written, status, out, err);
+    Ok(())
+}
+
+// ---- trees
+
+/// Two buildings, of which the second hangs on nothing.
+const APART: &[u8] =
+    b"{\"type\":\"CityJSONFeature\",\"id\":\"b\",\"CityObjects\":{\"b\":{\"type\":\"Building\"},\"c\":{\"type\":\"Building\"}},\"vertices\":[]}";
+
+/// Two buildings that hang on each other alone, beside the main one.
+const CYCLE: &[u8] =
+    b"{\"type\":\"CityJSONFeature\",\"id\":\"b\",\"CityObjects\":{\"b\":{\"type\":\"Building\"},\"c\":{\"type\":\"Building\",\"children\":[\"d\"],\"parents\":[\"d\"]},\"d\":{\"type\":\"Building\",\"children\":[\"c\"],\"parents\":[\"c\"]}},\"vertices\":[]}";
+
+/// A part of a part of a building, from the last to the first.
+const CHAIN: &[u8] =
+    b"{\"type\":\"CityJSONFeature\",\"id\":\"b\",\"CityObjects\":{\"q\":{\"type\":\"BuildingPart\",\"parents\":[\"p\"]},\"p\":{\"type\":\"BuildingPart\",\"parents\":[\"b\"],\"children\":[\"q\"]},\"b\":{\"type\":\"Building\",\"children\":[\"p\"]}},\"vertices\":[]}";
+
+/// What is told where a city object of the feature is not reached.
+const NOT_REACHED: &[u8] = b"line 2, byte 78: 31 not reached from the main object\n";
+
+const VALID: &[u8] = b"valid lines=2 features=1\n";
+
+/// A feature is valid, and with `--tree` it is not.
+fn check_apart(rt: &impl Abort, alloc: Global, feature: &[u8]) -> Result<(), Fail> {
+    check_choice(rt, alloc, &["check"], feature, 0, VALID, b"")?;
+    let tree = ["check", "--tree"];
+    check_choice(rt, alloc, &tree, feature, 1, b"", NOT_REACHED)?;
+    let tree = ["info", "--tree"];
+    check_choice(rt, alloc, &tree, feature, 1, b"", NOT_REACHED)?;
+    let header = joined(alloc, &[HEADER, b"\n"])?;
+    let tree = ["filter", "--tree"];
+    check_choice(rt, alloc, &tree, feature, 1, &header, NOT_REACHED)?;
+    let both = ["check", "--tree", "--keep-going"];
+    let told = b"invalid lines=2 features=0 refused=1\n";
+    check_choice(rt, alloc, &both, feature, 1, told, NOT_REACHED)
+}
+
+#[test]
+fn objects_that_hang_on_nothing(rt: HostRuntime) -> Result<(), Fail> {
+    check_apart(&rt, rt.alloc(), APART)?;
+    check_apart(&rt, rt.alloc(), CYCLE)
+}
+
+#[test]
+fn objects_that_are_all_reached(rt: HostRuntime) -> Result<(), Fail> {
+    let words = ["check", "--tree"];
+    check_choice(&rt, rt.alloc(), &words, CHAIN, 0, VALID, b"")?;
+    let words = ["check", "--tree", "--keep-going"];
+    check_choice(&rt, rt.alloc(), &words, FEATURE, 0, VALID, b"")
+}
+
+// ---- exclusion
+
+#[test]
+fn what_is_asked_for_is_left_out(rt: HostRuntime) -> Result<(), Fail> {
+    let header = joined(rt.alloc(), &[HEADER, b"\n"])?;
+    let all = joined(rt.alloc(), &[HEADER, b"\n", FEATURE, b"\n"])?;
+    let words = ["filter", "--exclude", "--id", "b1"];
+    check_choice(&rt, rt.alloc(), &words, FEATURE, 0, &header, b"")?;
+    let words = ["filter", "--exclude", "--id", "b2"];
+    check_choice(&rt, rt.alloc(), &words, FEATURE, 0, &all, b"")?;
+    let words = ["filter", "--exclude"];
+    check_choice(&rt, rt.alloc(), &words, FEATURE, 0, &header, b"")?;
+    let words = ["filter", "--exclude", "--type", "Building", "--lod", "1"];
+    check_choice(&rt, rt.alloc(), &words, FEATURE, 0, &all, b"")
+}
+
+#[test]
+fn what_is_not_valid_is_not_kept(rt: HostRuntime) -> Result<(), Fail> {
+    let header = joined(rt.alloc(), &[HEADER, b"\n"])?;
+    let words = ["filter", "--exclude", "--id", "x", "--tree", "--keep-going"];
+    check_choice(&rt, rt.alloc(), &words, APART, 1, &header, NOT_REACHED)
+}

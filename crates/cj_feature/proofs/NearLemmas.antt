@@ -1,0 +1,149 @@
+-- City objects at hand, and those that wait, told by their numbers.
+use Rattle.std.proofs.Common.{◌≡◌, ◌≢◌, ◌⊎◌, inl, inr, ℕ, zero, suc, ◌+◌, ◌-◌, ◌<◌, ◌≤◌, List, [], ◌∷◌, length, slice_get, Some, refl, sym, ap, subst, arith, ◌∙◌}
+use Rattle.std.specs.Prelude.{slice_set, codes, replicate}
+use Rattle.std.specs.List.{Contains}
+use Rattle.std.specs.Str.{chars}
+use Rattle.std.proofs.lemmas.Bool.{cases_lt}
+use Rattle.cj_budget.specs.Bounded.{BoundedList}
+use Rattle.cj_spans.specs.declared.token.Token.{Token}
+use Rattle.cj_spans.specs.declared.node.Doc.{Doc}
+use Rattle.cj_spans.specs.declared.node.Node.{Node}
+use Rattle.cj_spans.specs.Json.{Json}
+use Rattle.cj_spans.specs.Marks.{IsMarked, KeepsTokens, is_marked_at}
+use Rattle.cj_spans.specs.Preorder.{Span, spans_of}
+use Rattle.cj_spans.specs.Tree.{Tree}
+use Rattle.cj_spans.specs.Parts.{members_of, member_of, text_of}
+use Rattle.cj_spans.specs.View.{tree, line_of, source_of, tokens_in, tree_at, document_line, document_source}
+use Rattle.cj_feature.specs.declared.feature.near.Near.{Near}
+use Rattle.cj_feature.specs.Links.{same_text, listed_in}
+use Rattle.cj_feature.specs.Relations.{IsIn, Children}
+use Rattle.cj_feature.specs.Reached.{Reached, itself, child, IsReached, IsReachedObject}
+use Rattle.cj_feature.specs.Marking.{AllReached, OnlyMarks, AreNamed, AreReached, ReachesName, Knows, WaitsFor, KeepsHand, IsGuide, spans_by}
+use Rattle.cj_feature.proofs.LinkFaults.{from-texts, from-listed}
+use Rattle.cj_spans.proofs.Marking.{line-of-document}
+use Rattle.cj_feature.proofs.Fitting.{one-some}
+use Rattle.cj_feature.proofs.MarkLemmas.{marked-more}
+
+-- ---- numbers in a list
+
+get-set : {X : Type 0} (xs : List X) (i k : ℕ) (v n : X) → slice_get (slice_set xs i v) k ≡ Some n → (k ≡ i) ⊎ (slice_get xs k ≡ Some n)
+get-set [] i k v n h = inr h
+get-set (x ∷ xs) zero zero v n h = inl refl
+get-set (x ∷ xs) zero (suc k) v n h = inr h
+get-set (x ∷ xs) (suc i) zero v n h = inr h
+get-set (x ∷ xs) (suc i) (suc k) v n h = elim (get-set xs i k v n h) [ inl e ↦ inl (ap suc e) | inr g ↦ inr g ]
+
+get-set-here : (xs : List ℕ) (i v n : ℕ) → slice_get (slice_set xs i v) i ≡ Some n → v ≡ n
+get-set-here [] i v n h = absurd (cc h)
+get-set-here (x ∷ xs) zero v n h = cc h
+get-set-here (x ∷ xs) (suc i) v n h = get-set-here xs i v n h
+
+-- what holds of each number above 0, holds with another in the place of one
+pub each-set : (P : ℕ → Type 0) (xs : List ℕ) (i v : ℕ) → ((k n : ℕ) → slice_get xs k ≡ Some n → 0 < n → P n) → P v → (k n : ℕ) → slice_get (slice_set xs i v) k ≡ Some n → 0 < n → P n
+each-set P xs i v all here k n h l =
+    elim (get-set xs i k v n h) [
+      | inl e ↦ subst P (get-set-here xs i v n (subst (λ j. slice_get (slice_set xs i v) j ≡ Some n) e h)) here
+      | inr g ↦ all k n g l
+    ]
+
+-- of zeros alone none is above 0
+pub none-above : (n k x : ℕ) → slice_get (replicate n 0) k ≡ Some x → x ≡ 0
+none-above zero k x h = absurd (cc h)
+none-above (suc n) zero x h = cc h
+none-above (suc n) (suc k) x h = none-above n k x h
+
+-- what holds of each of the first numbers, holds with one more
+pub each-added : (P : ℕ → Type 0) (xs : List ℕ) (count v : ℕ) → ((k n : ℕ) → k < count → slice_get xs k ≡ Some n → P n) → P v → (k n : ℕ) → k < count + 1 → slice_get (slice_set xs count v) k ≡ Some n → P n
+each-added P xs count v all here k n l h =
+    elim (cases_lt k count) [
+      | inl o ↦ elim (get-set xs count k v n h) [ inl e ↦ absurd (omega arith) | inr g ↦ all k n o g ]
+      | inr m ↦ let e : k ≡ count = omega arith in subst P (get-set-here xs count v n (subst (λ j. slice_get (slice_set xs count v) j ≡ Some n) e h)) here
+    ]
+
+-- ---- what is reached
+
+-- what a city object that is reached lists, is reached
+pub lists-reached : (feature object item : Tree) (objects : Node) → member_of (chars (codes "CityObjects")) feature ≡ Some (tree objects) → IsReachedObject feature object → Contains (listed_in (chars (codes "children")) object) item → ReachesName feature objects item
+lists-reached feature object item objects o r held = λ name t at same.
+    let both = from-texts (text_of name) (text_of item) same in
+    let list = from-listed (members_of (tree objects)) (chars (codes "children")) object item held in
+    let those : r.objects ≡ tree objects = one-some r.objects (tree objects) (sym r.has_objects ∙ o) in
+    let parent = subst (λ u. Contains (members_of u) (r.name, object)) those r.held in
+    let from = subst (λ u. IsReached (members_of u) r.id r.name) those r.reached in
+    let lists : Children (members_of (tree objects)) from.own both.0 = record { object = (r.name, object); held = parent; named = from.named; item = item; listed = list; text = both.2 } in
+    let known : IsIn (members_of (tree objects)) both.0 = record { object = (name, t); held = at; named = both.1 } in
+    let reached : IsReached (members_of (tree objects)) r.id name = record { main = from.main; from = from.from; own = both.0; named = both.1; reached = child from.own both.0 from.reached lists known } in
+    record { id = r.id; has_id = r.has_id; objects = tree objects; has_objects = o; name = name; held = at; reached = reached }
+
+-- what has the name of the id is reached
+pub id-reached : (feature id : Tree) (objects : Node) → member_of (chars (codes "id")) feature ≡ Some id → member_of (chars (codes "CityObjects")) feature ≡ Some (tree objects) → ReachesName feature objects id
+id-reached feature id objects i o = λ name t at same.
+    let both = from-texts (text_of name) (text_of id) same in
+    let known : IsIn (members_of (tree objects)) both.0 = record { object = (name, t); held = at; named = both.1 } in
+    let reached : IsReached (members_of (tree objects)) id name = record { main = both.0; from = both.2; own = both.0; named = both.1; reached = itself known } in
+    record { id = id; has_id = i; objects = tree objects; has_objects = o; name = name; held = at; reached = reached }
+
+-- ---- steps of the guide
+
+pub same-hand : (a : Near) → KeepsHand a a
+same-hand a = record { objects = refl }
+
+pub more-hand : (a b c : Near) → KeepsHand a b → KeepsHand b c → KeepsHand a c
+more-hand a b c h k = record { objects = k.objects ∙ h.objects }
+
+pub named-kept : (objects : List (Tree × Tree)) (line : List ℕ) (spans : List Span) (a b : Near) → KeepsHand a b → AreNamed objects line spans a.objects → AreNamed objects line spans b.objects
+named-kept objects line spans a b h k = subst (AreNamed objects line spans) (sym h.objects) k
+
+pub known-kept : (n : Node) (a b : Near) → KeepsHand a b → Knows n a → Knows n b
+known-kept n a b h k = named-kept (members_of (tree n)) (line_of n) (spans_by n) a b h k
+
+pub same-marks : (a : BoundedList Token) → OnlyMarks a a
+same-marks a = record { tokens = refl; list = refl }
+
+pub more-marks : (a b c : BoundedList Token) → OnlyMarks a b → OnlyMarks b c → OnlyMarks a c
+more-marks a b c h k = record { tokens = k.tokens ∙ h.tokens; list = k.list ∙ ap (λ (x : BoundedList Token). record x { elements = c.elements }) h.list }
+
+-- the guide stands, with those at hand as they were and others that wait
+pub guide-on : (line : List ℕ) (tokens : List Token) (a b : Near) → IsGuide line tokens a → KeepsHand a b → ((f : Tree) → Json line f → WaitsFor f line (spans_of tokens) a → WaitsFor f line (spans_of tokens) b) → IsGuide line tokens b
+guide-on line tokens a b g h w = record {
+  of = g.of;
+  known = λ f o j e. named-kept (members_of o) line (spans_of tokens) a b h (g.known f o j e);
+  waiting = λ f j. w f j (g.waiting f j);
+  sound = g.sound;
+}
+
+-- what waits beside a node, told by its document
+module _ (n : Node) (d : Doc) (source : source_of n ≡ document_source d) (f : Tree) (near : Near) where
+  pub waits-there : WaitsFor f (line_of n) (spans_by n) near → WaitsFor f (document_line d) (spans_of (tokens_in (document_source d))) near
+  waits-there h = subst (λ s. WaitsFor f (document_line d) (spans_of (tokens_in s)) near) source (subst (λ l. WaitsFor f l (spans_by n) near) (line-of-document n d source) h)
+
+  pub waits-here : WaitsFor f (document_line d) (spans_of (tokens_in (document_source d))) near → WaitsFor f (line_of n) (spans_by n) near
+  waits-here h = subst (λ l. WaitsFor f l (spans_by n) near) (sym (line-of-document n d source)) (subst (λ s. WaitsFor f (document_line d) (spans_of (tokens_in s)) near) (sym source) h)
+
+-- those at hand beside a node, told by its document
+module _ (n : Node) (d : Doc) (source : source_of n ≡ document_source d) (near : Near) where
+  pub known-there : Knows n near → AreNamed (members_of (tree n)) (document_line d) (spans_of (tokens_in (document_source d))) near.objects
+  known-there h = subst (λ s. AreNamed (members_of (tree n)) (document_line d) (spans_of (tokens_in s)) near.objects) source (subst (λ l. AreNamed (members_of (tree n)) l (spans_by n) near.objects) (line-of-document n d source) h)
+
+  pub known-here : AreNamed (members_of (tree n)) (document_line d) (spans_of (tokens_in (document_source d))) near.objects → Knows n near
+  known-here h = subst (λ l. AreNamed (members_of (tree n)) l (spans_by n) near.objects) (sym (line-of-document n d source)) (subst (λ s. AreNamed (members_of (tree n)) (document_line d) (spans_of (tokens_in s)) near.objects) (sym source) h)
+
+-- one more mark
+pub guide-marked : (line : List ℕ) (old new : BoundedList Token) (near : Near) (n : ℕ) → IsGuide line old.elements near → KeepsTokens old new → ((k : ℕ) → k ≢ n → is_marked_at new.elements k ≡ is_marked_at old.elements k)
+    → ((f : Tree) → Json line f → IsReachedObject f (tree_at line (spans_of old.elements) n)) → IsGuide line new.elements near
+guide-marked line old new near n g kept others reached = record {
+  of = kept.of line g.of;
+  known = λ f o j e. subst (λ ss. AreNamed (members_of o) line ss near.objects) (sym kept.spans) (g.known f o j e);
+  waiting = λ f j. subst (λ ss. WaitsFor f line ss near) (sym kept.spans) (g.waiting f j);
+  sound = λ f j t h.
+      elim (marked-more line old.elements new.elements n t kept.spans others h) [
+        | inl e ↦ subst (IsReachedObject f) e (reached f j)
+        | inr m ↦ g.sound f j t m
+      ];
+}
+
+-- the same guide, told of a document of the line, with the same at hand and waiting
+pub guide-at : (line l : List ℕ) (ts us : List Token) (a b : Near) → l ≡ line → us ≡ ts → KeepsHand a b → b.pending ≡ a.pending → b.waiting ≡ a.waiting → IsGuide line ts a → IsGuide l us b
+guide-at line l ts us a b e q h p w g =
+    let same = guide-on line ts a b g h (λ f j waits. subst (λ k. AreReached f line (spans_of ts) b.pending k) (sym w) (subst (λ ns. AreReached f line (spans_of ts) ns a.waiting) (sym p) waits)) in
+    subst (λ vs. IsGuide l vs b) (sym q) (subst (λ m. IsGuide m ts b) (sym e) same)

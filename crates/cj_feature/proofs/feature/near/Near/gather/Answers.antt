@@ -1,0 +1,20 @@
+use Rattle.std.proofs.Common.{◌∙◌}
+use Rattle.cj_feature.proofs.Walking.{later-among}
+use Rattle.cj_feature.proofs.feature.near.Near.gather.Goals as goal
+
+pub loop-name-preserved-then-passed-skip : goal.loop-name-preserved-then-passed-skip
+loop-name-preserved-then-passed-skip c =
+    let steps = c.in-Some.ensures.steps in
+    let inv = c.loop-name.invariant in
+    record { walk = later-among c.args.objects c.loop-name.name-iterator c.next.new.self _ inv.walk steps.0 steps.1 steps.3; known = inv.known; waiting = inv.waiting; pending = inv.pending }
+
+pub loop-name-preserved : goal.loop-name-preserved
+loop-name-preserved c =
+    let steps = c.in-Some.ensures.steps in
+    let inv = c.loop-name.invariant in
+    record {
+      walk = later-among c.args.objects c.loop-name.name-iterator c.next.new.self _ inv.walk steps.0 steps.1 steps.3;
+      known = c.take.ensures.known;
+      waiting = c.take.ensures.waiting ∙ inv.waiting;
+      pending = c.take.ensures.pending ∙ inv.pending;
+    }

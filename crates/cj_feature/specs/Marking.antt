@@ -1,0 +1,124 @@
+-- What a search for the next city object to mark answers. Private clauses alone cite it.
+use Rattle.std.specs.Prelude.{◌≡◌, ℕ, ◌-◌, ◌<◌, List, false, true, length, codes, Some, slice_get}
+use Rattle.std.specs.List.{Contains}
+use Rattle.std.specs.Str.{chars}
+use Rattle.cj_budget.specs.Bounded.{BoundedList}
+use Rattle.cj_spans.specs.declared.token.Token.{Token}
+use Rattle.cj_spans.specs.declared.node.Node.{Node}
+use Rattle.cj_spans.specs.Marks.{IsMarked, bare}
+use Rattle.cj_spans.specs.Json.{Json}
+use Rattle.cj_spans.specs.Preorder.{Span, spans_of}
+use Rattle.cj_spans.specs.Sound.{AreOf}
+use Rattle.cj_spans.specs.Tree.{Tree}
+use Rattle.cj_spans.specs.Parts.{members_of, member_of}
+use Rattle.cj_spans.specs.View.{tree, line_of, source_of, tokens_in, tree_at}
+use Rattle.cj_feature.specs.declared.feature.near.Near.{Near}
+use Rattle.cj_feature.specs.Links.{same_text, listed_in}
+use Rattle.cj_feature.specs.Reached.{IsReached, IsReachedObject}
+
+-- a token beside that of the node shows the tree and has a mark
+abbrev pub IsMarkedBy : Node → Tree → Type 0
+IsMarkedBy n t = IsMarked (line_of n) (tokens_in (source_of n)) t
+
+-- two nodes of one line and its tokens
+abbrev pub IsBeside : Node → Node → Type 0
+IsBeside m n = (line_of n ≡ line_of m) × (source_of n ≡ source_of m)
+
+-- the token of this number, beside that of the city objects, shows a city object of this name that has no mark
+pub record IsUnmarked (objects : Node) (id : Tree) (number : ℕ) : Type 0 where
+  pub name : Tree
+  pub object : Tree
+  pub held : Contains (members_of (tree objects)) (name, object)
+  pub named : same_text name id ≡ true
+  pub within : number < length (tokens_in (source_of objects))
+  pub shown : tree_at (line_of objects) (spans_of (tokens_in (source_of objects))) number ≡ object
+  pub unmarked : IsMarkedBy objects object → ⊥
+
+-- all city objects among these have marks
+abbrev pub AllMarked : Node → List (Tree × Tree) → Type 0
+AllMarked n ms = (m : Tree × Tree) → Contains ms m → IsMarkedBy n m.1
+
+-- all city objects among these that have this name have marks
+abbrev pub HaveMarks : Node → List (Tree × Tree) → Tree → Type 0
+HaveMarks n ms id = (m : Tree × Tree) → Contains ms m → same_text m.0 id ≡ true → IsMarkedBy n m.1
+
+-- the same of the names that these items are
+abbrev pub ItemsHaveMarks : Node → List Tree → Type 0
+ItemsHaveMarks objects items = (item : Tree) → Contains items item → HaveMarks objects (members_of (tree objects)) item
+
+-- all that those among these city objects list that have marks, have marks
+abbrev pub ListMarks : Node → List (Tree × Tree) → Type 0
+ListMarks objects ms = (m : Tree × Tree) → Contains ms m → IsMarkedBy objects m.1 → ItemsHaveMarks objects (listed_in (chars (codes "children")) m.1)
+
+-- one of these items is the name of the city object of this number, which has no mark
+pub record IsListedUnmarked (objects : Node) (items : List Tree) (number : ℕ) : Type 0 where
+  pub item : Tree
+  pub held : Contains items item
+  pub unmarked : IsUnmarked objects item number
+
+-- a city object that has a mark lists the one of this number, which has none
+pub record IsNext (objects : Node) (number : ℕ) : Type 0 where
+  pub parent : Tree × Tree
+  pub held : Contains (members_of (tree objects)) parent
+  pub marked : IsMarkedBy objects parent.1
+  pub listed : IsListedUnmarked objects (listed_in (chars (codes "children")) parent.1) number
+
+-- the token of this number has no mark, and shows a city object that is reached if all are that have marks
+pub record IsToMark (feature : Tree) (line : List ℕ) (tokens : List Token) (number : ℕ) : Type 0 where
+  pub within : number < length tokens
+  pub unmarked : IsMarked line tokens (tree_at line (spans_of tokens) number) → ⊥
+  pub reached : ((t : Tree) → IsMarked line tokens t → IsReachedObject feature t) → IsReachedObject feature (tree_at line (spans_of tokens) number)
+
+-- the city objects that have marks are those of the feature that are reached from the id
+abbrev pub MarksFit : Node → Tree → Type 0
+MarksFit objects id =
+    (t : Tree) → (IsMarkedBy objects t → (name : Tree) × Contains (members_of (tree objects)) (name, t) × IsReached (members_of (tree objects)) id name)
+    × ((name : Tree) → Contains (members_of (tree objects)) (name, t) → IsReached (members_of (tree objects)) id name → IsMarkedBy objects t)
+
+-- ---- a guide that marks most of them first: it is sound, and need not be complete
+
+-- all that has a mark is reached
+abbrev pub AllReached : Tree → List ℕ → List Token → Type 0
+AllReached feature line tokens = (t : Tree) → IsMarked line tokens t → IsReachedObject feature t
+
+-- nothing but marks has changed
+pub record OnlyMarks (old new : BoundedList Token) : Type 0 where
+  pub tokens : bare new.elements ≡ bare old.elements
+  pub list : new ≡ record old { elements = new.elements }
+
+-- each of these numbers is that of one of these city objects, whose name has the number before, or 0
+abbrev pub AreNamed : List (Tree × Tree) → List ℕ → List Span → List ℕ → Type 0
+AreNamed objects line spans numbers =
+    (k n : ℕ) → slice_get numbers k ≡ Some n → 0 < n → (n < length spans) × Contains objects (tree_at line spans (n - 1), tree_at line spans n)
+
+-- each of the first numbers is that of a city object that is reached
+abbrev pub AreReached : Tree → List ℕ → List Span → List ℕ → ℕ → Type 0
+AreReached feature line spans numbers count =
+    (k n : ℕ) → k < count → slice_get numbers k ≡ Some n → (n < length spans) × IsReachedObject feature (tree_at line spans n)
+
+-- all city objects of this name are reached
+abbrev pub ReachesName : Tree → Node → Tree → Type 0
+ReachesName feature objects id = (name t : Tree) → Contains (members_of (tree objects)) (name, t) → same_text name id ≡ true → IsReachedObject feature t
+
+-- the spans of the tokens that a node stands in
+abbrev pub spans_by : Node → List Span
+spans_by n = spans_of (tokens_in (source_of n))
+
+-- those at hand are city objects beside this node
+abbrev pub Knows : Node → Near → Type 0
+Knows objects near = AreNamed (members_of (tree objects)) (line_of objects) (spans_by objects) near.objects
+
+-- those that wait to be marked are reached, in the feature of this tree
+abbrev pub WaitsFor : Tree → List ℕ → List Span → Near → Type 0
+WaitsFor feature line spans near = AreReached feature line spans near.pending near.waiting
+
+-- those at hand stay
+pub record KeepsHand (old new : Near) : Type 0 where
+  pub objects : new.objects ≡ old.objects
+
+-- of a line and its tokens: those at hand are city objects, and what waits and what has marks is reached
+pub record IsGuide (line : List ℕ) (tokens : List Token) (near : Near) : Type 0 where
+  pub of : AreOf line tokens
+  pub known : (feature objects : Tree) → Json line feature → member_of (chars (codes "CityObjects")) feature ≡ Some objects → AreNamed (members_of objects) line (spans_of tokens) near.objects
+  pub waiting : (feature : Tree) → Json line feature → WaitsFor feature line (spans_of tokens) near
+  pub sound : (feature : Tree) → Json line feature → AllReached feature line tokens

@@ -1,0 +1,350 @@
+//! A guide over many city objects: it marks most of those that are reached, one after another, and each only once.
+//!
+//! Many city objects are at hand at once, in lists of those that one remainder of a number of their names puts
+//! together. What is found by them waits to be marked, and what it lists is looked for then. Nothing hangs on whether
+//! all are found: what is marked is reached, as what lists it is, and what is left out the search behind it finds.
+ghost use Rattle.std.specs.Prelude.{◌≡◌, ◌<◌, ◌≤◌, Some, length, slice_get};
+
+use cj_budget::Bounded;
+use cj_spans::{Doc, Node, Token, set_mark};
+
+/// So many city objects are at hand at once.
+const OBJECTS: usize = 200_000;
+
+/// So many lists of them there are: a prime.
+const LISTS: usize = 16_381;
+
+/// So many wait to be marked.
+const PENDING: usize = 16_384;
+
+/// So often the city objects are gone over.
+const ROUNDS: usize = 64;
+
+/// City objects at hand, and those that wait to be marked, by their numbers; 0 is none. Those at hand stand list after list.
+#[derive(Drop)]
+pub struct Near {
+    objects: [u32; OBJECTS],
+    ends: [u32; LISTS],
+    count: usize,
+    pending: [u32; PENDING],
+    waiting: usize,
+    changed: bool,
+    ghost room: { waiting ≤ 16384 },
+}
+
+/// The list of a text.
+fn list_of(text: Node) -> usize
+    ensures { result < 16381 }
+{
+    (text.text_mix() % LISTS as u64) as usize
+}
+
+/// The number at a place.
+fn number_at(numbers: &[u32], place: usize) -> u32
+    requires { place < length numbers.now }
+    ensures { slice_get numbers.now place ≡ Some result }
+{
+    numbers[place]
+}
+
+/// Turns the lengths of lists into the places where they begin.
+fn add_up(lengths: &mut [u32; LISTS]) {
+    let mut sum: u32 = 0;
+    for one in lengths.iter_mut() {
+        let length = *one;
+        *one = sum;
+        sum = sum.wrapping_add(length);
+    }
+}
+
+impl Near {
+    ghost use Rattle.std.specs.Prelude.{IfSome, List, ℕ, ◌-◌, codes};
+    ghost use Rattle.std.specs.List.{Contains};
+    ghost use Rattle.std.specs.Str.{chars};
+    ghost use Rattle.cj_spans.specs.Json.{Json};
+    ghost use Rattle.cj_spans.specs.Parts.{members_of, member_of};
+    ghost use Rattle.cj_spans.specs.Preorder.{Span, spans_of};
+    ghost use Rattle.cj_spans.specs.Sound.{AreOf};
+    ghost use Rattle.cj_spans.specs.Tree.{Tree};
+    ghost use Rattle.cj_spans.specs.View.{tree, line_of, tree_at, document, document_line, document_source, tokens_in};
+    ghost use Rattle.cj_feature.specs.Marking.{AllReached, OnlyMarks, ReachesName, Knows, WaitsFor, KeepsHand, IsGuide, IsBeside, spans_by};
+    ghost use Rattle.cj_feature.specs.Reached.{IsReachedObject};
+
+    /// None at hand, and none that waits.
+    fn new() -> Near
+        ensures objects { (k n : ℕ) → slice_get result.objects k ≡ Some n → n ≡ 0 }
+        ensures waiting { result.waiting ≡ 0 }
+    {
+        Near {
+            objects: [0; OBJECTS],
+            ends: [0; LISTS],
+            count: 0,
+            pending: [0; PENDING],
+            waiting: 0,
+            changed: false,
+        }
+    }
+
+    /// Counts for each list the city objects behind the first `skip`, as many as there is room for.
+    fn count_lists(&mut self, objects: Node, skip: usize)
+        ensures hand { KeepsHand self.old self.new }
+        ensures waiting { self.new.waiting ≡ self.old.waiting }
+        ensures pending { self.new.pending ≡ self.old.pending }
+    {
+        self.ends = [0; LISTS];
+        self.count = 0;
+        let mut passed = 0;
+        for (name, _) in objects.members() {
+            if passed < skip {
+                passed += 1;
+            } else if self.count < OBJECTS {
+                let list = list_of(name);
+                self.ends[list] = self.ends[list].wrapping_add(1);
+                self.count += 1;
+            }
+        }
+    }
+
+    /// Takes a city object of this name to those at hand, at the end of its list so far.
+    fn take(&mut self, objects: Node, name: Node, object: Node)
+        requires known { Knows objects self.old }
+        requires held { Contains (members_of (tree objects)) (tree name, tree object) }
+        requires name { IsBeside objects name }
+        requires object { IsBeside objects object }
+        ensures known { Knows objects.entry self.new }
+        ensures waiting { self.new.waiting ≡ self.old.waiting }
+        ensures pending { self.new.pending ≡ self.old.pending }
+    {
+        let number = object.number();
+        if number == 0 || name.number() != number - 1 {
+            return;
+        }
+        let list = list_of(name);
+        let place = self.ends[list] as usize;
+        if place < OBJECTS {
+            self.objects[place] = number;
+            self.ends[list] = self.ends[list].wrapping_add(1);
+        }
+    }
+
+    /// Takes the city objects behind the first `skip` to hand, as many as there is room for.
+    fn gather(&mut self, objects: Node, skip: usize)
+        requires { Knows objects self.old }
+        ensures known { Knows objects.entry self.new }
+        ensures waiting { self.new.waiting ≡ self.old.waiting }
+        ensures pending { self.new.pending ≡ self.old.pending }
+    {
+        self.count_lists(objects, skip);
+        add_up(&mut self.ends);
+        let mut passed = 0;
+        for (name, object) in objects.members() {
+            if passed < skip {
+                passed += 1;
+            } else {
+                self.take(objects, name, object);
+            }
+        }
+    }
+
+    /// Has a city object that is reached wait, if there is room.
+    fn wait(&mut self, number: u32)
+        ensures hand { KeepsHand self.old self.new }
+        ensures pending { (feature : Tree) (line : List ℕ) (spans : List Span) → number < length spans
+            → IsReachedObject feature (tree_at line spans number)
+            → WaitsFor feature line spans self.old → WaitsFor feature line spans self.new }
+    {
+        if self.waiting == PENDING {
+            return;
+        }
+        self.pending[self.waiting] = number;
+        self.waiting += 1;
+    }
+
+    /// Has the city object of this number wait, if it has this name and no mark; answers whether it has both.
+    fn note_one(&mut self, objects: Node, number: u32, text: Node) -> bool
+        requires positive { 0 < number }
+        requires within { number < length (spans_by objects) }
+        requires held { Contains (members_of (tree objects))
+            (tree_at (line_of objects) (spans_by objects) (number - 1), tree_at (line_of objects) (spans_by objects) number) }
+        ensures hand { KeepsHand self.old self.new }
+        ensures pending { (feature : Tree) → ReachesName feature objects.entry (tree text.entry)
+            → WaitsFor feature (line_of objects.entry) (spans_by objects.entry) self.old
+            → WaitsFor feature (line_of objects.entry) (spans_by objects.entry) self.new }
+    {
+        if !objects.at(number - 1).same_text(text) {
+            return false;
+        }
+        if objects.at(number).marked() {
+            return true;
+        }
+        self.wait(number);
+        false
+    }
+
+    /// Has the city objects at hand wait that have this name and no mark. If one has a mark, the others have it too, or
+    /// wait.
+    fn note(&mut self, objects: Node, text: Node)
+        requires { Knows objects self.old }
+        ensures hand { KeepsHand self.old self.new }
+        ensures pending { (feature : Tree) → ReachesName feature objects.entry (tree text.entry)
+            → WaitsFor feature (line_of objects.entry) (spans_by objects.entry) self.old
+            → WaitsFor feature (line_of objects.entry) (spans_by objects.entry) self.new }
+    {
+        let list = list_of(text);
+        let start = if list == 0 { 0 } else { self.ends[list - 1] };
+        for place in start..self.ends[list] {
+            if place as usize >= OBJECTS {
+                return;
+            }
+            let number = number_at(&self.objects, place as usize);
+            if number == 0 {
+                return;
+            }
+            if self.note_one(objects, number, text) {
+                return;
+            }
+        }
+    }
+
+    /// Has the city objects at hand wait that this one lists as children.
+    fn note_children(&mut self, objects: Node, object: Node)
+        requires { Knows objects self.old }
+        ensures hand { KeepsHand self.old self.new }
+        ensures pending { (feature : Tree)
+            → member_of (chars (codes "CityObjects")) feature ≡ Some (tree objects.entry)
+            → IsReachedObject feature (tree object.entry)
+            → WaitsFor feature (line_of objects.entry) (spans_by objects.entry) self.old
+            → WaitsFor feature (line_of objects.entry) (spans_by objects.entry) self.new }
+    {
+        let Some(value) = object.get("children") else {
+            return;
+        };
+        for item in value.items() {
+            self.note(objects, item);
+        }
+    }
+
+    /// The one that has waited last, if one waits.
+    fn pop(&mut self) -> Option<u32>
+        ensures hand { KeepsHand self.old self.new }
+        ensures pending { (feature : Tree) (line : List ℕ) (spans : List Span)
+            → WaitsFor feature line spans self.old → WaitsFor feature line spans self.new }
+        ensures number { (feature : Tree) (line : List ℕ) (spans : List Span)
+            → WaitsFor feature line spans self.old
+            → IfSome result (λ n. (n < length spans) × IsReachedObject feature (tree_at line spans n)) }
+    {
+        if self.waiting == 0 {
+            return None;
+        }
+        let number = number_at(&self.pending, self.waiting - 1);
+        self.waiting -= 1;
+        Some(number)
+    }
+
+    /// Takes those behind the first `skip` to hand, and has those wait that are named by the feature's id.
+    fn begin(&mut self, doc: Doc, skip: usize)
+        requires { IsGuide (document_line doc) (tokens_in (document_source doc)) self.old }
+        ensures { IsGuide (document_line doc.entry) (tokens_in (document_source doc.entry)) self.new }
+    {
+        let root = doc.root();
+        let (Some(id), Some(objects)) = (root.get("id"), root.get("CityObjects")) else {
+            return;
+        };
+        self.gather(objects, skip);
+        self.note(objects, id);
+    }
+
+    /// Has those at hand wait that the node of this number lists, if it has a mark.
+    fn look_behind(&mut self, doc: Doc, number: u32)
+        requires { IsGuide (document_line doc) (tokens_in (document_source doc)) self.old }
+        ensures { IsGuide (document_line doc.entry) (tokens_in (document_source doc.entry)) self.new }
+    {
+        let root = doc.root();
+        let object = root.at(number);
+        if object.marked() {
+            if let Some(objects) = root.get("CityObjects") {
+                self.note_children(objects, object);
+            }
+        }
+    }
+
+    /// Marks one that is reached, and has those at hand wait that it lists.
+    fn mark(&mut self, line: &[u8], tokens: &mut Bounded<Token>, number: u32)
+        requires guide { IsGuide line.now tokens.old.elements self.old }
+        requires within { number < length tokens.old.elements }
+        requires reached { (feature : Tree) → Json line.now feature
+            → IsReachedObject feature (tree_at line.now (spans_of tokens.old.elements) number) }
+        ensures guide { IsGuide line.now tokens.new.elements self.new }
+        ensures marks { OnlyMarks tokens.old tokens.new }
+    {
+        if Doc::of(line, tokens.as_slice()).root().at(number).marked() {
+            return;
+        }
+        self.changed = true;
+        set_mark(tokens, number);
+        self.look_behind(Doc::of(line, tokens.as_slice()), number);
+    }
+
+    /// Marks all that wait, and all at hand that these lead to.
+    fn follow(&mut self, line: &[u8], tokens: &mut Bounded<Token>)
+        requires { IsGuide line.now tokens.old.elements self.old }
+        ensures guide { IsGuide line.now tokens.new.elements self.new }
+        ensures marks { OnlyMarks tokens.old tokens.new }
+    {
+        for _ in 0..u64::MAX {
+            let Some(number) = self.pop() else {
+                return;
+            };
+            self.mark(line, tokens, number);
+        }
+    }
+
+    /// Takes the city objects behind the first `skip` to hand, and marks those of them that are reached from the
+    /// feature's id and from all that have marks.
+    fn mark_block(&mut self, line: &[u8], tokens: &mut Bounded<Token>, skip: usize)
+        requires { IsGuide line.now tokens.old.elements self.old }
+        ensures guide { IsGuide line.now tokens.new.elements self.new }
+        ensures marks { OnlyMarks tokens.old tokens.new }
+    {
+        self.begin(Doc::of(line, tokens.as_slice()), skip);
+        self.follow(line, tokens);
+        for number in 0..u32::MAX {
+            if number as usize >= tokens.len() {
+                return;
+            }
+            self.look_behind(Doc::of(line, tokens.as_slice()), number);
+            self.follow(line, tokens);
+        }
+    }
+
+    /// Goes over all city objects, as many at once as there is room for.
+    fn mark_round(&mut self, line: &[u8], tokens: &mut Bounded<Token>)
+        requires { IsGuide line.now tokens.old.elements self.old }
+        ensures guide { IsGuide line.now tokens.new.elements self.new }
+        ensures marks { OnlyMarks tokens.old tokens.new }
+    {
+        for block in 0..u32::MAX {
+            self.mark_block(line, tokens, block as usize * OBJECTS);
+            if self.count < OBJECTS {
+                return;
+            }
+        }
+    }
+
+    /// Marks city objects that are reached from the feature's id: all, as far as there is room for what leads to them.
+    pub fn mark_many(line: &[u8], tokens: &mut Bounded<Token>)
+        requires scanned { AreOf line.now tokens.old.elements }
+        requires sound { (feature : Tree) → Json line.now feature → AllReached feature line.now tokens.old.elements }
+        ensures sound { (feature : Tree) → Json line.now feature → AllReached feature line.now tokens.new.elements }
+        ensures marks { OnlyMarks tokens.old tokens.new }
+    {
+        let mut near = Near::new();
+        for _ in 0..ROUNDS {
+            near.changed = false;
+            near.mark_round(line, tokens);
+            if !near.changed {
+                return;
+            }
+        }
+    }
+}

@@ -1,0 +1,585 @@
+//! What is refused where the city objects of a feature have to hang together, and what is kept where the features that satisfy
+//! the query are left out.
+//!
+//! The rows with a whole outcome are tried whole, by single bytes, and cut in two at every place.
+use super::calls::{
+    check_bytes, check_ended, check_number, check_outcome, held, joined, outcome, refused,
+};
+use super::devices::SlowReader;
+use super::going::{complete, told};
+use super::queries::{ALL, Parts, SEVERAL, by_box, by_ids, by_lods, by_types, query_of};
+use super::reports::{NoteReports, check_notes, going};
+use super::rows::{FEATURE, HEADER, SMALL};
+use crate::{End, Engine, Options, Outcome, Query, WriteSink, headline, run};
+use cj_budget::Limits;
+use cj_spans::Reason;
+use std::alloc::Global;
+use std::process::Abort;
+use std::test::Fail;
+
+/// A stream, how it is read, and what has to come of it.
+#[derive(Clone, Copy)]
+struct Row<'a> {
+    name: &'a str,
+    text: &'a [u8],
+    options: Options,
+    written: &'a [u8],
+    reports: &'a str,
+    outcome: Outcome,
+}
+
+/// What came of a stream: how it went, what was written, and what was reported.
+#[derive(Drop)]
+struct Came {
+    outcome: Outcome,
+    written: Vec<u8>,
+    reports: NoteReports,
+}
+
+/// Runs over a reader that gives `step` bytes a read.
+fn came_of(
+    alloc: Global,
+    text: &[u8],
+    step: usize,
+    query: &Query,
+    options: Options,
+) -> Result<Came, Fail> {
+    let mut reader = SlowReader::new(text, step);
+    let mut sink = WriteSink::new(Vec::new(alloc));
+    let mut reports = NoteReports::new(alloc);
+    let limits = Limits::new(1_000, 64)?;
+    let outcome = run(
+        alloc,
+        &mut reader,
+        &mut sink,
+        &mut reports,
+        limits,
+        query,
+        options,
+    );
+    let written = sink.into_inner();
+    Ok(Came {
+        outcome,
+        written,
+        reports,
+    })
+}
+
+/// Gives a stream to an engine, cut in two at this place.
+fn came_of_cut(
+    rt: &impl Abort,
+    alloc: Global,
+    text: &[u8],
+    at: usize,
+    query: &Query,
+    options: Options,
+) -> Result<Came, Fail> {
+    assert!(rt; at <= text.len());
+    assert!(rt; text.len() <= 100_000);
+    let mut sink = WriteSink::new(Vec::new(alloc));
+    let mut reports = NoteReports::new(alloc);
+    let pieces = [&text[..at], &text[at..]];
+    let mut engine = Engine::open(alloc, Limits::new(1_000, 64)?, query, options)?;
+    let copied = headline(&mut engine, &pieces, &mut sink, &mut reports);
+    let outcome = told(&engine, copied.ended);
+    let written = sink.into_inner();
+    Ok(Came {
+        outcome,
+        written,
+        reports,
+    })
+}
+
+/// Compares what came of a stream.
+fn check_came(rt: &impl Abort, row: &Row, came: &Came, at: u64) {
+    check_notes(rt, &came.reports, row.reports, row.name, at);
+    check_outcome(rt, came.outcome, row.outcome, row.name, at);
+    check_bytes(rt, &came.written, row.written, row.name, at);
+}
+
+/// A stream whole and by single bytes.
+fn check_runs(rt: &impl Abort, alloc: Global, row: &Row, query: &Query) -> Result<(), Fail> {
+    let whole = came_of(alloc, row.text, 8_192, query, row.options)?;
+    check_came(rt, row, &whole, 8_192);
+    let bytes = came_of(alloc, row.text, 1, query, row.options)?;
+    check_came(rt, row, &bytes, 1);
+    Ok(())
+}
+
+/// A stream in every way.
+fn check(rt: &impl Abort, alloc: Global, row: &Row, query: &Query) -> Result<(), Fail> {
+    check_runs(rt, alloc, row, query)?;
+    for at in 0..=row.text.len() {
+        let came = came_of_cut(rt, alloc, row.text, at, query, row.options)?;
+        check_came(rt, row, &came, at as u64);
+    }
+    Ok(())
+}
+
+// ---- options
+
+/// Compares what is told of options.
+fn check_options(rt: &impl Abort, options: Options, going: bool, trees: bool, excludes: bool) {
+    assert_eq!(rt; options.keeps_going(), going);
+    assert_eq!(rt; options.asks_for_trees(), trees);
+    assert_eq!(rt; options.excludes(), excludes);
+}
+
+/// An option that is set leaves the others as they are, and can be set back.
+#[test]
+fn each_option_is_set_by_its_name(rt: HostRuntime) {
+    let usual = Options::new();
+    check_options(&rt, usual, false, false, false);
+    check_options(&rt, usual.keep_going(true), true, false, false);
+    check_options(&rt, usual.tree(true), false, true, false);
+    check_options(&rt, usual.exclude(true), false, false, true);
+    let all = usual.keep_going(true).tree(true).exclude(true);
+    check_options(&rt, all, true, true, true);
+    check_options(&rt, all.keep_going(false), false, true, true);
+    check_options(&rt, all.tree(false), true, false, true);
+    check_options(&rt, all.exclude(false), true, true, false);
+}
+
+// ---- trees
+
+/// What stands before the city objects of a feature whose id is `b`, and what stands behind them. The first city object begins
+/// at byte 50.
+const FRONT: &[u8] = b"{\"type\":\"CityJSONFeature\",\"id\":\"b\",\"CityObjects\":{";
+
+const BACK: &[u8] = b"},\"vertices\":[]}";
+
+/// Its main city object, and one apart: 113 bytes, with 17 values and names, nested 3 deep. The one apart stands at byte 78.
+const APART: &[u8] =
+    b"{\"type\":\"CityJSONFeature\",\"id\":\"b\",\"CityObjects\":{\"b\":{\"type\":\"Building\"},\"c\":{\"type\":\"Building\"}},\"vertices\":[]}";
+
+/// A chain that begins at its last city object: 211 bytes, with 33 values and names, nested 4 deep.
+const CHAIN: &[u8] =
+    b"{\"type\":\"CityJSONFeature\",\"id\":\"b\",\"CityObjects\":{\"q\":{\"type\":\"BuildingPart\",\"parents\":[\"p\"]},\"p\":{\"type\":\"BuildingPart\",\"parents\":[\"b\"],\"children\":[\"q\"]},\"b\":{\"type\":\"Building\",\"children\":[\"p\"]}},\"vertices\":[]}";
+
+/// The options by which each city object has to be reached.
+fn trees() -> Options {
+    Options::new().tree(true)
+}
+
+/// A header, the feature with one apart, and one that is good, read by these options.
+fn check_apart(
+    rt: &impl Abort,
+    alloc: Global,
+    options: Options,
+    written: &[&[u8]],
+    reports: &str,
+    outcome: Outcome,
+) -> Result<(), Fail> {
+    let text = joined(alloc, &[HEADER, b"\n", APART, b"\n", SMALL, b"\n"])?;
+    let written = joined(alloc, written)?;
+    let row = Row {
+        name: "one apart",
+        text: &text,
+        options,
+        written: &written,
+        reports,
+        outcome,
+    };
+    check(rt, alloc, &row, &Query::all(alloc))
+}
+
+#[test]
+fn one_apart_is_kept_as_usual(rt: HostRuntime) -> Result<(), Fail> {
+    let written = [HEADER, b"\n", APART, b"\n", SMALL, b"\n"];
+    let all = complete(3, 2, 0, held(253, 38, 3));
+    check_apart(&rt, rt.alloc(), Options::new(), &written, "", all)?;
+    check_apart(&rt, rt.alloc(), trees().tree(false), &written, "", all)?;
+    check_apart(&rt, rt.alloc(), going(), &written, "", all)
+}
+
+#[test]
+fn one_apart_is_the_end(rt: HostRuntime) -> Result<(), Fail> {
+    let end = refused(2, 78, Reason::NotReached);
+    let first = outcome(1, 0, held(253, 38, 3), end);
+    check_apart(&rt, rt.alloc(), trees(), &[HEADER, b"\n"], "", first)
+}
+
+#[test]
+fn one_apart_is_reported(rt: HostRuntime) -> Result<(), Fail> {
+    let options = trees().keep_going(true);
+    let written = [HEADER, b"\n", SMALL, b"\n"];
+    let good = complete(3, 1, 1, held(253, 38, 3));
+    check_apart(&rt, rt.alloc(), options, &written, "2 78 31\n", good)
+}
+
+/// What is left out is judged as what is kept is.
+#[test]
+fn one_apart_is_reported_where_all_is_left_out(rt: HostRuntime) -> Result<(), Fail> {
+    let options = trees().keep_going(true).exclude(true);
+    let none = complete(3, 0, 1, held(253, 38, 3));
+    check_apart(
+        &rt,
+        rt.alloc(),
+        options,
+        &[HEADER, b"\n"],
+        "2 78 31\n",
+        none,
+    )?;
+    let options = going().exclude(true);
+    let none = complete(3, 0, 0, held(253, 38, 3));
+    check_apart(&rt, rt.alloc(), options, &[HEADER, b"\n"], "", none)
+}
+
+/// Nothing is remembered of one line in the next: each is judged by its own marks.
+#[test]
+fn a_chain_between_two_apart(rt: HostRuntime) -> Result<(), Fail> {
+    let lines = [
+        HEADER, b"\n", APART, b"\n", CHAIN, b"\n", APART, b"\n", SMALL,
+    ];
+    let text = joined(rt.alloc(), &lines)?;
+    let written = joined(rt.alloc(), &[HEADER, b"\n", CHAIN, b"\n", SMALL])?;
+    let row = Row {
+        name: "a chain between two apart",
+        text: &text,
+        options: trees().keep_going(true),
+        written: &written,
+        reports: "2 78 31\n4 78 31\n",
+        outcome: complete(5, 2, 2, held(351, 54, 4)),
+    };
+    check(&rt, rt.alloc(), &row, &Query::all(rt.alloc()))
+}
+
+/// Compares how far a run went, and what was written.
+fn check_went(rt: &impl Abort, came: &Came, kept: u64, ended: End, written: &[u8], row: &str) {
+    check_ended(rt, came.outcome.ended, ended, row, 0);
+    check_number(rt, came.outcome.kept, kept, row, 1);
+    check_bytes(rt, &came.written, written, row, 2);
+}
+
+/// A feature with these city objects, which is valid, and refused at this place where each has to be reached.
+fn check_refused(rt: &impl Abort, alloc: Global, objects: &str, place: u64) -> Result<(), Fail> {
+    let header = joined(alloc, &[HEADER, b"\n"])?;
+    let text = joined(alloc, &[&header, FRONT, objects.as_bytes(), BACK, b"\n"])?;
+    let query = Query::all(alloc);
+    let usual = came_of(alloc, &text, 100, &query, Options::new())?;
+    check_went(rt, &usual, 1, End::Complete, &text, objects);
+    let tree = came_of(alloc, &text, 100, &query, trees())?;
+    let end = refused(2, place, Reason::NotReached);
+    check_went(rt, &tree, 0, end, &header, objects);
+    Ok(())
+}
+
+/// Rows of what is reached: a group reaches what it lists, and is reached itself by no other way; and `parents` reach nothing.
+#[test]
+fn features_with_one_that_is_not_reached(rt: HostRuntime) -> Result<(), Fail> {
+    for (objects, place) in [
+        (r#""b":{"type":"Building"},"c":{"type":"Building"}"#, 78),
+        (r#""c":{"type":"Building"},"b":{"type":"Building"}"#, 54),
+        (
+            r#""b":{"type":"Building"},"c":{"type":"Building","children":["d"],"parents":["d"]},"d":{"type":"Building","children":["c"],"parents":["c"]}"#,
+            78,
+        ),
+        (
+            r#""b":{"type":"Building"},"g":{"type":"CityObjectGroup","children":["b"]}"#,
+            78,
+        ),
+        (
+            r#""b":{"type":"Building"},"c":{"type":"Building","parents":["g"]}"#,
+            78,
+        ),
+        (
+            r#""b":{"type":"Building","children":["p"]},"p":{"type":"BuildingPart","parents":["b"]},"c":{"type":"Building"}"#,
+            139,
+        ),
+        (
+            r#""b":{"type":"Building"},"c":{"type":"Building"},"d":{"type":"Building"}"#,
+            78,
+        ),
+    ] {
+        check_refused(&rt, rt.alloc(), objects, place)?;
+    }
+    Ok(())
+}
+
+/// A feature with these city objects, which is kept in either way.
+fn check_kept(rt: &impl Abort, alloc: Global, objects: &str) -> Result<(), Fail> {
+    let header = joined(alloc, &[HEADER, b"\n"])?;
+    let text = joined(alloc, &[&header, FRONT, objects.as_bytes(), BACK, b"\n"])?;
+    let query = Query::all(alloc);
+    let usual = came_of(alloc, &text, 100, &query, Options::new())?;
+    check_went(rt, &usual, 1, End::Complete, &text, objects);
+    let tree = came_of(alloc, &text, 100, &query, trees())?;
+    check_went(rt, &tree, 1, End::Complete, &text, objects);
+    Ok(())
+}
+
+#[test]
+fn features_of_which_all_is_reached(rt: HostRuntime) -> Result<(), Fail> {
+    for objects in [
+        r#""b":{"type":"Building"}"#,
+        r#""b":{"type":"Building","children":["b"],"parents":["b"]}"#,
+        r#""b":{"type":"Building","children":["c"],"parents":["c"]},"c":{"type":"Building","children":["b"],"parents":["b"]}"#,
+        r#""b":{"type":"CityObjectGroup","children":["g"]},"c":{"type":"Building"},"g":{"type":"CityObjectGroup","children":["c","x"]}"#,
+        r#""b":{"type":"Building","children":["\u0070"]},"\u0070":{"type":"BuildingPart","parents":["\u0062"]}"#,
+    ] {
+        check_kept(&rt, rt.alloc(), objects)?;
+    }
+    Ok(())
+}
+
+/// A line that is invalid for more than one cause has the fault that stands first, and at one place not reached comes second.
+#[test]
+fn not_reached_beside_other_faults(rt: HostRuntime) -> Result<(), Fail> {
+    for (objects, place, reason) in [
+        (
+            r#""b":{"type":"Shed"},"c":{"type":"Building"}"#,
+            62,
+            Reason::UnknownObjectType,
+        ),
+        (
+            r#""b":{"type":"Building"},"c":{"type":"Shed"}"#,
+            78,
+            Reason::NotReached,
+        ),
+        (r#""b":{"type":"Building"},"c":3"#, 78, Reason::WrongKind),
+    ] {
+        let text = joined(
+            rt.alloc(),
+            &[HEADER, b"\n", FRONT, objects.as_bytes(), BACK],
+        )?;
+        let came = came_of(rt.alloc(), &text, 100, &Query::all(rt.alloc()), trees())?;
+        check_went(
+            &rt,
+            &came,
+            0,
+            refused(2, place, reason),
+            &text[..141],
+            objects,
+        );
+    }
+    Ok(())
+}
+
+// ---- what is left out
+
+/// A road whose only vertex is that of 1005, 2005, of LoD 1: fewer bytes, values and names than the usual feature has.
+const ROAD: &[u8] =
+    b"{\"type\":\"CityJSONFeature\",\"id\":\"r1\",\"CityObjects\":{\"r1\":{\"type\":\"Road\",\"geometry\":[{\"type\":\"MultiPoint\",\"lod\":\"1\",\"boundaries\":[0]}]}},\"vertices\":[[5000,5000,0]]}";
+
+/// The usual feature, a road away from it, the small one without vertices, and one of several city objects.
+const FEATURES: [&[u8]; 4] = [FEATURE, ROAD, SMALL, SEVERAL];
+
+/// The header, and those of the features for which this is told; and how many these are.
+fn side_of(alloc: Global, holds: [bool; 4], side: bool) -> Result<(Vec<u8>, u64), Fail> {
+    let mut text = joined(alloc, &[HEADER, b"\n"])?;
+    let mut count = 0_u64;
+    for (feature, told) in FEATURES.iter().zip(holds.iter()) {
+        if *told == side {
+            text.extend_from_slice(feature)?;
+            text.push(b'\n')?;
+            count = count.saturating_add(1);
+        }
+    }
+    Ok((text, count))
+}
+
+/// Runs over all features by a query that these satisfy: they are kept, or the others.
+fn check_sides(
+    rt: &impl Abort,
+    alloc: Global,
+    parts: &Parts,
+    holds: [bool; 4],
+    row: &str,
+) -> Result<(), Fail> {
+    let (text, _) = side_of(alloc, [true; 4], true)?;
+    let (inside, inside_count) = side_of(alloc, holds, true)?;
+    let (outside, outside_count) = side_of(alloc, holds, false)?;
+    let query = query_of(alloc, parts)?;
+    let kept = came_of(alloc, &text, 100, &query, Options::new())?;
+    check_went(rt, &kept, inside_count, End::Complete, &inside, row);
+    let others = came_of(alloc, &text, 100, &query, Options::new().exclude(true))?;
+    check_went(rt, &others, outside_count, End::Complete, &outside, row);
+    check_number(rt, kept.outcome.lines, 5, row, 3);
+    check_number(
+        rt,
+        kept.outcome.kept.saturating_add(others.outcome.kept),
+        4,
+        row,
+        4,
+    );
+    let same = Outcome {
+        kept: kept.outcome.kept,
+        ..others.outcome
+    };
+    check_outcome(rt, same, kept.outcome, row, 5);
+    Ok(())
+}
+
+#[test]
+fn left_out_by_id(rt: HostRuntime) -> Result<(), Fail> {
+    for (parts, holds, row) in [
+        (
+            by_ids(&["b1"]),
+            [true, false, false, true],
+            "an id of two features",
+        ),
+        (by_ids(&["r1", "b"]), [false, true, true, false], "two ids"),
+        (by_ids(&["w1"]), [false; 4], "an id of none"),
+        (by_ids(&[]), [false; 4], "no id"),
+    ] {
+        check_sides(&rt, rt.alloc(), &parts, holds, row)?;
+    }
+    Ok(())
+}
+
+#[test]
+fn left_out_by_type(rt: HostRuntime) -> Result<(), Fail> {
+    for (parts, holds, row) in [
+        (
+            by_types(&["Building"]),
+            [true, false, true, true],
+            "buildings",
+        ),
+        (by_types(&["Road"]), [false, true, false, true], "roads"),
+        (by_types(&["Road", "Building"]), [true; 4], "two types"),
+        (by_types(&["Tunnel"]), [false; 4], "a type of none"),
+    ] {
+        check_sides(&rt, rt.alloc(), &parts, holds, row)?;
+    }
+    Ok(())
+}
+
+#[test]
+fn left_out_by_lod(rt: HostRuntime) -> Result<(), Fail> {
+    for (parts, holds, row) in [
+        (
+            by_lods(&["2.2"]),
+            [true, false, false, true],
+            "an LoD of two features",
+        ),
+        (by_lods(&["1"]), [false, true, false, true], "another"),
+        (
+            by_lods(&["1", "2.2"]),
+            [true, true, false, true],
+            "two LoDs",
+        ),
+        (by_lods(&["2"]), [false; 4], "an LoD of none"),
+    ] {
+        check_sides(&rt, rt.alloc(), &parts, holds, row)?;
+    }
+    Ok(())
+}
+
+/// A feature without vertices is in no box, so it is kept where those of a box are left out.
+#[test]
+fn left_out_by_box(rt: HostRuntime) -> Result<(), Fail> {
+    for (bounds, holds) in [
+        ("1000,2000,1001,2001", [true, false, false, true]),
+        ("1001,2001,1005,2005", [true, true, false, true]),
+        (
+            "1001.000000000000000001,2000,1005,2005",
+            [false, true, false, false],
+        ),
+        ("0,0,1,1", [false; 4]),
+        ("-1e17,-1e17,1e17,1e17", [true, true, false, true]),
+    ] {
+        check_sides(&rt, rt.alloc(), &by_box(bounds), holds, bounds)?;
+    }
+    Ok(())
+}
+
+/// What satisfies one part and not the other is kept, as what satisfies none is.
+#[test]
+fn left_out_by_two_parts(rt: HostRuntime) -> Result<(), Fail> {
+    let parts = Parts {
+        lods: Some(&["1"]),
+        ..by_ids(&["b1"])
+    };
+    check_sides(
+        &rt,
+        rt.alloc(),
+        &parts,
+        [false, false, false, true],
+        "an id and an LoD",
+    )?;
+    let parts = Parts {
+        bounds: Some("1005,2005,1005,2005"),
+        ..by_types(&["Building"])
+    };
+    check_sides(&rt, rt.alloc(), &parts, [false; 4], "a type and a box")
+}
+
+/// With a query that asks for nothing, the header alone is kept.
+#[test]
+fn all_is_left_out(rt: HostRuntime) -> Result<(), Fail> {
+    check_sides(&rt, rt.alloc(), &ALL, [true; 4], "nothing asked")?;
+    let text = joined(rt.alloc(), &[HEADER, b"\n", SMALL, b"\n", FEATURE])?;
+    let row = Row {
+        name: "all left out",
+        text: &text,
+        options: Options::new().exclude(true),
+        written: &text[..141],
+        reports: "",
+        outcome: complete(3, 0, 0, held(350, 65, 8)),
+    };
+    check(&rt, rt.alloc(), &row, &Query::all(rt.alloc()))
+}
+
+/// A header without features is kept as it is, also without its LF.
+#[test]
+fn a_header_alone_is_not_left_out(rt: HostRuntime) -> Result<(), Fail> {
+    let row = Row {
+        name: "a header alone",
+        text: HEADER,
+        options: Options::new().exclude(true),
+        written: HEADER,
+        reports: "",
+        outcome: complete(1, 0, 0, held(140, 21, 3)),
+    };
+    check(&rt, rt.alloc(), &row, &Query::all(rt.alloc()))
+}
+
+/// Lines of which two are refused, where features with this id are left out.
+fn check_faulty(
+    rt: &impl Abort,
+    alloc: Global,
+    options: Options,
+    written: &[&[u8]],
+    reports: &str,
+    outcome: Outcome,
+) -> Result<(), Fail> {
+    let lines = [HEADER, b"\n", FEATURE, b"\n{}\n", ROAD, b"\n3\n\n", SMALL];
+    let text = joined(alloc, &lines)?;
+    let written = joined(alloc, written)?;
+    let row = Row {
+        name: "left out among refused lines",
+        text: &text,
+        options,
+        written: &written,
+        reports,
+        outcome,
+    };
+    check(rt, alloc, &row, &query_of(alloc, &by_ids(&["b1"]))?)
+}
+
+/// A refused line is no feature that is not asked for: it is not kept in either way.
+#[test]
+fn left_out_among_refused_lines(rt: HostRuntime) -> Result<(), Fail> {
+    let reports = "3 0 10\n5 0 12\n";
+    let written = [HEADER, b"\n", ROAD, b"\n", SMALL];
+    let others = complete(7, 2, 2, held(350, 65, 8));
+    check_faulty(
+        &rt,
+        rt.alloc(),
+        going().exclude(true),
+        &written,
+        reports,
+        others,
+    )?;
+    let written = [HEADER, b"\n", FEATURE, b"\n"];
+    let asked = complete(7, 1, 2, held(350, 65, 8));
+    check_faulty(&rt, rt.alloc(), going(), &written, reports, asked)
+}
+
+#[test]
+fn a_refused_line_is_the_end_where_others_are_left_out(rt: HostRuntime) -> Result<(), Fail> {
+    let options = Options::new().exclude(true);
+    let end = refused(3, 0, Reason::MissingMember);
+    let first = outcome(2, 0, held(350, 65, 8), end);
+    check_faulty(&rt, rt.alloc(), options, &[HEADER, b"\n"], "", first)
+}

@@ -1,0 +1,169 @@
+//! Lines that are too long, step by step: what is held and told while their bytes come, and when they are reported.
+use super::calls::{
+    check_bytes, check_feed_noting, check_finish_noting, check_held, check_number, held, joined,
+};
+use super::reports::{NoteReports, check_notes, going};
+use super::rows::{FEATURE, HEADER, with_last_index};
+use crate::{End, Engine, Query, WriteSink};
+use cj_budget::{Limits, Peaks};
+use std::process::Abort;
+use std::test::Fail;
+
+/// What an engine has to tell, where its line limit is 210.
+#[derive(Clone, Copy)]
+struct Step<'a> {
+    lines: u64,
+    held: u64,
+    peak: u64,
+    reports: &'a str,
+}
+
+/// What is held of bytes, beside the header's tokens.
+const fn beside_header(bytes: u64, depth: u64) -> Peaks {
+    held(bytes, 21, depth)
+}
+
+/// Compares what an engine tells after a piece.
+fn check_told(rt: &impl Abort, engine: &Engine, reports: &NoteReports, wanted: &Step) {
+    check_held(
+        rt,
+        engine,
+        beside_header(wanted.held, 0),
+        beside_header(wanted.peak, 3),
+    );
+    check_notes(rt, reports, wanted.reports, "step", wanted.peak);
+    check_number(rt, engine.lines(), wanted.lines, "lines", wanted.peak);
+    let refused = wanted.lines.saturating_sub(1);
+    check_number(rt, engine.refused(), refused, "refused", wanted.peak);
+}
+
+/// Gives a piece to an engine.
+fn check_step(
+    rt: &impl Abort,
+    engine: &mut Engine,
+    piece: &[u8],
+    sink: &mut WriteSink<Vec<u8>>,
+    reports: &mut NoteReports,
+    wanted: &Step,
+) {
+    check_feed_noting(rt, engine, piece, sink, reports, Ok(()));
+    check_told(rt, engine, reports, wanted);
+}
+
+/// Before anything is reported.
+const fn silent(held: u64, peak: u64) -> Step<'static> {
+    Step {
+        lines: 1,
+        held,
+        peak,
+        reports: "",
+    }
+}
+
+/// After the second line was reported.
+const REPORTED: Step<'static> = Step {
+    lines: 2,
+    held: 140,
+    peak: 350,
+    reports: "2 210 2\n",
+};
+
+/// Gives the header, and then a line of 210 bytes and five more: it is held until a byte comes that does not fit, and nothing
+/// of it after that.
+fn give_long_line(
+    rt: &impl Abort,
+    engine: &mut Engine,
+    sink: &mut WriteSink<Vec<u8>>,
+    reports: &mut NoteReports,
+) {
+    check_feed_noting(rt, engine, HEADER, sink, reports, Ok(()));
+    check_step(rt, engine, b"\n", sink, reports, &silent(140, 140));
+    check_step(rt, engine, FEATURE, sink, reports, &silent(350, 350));
+    check_step(rt, engine, b"", sink, reports, &silent(350, 350));
+    check_step(rt, engine, b" ", sink, reports, &silent(140, 350));
+    check_step(rt, engine, b"", sink, reports, &silent(140, 350));
+    check_step(rt, engine, b"    ", sink, reports, &silent(140, 350));
+}
+
+#[test]
+fn a_line_too_long_by_steps(rt: HostRuntime) -> Result<(), Fail> {
+    let query = Query::all(rt.alloc());
+    let mut engine = Engine::open(rt.alloc(), Limits::new(210, 64)?, &query, going())?;
+    let mut sink = WriteSink::new(Vec::new(rt.alloc()));
+    let mut reports = NoteReports::new(rt.alloc());
+    give_long_line(&rt, &mut engine, &mut sink, &mut reports);
+    check_step(&rt, &mut engine, b"\n", &mut sink, &mut reports, &REPORTED);
+    check_finish_noting(&rt, &mut engine, &mut sink, &mut reports, End::Complete);
+    check_told(&rt, &engine, &reports, &REPORTED);
+    Ok(())
+}
+
+/// Its end is that of the stream: it is reported by then.
+#[test]
+fn a_last_line_too_long_by_steps(rt: HostRuntime) -> Result<(), Fail> {
+    let query = Query::all(rt.alloc());
+    let mut engine = Engine::open(rt.alloc(), Limits::new(210, 64)?, &query, going())?;
+    let mut sink = WriteSink::new(Vec::new(rt.alloc()));
+    let mut reports = NoteReports::new(rt.alloc());
+    give_long_line(&rt, &mut engine, &mut sink, &mut reports);
+    check_finish_noting(&rt, &mut engine, &mut sink, &mut reports, End::Complete);
+    check_told(&rt, &engine, &reports, &REPORTED);
+    Ok(())
+}
+
+/// What fits of a line is stored first, also where the part that is too long comes after a part that fits.
+#[test]
+fn what_fits_counts_whatever_the_cut(rt: HostRuntime) -> Result<(), Fail> {
+    let query = Query::all(rt.alloc());
+    let mut engine = Engine::open(rt.alloc(), Limits::new(210, 64)?, &query, going())?;
+    let mut sink = WriteSink::new(Vec::new(rt.alloc()));
+    let mut reports = NoteReports::new(rt.alloc());
+    let header = joined(rt.alloc(), &[HEADER, b"\n", &FEATURE[..100]])?;
+    let long = joined(rt.alloc(), &[FEATURE, FEATURE])?;
+    let (sink, reports) = (&mut sink, &mut reports);
+    check_step(&rt, &mut engine, &header, sink, reports, &silent(240, 240));
+    check_step(&rt, &mut engine, &long, sink, reports, &silent(140, 350));
+    check_step(&rt, &mut engine, b"\n", sink, reports, &REPORTED);
+    Ok(())
+}
+
+/// After a line that was dropped, the next one is held from its first byte.
+#[test]
+fn the_line_after_one_that_is_dropped(rt: HostRuntime) -> Result<(), Fail> {
+    let query = Query::all(rt.alloc());
+    let mut engine = Engine::open(rt.alloc(), Limits::new(210, 64)?, &query, going())?;
+    let mut sink = WriteSink::new(Vec::new(rt.alloc()));
+    let mut reports = NoteReports::new(rt.alloc());
+    give_long_line(&rt, &mut engine, &mut sink, &mut reports);
+    let piece = joined(rt.alloc(), &[b"\n", &FEATURE[..200]])?;
+    let next = Step {
+        held: 340,
+        ..REPORTED
+    };
+    check_step(&rt, &mut engine, &piece, &mut sink, &mut reports, &next);
+    let rest = &FEATURE[200..];
+    check_feed_noting(&rt, &mut engine, rest, &mut sink, &mut reports, Ok(()));
+    check_finish_noting(&rt, &mut engine, &mut sink, &mut reports, End::Complete);
+    check_held(&rt, &engine, held(140, 21, 0), held(350, 65, 8));
+    let written = joined(rt.alloc(), &[HEADER, b"\n", FEATURE])?;
+    check_bytes(&rt, &sink.into_inner(), &written, "the line after", 0);
+    Ok(())
+}
+
+/// The lists of a line that is refused are emptied, as those of any other: also what was open in it.
+#[test]
+fn a_refused_line_is_held_no_longer(rt: HostRuntime) -> Result<(), Fail> {
+    let query = Query::all(rt.alloc());
+    let mut engine = Engine::open(rt.alloc(), Limits::new(210, 8)?, &query, going())?;
+    let mut sink = WriteSink::new(Vec::new(rt.alloc()));
+    let mut reports = NoteReports::new(rt.alloc());
+    let deep = joined(rt.alloc(), &[HEADER, b"\n[[[[[[[[[\n"])?;
+    let line = joined(rt.alloc(), &[&with_last_index(rt.alloc(), b"4")?, b"\n"])?;
+    let (sink, reports) = (&mut sink, &mut reports);
+    check_feed_noting(&rt, &mut engine, &deep, sink, reports, Ok(()));
+    check_held(&rt, &engine, held(140, 21, 0), held(149, 29, 8));
+    check_feed_noting(&rt, &mut engine, &line, sink, reports, Ok(()));
+    check_held(&rt, &engine, held(140, 21, 0), held(350, 65, 8));
+    check_notes(&rt, reports, "2 8 5\n3 144 25\n", "no longer", 0);
+    Ok(())
+}

@@ -1,0 +1,413 @@
+//! Streams whose refused lines reading goes on after: each whole, by single bytes, and cut in two at every place, given to a run,
+//! to an engine and to a reader of lines.
+use super::calls::{check_bytes, check_ended, check_outcome, held, joined, outcome, refused};
+use super::devices::SlowReader;
+use super::reports::{NoteReports, check_notes, going};
+use super::rows::{FEATURE, HEADER, SMALL, attributed, with_last_index};
+use crate::{
+    End, Engine, HeaderReader, Outcome, Query, WriteSink, headline, headline_of_lines, run,
+};
+use cj_budget::{Limits, Peaks};
+use cj_spans::Reason;
+use std::alloc::Global;
+use std::process::Abort;
+use std::test::Fail;
+
+/// A stream, and what has to come of it where reading goes on.
+#[derive(Clone, Copy)]
+struct Row<'a> {
+    name: &'a str,
+    text: &'a [u8],
+    line_limit: u64,
+    written: &'a [u8],
+    reports: &'a str,
+    outcome: Outcome,
+}
+
+/// How a complete run went.
+pub const fn complete(lines: u64, kept: u64, refused: u64, peaks: Peaks) -> Outcome {
+    Outcome {
+        lines,
+        kept,
+        refused,
+        peaks,
+        ended: End::Complete,
+    }
+}
+
+/// Compares what came of a stream that was cut here.
+fn check_came(
+    rt: &impl Abort,
+    row: &Row,
+    got: Outcome,
+    written: &[u8],
+    reports: &NoteReports,
+    at: u64,
+) {
+    check_notes(rt, reports, row.reports, row.name, at);
+    check_outcome(rt, got, row.outcome, row.name, at);
+    check_bytes(rt, written, row.written, row.name, at);
+}
+
+/// Runs over a reader that gives `step` bytes a read.
+fn check_run(rt: &impl Abort, alloc: Global, row: &Row, step: usize) -> Result<(), Fail> {
+    let limits = Limits::new(row.line_limit, 64)?;
+    let mut reader = SlowReader::new(row.text, step);
+    let mut sink = WriteSink::new(Vec::new(alloc));
+    let mut reports = NoteReports::new(alloc);
+    let query = Query::all(alloc);
+    let got = run(
+        alloc,
+        &mut reader,
+        &mut sink,
+        &mut reports,
+        limits,
+        &query,
+        going(),
+    );
+    check_came(rt, row, got, &sink.into_inner(), &reports, step as u64);
+    Ok(())
+}
+
+/// What an engine tells of a stream that has ended so.
+pub fn told(engine: &Engine, ended: End) -> Outcome {
+    Outcome {
+        lines: engine.lines(),
+        kept: engine.kept(),
+        refused: engine.refused(),
+        peaks: engine.peaks(),
+        ended,
+    }
+}
+
+/// Gives the stream to an engine, cut in two at this place.
+fn check_cut(rt: &impl Abort, alloc: Global, row: &Row, at: usize) -> Result<(), Fail> {
+    assert!(rt; at <= row.text.len());
+    assert!(rt; row.text.len() <= 100_000);
+    let limits = Limits::new(row.line_limit, 64)?;
+    let query = Query::all(alloc);
+    let mut sink = WriteSink::new(Vec::new(alloc));
+    let mut reports = NoteReports::new(alloc);
+    let pieces = [&row.text[..at], &row.text[at..]];
+    let mut engine = Engine::open(alloc, limits, &query, going())?;
+    let copied = headline(&mut engine, &pieces, &mut sink, &mut reports);
+    let got = told(&engine, copied.ended);
+    check_came(rt, row, got, &sink.into_inner(), &reports, at as u64);
+    Ok(())
+}
+
+/// A stream in every way.
+fn check(rt: &impl Abort, alloc: Global, row: &Row) -> Result<(), Fail> {
+    check_run(rt, alloc, row, 8_192)?;
+    check_run(rt, alloc, row, 1)?;
+    for at in 0..=row.text.len() {
+        check_cut(rt, alloc, row, at)?;
+    }
+    Ok(())
+}
+
+// ---- rows
+
+#[test]
+fn after_a_finding(rt: HostRuntime) -> Result<(), Fail> {
+    let line = with_last_index(rt.alloc(), b"4")?;
+    let front = joined(rt.alloc(), &[HEADER, b"\n", FEATURE, b"\n"])?;
+    let text = joined(rt.alloc(), &[&front, &line, b"\n", FEATURE, b"\n"])?;
+    let written = joined(rt.alloc(), &[&front, FEATURE, b"\n"])?;
+    let row = Row {
+        name: "after a finding",
+        text: &text,
+        line_limit: 1_000,
+        written: &written,
+        reports: "3 144 25\n",
+        outcome: complete(4, 2, 1, held(350, 65, 8)),
+    };
+    check(&rt, rt.alloc(), &row)
+}
+
+#[test]
+fn after_a_line_one_byte_too_long(rt: HostRuntime) -> Result<(), Fail> {
+    let front = joined(rt.alloc(), &[HEADER, b"\n", FEATURE, b"\n"])?;
+    let text = joined(rt.alloc(), &[&front, FEATURE, b" \n", FEATURE, b"\n"])?;
+    let written = joined(rt.alloc(), &[&front, FEATURE, b"\n"])?;
+    let row = Row {
+        name: "after a line one byte too long",
+        text: &text,
+        line_limit: 210,
+        written: &written,
+        reports: "3 210 2\n",
+        outcome: complete(4, 2, 1, held(350, 65, 8)),
+    };
+    check(&rt, rt.alloc(), &row)
+}
+
+#[test]
+fn a_first_line_of_an_older_version(rt: HostRuntime) -> Result<(), Fail> {
+    let line = joined(rt.alloc(), &[&HEADER[..29], b"\"1.1\"", &HEADER[34..]])?;
+    let text = joined(rt.alloc(), &[&line, b"\n", FEATURE])?;
+    let row = Row {
+        name: "an older version",
+        text: &text,
+        line_limit: 1_000,
+        written: b"",
+        reports: "",
+        outcome: outcome(0, 0, held(140, 21, 3), refused(1, 29, Reason::WrongVersion)),
+    };
+    check(&rt, rt.alloc(), &row)
+}
+
+/// A header, and lines of which none is kept, in every way.
+fn check_refused(
+    rt: &impl Abort,
+    alloc: Global,
+    lines: &[&[u8]],
+    reports: &str,
+    counts: (u64, u64),
+    peaks: Peaks,
+) -> Result<(), Fail> {
+    let written = joined(alloc, &[HEADER, b"\n"])?;
+    let rest = joined(alloc, lines)?;
+    let text = joined(alloc, &[&written, &rest])?;
+    let row = Row {
+        name: reports,
+        text: &text,
+        line_limit: 210,
+        written: &written,
+        reports,
+        outcome: complete(counts.0, 0, counts.1, peaks),
+    };
+    check(rt, alloc, &row)
+}
+
+/// Five bytes more than the line limit of 210, all of them blank; and as many that no JSON text begins with.
+const SPACES: [u8; 215] = [b' '; 215];
+
+const LETTERS: [u8; 215] = [b'x'; 215];
+
+/// What is held at most of a header, and of a line without tokens that has 210 bytes or more.
+const FULL: Peaks = Peaks {
+    bytes: 350,
+    tokens: 21,
+    depth: 3,
+};
+
+/// What fits of the line is held at most beside the header.
+#[test]
+fn a_line_five_bytes_too_long(rt: HostRuntime) -> Result<(), Fail> {
+    let report = "2 210 2\n";
+    let line = joined(rt.alloc(), &[FEATURE, b"     "])?;
+    check_refused(&rt, rt.alloc(), &[&line, b"\n"], report, (2, 1), FULL)?;
+    check_refused(&rt, rt.alloc(), &[&line], report, (2, 1), FULL)?;
+    check_refused(&rt, rt.alloc(), &[&LETTERS, b"\n"], report, (2, 1), FULL)?;
+    check_refused(&rt, rt.alloc(), &[&LETTERS], report, (2, 1), FULL)
+}
+
+#[test]
+fn a_blank_line_too_long(rt: HostRuntime) -> Result<(), Fail> {
+    let report = "2 210 2\n";
+    check_refused(&rt, rt.alloc(), &[&SPACES, b"\n"], report, (2, 1), FULL)?;
+    check_refused(&rt, rt.alloc(), &[&SPACES], report, (2, 1), FULL)?;
+    check_refused(
+        &rt,
+        rt.alloc(),
+        &[&SPACES[..211], b"\n\n"],
+        report,
+        (3, 1),
+        FULL,
+    )?;
+    check_refused(
+        &rt,
+        rt.alloc(),
+        &[&SPACES[..210], b"\n\n"],
+        "",
+        (3, 0),
+        FULL,
+    )
+}
+
+#[test]
+fn two_lines_too_long_in_a_row(rt: HostRuntime) -> Result<(), Fail> {
+    let reports = "2 210 2\n3 210 2\n";
+    let lines = [LETTERS.as_slice(), b"\n", &SPACES, b"\n"];
+    check_refused(&rt, rt.alloc(), &lines, reports, (3, 2), FULL)?;
+    check_refused(&rt, rt.alloc(), &lines[..3], reports, (3, 2), FULL)?;
+    let lines = [LETTERS.as_slice(), b"\n\n", &LETTERS, b"\n \n{}\n"];
+    let reports = "2 210 2\n4 210 2\n6 0 10\n";
+    check_refused(&rt, rt.alloc(), &lines, reports, (6, 3), held(350, 22, 3))
+}
+
+/// The rest of a line that is too long is none of its own, also where it is one that would be valid, or is refused.
+#[test]
+fn the_rest_of_a_line_too_long(rt: HostRuntime) -> Result<(), Fail> {
+    let report = "2 210 2\n";
+    let lines = [&SPACES[..210], SMALL, b"\n"];
+    check_refused(&rt, rt.alloc(), &lines, report, (2, 1), FULL)?;
+    let lines = [&SPACES[..210], b"{}\n"];
+    check_refused(&rt, rt.alloc(), &lines, report, (2, 1), FULL)
+}
+
+/// A line that is no UTF-8 has no tokens, though as bytes it is a JSON text with more of them than the header; and neither
+/// has one that is too long.
+#[test]
+fn lines_that_are_not_looked_at(rt: HostRuntime) -> Result<(), Fail> {
+    let line = joined(
+        rt.alloc(),
+        &[
+            &FEATURE[..141],
+            b"3]]]}]}},\"a\":\"\xff\",\"vertices\":[[0,0,0]]}",
+        ],
+    )?;
+    check_refused(
+        &rt,
+        rt.alloc(),
+        &[&line, b"\n"],
+        "2 155 3\n",
+        (2, 1),
+        held(319, 21, 3),
+    )?;
+    let line = attributed(rt.alloc(), b"a")?;
+    check_refused(&rt, rt.alloc(), &[&line, b"\n"], "2 210 2\n", (2, 1), FULL)
+}
+
+#[test]
+fn blank_lines_are_not_reported(rt: HostRuntime) -> Result<(), Fail> {
+    let lines = [b"\n".as_slice(), b" \t\r\n", b"3\n", b"\n\n", b"[]", b"\n "];
+    let reports = "4 0 12\n7 0 12\n";
+    check_refused(&rt, rt.alloc(), &lines, reports, (8, 2), held(143, 22, 3))
+}
+
+/// A header as a later line is one more that is refused, and has the most tokens of these.
+#[test]
+fn every_second_line_is_refused(rt: HostRuntime) -> Result<(), Fail> {
+    let bad = with_last_index(rt.alloc(), b"4")?;
+    let three = joined(
+        rt.alloc(),
+        &[
+            b"\n", FEATURE, b"\n", &bad, b"\n", SMALL, b"\n", HEADER, b"\n", FEATURE, b"\n{}",
+        ],
+    )?;
+    let text = joined(rt.alloc(), &[HEADER, &three])?;
+    let written = joined(
+        rt.alloc(),
+        &[HEADER, b"\n", FEATURE, b"\n", SMALL, b"\n", FEATURE, b"\n"],
+    )?;
+    let row = Row {
+        name: "every second line",
+        text: &text,
+        line_limit: 1_000,
+        written: &written,
+        reports: "3 144 25\n5 0 10\n7 0 10\n",
+        outcome: complete(7, 3, 3, held(350, 65, 8)),
+    };
+    check(&rt, rt.alloc(), &row)
+}
+
+/// What no JSON text is may have added tokens and open containers before that was seen, but fewer than the feature has.
+#[test]
+fn lines_that_are_no_json(rt: HostRuntime) -> Result<(), Fail> {
+    let lines = [
+        HEADER,
+        b"\n{\"type\":\"CityJSONFeature\",}\n",
+        FEATURE,
+        b"\ntru\n}\xff\n",
+        FEATURE,
+    ];
+    let text = joined(rt.alloc(), &lines)?;
+    let written = joined(rt.alloc(), &[HEADER, b"\n", FEATURE, b"\n", FEATURE])?;
+    let row = Row {
+        name: "no JSON",
+        text: &text,
+        line_limit: 1_000,
+        written: &written,
+        reports: "2 26 4\n4 3 4\n5 1 3\n",
+        outcome: complete(6, 2, 3, held(350, 65, 8)),
+    };
+    check(&rt, rt.alloc(), &row)
+}
+
+// ---- whatever is asked for
+
+/// A line that is refused is reported, whatever the query asks for, and a feature that is not asked for is not.
+#[test]
+fn refused_lines_of_any_query(rt: HostRuntime) -> Result<(), Fail> {
+    let text = joined(
+        rt.alloc(),
+        &[HEADER, b"\n{}\n", FEATURE, b"\n", SMALL, b"\n3\n"],
+    )?;
+    let written = joined(rt.alloc(), &[HEADER, b"\n", SMALL, b"\n"])?;
+    let mut query = Query::all(rt.alloc());
+    query.add_id("b")?;
+    let mut sink = WriteSink::new(Vec::new(rt.alloc()));
+    let mut reports = NoteReports::new(rt.alloc());
+    let got = run(
+        rt.alloc(),
+        &mut SlowReader::new(&text, 50),
+        &mut sink,
+        &mut reports,
+        Limits::new(1_000, 64)?,
+        &query,
+        going(),
+    );
+    check_notes(&rt, &reports, "2 0 10\n5 0 12\n", "asked", 0);
+    check_outcome(&rt, got, complete(5, 1, 2, held(350, 65, 8)), "asked", 0);
+    check_bytes(&rt, &sink.into_inner(), &written, "asked", 0);
+    Ok(())
+}
+
+// ---- behind a header
+
+/// The reader of the lines behind the header, which was given with its LF.
+fn behind<'q>(
+    rt: &impl Abort,
+    header: HeaderReader<'q>,
+    sink: &mut WriteSink<Vec<u8>>,
+) -> crate::LineReader<'q> {
+    let mut header = header;
+    assert!(rt; !header.accepted() && header.taken() == 0);
+    assert!(rt; header.feed(HEADER, sink).is_ok());
+    assert!(rt; !header.accepted() && header.taken() == 140);
+    assert!(rt; header.feed(b"\n", sink).is_ok());
+    assert!(rt; header.accepted());
+    header.into_lines()
+}
+
+/// Gives what comes behind the header to a reader of lines, cut in two at this place.
+fn check_lines(
+    rt: &impl Abort,
+    alloc: Global,
+    rest: &[u8],
+    at: usize,
+    written: &[u8],
+) -> Result<(), Fail> {
+    assert!(rt; at <= rest.len() && rest.len() <= 1_000);
+    let query = Query::all(alloc);
+    let mut sink = WriteSink::new(Vec::new(alloc));
+    let mut reports = NoteReports::new(alloc);
+    let header = HeaderReader::open(alloc, Limits::new(210, 64)?, &query, going())?;
+    let mut lines = behind(rt, header, &mut sink);
+    assert!(rt; lines.taken() == 141);
+    let pieces = [&rest[..at], &rest[at..]];
+    let copied = headline_of_lines(&mut lines, &pieces, &mut sink, &mut reports);
+    check_ended(
+        rt,
+        End::from(copied.ended),
+        End::Complete,
+        "lines",
+        at as u64,
+    );
+    check_notes(rt, &reports, "2 210 2\n4 144 25\n", "lines", at as u64);
+    assert_eq!(rt; (lines.lines(), lines.refused()), (4, 2));
+    check_bytes(rt, &sink.into_inner(), written, "lines", at as u64);
+    Ok(())
+}
+
+#[test]
+fn refused_lines_behind_a_header(rt: HostRuntime) -> Result<(), Fail> {
+    let bad = with_last_index(rt.alloc(), b"4")?;
+    let rest = joined(rt.alloc(), &[FEATURE, b" \n", FEATURE, b"\n", &bad])?;
+    let written = joined(rt.alloc(), &[HEADER, b"\n", FEATURE, b"\n"])?;
+    for at in 0..=rest.len() {
+        check_lines(&rt, rt.alloc(), &rest, at, &written)?;
+    }
+    Ok(())
+}

@@ -1,0 +1,323 @@
+//! What is reported of refused lines, where reading goes on after them: a sink of the tests that notes each report, the sink that
+//! counts, and when nothing is reported.
+use super::calls::{
+    check_bytes, check_ended, check_feed_noting, check_finish_noting, check_number, joined, refused,
+};
+use super::devices::{SlowReader, SlowWriter};
+use super::rows::{FEATURE, HEADER, with_last_index};
+use crate::{
+    CountReports, End, Engine, LineSink, NoReports, Options, Outcome, Output, Query, Report,
+    ReportSink, WriteSink, run, run_within,
+};
+use cj_budget::Limits;
+use cj_spans::Reason;
+use std::alloc::{AllocError, Global};
+use std::process::Abort;
+use std::test::Fail;
+
+/// Notes each report on a line: the line's number, the byte, and the code of the reason. Where memory is refused, it notes that
+/// it has lost something.
+#[derive(Drop)]
+pub struct NoteReports {
+    alloc: Global,
+    pub notes: String,
+    pub lost: bool,
+}
+
+impl NoteReports {
+    /// A sink that has taken nothing.
+    pub fn new(alloc: Global) -> NoteReports {
+        NoteReports {
+            alloc,
+            notes: String::new(alloc),
+            lost: false,
+        }
+    }
+}
+
+/// A report, as it is noted.
+pub fn note(alloc: Global, report: Report) -> Result<String, AllocError> {
+    let code = report.reason.code();
+    format!(in alloc; "{} {} {code}\n", report.line, report.place)
+}
+
+impl ReportSink for NoteReports {
+    ghost use Rattle.std.specs.Prelude.{⊤};
+
+    ghost notes = { λ a r b. ⊤ };
+
+    fn report(&mut self, report: Report) {
+        let taken = match note(self.alloc, report) {
+            Ok(text) => self.notes.push_str(&text).is_ok(),
+            Err(AllocError) => false,
+        };
+        self.lost = self.lost || !taken;
+    }
+}
+
+/// Compares what was noted.
+pub fn check_notes(rt: &impl Abort, reports: &NoteReports, wanted: &str, row: &str, at: u64) {
+    assert!(rt; !reports.lost);
+    check_bytes(rt, reports.notes.as_bytes(), wanted.as_bytes(), row, at);
+}
+
+/// How reading goes on after a refused line.
+pub fn going() -> Options {
+    Options::new().keep_going(true)
+}
+
+// ---- counts
+
+/// Runs over a text, going on: how many reports were counted, from this number on.
+fn counted(alloc: Global, text: &[u8], from: u64) -> Result<(Outcome, u64), Fail> {
+    let mut reports = CountReports { reports: from };
+    let mut sink = WriteSink::new(Vec::new(alloc));
+    let mut reader = SlowReader::new(text, 100);
+    let limits = Limits::new(1_000, 64)?;
+    let query = Query::all(alloc);
+    let outcome = run(
+        alloc,
+        &mut reader,
+        &mut sink,
+        &mut reports,
+        limits,
+        &query,
+        going(),
+    );
+    Ok((outcome, reports.reports))
+}
+
+/// Counts the reports of a stream with two refused lines.
+fn check_counted(rt: &impl Abort, alloc: Global, from: u64, wanted: u64) -> Result<(), Fail> {
+    let text = joined(alloc, &[HEADER, b"\n{}\n", FEATURE, b"\n3"])?;
+    let (outcome, reports) = counted(alloc, &text, from)?;
+    check_ended(rt, outcome.ended, End::Complete, "counted", from);
+    check_number(rt, outcome.refused, 2, "refused", from);
+    check_number(rt, reports, wanted, "reports", from);
+    Ok(())
+}
+
+/// At the greatest number the count stays.
+#[test]
+fn a_sink_counts_reports(rt: HostRuntime) -> Result<(), Fail> {
+    check_counted(&rt, rt.alloc(), 0, 2)?;
+    check_counted(&rt, rt.alloc(), 18_446_744_073_709_551_613, u64::MAX)?;
+    check_counted(&rt, rt.alloc(), 18_446_744_073_709_551_614, u64::MAX)?;
+    check_counted(&rt, rt.alloc(), u64::MAX, u64::MAX)
+}
+
+#[test]
+fn options_are_set_by_name(rt: HostRuntime) {
+    assert!(&rt; !Options::new().keeps_going());
+    assert!(&rt; going().keeps_going());
+    assert!(&rt; !going().keep_going(false).keeps_going());
+}
+
+// ---- a read fails, or there are no reads left
+
+/// A stream whose third line has begun, and is refused already for its length or would be for what it says.
+fn begun(alloc: Global, line: &[u8]) -> Result<Vec<u8>, Fail> {
+    joined(alloc, &[HEADER, b"\n{}\n", line])
+}
+
+/// Compares a run up to the third line, which is not reported.
+fn check_unreported(
+    rt: &impl Abort,
+    outcome: Outcome,
+    reports: &NoteReports,
+    wanted: End,
+    row: &str,
+) {
+    check_ended(rt, outcome.ended, wanted, row, 0);
+    check_number(rt, outcome.lines, 2, row, 1);
+    check_number(rt, outcome.refused, 1, row, 2);
+    check_notes(rt, reports, "2 0 10\n", row, 3);
+}
+
+/// Runs over a text, all of which one read gives, and the read after it fails.
+fn check_read_fault(rt: &impl Abort, alloc: Global, line: &[u8]) -> Result<(), Fail> {
+    let text = begun(alloc, line)?;
+    let mut reader = SlowReader::new(&text, 1_000);
+    reader.fails_at = 2;
+    let mut sink = WriteSink::new(Vec::new(alloc));
+    let mut reports = NoteReports::new(alloc);
+    let outcome = run(
+        alloc,
+        &mut reader,
+        &mut sink,
+        &mut reports,
+        Limits::new(210, 64)?,
+        &Query::all(alloc),
+        going(),
+    );
+    check_unreported(rt, outcome, &reports, End::ReadFault, "read fault");
+    Ok(())
+}
+
+/// Runs over a text by one read, which is all that there is.
+fn check_read_limit(rt: &impl Abort, alloc: Global, line: &[u8]) -> Result<(), Fail> {
+    let text = begun(alloc, line)?;
+    let mut reader = SlowReader::new(&text, 1_000);
+    let mut sink = WriteSink::new(Vec::new(alloc));
+    let mut reports = NoteReports::new(alloc);
+    let outcome = run_within(
+        alloc,
+        &mut reader,
+        &mut sink,
+        &mut reports,
+        Limits::new(210, 64)?,
+        &Query::all(alloc),
+        going(),
+        1,
+    );
+    check_unreported(rt, outcome, &reports, End::ReadLimit, "read limit");
+    Ok(())
+}
+
+/// More than 210 bytes.
+const LONG: [u8; 215] = [b'x'; 215];
+
+#[test]
+fn a_begun_line_is_not_reported(rt: HostRuntime) -> Result<(), Fail> {
+    for line in [b"".as_slice(), b"3", b"x", b"\xff", &LONG] {
+        check_read_fault(&rt, rt.alloc(), line)?;
+        check_read_limit(&rt, rt.alloc(), line)?;
+    }
+    Ok(())
+}
+
+// ---- after an end
+
+/// Gives refused lines to an engine that has ended: it answers the end, and reports nothing.
+fn check_told_again<S: LineSink>(
+    rt: &impl Abort,
+    engine: &mut Engine,
+    sink: &mut S,
+    reports: &mut NoteReports,
+    end: End,
+) {
+    check_feed_noting(rt, engine, b"{}\n3\n", sink, reports, Err(end));
+    check_finish_noting(rt, engine, sink, reports, end);
+    check_feed_noting(rt, engine, b"\n", sink, reports, Err(end));
+    check_finish_noting(rt, engine, sink, reports, end);
+}
+
+#[test]
+fn nothing_is_reported_after_a_complete_stream(rt: HostRuntime) -> Result<(), Fail> {
+    let text = joined(rt.alloc(), &[HEADER, b"\n{}\n3"])?;
+    let query = Query::all(rt.alloc());
+    let mut engine = Engine::open(rt.alloc(), Limits::new(1_000, 64)?, &query, going())?;
+    let mut sink = WriteSink::new(Vec::new(rt.alloc()));
+    let mut reports = NoteReports::new(rt.alloc());
+    check_feed_noting(&rt, &mut engine, &text, &mut sink, &mut reports, Ok(()));
+    check_notes(&rt, &reports, "2 0 10\n", "before the end", 0);
+    check_finish_noting(&rt, &mut engine, &mut sink, &mut reports, End::Complete);
+    check_told_again(&rt, &mut engine, &mut sink, &mut reports, End::Complete);
+    check_notes(&rt, &reports, "2 0 10\n3 0 12\n", "after the end", 0);
+    check_number(&rt, engine.lines(), 3, "lines", 0);
+    check_number(&rt, engine.refused(), 2, "refused", 0);
+    Ok(())
+}
+
+/// What was reported before a write fails stays, and nothing is reported after it.
+#[test]
+fn a_write_fault_after_reports(rt: HostRuntime) -> Result<(), Fail> {
+    let line = with_last_index(rt.alloc(), b"4")?;
+    let text = joined(
+        rt.alloc(),
+        &[HEADER, b"\n", &line, b"\n\n", FEATURE, b"\n{}\n"],
+    )?;
+    let mut writer = SlowWriter::new(Vec::new(rt.alloc()), 1_000);
+    writer.fails_at = 3;
+    let query = Query::all(rt.alloc());
+    let mut engine = Engine::open(rt.alloc(), Limits::new(1_000, 64)?, &query, going())?;
+    let mut sink = Output::new(&mut writer);
+    let mut reports = NoteReports::new(rt.alloc());
+    let end = End::WriteFault;
+    check_feed_noting(&rt, &mut engine, &text, &mut sink, &mut reports, Err(end));
+    check_told_again(&rt, &mut engine, &mut sink, &mut reports, end);
+    check_notes(&rt, &reports, "2 144 25\n", "a write fault", 0);
+    check_number(&rt, engine.lines(), 3, "lines", 0);
+    check_number(&rt, engine.refused(), 1, "refused", 0);
+    check_bytes(&rt, &writer.bytes, &text[..141], "a write fault", 0);
+    Ok(())
+}
+
+// ---- the first line
+
+/// Gives a text whose first line is refused to an engine that goes on.
+fn check_first(
+    rt: &impl Abort,
+    alloc: Global,
+    text: &[u8],
+    line: u64,
+    end: End,
+) -> Result<(), Fail> {
+    let query = Query::all(alloc);
+    let mut engine = Engine::open(alloc, Limits::new(line, 64)?, &query, going())?;
+    let mut sink = WriteSink::new(Vec::new(alloc));
+    let mut reports = NoteReports::new(alloc);
+    check_feed_noting(rt, &mut engine, text, &mut sink, &mut reports, Err(end));
+    check_told_again(rt, &mut engine, &mut sink, &mut reports, end);
+    check_notes(rt, &reports, "", "a first line", line);
+    check_number(rt, engine.lines(), 0, "lines", line);
+    check_number(rt, engine.refused(), 0, "refused", line);
+    Ok(())
+}
+
+#[test]
+fn a_refused_first_line_is_not_reported(rt: HostRuntime) -> Result<(), Fail> {
+    let text = joined(rt.alloc(), &[HEADER, b"\n{}\n"])?;
+    let end = refused(1, 139, Reason::LineTooLong);
+    check_first(&rt, rt.alloc(), &text, 139, end)?;
+    let end = refused(1, 0, Reason::WrongKind);
+    check_first(&rt, rt.alloc(), b"3\n{}\n", 1_000, end)?;
+    let end = refused(1, 0, Reason::Syntax);
+    check_first(&rt, rt.alloc(), b"\n{}\n", 1_000, end)?;
+    let end = refused(1, 1, Reason::NotUtf8);
+    check_first(&rt, rt.alloc(), b"3\xff\n{}\n", 1_000, end)
+}
+
+#[test]
+fn a_stream_without_a_line_is_not_reported(rt: HostRuntime) -> Result<(), Fail> {
+    let query = Query::all(rt.alloc());
+    let mut engine = Engine::open(rt.alloc(), Limits::new(1_000, 64)?, &query, going())?;
+    let mut sink = WriteSink::new(Vec::new(rt.alloc()));
+    let mut reports = NoteReports::new(rt.alloc());
+    let end = refused(1, 0, Reason::NoHeader);
+    check_finish_noting(&rt, &mut engine, &mut sink, &mut reports, end);
+    check_told_again(&rt, &mut engine, &mut sink, &mut reports, end);
+    check_notes(&rt, &reports, "", "no line", 0);
+    Ok(())
+}
+
+/// Told nothing, the engine ends at the first refused line, and reports nothing.
+#[test]
+fn the_first_refused_line_is_the_usual_end(rt: HostRuntime) -> Result<(), Fail> {
+    let text = joined(rt.alloc(), &[HEADER, b"\n{}\n3\n"])?;
+    let query = Query::all(rt.alloc());
+    let limits = Limits::new(1_000, 64)?;
+    let mut engine = Engine::open(rt.alloc(), limits, &query, Options::new())?;
+    let mut sink = WriteSink::new(Vec::new(rt.alloc()));
+    let mut reports = NoteReports::new(rt.alloc());
+    let end = refused(2, 0, Reason::MissingMember);
+    check_feed_noting(&rt, &mut engine, &text, &mut sink, &mut reports, Err(end));
+    check_told_again(&rt, &mut engine, &mut sink, &mut reports, end);
+    check_notes(&rt, &reports, "", "the usual end", 0);
+    check_number(&rt, engine.refused(), 0, "refused", 0);
+    Ok(())
+}
+
+/// A sink that takes no notice of reports changes nothing else.
+#[test]
+fn reports_that_no_one_reads(rt: HostRuntime) -> Result<(), Fail> {
+    let text = joined(rt.alloc(), &[HEADER, b"\n{}\n3\n"])?;
+    let query = Query::all(rt.alloc());
+    let mut engine = Engine::open(rt.alloc(), Limits::new(1_000, 64)?, &query, going())?;
+    let mut sink = WriteSink::new(Vec::new(rt.alloc()));
+    check_feed_noting(&rt, &mut engine, &text, &mut sink, &mut NoReports, Ok(()));
+    check_finish_noting(&rt, &mut engine, &mut sink, &mut NoReports, End::Complete);
+    check_number(&rt, engine.refused(), 2, "refused", 0);
+    check_bytes(&rt, &sink.into_inner(), &text[..141], "no one reads", 0);
+    Ok(())
+}
