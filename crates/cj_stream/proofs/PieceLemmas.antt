@@ -15,7 +15,7 @@ use Rattle.cj_stream.specs.Reading.{Reading, begun_of, told_verdict, next_verdic
 use Rattle.cj_stream.specs.Sink.{Took}
 use Rattle.cj_stream.proofs.LineLemmas.{closed-more, begun-more, closed-lf, begun-lf, none-from_length}
 use Rattle.cj_stream.proofs.VerdictLemmas.{verdict-long}
-use Rattle.cj_stream.proofs.ReadingLemmas.{left-same, Reads-left, Reads-stored, Reads-passed, is_refused, held-whole, dropped-long, told-verdict, next-verdict, next-item, kept_closed-lf, map_lines-append}
+use Rattle.cj_stream.proofs.ReadingLemmas.{left-same, strict-first, Reads-left, Reads-stored, Reads-passed, is_refused, held-whole, dropped-long, told-verdict, next-verdict, next-item, kept_closed-lf, map_lines-append}
 use Rattle.cj_stream.proofs.EngineLemmas.{next-line}
 
 -- steps, and then others
@@ -108,6 +108,11 @@ module _ {S : Type 0} (takes leaves : S → Item → S → Type 0) where
           → Settles takes leaves on (next_verdict g c) (next_item g (record { content = c; lf = lf })) g s r h t
       go true dropped k = no-item _ g.rules.limits.line LineTooLong (next_verdict g c) (verdict-long g.rules _ _ c (dropped-long g c is dropped)) k
       go false held k = subst (λ x. Settles takes leaves on (next_verdict g c) (next_item g (record { content = x; lf = lf })) g s r h t) (held-whole g c is held).0 k
+
+  -- what came of the first line, which nothing goes on after if it is refused
+  pub Settles-first : (g h : Reading) (s t : S) (v : Verdict) (i : Item) (r : Result (Unit {0}) End) → g.lines ≡ 0 → Settles takes leaves false v i g s r h t
+      → Settles takes leaves (is_lenient g) v i g s r h t
+  Settles-first g h s t v i r first d = subst (λ on. Settles takes leaves on v i g s r h t) (sym (strict-first g first)) d
 
   -- a part and an LF
   pub Advances-line : (f g h : Reading) (s t : S) (p part : List ℕ) (r : Result (Unit {0}) End) → Reads f p → NoLf part → Stores f part g

@@ -32,6 +32,10 @@ pub begun_verdict-first : (f : Reading) → f.lines ≡ 0
     → begun_verdict f ≡ tree_verdict f.rules 1 (tree_of f.rules.limits.depth f.header.elements) (tree_of f.rules.limits.depth f.header.elements)
 begun_verdict-first f h = rw h refl
 
+-- nothing goes on after the first line, if it is refused
+pub strict-first : (f : Reading) → f.lines ≡ 0 → is_lenient f ≡ false
+strict-first f h = rw h refl
+
 -- ---- what is held of a content
 
 pub stored-short : (limit : ℕ) (c : List ℕ) → length c ≤ limit → (stored limit c ≡ c) × (ltb limit (length c) ≡ false)

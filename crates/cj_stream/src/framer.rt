@@ -10,9 +10,11 @@
 //!
 //! Memory is asked for twice: for the lists of the first line by `open`, and for those of later lines by `make_room`,
 //! once the first line is valid and LF has ended it, before the sink gets it. So the lists that the next line goes
-//! into have their room (`IsReady`), and nothing else here asks for any. A refusal by `make_room`, or a fault of the
-//! sink after it, leaves all as it was but for that room and its count of refusals (`IsLeft`, `IsStill`). Each list
-//! counts the growths of it that were refused, and want of memory is told only where such a count has risen.
+//! into have their room (`IsReady`), and nothing else here asks for any. The first line has functions of its own
+//! (`take_front`, `finish_first`), so that those of later lines (`take_piece`, `finish`) call nothing that may ask for
+//! memory. A refusal by `make_room`, or a fault of the sink after it, leaves all as it was but for that room and its
+//! count of refusals (`IsLeft`, `IsStill`). Each list counts the growths of it that were refused, and want of memory is
+//! told only where such a count has risen.
 ghost use Rattle.std.specs.Prelude.{◌≡◌, ◌+◌, ◌^◌, ◌<◌, ◌≤◌, ℕ, List, [], ◌∷◌, ◌++◌, ◌⊎◌, true, false, length, take, if◌then◌else◌, OnOk, OnErr, IfOk, IfErr, IsErrOf, IsTrue, Some};
 ghost use Rattle.cj_budget.specs.Bounded.{IsWithin};
 ghost use Rattle.cj_spans.specs.Marks.{AreUnmarked};
@@ -36,7 +38,7 @@ use crate::header_reader::Progress;
 use crate::judge::Content;
 use crate::options::Options;
 use crate::query::Query;
-use crate::reporting::{NoReports, Report, ReportSink};
+use crate::reporting::{Report, ReportSink};
 use crate::sink::LineSink;
 use crate::store::{Store, TooLong};
 use cj_budget::{Limits, NoMemory, Peaks};
@@ -83,6 +85,7 @@ impl<'q> Framer<'q> {
     ) -> Result<Framer<'q>, NoMemory>
         ensures rules { IfOk result (λ f. f.reading.rules ≡ rules_for limits query.now options) }
         ensures fresh { IfOk result (λ f. f.reading.lines ≡ 0) }
+        ensures undropped { IfOk result (λ f. f.reading.dropped ≡ false) }
         ensures empty { IfOk result (λ f. Reads f.reading []) }
         ensures framed { IfOk result (λ f. IsFramed f) }
         ensures ready { IfOk result (λ f. IsReady f.reading f.scanning) }
@@ -116,12 +119,13 @@ impl<'q> Framer<'q> {
         self.store.dropped || !self.begun().is_empty()
     }
 
-    /// Whether reading goes on after the begun line, if it is refused.
+    /// Whether reading goes on after the begun line, a later one, if it is refused.
     fn is_lenient(&self) -> bool
         requires room { self.now.reading.lines < 2 ^ 62 }
+        requires later { 0 < self.now.reading.lines }
         ensures { result ≡ is_lenient self.now.reading }
     {
-        self.store.lines + 1 > 1 && self.desk.options.keeps_going()
+        self.desk.options.keeps_going()
     }
 
     /// The refusal of the begun line for its length.
@@ -136,9 +140,30 @@ impl<'q> Framer<'q> {
         }
     }
 
-    /// Stores a part of the begun line, unless that is dropped. One that is too long by it is dropped, or refused.
+    /// Stores a part of the first line. One that is too long by it is refused.
+    fn store_first(&mut self, part: &[u8]) -> Result<(), End>
+        requires first { self.old.reading.lines ≡ 0 }
+        requires undropped { self.old.reading.dropped ≡ false }
+        requires ready { IsReady self.old.reading self.old.scanning }
+        ensures ok { OnOk result (Stores self.old.reading part.now self.new.reading) }
+        ensures err { OnErr result (self.new ≡ self.old) }
+        ensures cause { IfErr result (λ e. Unstored self.old.reading part.now e) }
+        ensures stays { Stays self.old.reading self.new.reading }
+        ensures lists { self.new.scanning ≡ self.old.scanning }
+        ensures undropped { self.new.reading.dropped ≡ false }
+        ensures framed { IsFramed self.new }
+        ensures ready { IsReady self.new.reading self.new.scanning }
+    {
+        match self.store.add(part) {
+            Ok(()) => Ok(()),
+            Err(TooLong) => Err(self.too_long()),
+        }
+    }
+
+    /// Stores a part of a later line, unless that is dropped. One that is too long by it is dropped, or refused.
     fn store(&mut self, part: &[u8]) -> Result<(), End>
         requires room { self.old.reading.lines < 2 ^ 62 }
+        requires later { 0 < self.old.reading.lines }
         requires ready { IsReady self.old.reading self.old.scanning }
         ensures ok { OnOk result (Stores self.old.reading part.now self.new.reading) }
         ensures err { OnErr result (self.new ≡ self.old) }
@@ -332,53 +357,46 @@ impl<'q> Framer<'q> {
         }
     }
 
-    /// Judges the tree of the begun line, and puts it to the sink if it is kept.
-    fn put<S: LineSink>(&mut self, lf: bool, sink: &mut S) -> Result<(), End>
-        requires room { self.old.reading.lines < 2 ^ 62 }
+    /// Judges the first line, and puts it to the sink if it is a valid header. No first line is told blank.
+    fn settle_first<S: LineSink>(&mut self, lf: bool, sink: &mut S) -> Result<(), End>
         requires ready { IsReady self.old.reading self.old.scanning }
-        requires first { self.old.reading.lines ≡ 0 → ShowsTree (begun_of self.old.reading)
-            self.old.reading.rules.limits.depth self.old.scanning.header.elements }
-        requires later { 0 < self.old.reading.lines → ShowsTree (begun_of self.old.reading)
-            self.old.reading.rules.limits.depth self.old.scanning.line.elements }
-        requires unmarked { 0 < self.old.reading.lines → AreUnmarked self.old.scanning.line.elements }
-        ensures counts { S.failures sink.old ≤ S.failures sink.new }
-        ensures cause { IsErrOf result End.WriteFault → HasRisen (S.failures sink.old) (S.failures sink.new) }
-        ensures settles { Settles S.takes S.leaves false (begun_verdict self.old.reading)
-            (next_item self.old.reading (record { content = begun_of self.old.reading; lf = lf }))
-            self.old.reading sink.old result self.new.reading sink.new }
-        ensures forgets { OnOk result (Forgets self.old.scanning self.new.scanning) }
-        ensures still { OnErr result (IsStill self.old.scanning self.new.scanning) }
-        ensures framed { IsFramed self.new }
-        ensures ready { OnOk result (IsTrue lf → IsReady self.new.reading self.new.scanning) }
-        ensures end { IfErr result IsFirstEnd }
-        ensures memory { IsErrOf result End.Memory → RefusesRoom self.old.reading self.old.scanning
-            self.new.reading self.new.scanning }
-        ensures late { 0 < self.old.reading.lines
-            → IsReady self.new.reading self.new.scanning × IfErr result IsLaterEnd }
-        ensures unrefused { 0 < self.old.reading.lines
-            → self.new.scanning.line.refused ≡ self.old.scanning.line.refused }
-    {
-        if self.lines() == 0 {
-            self.put_header(lf, sink)
-        } else {
-            self.put_feature(lf, sink)
-        }
-    }
-
-    /// Judges the begun line, and puts it to the sink if it is kept. One that is dropped is too long.
-    fn settle<S: LineSink>(&mut self, lf: bool, sink: &mut S) -> Result<(), End>
-        requires ready { IsReady self.old.reading self.old.scanning }
-        requires room { self.old.reading.lines < 2 ^ 62 }
+        requires first { self.old.reading.lines ≡ 0 }
+        requires undropped { self.old.reading.dropped ≡ false }
         ensures carries { Carries S.failures self.old self.new result sink.old sink.new }
-        ensures one { OnOk result (self.new.reading.lines ≡ self.old.reading.lines + 1) }
-        ensures grows { self.old.reading.lines ≤ self.new.reading.lines }
+        ensures one { OnOk result (self.new.reading.lines ≡ 1) }
+        ensures lines { self.new.reading.lines ≤ 1 }
         ensures settles { Settles S.takes S.leaves false (told_verdict self.old.reading)
             (next_item self.old.reading (record { content = begun_of self.old.reading; lf = lf }))
             self.old.reading sink.old result self.new.reading sink.new }
         ensures ready { OnOk result (IsTrue lf → IsReady self.new.reading self.new.scanning) }
         ensures scanned { OnOk result (ScansNext self.old.reading self.old.scanning self.new.scanning) }
         ensures few { HoldsFewNext self.old.reading self.old.scanning self.new.scanning }
-        ensures left { OnErr result (0 < self.old.reading.lines → (s : Scanning) → Forgets self.new.scanning s
+    {
+        match self.judge() {
+            Content::Faulty { place, reason } => Err(End::Refused {
+                line: 1,
+                place,
+                reason,
+            }),
+            Content::BlankLine => unreachable!(),
+            Content::Sound => self.put_header(lf, sink),
+        }
+    }
+
+    /// Judges the begun later line, and puts it to the sink if it is kept. One that is dropped is too long.
+    fn settle<S: LineSink>(&mut self, lf: bool, sink: &mut S) -> Result<(), End>
+        requires ready { IsReady self.old.reading self.old.scanning }
+        requires room { self.old.reading.lines < 2 ^ 62 }
+        requires later { 0 < self.old.reading.lines }
+        ensures carries { Carries S.failures self.old self.new result sink.old sink.new }
+        ensures one { OnOk result (self.new.reading.lines ≡ self.old.reading.lines + 1) }
+        ensures grows { self.old.reading.lines ≤ self.new.reading.lines }
+        ensures settles { Settles S.takes S.leaves false (told_verdict self.old.reading)
+            (next_item self.old.reading (record { content = begun_of self.old.reading; lf = lf }))
+            self.old.reading sink.old result self.new.reading sink.new }
+        ensures scanned { OnOk result (ScansNext self.old.reading self.old.scanning self.new.scanning) }
+        ensures few { HoldsFewNext self.old.reading self.old.scanning self.new.scanning }
+        ensures left { OnErr result ((s : Scanning) → Forgets self.new.scanning s
             → ScansNext self.old.reading self.old.scanning s) }
     {
         if self.store.dropped {
@@ -394,12 +412,12 @@ impl<'q> Framer<'q> {
                 self.pass(false);
                 Ok(())
             }
-            Content::Sound => self.put(lf, sink),
+            Content::Sound => self.put_feature(lf, sink),
         }
     }
 
-    /// Judges the begun line, and puts it to the sink if it is kept. One that is refused is reported, if reading goes on
-    /// after it.
+    /// Judges the begun later line, and puts it to the sink if it is kept. One that is refused is reported, if reading goes
+    /// on after it.
     fn deal<S: LineSink, N: ReportSink>(
         &mut self,
         lf: bool,
@@ -408,13 +426,13 @@ impl<'q> Framer<'q> {
     ) -> Result<(), End>
         requires ready { IsReady self.old.reading self.old.scanning }
         requires room { self.old.reading.lines < 2 ^ 62 }
+        requires later { 0 < self.old.reading.lines }
         ensures carries { Carries S.failures self.old self.new result sink.old sink.new }
         ensures one { OnOk result (self.new.reading.lines ≡ self.old.reading.lines + 1) }
         ensures grows { self.old.reading.lines ≤ self.new.reading.lines }
         ensures settles { Settles S.takes S.leaves (is_lenient self.old.reading) (told_verdict self.old.reading)
             (next_item self.old.reading (record { content = begun_of self.old.reading; lf = lf }))
             self.old.reading sink.old result self.new.reading sink.new }
-        ensures ready { OnOk result (IsTrue lf → IsReady self.new.reading self.new.scanning) }
         ensures scanned { OnOk result (ScansNext self.old.reading self.old.scanning self.new.scanning) }
         ensures few { HoldsFewNext self.old.reading self.old.scanning self.new.scanning }
         ensures noted { OnOk result (Took N.notes reports.old
@@ -441,7 +459,35 @@ impl<'q> Framer<'q> {
         }
     }
 
-    /// Takes the last part of a line that LF ends.
+    /// Takes the last part of the first line, which LF ends.
+    fn take_first<S: LineSink>(&mut self, part: &[u8], sink: &mut S) -> Result<(), End>
+        requires ready { IsReady self.old.reading self.old.scanning }
+        requires first { self.old.reading.lines ≡ 0 }
+        requires undropped { self.old.reading.dropped ≡ false }
+        requires one { NoLf part.now }
+        ensures carries { Carries S.failures self.old self.new result sink.old sink.new }
+        ensures few { self.new.reading.lines ≤ 1 }
+        ensures one { OnOk result (self.new.reading.lines ≡ 1) }
+        ensures ok { OnOk result ((p : List ℕ) → Reads self.old.reading p →
+            Advances S.takes self.old.reading sink.old p (part.now ++ newline ∷ []) self.new.reading sink.new) }
+        ensures err { IfErr result (λ e. (p more : List ℕ) → Reads self.old.reading p →
+            Stops S.takes S.leaves self.old.reading sink.old p (part.now ++ newline ∷ more) e
+            self.new.reading sink.new) }
+        ensures ready { OnOk result (IsReady self.new.reading self.new.scanning) }
+        ensures scanned { OnOk result
+            ((p : List ℕ) → Reads self.old.reading p → Scanned self.old.reading.rules.limits (closed p) self.old.scanning
+            → Scanned self.old.reading.rules.limits (closed (p ++ (part.now ++ newline ∷ []))) self.new.scanning) }
+        ensures held { OnErr result
+            ((p more : List ℕ) → Reads self.old.reading p → Scanned self.old.reading.rules.limits (closed p) self.old.scanning
+            → HoldsFew self.old.reading.rules.limits (length (first_content (p ++ (part.now ++ newline ∷ more))))
+            self.new.scanning) }
+    {
+        self.store_first(part)?;
+        self.settle_first(true, sink)?;
+        Ok(())
+    }
+
+    /// Takes the last part of a later line that LF ends.
     fn take_line<S: LineSink, N: ReportSink>(
         &mut self,
         part: &[u8],
@@ -450,6 +496,7 @@ impl<'q> Framer<'q> {
     ) -> Result<(), End>
         requires ready { IsReady self.old.reading self.old.scanning }
         requires room { self.old.reading.lines < 2 ^ 62 }
+        requires later { 0 < self.old.reading.lines }
         requires one { NoLf part.now }
         ensures carries { Carries S.failures self.old self.new result sink.old sink.new }
         ensures few { self.new.reading.lines ≤ self.old.reading.lines + 1 }
@@ -460,7 +507,6 @@ impl<'q> Framer<'q> {
         ensures err { IfErr result (λ e. (p more : List ℕ) → Reads self.old.reading p →
             Stops S.takes S.leaves self.old.reading sink.old p (part.now ++ newline ∷ more) e
             self.new.reading sink.new) }
-        ensures ready { OnOk result (IsReady self.new.reading self.new.scanning) }
         ensures scanned { OnOk result
             ((p : List ℕ) → Reads self.old.reading p → Scanned self.old.reading.rules.limits (closed p) self.old.scanning
             → Scanned self.old.reading.rules.limits (closed (p ++ (part.now ++ newline ∷ []))) self.new.scanning) }
@@ -476,15 +522,16 @@ impl<'q> Framer<'q> {
         Ok(())
     }
 
-    /// Takes a piece of the stream up to and with the first LF, and deals with the line that it ends; or all of it,
-    /// if there is none. Nothing is reported of it: the first line is none that reading goes on after.
+    /// Takes a piece of the stream up to and with the first LF, and deals with the first line; or all of it, if
+    /// there is none. Nothing is reported of it: the first line is none that reading goes on after.
     pub fn take_front<S: LineSink>(&mut self, piece: &[u8], sink: &mut S) -> Result<Progress, End>
         requires ready { IsReady self.old.reading self.old.scanning }
-        requires room { self.old.reading.lines < 2 ^ 62 }
+        requires first { self.old.reading.lines ≡ 0 }
+        requires undropped { self.old.reading.dropped ≡ false }
         ensures front { IfOk result (λ t. IsFront piece.now t) }
-        ensures lines { IfOk result (λ t.
-            self.new.reading.lines ≡ (if t.accepted then self.old.reading.lines + 1 else self.old.reading.lines)) }
-        ensures few { self.new.reading.lines ≤ self.old.reading.lines + 1 }
+        ensures lines { IfOk result (λ t. self.new.reading.lines ≡ (if t.accepted then 1 else 0)) }
+        ensures few { self.new.reading.lines ≤ 1 }
+        ensures undropped { IfOk result (λ t. t.accepted ≡ false → self.new.reading.dropped ≡ false) }
         ensures carries { Carries S.failures self.old self.new result sink.old sink.new }
         ensures ok { IfOk result (λ t. (p : List ℕ) → Reads self.old.reading p →
             Advances S.takes self.old.reading sink.old p (take t.used piece.now) self.new.reading sink.new) }
@@ -499,20 +546,20 @@ impl<'q> Framer<'q> {
             → HoldsFew self.old.reading.rules.limits (length (first_content (p ++ piece.now))) self.new.scanning) }
     {
         let Some(at) = memchr(b'\n', piece) else {
-            self.store(piece)?;
+            self.store_first(piece)?;
             return Ok(Progress {
                 used: piece.len(),
                 accepted: false,
             });
         };
-        self.take_line(&piece[..at], sink, &mut NoReports)?;
+        self.take_first(&piece[..at], sink)?;
         Ok(Progress {
             used: at + 1,
             accepted: true,
         })
     }
 
-    /// Takes a piece of the stream, and deals with each line that it ends.
+    /// Takes a piece of the stream behind the first line, and deals with each line that it ends.
     pub fn take_piece<S: LineSink, N: ReportSink>(
         &mut self,
         piece: &[u8],
@@ -521,6 +568,7 @@ impl<'q> Framer<'q> {
     ) -> Result<(), End>
         requires ready { IsReady self.old.reading self.old.scanning }
         requires room { self.old.reading.lines + length piece.now < 2 ^ 62 }
+        requires later { 0 < self.old.reading.lines }
         ensures carries { Carries S.failures self.old self.new result sink.old sink.new }
         ensures few { self.new.reading.lines ≤ self.old.reading.lines + length piece.now }
         ensures grows { self.old.reading.lines ≤ self.new.reading.lines }
@@ -528,7 +576,6 @@ impl<'q> Framer<'q> {
             Advances S.takes self.old.reading sink.old p piece.now self.new.reading sink.new) }
         ensures err { IfErr result (λ e. (p : List ℕ) → Reads self.old.reading p →
             Stops S.takes S.leaves self.old.reading sink.old p piece.now e self.new.reading sink.new) }
-        ensures ready { OnOk result (IsReady self.new.reading self.new.scanning) }
         ensures scanned { OnOk result
             ((p : List ℕ) → Reads self.old.reading p → Scanned self.old.reading.rules.limits (closed p) self.old.scanning
             → Scanned self.old.reading.rules.limits (closed (p ++ piece.now)) self.new.scanning) }
@@ -547,7 +594,34 @@ impl<'q> Framer<'q> {
         Ok(())
     }
 
-    /// Deals with a last line that LF has not ended, and with a stream that has no line.
+    /// Deals with a first line that LF has not ended, and with a stream that has no line.
+    pub fn finish_first<S: LineSink>(&mut self, sink: &mut S) -> Result<(), End>
+        requires ready { IsReady self.old.reading self.old.scanning }
+        requires first { self.old.reading.lines ≡ 0 }
+        requires undropped { self.old.reading.dropped ≡ false }
+        ensures carries { Carries S.failures self.old self.new result sink.old sink.new }
+        ensures few { self.new.reading.lines ≤ 1 }
+        ensures memory { IsErrOf result End.Memory → ⊥ }
+        ensures finishes { (p : List ℕ) → Reads self.old.reading p →
+            Finishes S.takes S.leaves self.old.reading sink.old p result self.new.reading sink.new }
+        ensures scanned { OnOk result
+            ((p : List ℕ) → Reads self.old.reading p → Scanned self.old.reading.rules.limits (closed p) self.old.scanning
+            → Scanned self.old.reading.rules.limits (contents p) self.new.scanning) }
+        ensures held { (p : List ℕ) → Reads self.old.reading p
+            → Scanned self.old.reading.rules.limits (closed p) self.old.scanning
+            → HoldsFew self.old.reading.rules.limits (length (first_content p)) self.new.scanning }
+    {
+        if self.has_begun() {
+            return self.settle_first(false, sink);
+        }
+        Err(End::Refused {
+            line: 1,
+            place: 0,
+            reason: Reason::NoHeader,
+        })
+    }
+
+    /// Deals with a last line behind the first that LF has not ended.
     pub fn finish<S: LineSink, N: ReportSink>(
         &mut self,
         sink: &mut S,
@@ -555,6 +629,7 @@ impl<'q> Framer<'q> {
     ) -> Result<(), End>
         requires ready { IsReady self.old.reading self.old.scanning }
         requires room { self.old.reading.lines < 2 ^ 62 }
+        requires later { 0 < self.old.reading.lines }
         ensures carries { Carries S.failures self.old self.new result sink.old sink.new }
         ensures few { self.new.reading.lines ≤ self.old.reading.lines + 1 }
         ensures grows { self.old.reading.lines ≤ self.new.reading.lines }
@@ -572,13 +647,6 @@ impl<'q> Framer<'q> {
     {
         if self.has_begun() {
             return self.deal(false, sink, reports);
-        }
-        if self.lines() == 0 {
-            return Err(End::Refused {
-                line: 1,
-                place: 0,
-                reason: Reason::NoHeader,
-            });
         }
         Ok(())
     }

@@ -16,7 +16,6 @@ use crate::framer::Framer;
 use crate::line_reader::LineReader;
 use crate::options::Options;
 use crate::query::Query;
-use crate::reporting::NoReports;
 use crate::sink::LineSink;
 use cj_budget::{Limits, NoMemory, Peaks};
 use std::alloc::Global;
@@ -42,7 +41,7 @@ pub struct HeaderReader<'q> {
 }
 
 impl<'q> Model for HeaderReader<'q> {
-    ghost use Rattle.std.specs.Prelude.{◌≡◌, ◌≤◌, ◌^◌, None, option_map};
+    ghost use Rattle.std.specs.Prelude.{◌≡◌, ◌≤◌, ◌^◌, None, false, option_map};
     ghost use Rattle.cj_stream.specs.Ending.{header_end};
     ghost use Rattle.cj_stream.specs.Scanning.{IsReady};
     ghost use Rattle.cj_stream.specs.Engine.{EngineState};
@@ -52,7 +51,8 @@ impl<'q> Model for HeaderReader<'q> {
     ghost view = { λ e. record { reading = e.framer.reading; scanning = e.framer.scanning; taken = e.taken; ended = option_map header_end e.ended } };
 
     ghost invariant = { λ e. (e.framer.reading.lines ≤ 1) × (e.ended ≡ None → e.framer.reading.lines ≤ e.taken)
-        × (e.taken ≤ 2 ^ 60) × (e.ended ≡ None → IsReady e.framer.reading e.framer.scanning) };
+        × (e.taken ≤ 2 ^ 60) × (e.ended ≡ None → IsReady e.framer.reading e.framer.scanning)
+        × (e.ended ≡ None → e.framer.reading.lines ≡ 0 → e.framer.reading.dropped ≡ false) };
 }
 
 impl<'q> HeaderReader<'q> {
@@ -126,7 +126,7 @@ impl<'q> HeaderReader<'q> {
         if let Some(end) = self.ended {
             return end;
         }
-        let end = HeaderEnd::after(self.framer.finish(sink, &mut NoReports));
+        let end = HeaderEnd::after(self.framer.finish_first(sink));
         self.ended = Some(end);
         end
     }

@@ -30,14 +30,14 @@ struct Row<'a> {
 
 /// What came of a stream: how it went, what was written, and what was reported.
 #[derive(Drop)]
-struct Came {
-    outcome: Outcome,
-    written: Vec<u8>,
-    reports: NoteReports,
+pub struct Came {
+    pub outcome: Outcome,
+    pub written: Vec<u8>,
+    pub reports: NoteReports,
 }
 
 /// Runs over a reader that gives `step` bytes a read.
-fn came_of(
+pub fn came_of(
     alloc: Global,
     text: &[u8],
     step: usize,
@@ -149,7 +149,7 @@ const FRONT: &[u8] = b"{\"type\":\"CityJSONFeature\",\"id\":\"b\",\"CityObjects\
 const BACK: &[u8] = b"},\"vertices\":[]}";
 
 /// Its main city object, and one apart: 113 bytes, with 17 values and names, nested 3 deep. The one apart stands at byte 78.
-const APART: &[u8] =
+pub const APART: &[u8] =
     b"{\"type\":\"CityJSONFeature\",\"id\":\"b\",\"CityObjects\":{\"b\":{\"type\":\"Building\"},\"c\":{\"type\":\"Building\"}},\"vertices\":[]}";
 
 /// A chain that begins at its last city object: 211 bytes, with 33 values and names, nested 4 deep.
@@ -245,7 +245,7 @@ fn a_chain_between_two_apart(rt: HostRuntime) -> Result<(), Fail> {
 }
 
 /// Compares how far a run went, and what was written.
-fn check_went(rt: &impl Abort, came: &Came, kept: u64, ended: End, written: &[u8], row: &str) {
+pub fn check_went(rt: &impl Abort, came: &Came, kept: u64, ended: End, written: &[u8], row: &str) {
     check_ended(rt, came.outcome.ended, ended, row, 0);
     check_number(rt, came.outcome.kept, kept, row, 1);
     check_bytes(rt, &came.written, written, row, 2);
@@ -358,7 +358,7 @@ fn not_reached_beside_other_faults(rt: HostRuntime) -> Result<(), Fail> {
 // ---- what is left out
 
 /// A road whose only vertex is that of 1005, 2005, of LoD 1: fewer bytes, values and names than the usual feature has.
-const ROAD: &[u8] =
+pub const ROAD: &[u8] =
     b"{\"type\":\"CityJSONFeature\",\"id\":\"r1\",\"CityObjects\":{\"r1\":{\"type\":\"Road\",\"geometry\":[{\"type\":\"MultiPoint\",\"lod\":\"1\",\"boundaries\":[0]}]}},\"vertices\":[[5000,5000,0]]}";
 
 /// The usual feature, a road away from it, the small one without vertices, and one of several city objects.

@@ -15,6 +15,6 @@ returns-clause-finished g c =
     let going : option_map header_end c.self.inside.ended ≡ None = ap (option_map header_end) not_ended in
     rw (← c.self.view_is) (IsFinished-finishes g.S.LineSink.takes g.S.LineSink.leaves g.S.LineSink.failures
     (record { reading = c.self.inside.framer.reading; scanning = c.self.inside.framer.scanning; taken = c.self.inside.taken; ended = option_map header_end c.self.inside.ended }) _
-    (record { reading = c.finish.new.self.reading; scanning = c.finish.new.self.scanning; taken = c.self.inside.taken; ended = Some (header_end c.after-end.result) }) _
-    going c.finish.ensures.carries.counts c.finish.ensures.carries.stays c.finish.ensures.carries.framed.sound c.finish.ensures.carries.framed.room c.finish.ensures.carries.rises
-    (header_end c.after-end.result) c.finish.result refl c.after-end.ensures c.finish.ensures.carries.cause c.finish.ensures.memory c.finish.ensures.finishes c.finish.ensures.scanned c.finish.ensures.held)
+    (record { reading = c.finish_first.new.self.reading; scanning = c.finish_first.new.self.scanning; taken = c.self.inside.taken; ended = Some (header_end c.after-end.result) }) _
+    going c.finish_first.ensures.carries.counts c.finish_first.ensures.carries.stays c.finish_first.ensures.carries.framed.sound c.finish_first.ensures.carries.framed.room c.finish_first.ensures.carries.rises
+    (header_end c.after-end.result) c.finish_first.result refl c.after-end.ensures c.finish_first.ensures.carries.cause c.finish_first.ensures.memory c.finish_first.ensures.finishes c.finish_first.ensures.scanned c.finish_first.ensures.held)

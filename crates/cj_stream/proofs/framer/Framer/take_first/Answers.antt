@@ -1,0 +1,59 @@
+use Rattle.std.proofs.Common.{rules, ◌∙◌, ◌∷◌, ◌++◌}
+use Rattle.std.proofs.lemmas.Result.{err_from_is_err_and}
+use Rattle.cj_stream.specs.Lines.{closed}
+use Rattle.cj_stream.proofs.PieceLemmas.{Stops-unstored, Stops-undealt, Settles-first, Advances-line}
+use Rattle.cj_stream.proofs.ScanningLemmas.{few-scanned, first-closed, few-line, scanned-line}
+use Rattle.cj_stream.proofs.StaysLemmas.{Stays-then}
+use Rattle.cj_stream.proofs.framer.Framer.take_first.Goals as goal
+
+pub returns-in_err-store_first-clause-err : goal.returns-in_err-store_first-clause-err
+returns-in_err-store_first-clause-err g c =
+    let p = err_from_is_err_and c.from_residual.result c.from_residual.ensures.1 in
+    rw (p.1, p.2) (λ q more reads. rw c.in_err-store_first.ensures.err (Stops-unstored g.S.LineSink.takes g.S.LineSink.leaves c.args.self.now.reading c.args.sink.now q c.args.part.now more _ reads c.requires.one c.in_err-store_first.ensures.cause))
+
+pub returns-in_err-settle_first-clause-err : goal.returns-in_err-settle_first-clause-err
+returns-in_err-settle_first-clause-err g c =
+    let p = err_from_is_err_and c.from_residual-in_err-settle_first.result c.from_residual-in_err-settle_first.ensures.1 in
+    rw (p.1, p.2) (λ q more reads. Stops-undealt g.S.LineSink.takes g.S.LineSink.leaves c.args.self.now.reading c.store_first.new.self.reading c.settle_first.new.self.reading c.args.sink.now c.settle_first.new.sink q c.args.part.now more _ _ reads c.requires.one c.in_ok-store_first.ensures.ok (Settles-first g.S.LineSink.takes g.S.LineSink.leaves c.store_first.new.self.reading c.settle_first.new.self.reading c.args.sink.now c.settle_first.new.sink _ _ c.settle_first.result (c.in_ok-store_first.ensures.ok.lines ∙ c.requires.first) c.settle_first.ensures.settles) c.in_err-settle_first.was)
+
+pub returns-clause-ok : goal.returns-clause-ok
+returns-clause-ok g c = λ q reads. Advances-line g.S.LineSink.takes g.S.LineSink.leaves c.args.self.now.reading c.store_first.new.self.reading c.settle_first.new.self.reading c.args.sink.now c.settle_first.new.sink q c.args.part.now c.settle_first.result reads c.requires.one c.in_ok-store_first.ensures.ok (Settles-first g.S.LineSink.takes g.S.LineSink.leaves c.store_first.new.self.reading c.settle_first.new.self.reading c.args.sink.now c.settle_first.new.sink _ _ c.settle_first.result (c.in_ok-store_first.ensures.ok.lines ∙ c.requires.first) c.settle_first.ensures.settles) c.in_ok-settle_first.was
+
+pub returns-in_err-store_first-clause-held : goal.returns-in_err-store_first-clause-held
+returns-in_err-store_first-clause-held g c =
+    let p = err_from_is_err_and c.from_residual.result c.from_residual.ensures.1 in
+    rw p.1 (λ q more reads s. rw c.in_err-store_first.ensures.err (few-scanned c.args.self.now.reading.rules.limits (closed q) c.args.self.now.scanning _ s (first-closed q (c.args.part.now ++ 10 ∷ more))))
+
+pub returns-in_err-settle_first-clause-held : goal.returns-in_err-settle_first-clause-held
+returns-in_err-settle_first-clause-held g c =
+    let p = err_from_is_err_and c.from_residual-in_err-settle_first.result c.from_residual-in_err-settle_first.ensures.1 in
+    rw p.1 (λ q more reads s. few-line c.args.self.now.reading c.store_first.new.self.reading q c.args.part.now c.args.self.now.scanning c.store_first.new.self.scanning c.settle_first.new.self.scanning
+    reads c.requires.one c.in_ok-store_first.ensures.ok c.store_first.ensures.lists s more c.settle_first.ensures.few)
+
+pub returns-clause-scanned : goal.returns-clause-scanned
+returns-clause-scanned g c = λ q reads s. scanned-line c.args.self.now.reading c.store_first.new.self.reading q c.args.part.now c.args.self.now.scanning c.store_first.new.self.scanning c.settle_first.new.self.scanning
+    reads c.requires.one c.in_ok-store_first.ensures.ok c.store_first.ensures.lists s c.in_ok-settle_first.ensures.scanned
+
+pub returns-in_err-settle_first-clause-carries : goal.returns-in_err-settle_first-clause-carries
+returns-in_err-settle_first-clause-carries g c = record {
+  stays = Stays-then _ _ _ c.store_first.ensures.stays c.settle_first.ensures.carries.stays;
+  rises = search rules;
+  framed = search rules;
+  counts = search rules;
+  cause = search rules;
+  first = search rules;
+  memory = search rules;
+  late = search rules;
+}
+
+pub returns-clause-carries : goal.returns-clause-carries
+returns-clause-carries g c = record {
+  stays = Stays-then _ _ _ c.store_first.ensures.stays c.settle_first.ensures.carries.stays;
+  rises = search rules;
+  framed = search rules;
+  counts = search rules;
+  cause = search rules;
+  first = search rules;
+  memory = search rules;
+  late = search rules;
+}
