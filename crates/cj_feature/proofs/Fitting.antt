@@ -1,5 +1,5 @@
 -- Marks that fit: those of the city objects that are reached, seen from a node of the line and from its tokens.
-use Rattle.std.proofs.Common.{◌≡◌, ◌⊎◌, inl, inr, ℕ, ◌<◌, List, [], ◌∷◌, length, Bool, true, false, Option, Some, refl, sym, ap, ◌∙◌, subst, arith}
+use Rattle.std.proofs.Common.{◌≡◌, inl, inr, ℕ, ◌<◌, List, [], ◌∷◌, length, true, false, Option, Some, refl, sym, ap, ◌∙◌, subst, arith}
 use Rattle.std.specs.Prelude.{codes}
 use Rattle.std.specs.List.{Contains}
 use Rattle.std.specs.Str.{chars}
@@ -8,7 +8,6 @@ use Rattle.cj_spans.specs.declared.node.Node.{Node}
 use Rattle.cj_spans.specs.Tree.{Tree, start_of}
 use Rattle.cj_spans.specs.Parts.{AreInValueOrder, members_of, member_of, text_of}
 use Rattle.cj_spans.specs.View.{tree, line_of, source_of, tokens_in}
-use Rattle.cj_feature.specs.Links.{same_text, listed_in, has_item}
 use Rattle.cj_feature.specs.Marking.{IsMarkedBy, HaveMarks, ListMarks, MarksFit, IsUnmarked, IsNext, IsToMark}
 use Rattle.cj_feature.specs.Relations.{IsIn, Children}
 use Rattle.cj_feature.specs.Reached.{Reached, itself, child, IsReached, IsReachedObject, AreMarks, is_reached}

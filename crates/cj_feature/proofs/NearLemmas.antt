@@ -1,5 +1,5 @@
 -- City objects at hand, and those that wait, told by their numbers.
-use Rattle.std.proofs.Common.{◌≡◌, ◌≢◌, ◌⊎◌, inl, inr, ℕ, zero, suc, ◌+◌, ◌-◌, ◌<◌, ◌≤◌, List, [], ◌∷◌, length, slice_get, Some, refl, sym, ap, subst, arith, ◌∙◌}
+use Rattle.std.proofs.Common.{◌≡◌, ◌≢◌, ◌⊎◌, inl, inr, ℕ, zero, suc, ◌+◌, ◌<◌, List, [], ◌∷◌, slice_get, Some, refl, sym, ap, subst, arith, ◌∙◌}
 use Rattle.std.specs.Prelude.{slice_set, codes, replicate}
 use Rattle.std.specs.List.{Contains}
 use Rattle.std.specs.Str.{chars}
@@ -9,16 +9,16 @@ use Rattle.cj_spans.specs.declared.token.Token.{Token}
 use Rattle.cj_spans.specs.declared.node.Doc.{Doc}
 use Rattle.cj_spans.specs.declared.node.Node.{Node}
 use Rattle.cj_spans.specs.Json.{Json}
-use Rattle.cj_spans.specs.Marks.{IsMarked, KeepsTokens, is_marked_at}
+use Rattle.cj_spans.specs.Marks.{KeepsTokens, is_marked_at}
 use Rattle.cj_spans.specs.Preorder.{Span, spans_of}
 use Rattle.cj_spans.specs.Tree.{Tree}
 use Rattle.cj_spans.specs.Parts.{members_of, member_of, text_of}
 use Rattle.cj_spans.specs.View.{tree, line_of, source_of, tokens_in, tree_at, document_line, document_source}
 use Rattle.cj_feature.specs.declared.feature.near.Near.{Near}
-use Rattle.cj_feature.specs.Links.{same_text, listed_in}
+use Rattle.cj_feature.specs.Links.{listed_in}
 use Rattle.cj_feature.specs.Relations.{IsIn, Children}
-use Rattle.cj_feature.specs.Reached.{Reached, itself, child, IsReached, IsReachedObject}
-use Rattle.cj_feature.specs.Marking.{AllReached, OnlyMarks, AreNamed, AreReached, ReachesName, Knows, WaitsFor, KeepsHand, IsGuide, spans_by}
+use Rattle.cj_feature.specs.Reached.{itself, child, IsReached, IsReachedObject}
+use Rattle.cj_feature.specs.Marking.{OnlyMarks, AreNamed, AreReached, ReachesName, Knows, WaitsFor, AddsNone, IsGuide, spans_by}
 use Rattle.cj_feature.proofs.LinkFaults.{from-texts, from-listed}
 use Rattle.cj_spans.proofs.Marking.{line-of-document}
 use Rattle.cj_feature.proofs.Fitting.{one-some}
@@ -85,16 +85,16 @@ id-reached feature id objects i o = λ name t at same.
 
 -- ---- steps of the guide
 
-pub same-hand : (a : Near) → KeepsHand a a
-same-hand a = record { objects = refl }
+pub same-hand : (a : Near) → AddsNone a a
+same-hand a = record { objects = λ k n at. (k, at) }
 
-pub more-hand : (a b c : Near) → KeepsHand a b → KeepsHand b c → KeepsHand a c
-more-hand a b c h k = record { objects = k.objects ∙ h.objects }
+pub more-hand : (a b c : Near) → AddsNone a b → AddsNone b c → AddsNone a c
+more-hand a b c h k = record { objects = λ i n at. let from = k.objects i n at in h.objects from.0 n from.1 }
 
-pub named-kept : (objects : List (Tree × Tree)) (line : List ℕ) (spans : List Span) (a b : Near) → KeepsHand a b → AreNamed objects line spans a.objects → AreNamed objects line spans b.objects
-named-kept objects line spans a b h k = subst (AreNamed objects line spans) (sym h.objects) k
+pub named-kept : (objects : List (Tree × Tree)) (line : List ℕ) (spans : List Span) (a b : Near) → AddsNone a b → AreNamed objects line spans a.objects → AreNamed objects line spans b.objects
+named-kept objects line spans a b h named = λ k n at above. let from = h.objects k n at in named from.0 n from.1 above
 
-pub known-kept : (n : Node) (a b : Near) → KeepsHand a b → Knows n a → Knows n b
+pub known-kept : (n : Node) (a b : Near) → AddsNone a b → Knows n a → Knows n b
 known-kept n a b h k = named-kept (members_of (tree n)) (line_of n) (spans_by n) a b h k
 
 pub same-marks : (a : BoundedList Token) → OnlyMarks a a
@@ -103,8 +103,8 @@ same-marks a = record { tokens = refl; list = refl }
 pub more-marks : (a b c : BoundedList Token) → OnlyMarks a b → OnlyMarks b c → OnlyMarks a c
 more-marks a b c h k = record { tokens = k.tokens ∙ h.tokens; list = k.list ∙ ap (λ (x : BoundedList Token). record x { elements = c.elements }) h.list }
 
--- the guide stands, with those at hand as they were and others that wait
-pub guide-on : (line : List ℕ) (tokens : List Token) (a b : Near) → IsGuide line tokens a → KeepsHand a b → ((f : Tree) → Json line f → WaitsFor f line (spans_of tokens) a → WaitsFor f line (spans_of tokens) b) → IsGuide line tokens b
+-- the guide stands, with none come to hand and others that wait
+pub guide-on : (line : List ℕ) (tokens : List Token) (a b : Near) → IsGuide line tokens a → AddsNone a b → ((f : Tree) → Json line f → WaitsFor f line (spans_of tokens) a → WaitsFor f line (spans_of tokens) b) → IsGuide line tokens b
 guide-on line tokens a b g h w = record {
   of = g.of;
   known = λ f o j e. named-kept (members_of o) line (spans_of tokens) a b h (g.known f o j e);
@@ -142,8 +142,8 @@ guide-marked line old new near n g kept others reached = record {
       ];
 }
 
--- the same guide, told of a document of the line, with the same at hand and waiting
-pub guide-at : (line l : List ℕ) (ts us : List Token) (a b : Near) → l ≡ line → us ≡ ts → KeepsHand a b → b.pending ≡ a.pending → b.waiting ≡ a.waiting → IsGuide line ts a → IsGuide l us b
+-- the same guide, told of a document of the line, with none come to hand and the same that wait
+pub guide-at : (line l : List ℕ) (ts us : List Token) (a b : Near) → l ≡ line → us ≡ ts → AddsNone a b → b.pending ≡ a.pending → b.waiting ≡ a.waiting → IsGuide line ts a → IsGuide l us b
 guide-at line l ts us a b e q h p w g =
     let same = guide-on line ts a b g h (λ f j waits. subst (λ k. AreReached f line (spans_of ts) b.pending k) (sym w) (subst (λ ns. AreReached f line (spans_of ts) ns a.waiting) (sym p) waits)) in
     subst (λ vs. IsGuide l vs b) (sym q) (subst (λ m. IsGuide m ts b) (sym e) same)

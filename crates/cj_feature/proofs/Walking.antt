@@ -1,5 +1,5 @@
 -- A walk over the city objects of a feature: what is left of it.
-use Rattle.std.proofs.Common.{◌≡◌, ◌⊎◌, inl, inr, ℕ, List, [], ◌∷◌, Bool, true, false, ◌∙◌, refl, sym, ap, subst}
+use Rattle.std.proofs.Common.{◌≡◌, ◌⊎◌, inl, inr, ℕ, List, ◌∷◌, ◌∙◌, sym, subst}
 use Rattle.std.specs.List.{Contains}
 use Rattle.cj_spans.specs.declared.node.Members.{Members}
 use Rattle.cj_spans.specs.declared.node.Node.{Node}

@@ -1,5 +1,5 @@
 -- What a search for the next city object to mark answers. Private clauses alone cite it.
-use Rattle.std.specs.Prelude.{◌≡◌, ℕ, ◌-◌, ◌<◌, List, false, true, length, codes, Some, slice_get}
+use Rattle.std.specs.Prelude.{◌≡◌, ℕ, ◌-◌, ◌<◌, List, true, length, codes, Some, slice_get}
 use Rattle.std.specs.List.{Contains}
 use Rattle.std.specs.Str.{chars}
 use Rattle.cj_budget.specs.Bounded.{BoundedList}
@@ -112,9 +112,9 @@ Knows objects near = AreNamed (members_of (tree objects)) (line_of objects) (spa
 abbrev pub WaitsFor : Tree → List ℕ → List Span → Near → Type 0
 WaitsFor feature line spans near = AreReached feature line spans near.pending near.waiting
 
--- those at hand stay
-pub record KeepsHand (old new : Near) : Type 0 where
-  pub objects : new.objects ≡ old.objects
+-- each city object at hand was at hand before
+pub record AddsNone (old new : Near) : Type 0 where
+  pub objects : (k n : ℕ) → slice_get new.objects k ≡ Some n → (j : ℕ) × (slice_get old.objects j ≡ Some n)
 
 -- of a line and its tokens: those at hand are city objects, and what waits and what has marks is reached
 pub record IsGuide (line : List ℕ) (tokens : List Token) (near : Near) : Type 0 where

@@ -1,5 +1,5 @@
 -- Which city objects hang on the main one, the one that the feature's id names: by the children that each lists.
-use Rattle.std.specs.Prelude.{◌≡◌, ℕ, zero, suc, ◌↔◌, List, ◌++◌, Bool, not, Some, filter, length, codes}
+use Rattle.std.specs.Prelude.{◌≡◌, ℕ, zero, suc, List, ◌++◌, Bool, not, Some, filter, length, codes}
 use Rattle.std.specs.List.{Contains, list_any}
 use Rattle.std.specs.Str.{chars}
 use Rattle.cj_spans.specs.declared.token.Token.{Token}

@@ -4,7 +4,7 @@ use Rattle.std.specs.Option.{ForSome}
 use Rattle.std.specs.Str.{chars}
 use Rattle.cj_spans.specs.Tree.{Tree}
 use Rattle.cj_spans.specs.Kinds.{is_number}
-use Rattle.cj_spans.specs.Parts.{kind_of, items_of, member_of}
+use Rattle.cj_spans.specs.Parts.{kind_of, member_of}
 use Rattle.cj_decimal.specs.Number.{Number}
 use Rattle.cj_decimal.specs.Class.{Class, no_number, out_of_range, not_whole, whole}
 use Rattle.cj_decimal.proofs.Classes.{class}

@@ -1,5 +1,5 @@
 -- Names that are looked for, by two numbers of each. Private clauses alone cite it.
-use Rattle.std.specs.Prelude.{◌≡◌, ℕ, ◌%◌, ◌/◌, ◌⊎◌, List, Bool, true, false, slice_index_or}
+use Rattle.std.specs.Prelude.{◌≡◌, ◌%◌, ◌/◌, ◌⊎◌, List, true, false, slice_index_or}
 use Rattle.std.specs.List.{Contains}
 use Rattle.cj_spans.specs.declared.node.Node.{Node}
 use Rattle.cj_spans.specs.Mix.{mix_of}

@@ -1,8 +1,9 @@
 //! A guide over many city objects: it marks most of those that are reached, one after another, and each only once.
 //!
 //! Many city objects are at hand at once, in lists of those that one remainder of a number of their names puts
-//! together. What is found by them waits to be marked, and what it lists is looked for then. Nothing hangs on whether
-//! all are found: what is marked is reached, as what lists it is, and what is left out the search behind it finds.
+//! together. What is found by them waits to be marked and is taken from hand, so it is found once, however often it is
+//! listed; and what it lists is looked for then. Nothing hangs on whether all are found: what is marked is reached, as
+//! what lists it is, and what is left out the search behind it finds.
 ghost use Rattle.std.specs.Prelude.{◌≡◌, ◌<◌, ◌≤◌, Some, length, slice_get};
 
 use cj_budget::Bounded;
@@ -20,10 +21,12 @@ const PENDING: usize = 16_384;
 /// So often the city objects are gone over.
 const ROUNDS: usize = 64;
 
-/// City objects at hand, and those that wait to be marked, by their numbers; 0 is none. Those at hand stand list after list.
+/// City objects at hand, and those that wait to be marked, by their numbers; 0 is none. Those at hand stand list after
+/// list, each from where it starts to where it ends; what was taken from hand stands before its list.
 #[derive(Drop)]
 pub struct Near {
     objects: [u32; OBJECTS],
+    starts: [u32; LISTS],
     ends: [u32; LISTS],
     count: usize,
     pending: [u32; PENDING],
@@ -67,7 +70,7 @@ impl Near {
     ghost use Rattle.cj_spans.specs.Sound.{AreOf};
     ghost use Rattle.cj_spans.specs.Tree.{Tree};
     ghost use Rattle.cj_spans.specs.View.{tree, line_of, tree_at, document, document_line, document_source, tokens_in};
-    ghost use Rattle.cj_feature.specs.Marking.{AllReached, OnlyMarks, ReachesName, Knows, WaitsFor, KeepsHand, IsGuide, IsBeside, spans_by};
+    ghost use Rattle.cj_feature.specs.Marking.{AllReached, OnlyMarks, ReachesName, Knows, WaitsFor, AddsNone, IsGuide, IsBeside, spans_by};
     ghost use Rattle.cj_feature.specs.Reached.{IsReachedObject};
 
     /// None at hand, and none that waits.
@@ -77,6 +80,7 @@ impl Near {
     {
         Near {
             objects: [0; OBJECTS],
+            starts: [0; LISTS],
             ends: [0; LISTS],
             count: 0,
             pending: [0; PENDING],
@@ -87,7 +91,7 @@ impl Near {
 
     /// Counts for each list the city objects behind the first `skip`, as many as there is room for.
     fn count_lists(&mut self, objects: Node, skip: usize)
-        ensures hand { KeepsHand self.old self.new }
+        ensures hand { AddsNone self.old self.new }
         ensures waiting { self.new.waiting ≡ self.old.waiting }
         ensures pending { self.new.pending ≡ self.old.pending }
     {
@@ -103,6 +107,17 @@ impl Near {
                 self.count += 1;
             }
         }
+    }
+
+    /// Puts the lists one after another, each as long as it was counted to be, and none with a city object in it yet.
+    fn start_lists(&mut self)
+        ensures hand { AddsNone self.old self.new }
+        ensures waiting { self.new.waiting ≡ self.old.waiting }
+        ensures pending { self.new.pending ≡ self.old.pending }
+    {
+        add_up(&mut self.ends);
+        let starts = self.ends;
+        self.starts = starts;
     }
 
     /// Takes a city object of this name to those at hand, at the end of its list so far.
@@ -135,38 +150,39 @@ impl Near {
         ensures pending { self.new.pending ≡ self.old.pending }
     {
         self.count_lists(objects, skip);
-        add_up(&mut self.ends);
+        self.start_lists();
         let mut passed = 0;
+        let mut taken = 0;
         for (name, object) in objects.members() {
             if passed < skip {
                 passed += 1;
-            } else {
+            } else if taken < self.count {
                 self.take(objects, name, object);
+                taken += 1;
             }
         }
     }
 
-    /// Has a city object that is reached wait, if there is room.
+    /// Has a city object that is reached wait.
     fn wait(&mut self, number: u32)
-        ensures hand { KeepsHand self.old self.new }
+        requires { self.old.waiting < 16384 }
+        ensures hand { AddsNone self.old self.new }
         ensures pending { (feature : Tree) (line : List ℕ) (spans : List Span) → number < length spans
             → IsReachedObject feature (tree_at line spans number)
             → WaitsFor feature line spans self.old → WaitsFor feature line spans self.new }
     {
-        if self.waiting == PENDING {
-            return;
-        }
         self.pending[self.waiting] = number;
         self.waiting += 1;
     }
 
-    /// Has the city object of this number wait, if it has this name and no mark; answers whether it has both.
+    /// Whether the city object of this number has this name. If it has, and no mark, it waits from now on.
     fn note_one(&mut self, objects: Node, number: u32, text: Node) -> bool
+        requires room { self.old.waiting < 16384 }
         requires positive { 0 < number }
         requires within { number < length (spans_by objects) }
         requires held { Contains (members_of (tree objects))
             (tree_at (line_of objects) (spans_by objects) (number - 1), tree_at (line_of objects) (spans_by objects) number) }
-        ensures hand { KeepsHand self.old self.new }
+        ensures hand { AddsNone self.old self.new }
         ensures pending { (feature : Tree) → ReachesName feature objects.entry (tree text.entry)
             → WaitsFor feature (line_of objects.entry) (spans_by objects.entry) self.old
             → WaitsFor feature (line_of objects.entry) (spans_by objects.entry) self.new }
@@ -174,26 +190,42 @@ impl Near {
         if !objects.at(number - 1).same_text(text) {
             return false;
         }
-        if objects.at(number).marked() {
-            return true;
+        if !objects.at(number).marked() {
+            self.wait(number);
         }
-        self.wait(number);
-        false
+        true
     }
 
-    /// Has the city objects at hand wait that have this name and no mark. If one has a mark, the others have it too, or
-    /// wait.
+    /// Takes the city object at this place of a list from hand: the first of the list, which was looked at before it,
+    /// comes to its place, and the list starts behind that.
+    fn take_out(&mut self, list: usize, place: usize)
+        requires list { list < 16381 }
+        requires place { place < 200000 }
+        ensures hand { AddsNone self.old self.new }
+        ensures waiting { self.new.waiting ≡ self.old.waiting }
+        ensures pending { self.new.pending ≡ self.old.pending }
+    {
+        let start = self.starts[list];
+        if start as usize >= OBJECTS {
+            return;
+        }
+        let first = number_at(&self.objects, start as usize);
+        self.objects[place] = first;
+        self.starts[list] = start.wrapping_add(1);
+    }
+
+    /// Has the city objects at hand wait that have this name and no mark, and takes all from hand that have it. It ends
+    /// where no more can wait; what it has not come to is still at hand.
     fn note(&mut self, objects: Node, text: Node)
         requires { Knows objects self.old }
-        ensures hand { KeepsHand self.old self.new }
+        ensures hand { AddsNone self.old self.new }
         ensures pending { (feature : Tree) → ReachesName feature objects.entry (tree text.entry)
             → WaitsFor feature (line_of objects.entry) (spans_by objects.entry) self.old
             → WaitsFor feature (line_of objects.entry) (spans_by objects.entry) self.new }
     {
         let list = list_of(text);
-        let start = if list == 0 { 0 } else { self.ends[list - 1] };
-        for place in start..self.ends[list] {
-            if place as usize >= OBJECTS {
+        for place in self.starts[list]..self.ends[list] {
+            if self.waiting == PENDING || place as usize >= OBJECTS {
                 return;
             }
             let number = number_at(&self.objects, place as usize);
@@ -201,7 +233,7 @@ impl Near {
                 return;
             }
             if self.note_one(objects, number, text) {
-                return;
+                self.take_out(list, place as usize);
             }
         }
     }
@@ -209,7 +241,7 @@ impl Near {
     /// Has the city objects at hand wait that this one lists as children.
     fn note_children(&mut self, objects: Node, object: Node)
         requires { Knows objects self.old }
-        ensures hand { KeepsHand self.old self.new }
+        ensures hand { AddsNone self.old self.new }
         ensures pending { (feature : Tree)
             → member_of (chars (codes "CityObjects")) feature ≡ Some (tree objects.entry)
             → IsReachedObject feature (tree object.entry)
@@ -226,7 +258,7 @@ impl Near {
 
     /// The one that has waited last, if one waits.
     fn pop(&mut self) -> Option<u32>
-        ensures hand { KeepsHand self.old self.new }
+        ensures hand { AddsNone self.old self.new }
         ensures pending { (feature : Tree) (line : List ℕ) (spans : List Span)
             → WaitsFor feature line spans self.old → WaitsFor feature line spans self.new }
         ensures number { (feature : Tree) (line : List ℕ) (spans : List Span)

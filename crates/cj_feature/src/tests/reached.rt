@@ -92,6 +92,9 @@ fn marks(rt: HostRuntime) -> Result<(), Fail> {
         a circle apart | "b":{},"c":{"children":["d"]},"d":{"children":["c"]} | 54
         two of one name | "b":{},"c":{},"b":{"children":["c"]} | 54 61 68
         two of one name that are listed | "b":{"children":["c"]},"c":{},"c":{"children":["d"]},"d":{} | 54 77 84 107
+        three of one name that list it | "b":{"children":["b"]},"b":{"children":["b"]},"b":{"children":["b"]} | 54 77 100
+        three of one name that list it behind one apart | "c":{},"b":{"children":["b"]},"b":{"children":["b"]},"b":{"children":["b"]} | 61 84 107
+        three of one name that are not side by side | "b":{"children":["b"]},"c":{},"b":{},"d":{"children":["b"]},"b":{"children":["c"]} | 54 77 84 114
         by escapes | "\u0062":{"children":["\u0063"]},"c":{} | 59 87
         a child that is nested | "b":{"children":[["c"]]},"c":{} | 54
         children that are no array | "b":{"children":"c"},"c":{} | 54
@@ -223,6 +226,22 @@ fn chain(alloc: Global, count: u32, cut: u32) -> Result<String, AllocError> {
     )
 }
 
+/// The line has so many marks, and is judged so.
+fn line_meets(
+    rt: &impl Abort,
+    alloc: Global,
+    line: &[u8],
+    marks: usize,
+    want: &str,
+) -> Result<(), AllocError> {
+    let mut tokens = tokens_of(rt, alloc, line);
+    mark_reached(line, &mut tokens);
+    assert_eq!(rt; count_marks(line, &tokens), marks);
+    let found = finding_text(alloc, tree_finding(rt, alloc, line))?;
+    assert_eq!(rt; found.as_str(), want);
+    Ok(())
+}
+
 /// The chain has so many marks, and is judged so.
 fn chain_meets(
     rt: &impl Abort,
@@ -233,12 +252,7 @@ fn chain_meets(
     want: &str,
 ) -> Result<(), AllocError> {
     let line = chain(alloc, count, cut)?;
-    let mut tokens = tokens_of(rt, alloc, line.as_bytes());
-    mark_reached(line.as_bytes(), &mut tokens);
-    assert_eq!(rt; count_marks(line.as_bytes(), &tokens), marks);
-    let found = finding_text(alloc, tree_finding(rt, alloc, line.as_bytes()))?;
-    assert_eq!(rt; found.as_str(), want);
-    Ok(())
+    line_meets(rt, alloc, line.as_bytes(), marks, want)
 }
 
 /// The first city object of a chain whose last number has three digits stands at 58.
@@ -249,5 +263,24 @@ fn chains_from_the_end(rt: HostRuntime) -> Result<(), Fail> {
     chain_meets(&rt, rt.alloc(), 1_000, 0, 1_000, "none")?;
     let want = format!(in rt.alloc(); "58 31 {apart}")?;
     chain_meets(&rt, rt.alloc(), 1_000, 400, 600, want.as_str())?;
+    Ok(())
+}
+
+/// A city object apart, and behind it so many groups of the name of the main one, each of which lists that name.
+fn namesakes(alloc: Global, count: u32) -> Result<String, AllocError> {
+    let mut objects = String::new(alloc);
+    for _ in 0..count {
+        objects.push_str(r#","b":{"type":"CityObjectGroup","children":["b"]}"#)?;
+    }
+    format!(in alloc;
+        "{{\"type\":\"CityJSONFeature\",\"id\":\"b\",\"CityObjects\":{{\"c\":{{\"type\":\"Building\"}}{objects}}},\"vertices\":[]}}"
+    )
+}
+
+#[test]
+fn many_of_one_name(rt: HostRuntime) -> Result<(), Fail> {
+    let line = namesakes(rt.alloc(), 1_000)?;
+    let want = "54 31 not reached from the main object";
+    line_meets(&rt, rt.alloc(), line.as_bytes(), 1_000, want)?;
     Ok(())
 }

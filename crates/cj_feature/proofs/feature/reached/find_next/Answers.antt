@@ -1,13 +1,12 @@
 use Rattle.std.proofs.Common.{◌≡◌, ℕ, List, Option, Some, None, ◌∙◌, sym, ap, subst, option_map}
-use Rattle.std.specs.Prelude.{codes, IfSome, IfNone}
+use Rattle.std.specs.Prelude.{codes, IfNone}
 use Rattle.std.specs.Str.{chars}
 use Rattle.std.proofs.lemmas.Option.{IfSome_then}
-use Rattle.cj_spans.specs.declared.node.Node.{Node}
 use Rattle.cj_spans.specs.declared.node.Source.{Source}
 use Rattle.cj_spans.specs.Marks.{IsMarked}
 use Rattle.cj_spans.specs.Tree.{Tree}
 use Rattle.cj_spans.specs.Parts.{member_of}
-use Rattle.cj_spans.specs.View.{tree, line_of, source_of, tokens_in}
+use Rattle.cj_spans.specs.View.{tree, tokens_in}
 use Rattle.cj_feature.specs.Marking.{IsToMark}
 use Rattle.cj_feature.specs.Reached.{IsReachedObject}
 use Rattle.cj_feature.proofs.Fitting.{first-to-mark, next-to-mark, all-are-marked}

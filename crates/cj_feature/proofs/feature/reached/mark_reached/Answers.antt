@@ -1,12 +1,9 @@
-use Rattle.std.proofs.Common.{◌≡◌, ◌<◌, List, length, true, false, inl, inr, refl, sym, ap, subst, ◌∙◌}
+use Rattle.std.proofs.Common.{◌≡◌, false, inl, inr, refl, sym, ap, subst, ◌∙◌}
 use Rattle.cj_budget.specs.Bounded.{BoundedList}
 use Rattle.cj_spans.specs.declared.token.Token.{Token}
-use Rattle.cj_spans.specs.Json.{Json}
 use Rattle.cj_spans.specs.Marks.{is_marked_at, IsMarked}
-use Rattle.cj_spans.specs.Preorder.{spans_of}
 use Rattle.cj_spans.specs.Sound.{AreOf}
-use Rattle.cj_spans.specs.Tree.{Tree}
-use Rattle.cj_spans.specs.View.{document, document_line, document_source, tokens_in, tree_at}
+use Rattle.cj_spans.specs.View.{document, document_source, tokens_in}
 use Rattle.cj_spans.proofs.Marking.{spans_kept, length_kept, of_kept}
 use Rattle.cj_feature.specs.Marking.{IsToMark}
 use Rattle.cj_feature.specs.Reached.{IsReachedObject}

@@ -1,5 +1,5 @@
 use Rattle.std.proofs.Common.{sym, subst, ◌∙◌}
-use Rattle.cj_spans.specs.View.{document, document_line, document_source, tokens_in}
+use Rattle.cj_spans.specs.View.{document, document_source, tokens_in}
 use Rattle.cj_feature.specs.Reached.{AreMarks}
 use Rattle.cj_feature.proofs.tests.reached.tree_finding.Goals as goal
 

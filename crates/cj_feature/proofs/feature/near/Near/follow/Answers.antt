@@ -1,10 +1,6 @@
-use Rattle.std.proofs.Common.{◌≡◌, ◌<◌, length, sym, ap, subst, ◌∙◌, arith}
-use Rattle.std.specs.Prelude.{IfSome}
+use Rattle.std.proofs.Common.{arith}
 use Rattle.cj_spans.specs.Preorder.{spans_of}
-use Rattle.cj_spans.specs.View.{tree_at}
 use Rattle.cj_spans.proofs.Scanned.{length-spans_of}
-use Rattle.cj_feature.specs.Marking.{IsGuide}
-use Rattle.cj_feature.specs.Reached.{IsReachedObject}
 use Rattle.cj_feature.proofs.NearLemmas.{guide-on}
 use Rattle.cj_feature.proofs.feature.near.Near.follow.Goals as goal
 

@@ -1,13 +1,10 @@
-use Rattle.std.proofs.Common.{◌≡◌, ℕ, List, Some, sym, ap, subst, ◌∙◌, option_map}
+use Rattle.std.proofs.Common.{◌≡◌, Some, sym, ap, subst, ◌∙◌, option_map}
 use Rattle.std.specs.Prelude.{codes}
 use Rattle.std.specs.Str.{chars}
-use Rattle.cj_spans.specs.Json.{Json}
 use Rattle.cj_spans.specs.Marks.{IsMarked}
 use Rattle.cj_spans.specs.Parts.{member_of}
-use Rattle.cj_spans.specs.Tree.{Tree}
-use Rattle.cj_spans.specs.View.{tree, line_of, source_of, document, document_line, document_source, tokens_in}
+use Rattle.cj_spans.specs.View.{tree, source_of, document, document_line, document_source, tokens_in}
 use Rattle.cj_spans.proofs.Marking.{the-document, the-json, line-of-document}
-use Rattle.cj_feature.specs.Reached.{IsReachedObject}
 use Rattle.cj_feature.proofs.NearLemmas.{guide-on, known-here, waits-here, waits-there}
 use Rattle.cj_feature.proofs.feature.near.Near.look_behind.Goals as goal
 

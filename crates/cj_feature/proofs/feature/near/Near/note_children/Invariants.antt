@@ -7,13 +7,13 @@ use Rattle.cj_spans.specs.Tree.{Tree}
 use Rattle.cj_spans.specs.View.{tree, line_of, items_left}
 use Rattle.cj_feature.specs.Links.{listed_in}
 use Rattle.cj_feature.specs.Reached.{IsReachedObject}
-use Rattle.cj_feature.specs.Marking.{Knows, WaitsFor, KeepsHand, spans_by}
+use Rattle.cj_feature.specs.Marking.{Knows, WaitsFor, AddsNone, spans_by}
 use Rattle.cj_feature.proofs.feature.near.Near.note_children.Given as goal
 
 abbrev pub invariant-loop-item : goal.invariant-loop-item
 invariant-loop-item l = record {
   among : (item : Tree) → Contains (items_left l.item-iterator) item → Contains (listed_in (chars (codes "children")) (tree l.object)) item;
-  hand : KeepsHand l.initial.self l.self;
+  hand : AddsNone l.initial.self l.self;
   known : Knows l.objects l.self;
   pending : (feature : Tree) → member_of (chars (codes "CityObjects")) feature ≡ Some (tree l.objects) → IsReachedObject feature (tree l.object)
       → WaitsFor feature (line_of l.objects) (spans_by l.objects) l.initial.self → WaitsFor feature (line_of l.objects) (spans_by l.objects) l.self;

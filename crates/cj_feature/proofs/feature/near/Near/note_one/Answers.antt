@@ -1,5 +1,4 @@
-use Rattle.std.proofs.Common.{◌≡◌, ◌-◌, ◌<◌, length, true, sym, ap, subst, ◌∙◌, arith}
-use Rattle.cj_spans.specs.Parts.{text_of, are_same_texts}
+use Rattle.std.proofs.Common.{◌≡◌, ◌-◌, true, sym, subst, ◌∙◌, arith}
 use Rattle.cj_spans.specs.View.{tree, line_of, source_of, tokens_in, tree_at}
 use Rattle.cj_spans.proofs.Marking.{found_at-number}
 use Rattle.cj_spans.proofs.Scanned.{length-spans_of}
@@ -7,8 +6,8 @@ use Rattle.cj_feature.specs.Links.{same_text}
 use Rattle.cj_feature.specs.Marking.{spans_by}
 use Rattle.cj_feature.proofs.feature.near.Near.note_one.Goals as goal
 
-pub returns-clause-pending : goal.returns-clause-pending
-returns-clause-pending c = λ f reaches waits.
+pub returns-then-not-marked-clause-pending : goal.returns-then-not-marked-clause-pending
+returns-then-not-marked-clause-pending c = λ f reaches waits.
     let o = c.args.objects in
     let n = c.args.number in
     let line = line_of o in

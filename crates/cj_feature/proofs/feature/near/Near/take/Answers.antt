@@ -1,6 +1,5 @@
 use Rattle.std.proofs.Common.{◌≡◌, ℕ, ◌-◌, ◌<◌, ◌∙◌, length, sym, subst, ap, arith}
 use Rattle.std.specs.List.{Contains}
-use Rattle.cj_spans.specs.Tree.{Tree}
 use Rattle.cj_spans.specs.Parts.{members_of}
 use Rattle.cj_spans.specs.View.{tree, line_of, source_of, tokens_in, tree_at}
 use Rattle.cj_spans.proofs.Scanned.{length-spans_of}

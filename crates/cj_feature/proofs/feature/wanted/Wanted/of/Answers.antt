@@ -1,10 +1,8 @@
-use Rattle.std.proofs.Common.{◌≡◌, ◌⊎◌, inl, inr, sym, ap, subst, ◌∙◌}
-use Rattle.std.specs.List.{Contains}
+use Rattle.std.proofs.Common.{◌≡◌, inl, inr, subst, ◌∙◌}
 use Rattle.cj_spans.specs.Tree.{Tree}
 use Rattle.cj_spans.specs.View.{tree, line_of, source_of, members_left}
 use Rattle.cj_feature.specs.Marking.{IsMarkedBy}
 use Rattle.cj_feature.specs.Wanting.{Wants}
-use Rattle.cj_feature.proofs.LinkFaults.{nowhere}
 use Rattle.cj_feature.proofs.Walking.{later-among, next-or, marked-beside}
 use Rattle.cj_feature.proofs.feature.wanted.Wanted.of.Goals as goal
 
