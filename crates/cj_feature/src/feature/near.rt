@@ -2,8 +2,10 @@
 //!
 //! Many city objects are at hand at once, in lists of those that one remainder of a number of their names puts
 //! together. What is found by them waits to be marked and is taken from hand, so it is found once, however often it is
-//! listed; and what it lists is looked for then. Nothing hangs on whether all are found: what is marked is reached, as
-//! what lists it is, and what is left out the search behind it finds.
+//! listed; and what it lists is looked for then. Those that have children come first: what they lead to is all that has
+//! to be followed. Then those without are at hand, which lead to nothing, so that one time over all of them is enough.
+//! Nothing hangs on whether all are found: what is marked is reached, as what lists it is, and what is left out the
+//! search behind it finds.
 ghost use Rattle.std.specs.Prelude.{◌≡◌, ◌<◌, ◌≤◌, Some, length, slice_get};
 
 use cj_budget::Bounded;
@@ -28,6 +30,8 @@ pub struct Near {
     objects: [u32; OBJECTS],
     starts: [u32; LISTS],
     ends: [u32; LISTS],
+    /// Whether those with children are taken to hand, or those without.
+    parents: bool,
     count: usize,
     pending: [u32; PENDING],
     waiting: usize,
@@ -82,11 +86,17 @@ impl Near {
             objects: [0; OBJECTS],
             starts: [0; LISTS],
             ends: [0; LISTS],
+            parents: true,
             count: 0,
             pending: [0; PENDING],
             waiting: 0,
             changed: false,
         }
+    }
+
+    /// Whether a city object is one of those that are taken to hand now.
+    fn is_meant(&self, object: Node) -> bool {
+        object.get("children").is_some() == self.parents
     }
 
     /// Counts for each list the city objects behind the first `skip`, as many as there is room for.
@@ -98,7 +108,10 @@ impl Near {
         self.ends = [0; LISTS];
         self.count = 0;
         let mut passed = 0;
-        for (name, _) in objects.members() {
+        for (name, object) in objects.members() {
+            if !self.is_meant(object) {
+                continue;
+            }
             if passed < skip {
                 passed += 1;
             } else if self.count < OBJECTS {
@@ -154,6 +167,9 @@ impl Near {
         let mut passed = 0;
         let mut taken = 0;
         for (name, object) in objects.members() {
+            if !self.is_meant(object) {
+                continue;
+            }
             if passed < skip {
                 passed += 1;
             } else if taken < self.count {
@@ -363,6 +379,21 @@ impl Near {
         }
     }
 
+    /// Goes over all city objects that are taken to hand, until that marks none.
+    fn mark_rounds(&mut self, line: &[u8], tokens: &mut Bounded<Token>)
+        requires { IsGuide line.now tokens.old.elements self.old }
+        ensures guide { IsGuide line.now tokens.new.elements self.new }
+        ensures marks { OnlyMarks tokens.old tokens.new }
+    {
+        for _ in 0..ROUNDS {
+            self.changed = false;
+            self.mark_round(line, tokens);
+            if !self.changed {
+                return;
+            }
+        }
+    }
+
     /// Marks city objects that are reached from the feature's id: all, as far as there is room for what leads to them.
     pub fn mark_many(line: &[u8], tokens: &mut Bounded<Token>)
         requires scanned { AreOf line.now tokens.old.elements }
@@ -371,12 +402,8 @@ impl Near {
         ensures marks { OnlyMarks tokens.old tokens.new }
     {
         let mut near = Near::new();
-        for _ in 0..ROUNDS {
-            near.changed = false;
-            near.mark_round(line, tokens);
-            if !near.changed {
-                return;
-            }
-        }
+        near.mark_rounds(line, tokens);
+        near.parents = false;
+        near.mark_round(line, tokens);
     }
 }

@@ -8,6 +8,12 @@ loop-name-preserved-then-passed-skip c =
     let inv = c.loop-name.invariant in
     record { walk = later-among c.args.objects c.loop-name.name-iterator c.next.new.self _ inv.walk steps.0 steps.1 steps.3; known = inv.known; waiting = inv.waiting; pending = inv.pending }
 
+pub loop-name-preserved-then-not-is_meant : goal.loop-name-preserved-then-not-is_meant
+loop-name-preserved-then-not-is_meant c =
+    let steps = c.in-Some.ensures.steps in
+    let inv = c.loop-name.invariant in
+    record { walk = later-among c.args.objects c.loop-name.name-iterator c.next.new.self _ inv.walk steps.0 steps.1 steps.3; known = inv.known; waiting = inv.waiting; pending = inv.pending }
+
 pub loop-name-preserved : goal.loop-name-preserved
 loop-name-preserved c =
     let steps = c.in-Some.ensures.steps in
