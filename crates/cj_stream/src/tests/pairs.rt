@@ -31,30 +31,28 @@ struct Case<'a> {
     ended: End,
 }
 
-/// Going on, each city object reached: the second line of the features has one at byte 78 that is not, the fifth is no
-/// feature, and the sixth has one at byte 194.
-fn going_on_with_trees() -> Case<'static> {
-    Case {
-        options: going().tree(true),
-        valid: TREES,
-        side: true,
-        reports: "3 78 31\n5 0 10\n6 194 31\n",
-        lines: 7,
-        ended: End::Complete,
-    }
-}
+/// What is reported where reading goes on, and each city object has to be reached: the second feature has one at byte 78 that
+/// is not, the line after the third is no feature, and the fourth has one at byte 194.
+const APART_REPORTS: &str = "3 78 31\n5 0 10\n6 194 31\n";
 
 /// All pairs of options, and all three.
 fn cases() -> [Case<'static>; 4] {
-    let with_trees = going_on_with_trees();
     [
-        with_trees,
+        Case {
+            options: going().tree(true),
+            valid: TREES,
+            side: true,
+            reports: APART_REPORTS,
+            lines: 7,
+            ended: End::Complete,
+        },
         Case {
             options: going().exclude(true),
             valid: [true; 5],
             side: false,
             reports: "5 0 10\n",
-            ..with_trees
+            lines: 7,
+            ended: End::Complete,
         },
         Case {
             options: Options::new().tree(true).exclude(true),
@@ -66,8 +64,11 @@ fn cases() -> [Case<'static>; 4] {
         },
         Case {
             options: going().tree(true).exclude(true),
+            valid: TREES,
             side: false,
-            ..with_trees
+            reports: APART_REPORTS,
+            lines: 7,
+            ended: End::Complete,
         },
     ]
 }
@@ -116,9 +117,9 @@ fn check_pair(
     ];
     let text = joined(alloc, &lines)?;
     let query = query_of(alloc, parts)?;
-    for case in cases() {
+    for case in cases().iter() {
         let came = came_of(alloc, &text, 100, &query, case.options)?;
-        check_case(rt, alloc, &came, holds, &case, row)?;
+        check_case(rt, alloc, &came, holds, case, row)?;
     }
     Ok(())
 }
