@@ -25,8 +25,10 @@ pub mod LenientLemmas
 pub mod LineLemmas
 pub mod LinePieceLemmas
 pub mod LineRowLemmas
+pub mod MovedLemmas
 pub mod NoteLemmas
 pub mod OutputLemmas
+pub mod PartsLemmas
 pub mod PhaseLemmas
 pub mod PieceLemmas
 pub mod PieceSlices
