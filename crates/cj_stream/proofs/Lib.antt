@@ -1,3 +1,4 @@
+pub mod AccountLemmas
 pub mod Apart
 pub mod BlankLemmas
 pub mod BoundRowLemmas

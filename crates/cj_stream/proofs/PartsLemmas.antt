@@ -36,7 +36,7 @@ use Rattle.cj_stream.proofs.VerdictLemmas.{blank-is, refusal-append, kept-append
 -- ---- the lines of a part
 
 -- behind whole lines none has begun
-none-begun : (a : List ℕ) → whole a ≡ a → begun a ≡ []
+pub none-begun : (a : List ℕ) → whole a ≡ a → begun a ≡ []
 none-begun a w = none-from_length (begun a) (omega (arith, ap length (whole-begun a), ap length w, length-append (whole a) (begun a)))
 
 pub lines-headed : (h s : List ℕ) → NoLf h → lines (headed h s) ≡ ended_line h ∷ lines s
@@ -78,16 +78,16 @@ valid-first rules c h = go (verdict rules [] c) refl
 -- ---- lines, and more lines, behind a header that is valid
 
 module _ (rules : Rules) (l : Line) (valid : verdict rules [] l.content ≡ Valid) where
-  kept-first : (zs : List Line) → kept_from rules [] (l ∷ zs) ≡ item_after rules [] l ∷ kept_from rules (l ∷ []) zs
+  pub kept-first : (zs : List Line) → kept_from rules [] (l ∷ zs) ≡ item_after rules [] l ∷ kept_from rules (l ∷ []) zs
   kept-first zs = rw valid refl
 
-  reported-first : (zs : List Line) → reported_from rules [] (l ∷ zs) ≡ reported_from rules (l ∷ []) zs
+  pub reported-first : (zs : List Line) → reported_from rules [] (l ∷ zs) ≡ reported_from rules (l ∷ []) zs
   reported-first zs = rw valid refl
 
   good-first : (zs : List Line) → good_from rules [] (l ∷ zs) ≡ l ∷ good_from rules (l ∷ []) zs
   good-first zs = rw valid refl
 
-  refusal-first : (zs : List Line) → refusal_in rules (l ∷ zs) ≡ refusal_from rules (l ∷ []) zs
+  pub refusal-first : (zs : List Line) → refusal_in rules (l ∷ zs) ≡ refusal_from rules (l ∷ []) zs
   refusal-first zs = rw valid refl
 
   pub kept-joined : (xs zs : List Line) → kept_from rules [] (l ∷ xs ++ zs) ≡ kept_from rules [] (l ∷ xs) ++ later_of (kept_from rules [] (l ∷ zs))
@@ -114,13 +114,13 @@ moved-ending k None = refl
 moved-ending k (Some x) = refl
 
 module _ (rules : Rules) (h a : List ℕ) (cut : IsCut h a) where
-  front-lines : lines (headed h a) ≡ ended_line h ∷ lines a
+  pub front-lines : lines (headed h a) ≡ ended_line h ∷ lines a
   front-lines = lines-headed h a cut.header
 
-  all-lines : (b : List ℕ) → lines (headed h (a ++ b)) ≡ ended_line h ∷ lines a ++ lines b
+  pub all-lines : (b : List ℕ) → lines (headed h (a ++ b)) ≡ ended_line h ∷ lines a ++ lines b
   all-lines b = lines-headed h (a ++ b) cut.header ∙ ap (λ z. ended_line h ∷ z) (lines-parts a b cut.lines)
 
-  back-lines : (b : List ℕ) → lines (headed h b) ≡ ended_line h ∷ lines b
+  pub back-lines : (b : List ℕ) → lines (headed h b) ≡ ended_line h ∷ lines b
   back-lines b = lines-headed h b cut.header
 
   -- the first part is complete
@@ -141,7 +141,7 @@ module _ (rules : Rules) (h a : List ℕ) (cut : IsCut h a) where
           ∙ (good-joined rules (ended_line h) header-valid (lines a) front-none (lines b)
           ∙ ap (λ z. ended_line h ∷ lines a ++ later_of (good_from rules [] z)) (sym (back-lines b)))
 
-      back-good : good rules (headed h b) ≡ ended_line h ∷ later_of (good rules (headed h b))
+      pub back-good : good rules (headed h b) ≡ ended_line h ∷ later_of (good rules (headed h b))
       back-good = let k = ap (λ z. good_from rules [] z) (back-lines b) ∙ good-first rules (ended_line h) header-valid (lines b) in k ∙ ap (λ z. ended_line h ∷ z) (sym (ap later_of k))
 
       back-kept : kept rules (headed h b) ≡ item_after rules [] (ended_line h) ∷ later_of (kept rules (headed h b))
@@ -229,13 +229,13 @@ greatest-two : (measure : List ℕ → ℕ) (cs ds : List (List ℕ)) → greate
 greatest-two measure [] ds = omega arith
 greatest-two measure (c ∷ cs) ds = omega (arith, greatest-two measure cs ds)
 
-contents-headed : (h s : List ℕ) → NoLf h → contents (headed h s) ≡ h ∷ contents s
+pub contents-headed : (h s : List ℕ) → NoLf h → contents (headed h s) ≡ h ∷ contents s
 contents-headed h s free = ap (map (λ l. l.content)) (lines-headed h s free)
 
-contents-parts : (a b : List ℕ) → whole a ≡ a → contents (a ++ b) ≡ contents a ++ contents b
+pub contents-parts : (a b : List ℕ) → whole a ≡ a → contents (a ++ b) ≡ contents a ++ contents b
 contents-parts a b w = ap (map (λ l. l.content)) (lines-parts a b w) ∙ map-append (λ l. l.content) (lines a) (lines b)
 
-first-headed : (h s : List ℕ) → NoLf h → first_content (headed h s) ≡ h
+pub first-headed : (h s : List ℕ) → NoLf h → first_content (headed h s) ≡ h
 first-headed h s free = rw (closed-ended h s free) refl
 
 -- of a header, and contents behind it

@@ -1,10 +1,12 @@
 -- A stream that is read in parts: a header with the first of its later lines, and the same header with what follows these.
-use Rattle.std.specs.Prelude.{◌≡◌, ℕ, ◌+◌, List, ◌∷◌, ◌++◌, max}
+use Rattle.std.specs.Prelude.{◌≡◌, ℕ, ◌+◌, ◌-◌, List, ◌∷◌, ◌++◌, max}
 use Rattle.cj_budget.specs.declared.limits.Peaks.{Peaks}
 use Rattle.cj_stream.specs.declared.ending.End.{End}
 use Rattle.cj_stream.specs.declared.ending.End.TheVariants.{Complete, Refused, ReadFault, ReadLimit, WriteFault, Memory}
 use Rattle.cj_stream.specs.declared.reporting.Report.{Report}
+use Rattle.cj_stream.specs.declared.running.Outcome.{Outcome}
 use Rattle.cj_stream.specs.Lines.{newline, NoLf, whole}
+use Rattle.cj_stream.specs.Tallied.{capped}
 
 -- the stream of a first line with this content, and then these bytes
 abbrev pub headed : List ℕ → List ℕ → List ℕ
@@ -31,3 +33,26 @@ moved_report n r = record { line = r.line + n; place = r.place; reason = r.reaso
 -- the greater of each two counts
 abbrev pub greater_peaks : Peaks → Peaks → Peaks
 greater_peaks p q = record { bytes = max p.bytes q.bytes; tokens = max p.tokens q.tokens; depth = max p.depth q.depth }
+
+-- a number of lines stops at the greatest u64
+abbrev pub capped_end : End → End
+capped_end Complete = Complete
+capped_end (Refused number place reason) = Refused (capped number) place reason
+capped_end ReadFault = ReadFault
+capped_end ReadLimit = ReadLimit
+capped_end WriteFault = WriteFault
+capped_end Memory = Memory
+
+-- how a run over the stream goes, by runs over both parts of which the first is complete: the header counts once
+abbrev pub both_outcomes : Outcome → Outcome → Outcome
+both_outcomes first second = record {
+  lines = first.lines + (second.lines - 1);
+  kept = first.kept + second.kept;
+  refused = first.refused + second.refused;
+  peaks = greater_peaks first.peaks second.peaks;
+  ended = moved_end (first.lines - 1) second.ended;
+}
+
+-- the same with counts that stop at the greatest u64
+abbrev pub capped_outcome : Outcome → Outcome
+capped_outcome o = record { lines = capped o.lines; kept = capped o.kept; refused = capped o.refused; peaks = o.peaks; ended = capped_end o.ended }
