@@ -41,5 +41,6 @@ pub mod RunLemmas
 pub mod ScanningLemmas
 pub mod StaysLemmas
 pub mod TallyLemmas
+pub mod TallyPartsLemmas
 pub mod TallySinkLemmas
 pub mod VerdictLemmas

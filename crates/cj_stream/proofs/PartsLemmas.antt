@@ -144,7 +144,7 @@ module _ (rules : Rules) (h a : List ℕ) (cut : IsCut h a) where
       pub back-good : good rules (headed h b) ≡ ended_line h ∷ later_of (good rules (headed h b))
       back-good = let k = ap (λ z. good_from rules [] z) (back-lines b) ∙ good-first rules (ended_line h) header-valid (lines b) in k ∙ ap (λ z. ended_line h ∷ z) (sym (ap later_of k))
 
-      back-kept : kept rules (headed h b) ≡ item_after rules [] (ended_line h) ∷ later_of (kept rules (headed h b))
+      pub back-kept : kept rules (headed h b) ≡ item_after rules [] (ended_line h) ∷ later_of (kept rules (headed h b))
       back-kept =
           let k = ap (λ z. kept_from rules [] z) back-good ∙ kept-first rules (ended_line h) header-valid (later_of (good rules (headed h b))) in
           k ∙ ap (λ z. item_after rules [] (ended_line h) ∷ z) (sym (ap later_of k))

@@ -23,11 +23,11 @@ ghost use Rattle.cj_stream.specs.IsLines.{IsLines, IsWhole};
 ghost use Rattle.cj_stream.specs.Item.{is_feature};
 ghost use Rattle.cj_stream.specs.Lines.{Line, later_of, lines, whole};
 ghost use Rattle.cj_stream.specs.Output.{output_writer, output_failures, channel, WritesItem, WritesPart};
-ghost use Rattle.cj_stream.specs.Parts.{headed, IsCut, moved_end, moved_report, greater_peaks};
+ghost use Rattle.cj_stream.specs.Parts.{headed, IsCut, moved_end, moved_report, greater_peaks, JoinsTallies};
 ghost use Rattle.cj_stream.specs.Reporting.{Collects};
 ghost use Rattle.cj_stream.specs.Run.{Account, Puts, Run, Runs, RunsNoting, Writes};
 ghost use Rattle.cj_stream.specs.Sink.{HasRisen};
-ghost use Rattle.cj_stream.specs.TallySink.{Tally, no_tally, Tallies, TalliesRun, TalliesPieces};
+ghost use Rattle.cj_stream.specs.TallySink.{Tally, no_tally, Tallies, IsTallyOf, TalliesRun, TalliesPieces};
 ghost use Rattle.cj_stream.specs.Verdict.{Rules, refusal_in, good, kept, kept_first, reported, reported_first, output, ending};
 ghost use Rattle.cj_stream.specs.declared.ending.End.{End};
 ghost use Rattle.cj_stream.specs.declared.ending.LineEnd.{LineEnd};
@@ -107,6 +107,10 @@ pub fn parts_are_joined()
     ensures peaks { (limits : LimitPair) (h a b : List ℕ) → IsCut h a
         → exact_peaks limits (headed h (a ++ b))
         ≡ greater_peaks (exact_peaks limits (headed h a)) (exact_peaks limits (headed h b)) }
+    ensures tally { (rules : Rules) (h a b : List ℕ) (first second both : Tally) → IsCut h a
+        → ending rules (headed h a) ≡ End.Complete → IsTallyOf (kept rules (headed h a)) first
+        → IsTallyOf (kept rules (headed h b)) second → JoinsTallies first second both
+        → IsTallyOf (kept rules (headed h (a ++ b))) both }
 {}
 
 /// Where the first part is not complete, its ending is that of the stream, and what follows changes nothing.

@@ -1,4 +1,5 @@
 use Rattle.cj_stream.proofs.PartsLemmas.{kept-parts, output-parts, ending-parts, reported-parts, lines-counted, features-counted, refused-counted, exact-parts}
+use Rattle.cj_stream.proofs.TallyPartsLemmas.{tally-parts}
 use Rattle.cj_stream.proofs.laws.parts_are_joined.Goals as goal
 
 pub returns-clause-kept : goal.returns-clause-kept
@@ -24,3 +25,6 @@ returns-clause-refused c = λ rules h a b cut done. refused-counted rules h a cu
 
 pub returns-clause-peaks : goal.returns-clause-peaks
 returns-clause-peaks c = λ limits h a b cut. exact-parts limits h a b cut
+
+pub returns-clause-tally : goal.returns-clause-tally
+returns-clause-tally c = λ rules h a b first second both cut done x y joins. tally-parts rules h a b cut done first second both x y joins
