@@ -32,7 +32,7 @@ use Rattle.cj_stream.proofs.VerdictLemmas.{and-both}
 
 -- ---- what can be judged, and the whole lines
 
-closed-parts : (a b : List ℕ) → whole a ≡ a → closed (a ++ b) ≡ closed a ++ closed b
+pub closed-parts : (a b : List ℕ) → whole a ≡ a → closed (a ++ b) ≡ closed a ++ closed b
 closed-parts a b w = closed-then a b ∙ ap (λ z. closed a ++ closed (z ++ b)) (none-begun a w)
 
 begun-parts : (a b : List ℕ) → whole a ≡ a → begun (a ++ b) ≡ begun b

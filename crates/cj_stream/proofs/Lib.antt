@@ -26,6 +26,7 @@ pub mod LenientLemmas
 pub mod LineLemmas
 pub mod LinePieceLemmas
 pub mod LineRowLemmas
+pub mod ManyPartsLemmas
 pub mod MovedLemmas
 pub mod NoteLemmas
 pub mod OutputLemmas

@@ -1,7 +1,7 @@
 -- The tally of a stream, from those of its parts.
-use Rattle.std.proofs.Common.{◌≡◌, ℕ, ◌+◌, ◌-◌, ◌^◌, ◌<◌, ◌≤◌, List, [], ◌∷◌, ◌++◌, Bool, true, false, cond, ltb, length, get_or, map, Option, Some, None, ℤ, arith, refl, sym, ap, ◌∙◌, subst, length-append}
-use Rattle.std.specs.Prelude.{not, option_map, codes}
-use Rattle.std.specs.List.{filter, flat_map, last_or}
+use Rattle.std.proofs.Common.{◌≡◌, ℕ, ◌+◌, List, [], ◌∷◌, ◌++◌, Bool, true, false, cond, ltb, length, get_or, map, Option, Some, None, ℤ, arith, refl, sym, ap, ◌∙◌, subst}
+use Rattle.std.specs.Prelude.{option_map, codes}
+use Rattle.std.specs.List.{filter, last_or}
 use Rattle.std.specs.Str.{chars}
 use Rattle.std.proofs.lemmas.Bool.Decides.{nat_tests}
 use Rattle.std.proofs.lemmas.List.{append-nil}
@@ -10,10 +10,9 @@ use Rattle.std.proofs.lemmas.Grind.{flat_map-append}
 use Rattle.cj_spans.specs.Tree.{Tree}
 use Rattle.cj_decimal.specs.Number.{Number}
 use Rattle.cj_feature.specs.Shown.{transform_values}
-use Rattle.cj_stream.specs.declared.ending.End.{End}
 use Rattle.cj_stream.specs.declared.ending.End.TheVariants.{Complete}
-use Rattle.cj_stream.specs.CountSink.{is_header, how_many}
-use Rattle.cj_stream.specs.Item.{Item, is_feature}
+use Rattle.cj_stream.specs.CountSink.{is_header}
+use Rattle.cj_stream.specs.Item.{is_feature}
 use Rattle.cj_stream.specs.Lines.{Line, ended_line, later_of}
 use Rattle.cj_stream.specs.Parts.{headed, IsCut, wider, JoinsTallies}
 use Rattle.cj_stream.specs.Tallied.{capped, how_often, type_numbers, lod_classes, numbers_on, IsRange, beside, over_features}

@@ -1,5 +1,5 @@
 -- A stream that is read in parts: a header with the first of its later lines, and the same header with what follows these.
-use Rattle.std.specs.Prelude.{◌≡◌, ℕ, ◌+◌, ◌-◌, ◌<◌, ◌≤◌, List, ◌∷◌, ◌++◌, Option, Some, None, ℤ, max, get_or}
+use Rattle.std.specs.Prelude.{◌≡◌, ℕ, ◌+◌, ◌-◌, ◌<◌, ◌≤◌, List, [], ◌∷◌, ◌++◌, Option, Some, None, ℤ, max, get_or}
 use Rattle.std.specs.Int.{int_min, int_max}
 use Rattle.cj_budget.specs.declared.limits.Peaks.{Peaks}
 use Rattle.cj_stream.specs.declared.ending.End.{End}
@@ -9,6 +9,7 @@ use Rattle.cj_stream.specs.declared.running.Outcome.{Outcome}
 use Rattle.cj_stream.specs.Lines.{newline, NoLf, whole}
 use Rattle.cj_stream.specs.Tallied.{capped}
 use Rattle.cj_stream.specs.TallySink.{Tally}
+use Rattle.cj_stream.specs.Verdict.{Rules, ending}
 
 -- the stream of a first line with this content, and then these bytes
 abbrev pub headed : List ℕ → List ℕ → List ℕ
@@ -18,6 +19,11 @@ headed h s = h ++ newline ∷ s
 pub record IsCut (h a : List ℕ) : Type 0 where
   pub header : NoLf h
   pub lines : whole a ≡ a
+
+-- each of these parts is whole lines, with which the header is complete
+abbrev pub AreComplete : Rules → List ℕ → List (List ℕ) → Type 0
+AreComplete rules h [] = Unit {0}
+AreComplete rules h (a ∷ parts) = IsCut h a × (ending rules (headed h a) ≡ Complete) × AreComplete rules h parts
 
 -- the end of the second part, seen as one of the stream: a refused line comes so many lines later
 abbrev pub moved_end : ℕ → End → End

@@ -8,14 +8,14 @@
 //! let outcome = run(alloc, &mut reader, &mut tally, &mut NoReports, limits, &query, Options::new());
 //! laws::puts_are_tallied();                     // so the tally is that of what is kept
 //! ```
-ghost use Rattle.std.specs.Prelude.{◌≡◌, ◌≢◌, ◌+◌, ◌++◌, ℕ, List, [], Option, Some, None, true, false, length, map, take};
-ghost use Rattle.std.specs.List.{filter};
+ghost use Rattle.std.specs.Prelude.{◌≡◌, ◌≢◌, ◌+◌, ◌++◌, ℕ, List, [], Option, Some, None, true, false, drop, length, map, take};
+ghost use Rattle.std.specs.List.{filter, flat_map};
 ghost use Rattle.std.specs.Io.KnownBytes.{IsAtEnd};
 ghost use Rattle.cj_budget.specs.Limits.{LimitPair};
 ghost use Rattle.cj_budget.specs.declared.limits.Peaks.{Peaks};
 ghost use Rattle.cj_stream.specs.Bound.{IsExact, exact_peaks};
 ghost use Rattle.cj_stream.specs.CountSink.{no_counts, Counts, CountsRun, CountsPieces};
-ghost use Rattle.cj_stream.specs.Cut.{Copies, PutsPieces};
+ghost use Rattle.cj_stream.specs.Cut.{joined, Copies, PutsPieces};
 ghost use Rattle.cj_stream.specs.Ending.{line_end};
 ghost use Rattle.cj_stream.specs.Headline.{HeadlineOfRun};
 ghost use Rattle.cj_stream.specs.IsGood.{AreGood, EndsAfter};
@@ -23,7 +23,7 @@ ghost use Rattle.cj_stream.specs.IsLines.{IsLines, IsWhole};
 ghost use Rattle.cj_stream.specs.Item.{is_feature};
 ghost use Rattle.cj_stream.specs.Lines.{Line, later_of, lines, whole};
 ghost use Rattle.cj_stream.specs.Output.{output_writer, output_failures, channel, WritesItem, WritesPart};
-ghost use Rattle.cj_stream.specs.Parts.{headed, IsCut, moved_end, moved_report, greater_peaks, JoinsTallies};
+ghost use Rattle.cj_stream.specs.Parts.{headed, IsCut, AreComplete, moved_end, moved_report, greater_peaks, JoinsTallies};
 ghost use Rattle.cj_stream.specs.Reporting.{Collects};
 ghost use Rattle.cj_stream.specs.Run.{Account, Puts, Run, Runs, RunsNoting, Writes};
 ghost use Rattle.cj_stream.specs.Sink.{HasRisen};
@@ -111,6 +111,23 @@ pub fn parts_are_joined()
         → ending rules (headed h a) ≡ End.Complete → IsTallyOf (kept rules (headed h a)) first
         → IsTallyOf (kept rules (headed h b)) second → JoinsTallies first second both
         → IsTallyOf (kept rules (headed h (a ++ b))) both }
+{}
+
+/// A header with all the lines of any number of parts, each of which is complete with the header, is complete. What is kept of it is
+/// the header and what is kept of each part behind it, and what is written is the header's line and then what is written of each part
+/// without that line. A last part, which may end in any way, follows by [`parts_are_joined`].
+pub fn complete_parts_are_joined()
+    ensures complete { (rules : Rules) (h : List ℕ) (parts : List (List ℕ)) → IsCut h []
+        → ending rules (headed h []) ≡ End.Complete → AreComplete rules h parts
+        → IsCut h (joined parts) × (ending rules (headed h (joined parts)) ≡ End.Complete) }
+    ensures kept { (rules : Rules) (h : List ℕ) (parts : List (List ℕ)) → IsCut h []
+        → ending rules (headed h []) ≡ End.Complete → AreComplete rules h parts
+        → kept rules (headed h (joined parts))
+        ≡ kept rules (headed h []) ++ flat_map (λ a. later_of (kept rules (headed h a))) parts }
+    ensures output { (rules : Rules) (h : List ℕ) (parts : List (List ℕ)) → IsCut h []
+        → ending rules (headed h []) ≡ End.Complete → AreComplete rules h parts
+        → output rules (headed h (joined parts))
+        ≡ headed h (flat_map (λ a. drop (length h + 1) (output rules (headed h a))) parts) }
 {}
 
 /// Where the first part is not complete, its ending is that of the stream, and what follows changes nothing.
