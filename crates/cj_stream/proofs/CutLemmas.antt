@@ -27,7 +27,7 @@ use Rattle.cj_stream.proofs.OutputLemmas.{Took-appends, Took-all, kept-whole, wr
 use Rattle.cj_stream.proofs.Apart.{none-some}
 
 -- a text that goes on: the lines that LF ended, and those of what had begun
-lines-more : (q more : List ℕ) → lines (q ++ more) ≡ map ended_line (closed q) ++ lines (begun q ++ more)
+pub lines-more : (q more : List ℕ) → lines (q ++ more) ≡ map ended_line (closed q) ++ lines (begun q ++ more)
 lines-more q more =
     rw (closed-then q more, begun-then q more, map_lines-append (closed q) (closed (begun q ++ more)))
     (append_assoc (map ended_line (closed q)) (map ended_line (closed (begun q ++ more))) (last_line (begun (begun q ++ more))))
@@ -42,7 +42,7 @@ first-line c t free some = go (closed (c ++ t)) (begun (c ++ t)) (first_content-
     go (d ∷ ds) u h = (ended_line d, map ended_line ds ++ last_line u, refl, h)
 
 -- lines after a refusal change nothing of what is good
-good-stays : (rules : Rules) (before xs ys : List Line) (e : End) → refusal_from rules before xs ≡ Some e → good_from rules before (xs ++ ys) ≡ good_from rules before xs
+pub good-stays : (rules : Rules) (before xs ys : List Line) (e : End) → refusal_from rules before xs ≡ Some e → good_from rules before (xs ++ ys) ≡ good_from rules before xs
 good-stays rules before [] ys e h = absurd (none-some e h)
 good-stays rules before (x ∷ xs) ys e h = step (refusal_of rules (length before + 1) (verdict rules before x.content)) (good-stays rules (before ++ x ∷ []) xs ys e) h
   where

@@ -19,7 +19,7 @@ use Rattle.cj_stream.proofs.Apart.{none-some, some-none}
 use Rattle.cj_stream.proofs.GoodLemmas.{good-all, refusal-kind}
 use Rattle.cj_stream.proofs.VerdictLemmas.{and-both}
 
-first-none : (first rest : Option End) → cond (is_some first) first rest ≡ None → (first ≡ None) × (rest ≡ None)
+pub first-none : (first rest : Option End) → cond (is_some first) first rest ≡ None → (first ≡ None) × (rest ≡ None)
 first-none None rest h = (refl, h)
 first-none (Some x) rest h = cc
 
@@ -113,7 +113,7 @@ later-all : (p : List ℕ → Bool) (cs : List (List ℕ)) → list_all p cs ≡
 later-all p [] h = refl
 later-all p (c ∷ cs) h = (and-both (p c) (list_all p cs) h).1
 
-complete-none : (rules : Rules) (ls : List Line) → ending_of rules ls ≡ Complete → refusal_in rules ls ≡ None
+pub complete-none : (rules : Rules) (ls : List Line) → ending_of rules ls ≡ Complete → refusal_in rules ls ≡ None
 complete-none rules [] h = refl
 complete-none rules (l ∷ ls) h = go (refusal_in rules (l ∷ ls)) (kind [] (l ∷ ls)) h
   where

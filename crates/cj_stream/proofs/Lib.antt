@@ -1,3 +1,4 @@
+pub mod AccountLemmas
 pub mod Apart
 pub mod BlankLemmas
 pub mod BoundRowLemmas
@@ -25,8 +26,11 @@ pub mod LenientLemmas
 pub mod LineLemmas
 pub mod LinePieceLemmas
 pub mod LineRowLemmas
+pub mod ManyPartsLemmas
+pub mod MovedLemmas
 pub mod NoteLemmas
 pub mod OutputLemmas
+pub mod PartsLemmas
 pub mod PhaseLemmas
 pub mod PieceLemmas
 pub mod PieceSlices
@@ -38,5 +42,6 @@ pub mod RunLemmas
 pub mod ScanningLemmas
 pub mod StaysLemmas
 pub mod TallyLemmas
+pub mod TallyPartsLemmas
 pub mod TallySinkLemmas
 pub mod VerdictLemmas

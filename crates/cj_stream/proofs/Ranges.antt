@@ -4,8 +4,9 @@ use Rattle.std.specs.Prelude.{Contains, ◌⊎◌, int_lt}
 use Rattle.std.specs.Int.{int_min, int_max}
 use Rattle.std.proofs.lemmas.Int.{ints}
 use Rattle.std.proofs.lemmas.List.{append-nil}
-use Rattle.std.proofs.lemmas.List.Elements.{All-nil, All-cons, All-append, All-weaker, Contains-append_left, Contains-push}
+use Rattle.std.proofs.lemmas.List.Elements.{All-nil, All-cons, All-append, All-weaker, Contains-append_left, Contains-append_right, Contains-push}
 use Rattle.cj_feature.specs.Typed.{number_on}
+use Rattle.cj_stream.specs.Parts.{wider}
 use Rattle.cj_stream.specs.Tallied.{IsRange}
 use Rattle.cj_stream.specs.TallySink.{Widens}
 
@@ -63,6 +64,25 @@ Widens-ends least greatest n =
     let low = least-low least n (int_lt n least) refl in
     let high = greatest-high greatest n (int_lt n greatest) refl in
     Widens-next least greatest (int_min least n) (int_max greatest n) n (least-one least n (int_lt n least) refl) low.0 low.1 (greatest-one greatest n (int_lt n greatest) refl) high.0 high.1
+
+-- the range of some numbers and others
+either : (xs ys : List ℤ) (x y n : ℤ) → Contains xs x → Contains ys y → (n ≡ x) ⊎ (n ≡ y) → Contains (xs ++ ys) n
+either xs ys x y n a b (inl same) = subst (λ (z : ℤ). Contains (xs ++ ys) z) (sym same) (Contains-append_left xs ys x a)
+either xs ys x y n a b (inr same) = subst (λ (z : ℤ). Contains (xs ++ ys) z) (sym same) (Contains-append_right xs ys y b)
+
+pub IsRange-two : (xs ys : List ℤ) (p q : Option (ℤ × ℤ)) → IsRange xs p → IsRange ys q → IsRange (xs ++ ys) (wider p q)
+IsRange-two xs ys None q a b = subst (λ (ns : List ℤ). IsRange (ns ++ ys) q) (sym a) b
+IsRange-two xs ys (Some p) None a b = subst (λ (ns : List ℤ). IsRange (xs ++ ns) (Some p)) (sym b) (subst (λ (ns : List ℤ). IsRange ns (Some p)) (sym (append-nil xs)) a)
+IsRange-two xs ys (Some p) (Some q) a b =
+    let low = least-low p.0 q.0 (int_lt q.0 p.0) refl in
+    let high = greatest-high p.1 q.1 (int_lt q.1 p.1) refl in
+    let all = Within (int_min p.0 q.0) (int_max p.1 q.1) in (
+      either xs ys p.0 q.0 (int_min p.0 q.0) a.0 b.0 (least-one p.0 q.0 (int_lt q.0 p.0) refl),
+      either xs ys p.1 q.1 (int_max p.1 q.1) a.1 b.1 (greatest-one p.1 q.1 (int_lt q.1 p.1) refl),
+      All-append all xs ys
+          (All-weaker (Within p.0 p.1) all (λ x k. (omega (arith, ints, k.0, low.0), omega (arith, ints, k.1, high.0))) xs a.2)
+          (All-weaker (Within q.0 q.1) all (λ x k. (omega (arith, ints, k.0, low.1), omega (arith, ints, k.1, high.1))) ys b.2),
+    )
 
 -- the number of a vertex that is whole
 number_on-some : (axis : ℕ) (v : List ℤ) → number_on axis (map Some v) ≡ get_or v axis (pos 0)

@@ -369,7 +369,7 @@ count-feature true false i n xs e h = rw (filter-append is_feature xs (i ∷ [])
 count-feature false later i n xs e h = rw (append-nil xs) h
 
 -- a line after others is a feature, and the first one is none
-after-feature : (rules : Rules) (before : List Line) (l : Line) → is_feature (item_after rules before l) ≡ nat_lt 0 (length before)
+pub after-feature : (rules : Rules) (before : List Line) (l : Line) → is_feature (item_after rules before l) ≡ nat_lt 0 (length before)
 after-feature rules [] l = refl
 after-feature rules (x ∷ xs) l =
     let no_header : eqb (suc (length xs) + 1) 1 ≡ false = grind (arith, nat_tests) in

@@ -23,7 +23,7 @@ use Rattle.cj_stream.proofs.Ranges.{Widens-no, Widens-two}
 -- ---- counts
 
 -- how often a number is among two lists
-how_often-append : (n : ℕ) (xs ys : List ℕ) → how_often n (xs ++ ys) ≡ how_often n xs + how_often n ys
+pub how_often-append : (n : ℕ) (xs ys : List ℕ) → how_often n (xs ++ ys) ≡ how_often n xs + how_often n ys
 how_often-append n xs ys = ap length (filter-append (nat_eq n) xs ys) ∙ length-append (filter (nat_eq n) xs) (filter (nat_eq n) ys)
 
 -- a count that each item raises by a number of its own is raised by their sum

@@ -28,6 +28,7 @@ pub mod LineRows
 pub mod Lines
 pub mod Options
 pub mod Output
+pub mod Parts
 pub mod Phase
 pub mod Query
 pub mod QueryRows

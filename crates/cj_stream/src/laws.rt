@@ -8,23 +8,27 @@
 //! let outcome = run(alloc, &mut reader, &mut tally, &mut NoReports, limits, &query, Options::new());
 //! laws::puts_are_tallied();                     // so the tally is that of what is kept
 //! ```
-ghost use Rattle.std.specs.Prelude.{◌≡◌, ◌≢◌, ◌++◌, ℕ, List, [], Option, Some, None, true, false, length, take};
+ghost use Rattle.std.specs.Prelude.{◌≡◌, ◌≢◌, ◌+◌, ◌++◌, ℕ, List, [], Option, Some, None, true, false, drop, length, map, take};
+ghost use Rattle.std.specs.List.{filter, flat_map};
 ghost use Rattle.std.specs.Io.KnownBytes.{IsAtEnd};
+ghost use Rattle.cj_budget.specs.Limits.{LimitPair};
 ghost use Rattle.cj_budget.specs.declared.limits.Peaks.{Peaks};
 ghost use Rattle.cj_stream.specs.Bound.{IsExact, exact_peaks};
 ghost use Rattle.cj_stream.specs.CountSink.{no_counts, Counts, CountsRun, CountsPieces};
-ghost use Rattle.cj_stream.specs.Cut.{Copies, PutsPieces};
+ghost use Rattle.cj_stream.specs.Cut.{joined, Copies, PutsPieces};
 ghost use Rattle.cj_stream.specs.Ending.{line_end};
 ghost use Rattle.cj_stream.specs.Headline.{HeadlineOfRun};
 ghost use Rattle.cj_stream.specs.IsGood.{AreGood, EndsAfter};
 ghost use Rattle.cj_stream.specs.IsLines.{IsLines, IsWhole};
-ghost use Rattle.cj_stream.specs.Lines.{Line, lines, whole};
+ghost use Rattle.cj_stream.specs.Item.{is_feature};
+ghost use Rattle.cj_stream.specs.Lines.{Line, later_of, lines, whole};
 ghost use Rattle.cj_stream.specs.Output.{output_writer, output_failures, channel, WritesItem, WritesPart};
+ghost use Rattle.cj_stream.specs.Parts.{headed, IsCut, AreComplete, moved_end, moved_report, greater_peaks, JoinsTallies};
 ghost use Rattle.cj_stream.specs.Reporting.{Collects};
 ghost use Rattle.cj_stream.specs.Run.{Account, Puts, Run, Runs, RunsNoting, Writes};
 ghost use Rattle.cj_stream.specs.Sink.{HasRisen};
-ghost use Rattle.cj_stream.specs.TallySink.{Tally, no_tally, Tallies, TalliesRun, TalliesPieces};
-ghost use Rattle.cj_stream.specs.Verdict.{Rules, refusal_in, good, kept, kept_first, reported, reported_first, ending};
+ghost use Rattle.cj_stream.specs.TallySink.{Tally, no_tally, Tallies, IsTallyOf, TalliesRun, TalliesPieces};
+ghost use Rattle.cj_stream.specs.Verdict.{Rules, refusal_in, good, kept, kept_first, reported, reported_first, output, ending};
 ghost use Rattle.cj_stream.specs.declared.ending.End.{End};
 ghost use Rattle.cj_stream.specs.declared.ending.LineEnd.{LineEnd};
 ghost use Rattle.cj_stream.specs.declared.output.Output.{Output};
@@ -72,6 +76,72 @@ pub fn first_invalid_line_is_the_end()
         → refusal_in rules (take n (lines r)) ≡ None → reported_first rules n r ≡ [] }
     ensures peaks { (rules : Rules) (r : List ℕ) (peaks : Peaks) → rules.options.keep_going ≡ false
         → ending rules r ≡ End.Complete → IsExact rules.limits r peaks → peaks ≡ exact_peaks rules.limits r }
+{}
+
+/// A stream may be read in parts: a header with whole lines, and the same header with what follows these, which may be any
+/// bytes. Where the first part is complete, what is kept, written and reported of the stream is that of the first part, and
+/// then that of the second one without its header, each of whose lines has a number that is greater by the lines of the
+/// first part behind the header. The ending is that of the second part, moved so. The lines that are good, the features that are
+/// kept and the lines that are reported add up, with the header counted once. Of what is held at most, whatever the endings are,
+/// each count is the greater of both. The first part may itself be joined of two, so this holds of any number of parts.
+pub fn parts_are_joined()
+    ensures kept { (rules : Rules) (h a b : List ℕ) → IsCut h a → ending rules (headed h a) ≡ End.Complete
+        → kept rules (headed h (a ++ b)) ≡ kept rules (headed h a) ++ later_of (kept rules (headed h b)) }
+    ensures output { (rules : Rules) (h a b : List ℕ) → IsCut h a → ending rules (headed h a) ≡ End.Complete
+        → (rest : List ℕ) × (output rules (headed h b) ≡ headed h rest)
+        × (output rules (headed h (a ++ b)) ≡ output rules (headed h a) ++ rest) }
+    ensures ending { (rules : Rules) (h a b : List ℕ) → IsCut h a → ending rules (headed h a) ≡ End.Complete
+        → ending rules (headed h (a ++ b)) ≡ moved_end (length (lines a)) (ending rules (headed h b)) }
+    ensures reported { (rules : Rules) (h a b : List ℕ) → IsCut h a → ending rules (headed h a) ≡ End.Complete
+        → reported rules (headed h (a ++ b))
+        ≡ reported rules (headed h a) ++ map (moved_report (length (lines a))) (reported rules (headed h b)) }
+    ensures lines { (rules : Rules) (h a b : List ℕ) → IsCut h a → ending rules (headed h a) ≡ End.Complete
+        → length (good rules (headed h (a ++ b))) + 1
+        ≡ length (good rules (headed h a)) + length (good rules (headed h b)) }
+    ensures features { (rules : Rules) (h a b : List ℕ) → IsCut h a → ending rules (headed h a) ≡ End.Complete
+        → length (filter is_feature (kept rules (headed h (a ++ b))))
+        ≡ length (filter is_feature (kept rules (headed h a))) + length (filter is_feature (kept rules (headed h b))) }
+    ensures refused { (rules : Rules) (h a b : List ℕ) → IsCut h a → ending rules (headed h a) ≡ End.Complete
+        → length (reported rules (headed h (a ++ b)))
+        ≡ length (reported rules (headed h a)) + length (reported rules (headed h b)) }
+    ensures peaks { (limits : LimitPair) (h a b : List ℕ) → IsCut h a
+        → exact_peaks limits (headed h (a ++ b))
+        ≡ greater_peaks (exact_peaks limits (headed h a)) (exact_peaks limits (headed h b)) }
+    ensures tally { (rules : Rules) (h a b : List ℕ) (first second both : Tally) → IsCut h a
+        → ending rules (headed h a) ≡ End.Complete → IsTallyOf (kept rules (headed h a)) first
+        → IsTallyOf (kept rules (headed h b)) second → JoinsTallies first second both
+        → IsTallyOf (kept rules (headed h (a ++ b))) both }
+{}
+
+/// A header with all the lines of any number of parts, each of which is complete with the header, is complete. What is kept of it is
+/// the header and what is kept of each part behind it, and what is written is the header's line and then what is written of each part
+/// without that line. A last part, which may end in any way, follows by [`parts_are_joined`].
+pub fn complete_parts_are_joined()
+    ensures complete { (rules : Rules) (h : List ℕ) (parts : List (List ℕ)) → IsCut h []
+        → ending rules (headed h []) ≡ End.Complete → AreComplete rules h parts
+        → IsCut h (joined parts) × (ending rules (headed h (joined parts)) ≡ End.Complete) }
+    ensures kept { (rules : Rules) (h : List ℕ) (parts : List (List ℕ)) → IsCut h []
+        → ending rules (headed h []) ≡ End.Complete → AreComplete rules h parts
+        → kept rules (headed h (joined parts))
+        ≡ kept rules (headed h []) ++ flat_map (λ a. later_of (kept rules (headed h a))) parts }
+    ensures output { (rules : Rules) (h : List ℕ) (parts : List (List ℕ)) → IsCut h []
+        → ending rules (headed h []) ≡ End.Complete → AreComplete rules h parts
+        → output rules (headed h (joined parts))
+        ≡ headed h (flat_map (λ a. drop (length h + 1) (output rules (headed h a))) parts) }
+{}
+
+/// Where the first part is not complete, its ending is that of the stream, and what follows changes nothing.
+pub fn refused_parts_are_the_end()
+    ensures ending { (rules : Rules) (h a b : List ℕ) → IsCut h a → ending rules (headed h a) ≢ End.Complete
+        → ending rules (headed h (a ++ b)) ≡ ending rules (headed h a) }
+    ensures good { (rules : Rules) (h a b : List ℕ) → IsCut h a → ending rules (headed h a) ≢ End.Complete
+        → good rules (headed h (a ++ b)) ≡ good rules (headed h a) }
+    ensures kept { (rules : Rules) (h a b : List ℕ) → IsCut h a → ending rules (headed h a) ≢ End.Complete
+        → kept rules (headed h (a ++ b)) ≡ kept rules (headed h a) }
+    ensures output { (rules : Rules) (h a b : List ℕ) → IsCut h a → ending rules (headed h a) ≢ End.Complete
+        → output rules (headed h (a ++ b)) ≡ output rules (headed h a) }
+    ensures reported { (rules : Rules) (h a b : List ℕ) → IsCut h a → ending rules (headed h a) ≢ End.Complete
+        → reported rules (headed h (a ++ b)) ≡ reported rules (headed h a) }
 {}
 
 /// After as many lines as are good, what is kept of these is what is kept of all, and likewise what is reported.

@@ -51,6 +51,7 @@ mod line_pieces;
 mod line_reader;
 mod options;
 mod output;
+mod parts;
 mod pieces;
 mod query;
 mod reporting;

@@ -2,10 +2,12 @@
 ghost use Rattle.std.specs.Prelude.{◌≡◌, ◌<◌, ◌≤◌, ℕ, None, OnOk, OnErr, get_or};
 ghost use Rattle.cj_geometry.specs.ObjectTypes.{row_at};
 ghost use Rattle.cj_stream.specs.Item.{header_item, feature_item};
+ghost use Rattle.cj_stream.specs.Parts.{JoinsTallies};
 ghost use Rattle.cj_stream.specs.Sink.{HasRisen};
 ghost use Rattle.cj_stream.specs.TallySink.{no_tally};
 
 mod adding;
+mod joining;
 
 use crate::output::WriteFault;
 use crate::sink::LineSink;
@@ -13,6 +15,7 @@ use adding::{count_lods, count_types, widen_all};
 use cj_decimal::Decimal;
 use cj_feature::{Feature, Header};
 use cj_geometry::ObjectType;
+use joining::{add_counts, join_ranges};
 use std::marker::Model;
 
 /// How many classes of LoDs there are: 0 to 4, and other.
@@ -114,6 +117,18 @@ impl TallySink {
         ensures { result ≡ self.now.translate }
     {
         self.translate
+    }
+
+    /// The tally of a stream whose parts have this tally and `next`: each is that of the header and some of the lines behind it.
+    pub fn then(&self, next: &TallySink) -> TallySink
+        ensures { JoinsTallies self.now next.now result }
+    {
+        let mut tally = *self;
+        tally.features = self.features.saturating_add(next.features);
+        add_counts(&mut tally.types, &next.types);
+        add_counts(&mut tally.lods, &next.lods);
+        tally.ranges = join_ranges(self.ranges, next.ranges);
+        tally
     }
 }
 

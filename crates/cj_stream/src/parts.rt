@@ -1,0 +1,75 @@
+//! Runs over the parts of a stream, seen as one run over all of it.
+//!
+//! A stream may be read in parts that begin with its header: each is the header with some of the lines behind it, in their
+//! order. What the sinks and the reports of these runs got follows by [`crate::laws::parts_are_joined`].
+ghost use Rattle.std.specs.Prelude.{◌≡◌, ◌≢◌, ◌+◌, ◌-◌, ◌<◌, ◌^◌, ◌++◌, ℕ, List, Option};
+ghost use Rattle.std.specs.Io.KnownBytes.{IsAtEnd};
+ghost use Rattle.cj_stream.specs.Cut.{IsUnread};
+ghost use Rattle.cj_stream.specs.Parts.{headed, IsCut, moved_end, greater_peaks, capped_end, both_outcomes, capped_outcome};
+ghost use Rattle.cj_stream.specs.Run.{Account};
+ghost use Rattle.cj_stream.specs.Verdict.{Rules};
+
+use crate::ending::End;
+use crate::running::Outcome;
+use cj_budget::Peaks;
+
+/// The greater of each two counts.
+fn greater(first: Peaks, second: Peaks) -> Peaks
+    ensures { result ≡ greater_peaks first second }
+{
+    Peaks {
+        bytes: first.bytes.max(second.bytes),
+        tokens: first.tokens.max(second.tokens),
+        depth: first.depth.max(second.depth),
+    }
+}
+
+/// An end of a second part, seen as one of the stream: so many lines later.
+fn moved(end: End, lines: u64) -> End
+    ensures { result ≡ capped_end (moved_end lines end) }
+{
+    match end {
+        End::Refused {
+            line,
+            place,
+            reason,
+        } => End::Refused {
+            line: line.saturating_add(lines),
+            place,
+            reason,
+        },
+        End::Complete | End::ReadFault | End::ReadLimit | End::WriteFault | End::Memory => end,
+    }
+}
+
+/// Two runs as one, where the first was complete: the header counts once.
+fn both(first: Outcome, second: Outcome) -> Outcome
+    ensures { result ≡ capped_outcome (both_outcomes first second) }
+{
+    Outcome {
+        lines: first.lines.saturating_add(second.lines.saturating_sub(1)),
+        kept: first.kept.saturating_add(second.kept),
+        refused: first.refused.saturating_add(second.refused),
+        peaks: greater(first.peaks, second.peaks),
+        ended: moved(second.ended, first.lines.saturating_sub(1)),
+    }
+}
+
+impl Outcome {
+    /// How a run over a header and the lines of two parts goes, by how one over the header with the lines of the first part went,
+    /// and by `next`, how one over the header with what follows went. Where the first one did not end complete, it stands for
+    /// both. The first part ends with an LF, and its reads did not fail. Counts and line numbers stop at 2^64 - 1.
+    pub fn then(self, next: Outcome) -> Outcome
+        ensures ended { self.ended ≢ End.Complete → result ≡ self }
+        ensures account { (rules : Rules) (h a b : List ℕ) (left more : Option (List ℕ)) → IsCut h a
+            → IsUnread self.ended → self.lines + next.lines < 2 ^ 64
+            → Account (record { rules = rules; read = headed h a; outcome = self }) (IsAtEnd left)
+            → Account (record { rules = rules; read = headed h b; outcome = next }) (IsAtEnd more)
+            → Account (record { rules = rules; read = headed h (a ++ b); outcome = result }) (IsAtEnd more) }
+    {
+        match self.ended {
+            End::Complete => both(self, next),
+            _ => self,
+        }
+    }
+}
