@@ -1,9 +1,12 @@
 -- City objects at hand, and those that wait, told by their numbers.
-use Rattle.std.proofs.Common.{◌≡◌, ◌≢◌, ◌⊎◌, inl, inr, ℕ, zero, suc, ◌+◌, ◌<◌, List, [], ◌∷◌, slice_get, Some, refl, sym, ap, subst, arith, ◌∙◌}
+use Rattle.std.proofs.Common.{◌≡◌, ◌≢◌, ◌⊎◌, inl, inr, ℕ, zero, suc, ◌+◌, ◌<◌, ◌≤◌, List, [], ◌∷◌, length, slice_get, Some, refl, sym, ap, subst, arith, ◌∙◌}
 use Rattle.std.specs.Prelude.{slice_set, codes, replicate}
 use Rattle.std.specs.List.{Contains}
 use Rattle.std.specs.Str.{chars}
+use Rattle.std.specs.List.Sorted.{IsPermutation}
 use Rattle.std.proofs.lemmas.Bool.{cases_lt}
+use Rattle.std.proofs.lemmas.List.Sorted.{Contains-permutation, IsPermutation-sym}
+use Rattle.std.proofs.lemmas.Option.{slice_get_within, get_or_from_slice_get, slice_get_read}
 use Rattle.cj_budget.specs.Bounded.{BoundedList}
 use Rattle.cj_spans.specs.declared.token.Token.{Token}
 use Rattle.cj_spans.specs.declared.node.Doc.{Doc}
@@ -38,13 +41,27 @@ get-set-here [] i v n h = absurd (cc h)
 get-set-here (x ∷ xs) zero v n h = cc h
 get-set-here (x ∷ xs) (suc i) v n h = get-set-here xs i v n h
 
--- what holds of each number above 0, holds with another in the place of one
-pub each-set : (P : ℕ → Type 0) (xs : List ℕ) (i v : ℕ) → ((k n : ℕ) → slice_get xs k ≡ Some n → 0 < n → P n) → P v → (k n : ℕ) → slice_get (slice_set xs i v) k ≡ Some n → 0 < n → P n
-each-set P xs i v all here k n h l =
+-- what holds of each number at hand, holds with another in the place of one
+pub each-set : (P : ℕ → Type 0) (xs : List ℕ) (i v : ℕ) → ((k n : ℕ) → slice_get xs k ≡ Some n → 0 < n → n < 2147483648 → P n) → P v → (k n : ℕ) → slice_get (slice_set xs i v) k ≡ Some n → 0 < n → n < 2147483648 → P n
+each-set P xs i v all here k n h l m =
     elim (get-set xs i k v n h) [
       | inl e ↦ subst P (get-set-here xs i v n (subst (λ j. slice_get (slice_set xs i v) j ≡ Some n) e h)) here
-      | inr g ↦ all k n g l
+      | inr g ↦ all k n g l m
     ]
+
+-- a number that is done with in the place of one adds none
+pub set-done : (xs : List ℕ) (i v k n : ℕ) → 2147483648 ≤ v → slice_get (slice_set xs i v) k ≡ Some n → n < 2147483648 → (j : ℕ) × (slice_get xs j ≡ Some n)
+set-done xs i v k n done h small =
+    elim (get-set xs i k v n h) [
+      | inl e ↦ absurd (let same = get-set-here xs i v n (subst (λ j. slice_get (slice_set xs i v) j ≡ Some n) e h) in omega (arith, same))
+      | inr g ↦ (k, g)
+    ]
+
+-- numbers in another order are the same
+pub among-moved : (xs ys : List ℕ) (k n : ℕ) → IsPermutation xs ys → slice_get ys k ≡ Some n → (j : ℕ) × (slice_get xs j ≡ Some n)
+among-moved xs ys k n moved at =
+    let there : Contains xs n = Contains-permutation ys xs n (IsPermutation-sym xs ys moved) (k, slice_get_within ys k n at, get_or_from_slice_get ys k n n at) in
+    (there.0, slice_get_read xs (length xs) there.0 n refl there.1 (sym there.2))
 
 -- of zeros alone none is above 0
 pub none-above : (n k x : ℕ) → slice_get (replicate n 0) k ≡ Some x → x ≡ 0
@@ -86,13 +103,13 @@ id-reached feature id objects i o = λ name t at same.
 -- ---- steps of the guide
 
 pub same-hand : (a : Near) → AddsNone a a
-same-hand a = record { objects = λ k n at. (k, at) }
+same-hand a = record { objects = λ k n at small. (k, at) }
 
 pub more-hand : (a b c : Near) → AddsNone a b → AddsNone b c → AddsNone a c
-more-hand a b c h k = record { objects = λ i n at. let from = k.objects i n at in h.objects from.0 n from.1 }
+more-hand a b c h k = record { objects = λ i n at small. let from = k.objects i n at small in h.objects from.0 n from.1 small }
 
 pub named-kept : (objects : List (Tree × Tree)) (line : List ℕ) (spans : List Span) (a b : Near) → AddsNone a b → AreNamed objects line spans a.objects → AreNamed objects line spans b.objects
-named-kept objects line spans a b h named = λ k n at above. let from = h.objects k n at in named from.0 n from.1 above
+named-kept objects line spans a b h named = λ k n at above small. let from = h.objects k n at small in named from.0 n from.1 above small
 
 pub known-kept : (n : Node) (a b : Near) → AddsNone a b → Knows n a → Knows n b
 known-kept n a b h k = named-kept (members_of (tree n)) (line_of n) (spans_by n) a b h k

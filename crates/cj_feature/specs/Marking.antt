@@ -86,10 +86,11 @@ pub record OnlyMarks (old new : BoundedList Token) : Type 0 where
   pub tokens : bare new.elements ≡ bare old.elements
   pub list : new ≡ record old { elements = new.elements }
 
--- each of these numbers is that of one of these city objects, whose name has the number before, or 0
+-- each of these numbers is that of one of these city objects, whose name has the number before; but 0 is none, and one from
+-- 2^31 on stands for one that is done with
 abbrev pub AreNamed : List (Tree × Tree) → List ℕ → List Span → List ℕ → Type 0
 AreNamed objects line spans numbers =
-    (k n : ℕ) → slice_get numbers k ≡ Some n → 0 < n → (n < length spans) × Contains objects (tree_at line spans (n - 1), tree_at line spans n)
+    (k n : ℕ) → slice_get numbers k ≡ Some n → 0 < n → n < 2147483648 → (n < length spans) × Contains objects (tree_at line spans (n - 1), tree_at line spans n)
 
 -- each of the first numbers is that of a city object that is reached
 abbrev pub AreReached : Tree → List ℕ → List Span → List ℕ → ℕ → Type 0
@@ -112,9 +113,9 @@ Knows objects near = AreNamed (members_of (tree objects)) (line_of objects) (spa
 abbrev pub WaitsFor : Tree → List ℕ → List Span → Near → Type 0
 WaitsFor feature line spans near = AreReached feature line spans near.pending near.waiting
 
--- each city object at hand was at hand before
+-- each city object at hand that is not done with was at hand before
 pub record AddsNone (old new : Near) : Type 0 where
-  pub objects : (k n : ℕ) → slice_get new.objects k ≡ Some n → (j : ℕ) × (slice_get old.objects j ≡ Some n)
+  pub objects : (k n : ℕ) → slice_get new.objects k ≡ Some n → n < 2147483648 → (j : ℕ) × (slice_get old.objects j ≡ Some n)
 
 -- of a line and its tokens: those at hand are city objects, and what waits and what has marks is reached
 pub record IsGuide (line : List ℕ) (tokens : List Token) (near : Near) : Type 0 where

@@ -1,21 +1,28 @@
 //! A guide over many city objects: it marks most of those that are reached, one after another, and each only once.
 //!
 //! Many city objects are at hand at once, in lists of those that one remainder of a number of their names puts
-//! together. What is found by them waits to be marked and is taken from hand, so it is found once, however often it is
-//! listed; and what it lists is looked for then. Those that have children come first: what they lead to is all that has
-//! to be followed. Then those without are at hand, which lead to nothing, so that one time over all of them is enough.
-//! Nothing hangs on whether all are found: what is marked is reached, as what lists it is, and what is left out the
-//! search behind it finds.
-ghost use Rattle.std.specs.Prelude.{◌≡◌, ◌<◌, ◌≤◌, Some, length, slice_get};
+//! together. A list that has become long is put in the order of its names, so that no names make a search long. What is
+//! found waits to be marked and is done with, so it is found once, however often it is listed; and what it lists is looked
+//! for then. Those that have children come first: what they lead to is all that has to be followed. Then those without
+//! are at hand, which lead to nothing, so that one time over all of them is enough. Nothing hangs on whether all are found:
+//! what is marked is reached, as what lists it is, and what is left out the search behind it finds.
+ghost use Rattle.std.specs.Prelude.{◌≡◌, ℕ, ◌<◌, ◌≤◌, Some, length, slice_get};
 
 use cj_budget::Bounded;
 use cj_spans::{Doc, Node, Token, set_mark};
+use std::cmp::Ordering;
 
 /// So many city objects are at hand at once.
 const OBJECTS: usize = 200_000;
 
 /// So many lists of them there are: a prime.
 const LISTS: usize = 16_381;
+
+/// A list that is longer is put in order.
+const LONG: usize = 32;
+
+/// What is added to the number of a city object that is done with.
+const DONE: u32 = 2_147_483_648;
 
 /// So many wait to be marked.
 const PENDING: usize = 16_384;
@@ -24,7 +31,7 @@ const PENDING: usize = 16_384;
 const ROUNDS: usize = 64;
 
 /// City objects at hand, and those that wait to be marked, by their numbers; 0 is none. Those at hand stand list after
-/// list, each from where it starts to where it ends; what was taken from hand stands before its list.
+/// list, each from where it starts to where it ends.
 #[derive(Drop)]
 pub struct Near {
     objects: [u32; OBJECTS],
@@ -52,6 +59,34 @@ fn number_at(numbers: &[u32], place: usize) -> u32
     ensures { slice_get numbers.now place ≡ Some result }
 {
     numbers[place]
+}
+
+/// The number of the name of a city object that is at hand.
+fn name_number(number: u32) -> u32 {
+    (number % DONE).saturating_sub(1)
+}
+
+/// The order of the names of two city objects.
+fn compare_numbers(objects: Node, first: u32, second: u32) -> Ordering {
+    let name = objects.at(name_number(first));
+    name.compare_text(objects.at(name_number(second)))
+}
+
+/// Whether a city object comes before those of this name that are not done with.
+fn is_behind(objects: Node, number: u32, text: Node) -> bool {
+    match objects.at(name_number(number)).compare_text(text) {
+        Ordering::Less => true,
+        Ordering::Equal => number >= DONE,
+        Ordering::Greater => false,
+    }
+}
+
+/// Puts numbers between two places in the order of the names of their city objects.
+fn sort(objects: Node, numbers: &mut [u32], start: usize, end: usize)
+    requires within { start ≤ end × end ≤ length numbers.old }
+    ensures { (k n : ℕ) → slice_get numbers.new k ≡ Some n → (j : ℕ) × (slice_get numbers.old j ≡ Some n) }
+{
+    numbers[start..end].sort_unstable_by(|first, second| compare_numbers(objects, *first, *second));
 }
 
 /// Turns the lengths of lists into the places where they begin.
@@ -133,6 +168,38 @@ impl Near {
         self.starts = starts;
     }
 
+    /// Where a list starts and where it ends.
+    fn bounds(&self, list: usize) -> (usize, usize)
+        requires { list < 16381 }
+        ensures { result.0 ≤ result.1 × result.1 ≤ 200000 }
+    {
+        let end = (self.ends[list] as usize).min(OBJECTS);
+        let start = (self.starts[list] as usize).min(end);
+        (start, end)
+    }
+
+    /// Puts long lists in the order of their names.
+    fn sort_lists(&mut self, objects: Node)
+        ensures hand { AddsNone self.old self.new }
+        ensures waiting { self.new.waiting ≡ self.old.waiting }
+        ensures pending { self.new.pending ≡ self.old.pending }
+    {
+        for list in 0..LISTS {
+            let (start, end) = self.bounds(list);
+            if end - start > LONG {
+                sort(objects, &mut self.objects, start, end);
+            }
+        }
+    }
+
+    /// The place of the first city object of a long list that has this name and is not done with, if there is one.
+    fn first_of(&self, objects: Node, text: Node, start: usize, end: usize) -> usize
+        requires { start ≤ end × end ≤ 200000 }
+    {
+        let list = &self.objects[start..end];
+        start + list.partition_point(|number| is_behind(objects, *number, text))
+    }
+
     /// Takes a city object of this name to those at hand, at the end of its list so far.
     fn take(&mut self, objects: Node, name: Node, object: Node)
         requires known { Knows objects self.old }
@@ -155,15 +222,13 @@ impl Near {
         }
     }
 
-    /// Takes the city objects behind the first `skip` to hand, as many as there is room for.
-    fn gather(&mut self, objects: Node, skip: usize)
+    /// Takes the city objects behind the first `skip` to their lists, as many as there is room for.
+    fn fill_lists(&mut self, objects: Node, skip: usize)
         requires { Knows objects self.old }
         ensures known { Knows objects.entry self.new }
         ensures waiting { self.new.waiting ≡ self.old.waiting }
         ensures pending { self.new.pending ≡ self.old.pending }
     {
-        self.count_lists(objects, skip);
-        self.start_lists();
         let mut passed = 0;
         let mut taken = 0;
         for (name, object) in objects.members() {
@@ -179,6 +244,19 @@ impl Near {
         }
     }
 
+    /// Takes the city objects behind the first `skip` to hand, as many as there is room for.
+    fn gather(&mut self, objects: Node, skip: usize)
+        requires { Knows objects self.old }
+        ensures known { Knows objects.entry self.new }
+        ensures waiting { self.new.waiting ≡ self.old.waiting }
+        ensures pending { self.new.pending ≡ self.old.pending }
+    {
+        self.count_lists(objects, skip);
+        self.start_lists();
+        self.fill_lists(objects, skip);
+        self.sort_lists(objects);
+    }
+
     /// Has a city object that is reached wait.
     fn wait(&mut self, number: u32)
         requires { self.old.waiting < 16384 }
@@ -191,47 +269,44 @@ impl Near {
         self.waiting += 1;
     }
 
-    /// Whether the city object of this number has this name. If it has, and no mark, it waits from now on.
-    fn note_one(&mut self, objects: Node, number: u32, text: Node) -> bool
+    /// The city object of this number, which is at this place, is done with.
+    fn finish(&mut self, place: usize, number: u32)
+        requires place { place < 200000 }
+        requires number { number < 2147483648 }
+        ensures hand { AddsNone self.old self.new }
+        ensures waiting { self.new.waiting ≡ self.old.waiting }
+        ensures pending { (feature : Tree) (line : List ℕ) (spans : List Span)
+            → WaitsFor feature line spans self.old → WaitsFor feature line spans self.new }
+    {
+        self.objects[place] = number + DONE;
+    }
+
+    /// Whether the city object of this number, at this place, has this name and was not done with. If so, it is now, and
+    /// waits if it has no mark.
+    fn note_one(&mut self, objects: Node, place: usize, number: u32, text: Node) -> bool
         requires room { self.old.waiting < 16384 }
+        requires place { place < 200000 }
         requires positive { 0 < number }
-        requires within { number < length (spans_by objects) }
-        requires held { Contains (members_of (tree objects))
+        requires within { number < 2147483648 → number < length (spans_by objects) }
+        requires held { number < 2147483648 → Contains (members_of (tree objects))
             (tree_at (line_of objects) (spans_by objects) (number - 1), tree_at (line_of objects) (spans_by objects) number) }
         ensures hand { AddsNone self.old self.new }
         ensures pending { (feature : Tree) → ReachesName feature objects.entry (tree text.entry)
             → WaitsFor feature (line_of objects.entry) (spans_by objects.entry) self.old
             → WaitsFor feature (line_of objects.entry) (spans_by objects.entry) self.new }
     {
-        if !objects.at(number - 1).same_text(text) {
+        if number >= DONE || !objects.at(number - 1).same_text(text) {
             return false;
         }
+        self.finish(place, number);
         if !objects.at(number).marked() {
             self.wait(number);
         }
         true
     }
 
-    /// Takes the city object at this place of a list from hand: the first of the list, which was looked at before it,
-    /// comes to its place, and the list starts behind that.
-    fn take_out(&mut self, list: usize, place: usize)
-        requires list { list < 16381 }
-        requires place { place < 200000 }
-        ensures hand { AddsNone self.old self.new }
-        ensures waiting { self.new.waiting ≡ self.old.waiting }
-        ensures pending { self.new.pending ≡ self.old.pending }
-    {
-        let start = self.starts[list];
-        if start as usize >= OBJECTS {
-            return;
-        }
-        let first = number_at(&self.objects, start as usize);
-        self.objects[place] = first;
-        self.starts[list] = start.wrapping_add(1);
-    }
-
-    /// Has the city objects at hand wait that have this name and no mark, and takes all from hand that have it. It ends
-    /// where no more can wait; what it has not come to is still at hand.
+    /// Has the city objects at hand wait that have this name and no mark; all that have it are done with then. It ends
+    /// where no more can wait; what it has not come to is not done with.
     fn note(&mut self, objects: Node, text: Node)
         requires { Knows objects self.old }
         ensures hand { AddsNone self.old self.new }
@@ -239,17 +314,20 @@ impl Near {
             → WaitsFor feature (line_of objects.entry) (spans_by objects.entry) self.old
             → WaitsFor feature (line_of objects.entry) (spans_by objects.entry) self.new }
     {
-        let list = list_of(text);
-        for place in self.starts[list]..self.ends[list] {
-            if self.waiting == PENDING || place as usize >= OBJECTS {
+        let (start, end) = self.bounds(list_of(text));
+        let is_long = end - start > LONG;
+        let first = if is_long {
+            self.first_of(objects, text, start, end)
+        } else {
+            start
+        };
+        for place in first..end {
+            let number = number_at(&self.objects, place);
+            if self.waiting == PENDING || number == 0 {
                 return;
             }
-            let number = number_at(&self.objects, place as usize);
-            if number == 0 {
+            if !self.note_one(objects, place, number, text) && is_long {
                 return;
-            }
-            if self.note_one(objects, number, text) {
-                self.take_out(list, place as usize);
             }
         }
     }

@@ -1,6 +1,6 @@
 use Rattle.std.proofs.Common.{◌∙◌}
 use Rattle.cj_feature.proofs.Walking.{later-among}
-use Rattle.cj_feature.proofs.feature.near.Near.gather.Goals as goal
+use Rattle.cj_feature.proofs.feature.near.Near.fill_lists.Goals as goal
 
 pub loop-name-preserved-then-passed-skip : goal.loop-name-preserved-then-passed-skip
 loop-name-preserved-then-passed-skip c =

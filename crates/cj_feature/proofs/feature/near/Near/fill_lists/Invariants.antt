@@ -1,7 +1,7 @@
 use Rattle.std.proofs.Common.{◌≡◌}
 use Rattle.cj_feature.specs.Marking.{Knows}
 use Rattle.cj_feature.proofs.Walking.{Among}
-use Rattle.cj_feature.proofs.feature.near.Near.gather.Given as goal
+use Rattle.cj_feature.proofs.feature.near.Near.fill_lists.Given as goal
 
 abbrev pub invariant-loop-name : goal.invariant-loop-name
 invariant-loop-name l = record {
