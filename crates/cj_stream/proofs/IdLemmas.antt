@@ -1,23 +1,24 @@
 -- The ids of a query: one is found in runs that are in order.
-use Rattle.std.proofs.Common.{◌≡◌, ℕ, suc, zero, ◌+◌, ◌-◌, ◌<◌, ◌≤◌, Bool, false, List, [], ◌∷◌, ◌++◌, length, get_or, map, take, drop, sum, Option, Some, None, Result, Ok, Err, is_ok, String, string_bytes, option_map, unwrap_or, refl, sym, ap, ◌∙◌, subst, inl, inr, arith}
+use Rattle.std.proofs.Common.{◌≡◌, ℕ, suc, zero, ◌+◌, ◌-◌, ◌<◌, ◌≤◌, Bool, true, false, List, [], ◌∷◌, ◌++◌, length, get_or, map, take, drop, sum, Option, Some, None, Result, Ok, Err, is_ok, String, string_bytes, option_map, unwrap_or, refl, sym, ap, ◌∙◌, subst, inl, inr, arith}
 use Rattle.std.specs.Cmp.{IsTotalOrder, tied_itself}
 use Rattle.std.specs.Cmp.Lexicographic.{bytes_decides, nat_list_cmp_total, options_total, texts_ties}
 use Rattle.std.specs.List.{list_any, All, slice_get}
-use Rattle.std.specs.List.Sorted.{IsPermutation, IsSortedBy, IsSearchInRange, IsBinarySearchResult}
+use Rattle.std.specs.List.Sorted.{IsPermutation, IsSortedBy, IsNonDecreasingBy, IsSearchInRange, IsBinarySearchResult}
 use Rattle.std.specs.Ordering.{nat_cmp, ordering_then, ordering_reverse, is_lt, is_eq}
 use Rattle.std.specs.Str.{chars}
 use Rattle.std.specs.declared.cmp.Ordering.{Ordering}
 use Rattle.std.specs.declared.cmp.Ordering.TheVariants.{Less, Equal, Greater}
 use Rattle.std.proofs.lemmas.Bool.{cases_lt}
+use Rattle.std.proofs.lemmas.Bool.Decides.{nat_tests}
 use Rattle.std.proofs.lemmas.Cmp.{nat_cmp_total, on_total, then_total}
-use Rattle.std.proofs.lemmas.List.{get_or-map, get_or_append_left, length-map, length-append, length-drop, length-take, length-take-le, take-append-le, take-take, take_all, drop_all, drop_at, append-nil, drop-append-le, take-append-drop, drop-take, take-map, map-append}
+use Rattle.std.proofs.lemmas.List.{get_or_default, get_or-take, get_or-drop, get_or-map, get_or_append_left, length-map, length-append, length-drop, length-take, length-take-le, take-append-le, take-take, take_all, drop_all, drop_at, append-nil, drop-append-le, take-append-drop, drop-take, take-map, map-append}
 use Rattle.std.proofs.Math.Seq.{get_or-append_seam}
 use borrow.Rule.Slice.PartMut.{put_mid}
 use Rattle.std.proofs.lemmas.Option.{slice_get-get_or}
 use Rattle.std.proofs.lemmas.List.Elements.{All-append, All-cons, All-nil}
-use Rattle.std.proofs.lemmas.List.Folds.{list_any_at, list_any_none}
+use Rattle.std.proofs.lemmas.List.Folds.{list_any_at, list_any_none, list_any-append}
 use Rattle.std.specs.Prelude.{◌||◌}
-use Rattle.std.proofs.lemmas.List.Sorted.{IsPermutation-append, IsPermutation-map, IsPermutation-refl, IsPermutation-trans, All-permutation, length_permutation, searchable_from_sorted}
+use Rattle.std.proofs.lemmas.List.Sorted.{IsPermutation-append, IsPermutation-map, IsPermutation-refl, IsPermutation-trans, All-permutation, length_permutation, searchable_from_sorted, IsNonDecreasingBy-from_all_adjacent}
 use Rattle.std.proofs.lemmas.List.Sums.{sum_by-cons, sum_by-take-le}
 use Rattle.cj_spans.specs.Tail.{tail_of}
 use Rattle.cj_spans.specs.Order.{compare, compare_texts}
@@ -25,7 +26,7 @@ use Rattle.cj_spans.specs.Parts.{text_of, are_same_texts}
 use Rattle.cj_spans.specs.Tree.{Tree}
 use Rattle.cj_stream.specs.Criteria.{is_one_of}
 use Rattle.cj_stream.specs.declared.query.ids.Entry.{Entry}
-use Rattle.cj_stream.specs.Ids.{Key, key_of, compare_keys, id_at, key_at, keys_at, keys_of, Ascend, AreRuns, AreIndexed}
+use Rattle.cj_stream.specs.Ids.{Key, key_of, compare_keys, id_at, key_at, keys_at, keys_of, Ascend, AreRuns, AreIndexed, HasAllOf}
 
 -- keys have one order
 pub keys_total : IsTotalOrder compare_keys
@@ -238,3 +239,63 @@ drop_put start xs ys h =
     let rest = drop (length xs - start) (drop start xs) in
     let here : drop start (take start xs ++ (ys ++ rest)) ≡ ys ++ rest = drop_at (take start xs) (ys ++ rest) start (length-take-le start xs h) in
     here ∙ ap (λ zs. ys ++ zs) (drop_all (length xs - start) (drop start xs) (omega (arith, length-drop start xs))) ∙ append-nil ys
+
+-- ---- a part of what is in order
+
+-- a key that is not less has no lesser number
+not_less : (a b : Key) → is_lt (compare_keys a b) ≡ false → b.number ≤ a.number
+not_less a b h = grind (arith, nat_tests, h)
+
+-- the numbers of what is in order do not fall
+pub numbers_rise : {X : Type 0} (f : X → Key) (xs : List X) → Ascend (map f xs) → IsNonDecreasingBy (λ x. (f x).number) xs
+numbers_rise f xs up = IsNonDecreasingBy-from_all_adjacent (λ x. (f x).number) xs
+    (λ k d h. not_less (f (get_or xs (k + 1) d)) (f (get_or xs k d)) (ascend_by_keys f xs up k d (omega arith) h))
+
+-- equal keys have one number
+same_number : (a b : Key) → is_eq (compare_keys a b) ≡ true → a.number ≡ b.number
+same_number a b h = grind (arith, nat_tests, h)
+
+-- where a test fails at all elements of other numbers, and there are no others
+none_there : (test : Entry → Bool) (xs : List Entry) (number : ℕ) → ((e : Entry) → test e ≡ true → e.number ≡ number)
+    → ((k : ℕ) (d : Entry) → k < length xs → (get_or xs k d).number ≡ number → ⊥) → list_any test xs ≡ false
+none_there test xs number only other = list_any_none test xs (λ k d h. failed (get_or xs k d) (other k d h))
+  where
+    failed : (e : Entry) → (e.number ≡ number → ⊥) → test e ≡ false
+    failed e not = grind (arith, only e, not)
+
+no_more : (b : Bool) → (b || false) ≡ b
+no_more false = refl
+no_more true = refl
+
+-- entries between one of a lesser number and one of a greater number are all of this number
+pub part_has : (number : ℕ) (x : Entry) (xs : List Entry) (start stop : ℕ) → IsNonDecreasingBy (λ (e : Entry). e.number) xs → start < stop → stop ≤ length xs
+    → (0 < start → (get_or xs start x).number < number) → (stop < length xs → number < (get_or xs (stop - 1) x).number)
+    → HasAllOf number (take (stop - start) (drop start xs)) xs
+part_has number x xs start stop up ordered within before after test only =
+    let rest : List Entry = drop start xs in
+    let part : List Entry = take (stop - start) rest in
+    let past : List Entry = drop (stop - start) rest in
+    let front : list_any test (take start xs) ≡ false = none_there test (take start xs) number only
+    (λ k d h e.
+    let low : k < start = omega (arith, h, length-take-le start xs (omega arith)) in
+    let same = get_or-take start xs k d low ∙ get_or_default xs k d x (omega arith) in
+    let rise = up k start x (omega arith) (omega arith) in
+    absurd (omega (arith, before (omega arith), rise, e, ap (λ (y : Entry). y.number) same))) in
+    let back : list_any test past ≡ false = none_there test past number only
+    (λ k d h e.
+    let long : length past ≡ length xs - stop = omega (arith, length-drop (stop - start) rest, length-drop start xs) in
+    let same = get_or-drop (stop - start) rest k d ∙ get_or-drop start xs ((stop - start) + k) d ∙ get_or_default xs (start + ((stop - start) + k)) d x (omega (arith, h, long)) in
+    let rise = up (stop - 1) (start + ((stop - start) + k)) x (omega arith) (omega (arith, h, long)) in
+    absurd (omega (arith, after (omega (arith, h, long)), rise, e, ap (λ (y : Entry). y.number) same))) in
+    let whole : list_any test xs ≡ (list_any test (take start xs) || list_any test rest) =
+    ap (list_any test) (sym (take-append-drop start xs)) ∙ list_any-append test (take start xs) rest in
+    let halves : list_any test rest ≡ (list_any test part || list_any test past) =
+    ap (list_any test) (sym (take-append-drop (stop - start) rest)) ∙ list_any-append test part past in
+    sym (whole ∙ ap (λ b. b || list_any test rest) front ∙ halves ∙ ap (λ b. list_any test part || b) back ∙ no_more (list_any test part))
+
+-- a key is among those of a part where it is among all
+pub part_keys : {A : Type 0} (ids : List (String A)) (q : Key) (part whole : List Entry) → HasAllOf q.number part whole
+    → list_any (λ key. is_eq (compare_keys key q)) (keys_at ids part) ≡ list_any (λ key. is_eq (compare_keys key q)) (keys_at ids whole)
+part_keys ids q part whole has =
+    let test : Key → Bool = λ key. is_eq (compare_keys key q) in
+    list_any_map (key_at ids) test part ∙ has (λ e. test (key_at ids e)) (λ e h. same_number (key_at ids e) q h) ∙ sym (list_any_map (key_at ids) test whole)

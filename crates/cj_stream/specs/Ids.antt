@@ -1,5 +1,6 @@
 -- How the ids of a query are kept, so that one is found among many.
-use Rattle.std.specs.Prelude.{◌≡◌, ℕ, ◌<◌, ◌≤◌, List, [], ◌∷◌, length, map, take, drop, All, Option, Some, option_map, unwrap_or, slice_get, string_bytes, String}
+use Rattle.std.specs.Prelude.{◌≡◌, ℕ, Bool, true, ◌<◌, ◌≤◌, List, [], ◌∷◌, length, map, take, drop, All, Option, Some, option_map, unwrap_or, slice_get, string_bytes, String}
+use Rattle.std.specs.List.{list_any}
 use Rattle.std.specs.List.Sorted.{IsPermutation, IsSortedBy}
 use Rattle.std.specs.Ordering.{nat_cmp, ordering_then, is_lt}
 use Rattle.std.specs.Str.{chars}
@@ -39,6 +40,11 @@ keys_of ids = map (λ id. key_of (Some (chars (string_bytes id)))) ids
 -- keys in order
 abbrev pub Ascend : List Key → Type 0
 Ascend keys = IsSortedBy (λ a b. is_lt (compare_keys a b)) keys
+
+-- a part of some entries has all of them that have this number: what only these pass, passes in the part as in the whole
+abbrev pub HasAllOf : ℕ → List Entry → List Entry → Type 0
+HasAllOf number part whole = (test : Entry → Bool) → ((entry : Entry) → test entry ≡ true → entry.number ≡ number)
+    → list_any test part ≡ list_any test whole
 
 -- keys stand in runs of these lengths, of which each is in order
 abbrev pub AreRuns : List Key → List ℕ → Type 0

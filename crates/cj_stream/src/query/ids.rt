@@ -8,15 +8,20 @@
 //! Entries are ordered by the ends of their texts, eight code points as a number, and by the texts where these are the same.
 //! Numbers stand side by side, so that a text is gone to for about one id of all, also where ids begin alike. Where ids end alike
 //! too each step of a search compares texts, and there are no more steps.
-ghost use Rattle.std.specs.Prelude.{◌≡◌, ℕ, ◌+◌, ◌-◌, ◌<◌, ◌≤◌, ◌^◌, [], ◌∷◌, ◌++◌, length, map, take, drop, sum, vec_items, vec_len, vec_capacity, string_bytes, OnOk, OnErr, Some};
+//!
+//! A long run has heads once all entries were put in it: the number of each [`PART`]th one. They pick some entries that stand side
+//! by side, which are gone over one after another: that waits for memory about once, and a search by halves of the run some
+//! times. Heads are a hint. What they pick is taken where its first and its last entry show that no other one has the number, and
+//! else the run is searched as a whole; so nothing has to be known of them.
+ghost use Rattle.std.specs.Prelude.{◌≡◌, ℕ, ◌+◌, ◌-◌, ◌<◌, ◌≤◌, ◌^◌, [], ◌∷◌, ◌++◌, length, map, take, drop, sum, vec_items, vec_len, vec_capacity, string_bytes, OnOk, OnErr, IfSome, Some};
 ghost use Rattle.std.specs.List.{list_any};
-ghost use Rattle.std.specs.List.Sorted.{IsPermutation};
+ghost use Rattle.std.specs.List.Sorted.{IsNonDecreasingBy, IsPermutation};
 ghost use Rattle.std.specs.Ordering.{is_eq};
 ghost use Rattle.cj_spans.specs.Parts.{text_of};
 ghost use Rattle.cj_spans.specs.View.{tree};
 ghost use Rattle.cj_stream.specs.Adding.{with_text};
 ghost use Rattle.cj_stream.specs.Criteria.{is_one_of as is_one};
-ghost use Rattle.cj_stream.specs.Ids.{key_of, compare_keys, id_at, key_at, keys_at, Ascend, AreRuns, AreIndexed};
+ghost use Rattle.cj_stream.specs.Ids.{key_of, compare_keys, id_at, key_at, keys_at, Ascend, AreRuns, AreIndexed, HasAllOf};
 ghost use Rattle.cj_stream.specs.Sink.{HasRisen, counted};
 
 use crate::query::texts::own_text;
@@ -28,6 +33,12 @@ use std::marker::Model;
 
 /// How many times as long as what stands behind it a run has to be, so that it stays a run.
 const STEP: usize = 16;
+
+/// How far apart the entries are whose numbers are heads.
+const PART: usize = 32;
+
+/// How many entries a run has, at least, so that it has heads.
+const LONG: usize = 64;
 
 /// The end of an id as a number, and its place among the ids.
 #[derive(Clone, Copy)]
@@ -42,6 +53,7 @@ pub struct Ids {
     texts: Vec<String>,
     entries: Vec<Entry>,
     runs: Vec<usize>,
+    heads: Vec<u64>,
 }
 
 impl Model for Ids {
@@ -127,11 +139,21 @@ fn join_last(runs: &mut Vec<usize>) -> usize
     count
 }
 
+/// How many heads a run of so many entries has.
+fn head_count(entries: usize) -> usize {
+    if entries < LONG {
+        0
+    } else {
+        entries / PART + 1
+    }
+}
+
 /// Makes room for one id more. A refusal changes no list.
 fn make_room(
     texts: &mut Vec<String>,
     entries: &mut Vec<Entry>,
     runs: &mut Vec<usize>,
+    heads: &mut Vec<u64>,
     refusals: &mut Refusals,
 ) -> Result<(), NoMemory>
     ensures texts { vec_items texts.new ≡ vec_items texts.old }
@@ -144,7 +166,8 @@ fn make_room(
 {
     refusals.note(texts.reserve(1))?;
     refusals.note(entries.reserve(1))?;
-    refusals.note(runs.reserve(1))
+    refusals.note(runs.reserve(1))?;
+    refusals.note(heads.reserve(head_count(entries.len())))
 }
 
 /// Adds an id at the end, where there is room for it, and puts its entry in order.
@@ -181,6 +204,63 @@ fn join_all(texts: &[String], entries: &mut [Entry], runs: &mut Vec<usize>)
     put(runs, entries.len());
 }
 
+/// Takes the heads of a run, as far as there is room for them. They are a hint: where they are others, or fewer, ids are looked
+/// for longer, and the same ones are found.
+fn take_heads(run: &[Entry], heads: &mut Vec<u64>) {
+    heads.clear();
+    for place in 0..head_count(run.len()) {
+        if heads.len() < heads.capacity() {
+            if let Some(entry) = run.get(place.saturating_mul(PART)) {
+                put(heads, entry.number);
+            }
+        }
+    }
+}
+
+/// The entries of a run from one place to another, where no other entry has this number: the first of them has a lesser one, or
+/// begins the run, and the last has a greater one, or ends it.
+fn part_between(run: &[Entry], start: usize, end: usize, number: u64) -> Option<&[Entry]>
+    requires { IsNonDecreasingBy (λ (entry : Entry). entry.number) run.now }
+    ensures { IfSome result (λ part. HasAllOf number part.now run.now) }
+{
+    let end = end.min(run.len());
+    if start >= end || (start > 0 && run[start].number >= number) {
+        return None;
+    }
+    if end < run.len() && run[end - 1].number <= number {
+        return None;
+    }
+    Some(&run[start..end])
+}
+
+/// The entries of a run among which those of this number are, as its heads tell; None where they do not.
+fn part_of<'a>(heads: &[u64], run: &'a [Entry], number: u64) -> Option<&'a [Entry]>
+    requires { IsNonDecreasingBy (λ (entry : Entry). entry.number) run.now }
+    ensures { IfSome result (λ part. HasAllOf number part.now run.now) }
+{
+    if heads.is_empty() {
+        return None;
+    }
+    let place = heads.partition_point(|head| *head < number);
+    let start = place.saturating_sub(1).saturating_mul(PART);
+    let end = place.saturating_mul(PART).saturating_add(1);
+    part_between(run, start, end, number)
+}
+
+/// Whether a node has the text of one of these entries.
+fn is_among(texts: &[String], entries: &[Entry], number: u64, node: Node) -> bool
+    ensures { result ≡ list_any
+        (λ key. is_eq (compare_keys key (record { number = number; text = text_of (tree node.entry) })))
+        (keys_at texts.now entries.now) }
+{
+    for entry in entries {
+        if compare_with_node(texts, *entry, number, node).is_eq() {
+            return true;
+        }
+    }
+    false
+}
+
 /// Whether a node has the text of an entry of a run.
 fn is_in_run(texts: &[String], run: &[Entry], number: u64, node: Node) -> bool
     requires { Ascend (keys_at texts.now run.now) }
@@ -192,20 +272,41 @@ fn is_in_run(texts: &[String], run: &[Entry], number: u64, node: Node) -> bool
         .is_ok()
 }
 
-/// Whether a node has the text of an entry of some run.
-fn is_in_runs(texts: &[String], entries: &[Entry], runs: &[usize], node: Node) -> bool
+/// Whether a node has the text of an entry of a run that may have heads.
+fn is_in_run_of(texts: &[String], heads: &[u64], run: &[Entry], number: u64, node: Node) -> bool
+    requires { Ascend (keys_at texts.now run.now) }
+    ensures { result ≡ list_any
+        (λ key. is_eq (compare_keys key (record { number = number; text = text_of (tree node.entry) })))
+        (keys_at texts.now run.now) }
+{
+    match part_of(heads, run, number) {
+        Some(part) => is_among(texts, part, number, node),
+        None => is_in_run(texts, run, number, node),
+    }
+}
+
+/// Whether a node has the text of an entry of some run, of which the first may have heads.
+fn is_in_runs(
+    texts: &[String],
+    heads: &[u64],
+    entries: &[Entry],
+    runs: &[usize],
+    node: Node,
+) -> bool
     requires { AreRuns (keys_at texts.now entries.now) runs.now }
     ensures { result ≡ list_any (λ key. is_eq (compare_keys key (key_of (text_of (tree node.entry)))))
         (keys_at texts.now entries.now) }
 {
     let number = node.text_tail();
     let mut rest = entries;
+    let mut heads = heads;
     for length in runs {
         let (run, others) = rest.split_at(*length);
-        if is_in_run(texts, run, number, node) {
+        if is_in_run_of(texts, heads, run, number, node) {
             return true;
         }
         rest = others;
+        heads = &[];
     }
     false
 }
@@ -219,6 +320,7 @@ impl Ids {
             texts: Vec::new(alloc),
             entries: Vec::new(alloc),
             runs: Vec::new(alloc),
+            heads: Vec::new(alloc),
         }
     }
 
@@ -229,12 +331,19 @@ impl Ids {
         ensures cause { OnErr result (HasRisen refusals.old refusals.new) }
         ensures count { refusals.new ≡ counted refusals.old result }
     {
-        make_room(&mut self.texts, &mut self.entries, &mut self.runs, refusals)?;
+        make_room(
+            &mut self.texts,
+            &mut self.entries,
+            &mut self.runs,
+            &mut self.heads,
+            refusals,
+        )?;
         add_entry(&mut self.texts, &mut self.entries, &mut self.runs, text);
         Ok(())
     }
 
-    /// Puts them all in one order, in which one is found in about half of the steps that it takes in some runs.
+    /// Puts them all in one order, in which one is found in about half of the steps that it takes in some runs, and in fewer where
+    /// they are many.
     pub fn sort(&mut self)
         ensures { self.new ≡ self.old }
     {
@@ -243,6 +352,7 @@ impl Ids {
             self.entries.as_mut_slice(),
             &mut self.runs,
         );
+        take_heads(self.entries.as_slice(), &mut self.heads);
     }
 
     /// Whether a node has the text of one of them.
@@ -251,6 +361,7 @@ impl Ids {
     {
         is_in_runs(
             self.texts.as_slice(),
+            self.heads.as_slice(),
             self.entries.as_slice(),
             self.runs.as_slice(),
             node,

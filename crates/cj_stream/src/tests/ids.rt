@@ -117,7 +117,9 @@ fn check_many(
 
 #[test]
 fn each_of_many_ids_is_found(rt: HostRuntime) -> Result<(), Fail> {
-    for count in [0, 1, 2, 3, 7, 8, 9, 10, 64, 73, 100, 1_000] {
+    for count in [
+        0, 1, 2, 3, 7, 8, 9, 10, 63, 64, 65, 73, 95, 96, 97, 100, 1_000,
+    ] {
         check_many(&rt, rt.alloc(), count, Order::Rising, 1, "rising")?;
         check_many(&rt, rt.alloc(), count, Order::Falling, 1, "falling")?;
         check_many(&rt, rt.alloc(), count, Order::Mixed, 1, "mixed")?;
@@ -133,16 +135,73 @@ fn ids_that_are_added_again(rt: HostRuntime) -> Result<(), Fail> {
     Ok(())
 }
 
-#[test]
-fn ids_that_are_added_behind_sorted_ones(rt: HostRuntime) -> Result<(), Fail> {
-    let mut query = query_of(rt.alloc(), 40, Order::Falling, 1)?;
+/// Asks for so many ids, sorted, and for one that is added behind them.
+fn check_one_more(rt: &impl Abort, alloc: Global, count: u64) -> Result<(), Fail> {
+    let mut query = query_of(alloc, count, Order::Falling, 1)?;
     query.sort_ids();
     query.add_id("NL.IMBAG.Pand.0")?;
+    let text = stream_of(alloc, count.saturating_mul(2))?;
+    check_kept(
+        rt,
+        alloc,
+        &text,
+        &query,
+        count.saturating_add(1),
+        "one more",
+    )
+}
+
+#[test]
+fn ids_that_are_added_behind_sorted_ones(rt: HostRuntime) -> Result<(), Fail> {
+    for count in [40, 200] {
+        check_one_more(&rt, rt.alloc(), count)?;
+    }
     let text = stream_of(rt.alloc(), 80)?;
-    check_kept(&rt, rt.alloc(), &text, &query, 41, "one more")?;
     let mut none = Query::all(rt.alloc());
     none.sort_ids();
     check_kept(&rt, rt.alloc(), &text, &none, 80, "no part on ids")
+}
+
+/// The id of a number among those that end alike.
+fn alike(alloc: Global, number: u64) -> Result<String, Fail> {
+    Ok(format!(in alloc; "{number}.with.one.end")?)
+}
+
+/// Adds the ids of the odd numbers that end alike, so many of them.
+fn add_alike(alloc: Global, query: &mut Query, count: u64) -> Result<(), Fail> {
+    for place in 0..count {
+        let id = alike(alloc, place.wrapping_mul(2).wrapping_add(1))?;
+        query.add_id(&id)?;
+    }
+    Ok(())
+}
+
+/// Adds a feature for each number below this, whose ids end alike.
+fn extend_alike(alloc: Global, text: &mut Vec<u8>, numbers: u64) -> Result<(), Fail> {
+    for number in 0..numbers {
+        let line = named(alloc, alike(alloc, number)?.as_bytes())?;
+        text.extend_from_slice(&line)?;
+    }
+    Ok(())
+}
+
+/// Asks for so many ids that end alike, sorted, beside so many others.
+fn check_alike(rt: &impl Abort, alloc: Global, count: u64, others: u64) -> Result<(), Fail> {
+    let mut query = query_of(alloc, others, Order::Mixed, 1)?;
+    add_alike(alloc, &mut query, count)?;
+    query.sort_ids();
+    let mut text = stream_of(alloc, others.saturating_mul(2))?;
+    extend_alike(alloc, &mut text, count.saturating_mul(2))?;
+    let kept = count.saturating_add(others);
+    check_kept(rt, alloc, &text, &query, kept, "alike")
+}
+
+#[test]
+fn ids_that_end_alike(rt: HostRuntime) -> Result<(), Fail> {
+    for (count, others) in [(100, 0), (100, 100), (31, 500), (34, 500)] {
+        check_alike(&rt, rt.alloc(), count, others)?;
+    }
+    Ok(())
 }
 
 /// Asks for these ids, of one feature.

@@ -4,8 +4,8 @@ use Rattle.cj_stream.specs.Ids.{Ascend, key_at, keys_at}
 use Rattle.cj_stream.proofs.IdLemmas.{first_run}
 use Rattle.cj_stream.proofs.query.ids.is_in_runs.Goals as goal
 
-pub is_in_run-requires : goal.is_in_run-requires
-is_in_run-requires c =
+pub is_in_run_of-requires : goal.is_in_run_of-requires
+is_in_run_of-requires c =
     let texts = c.args.texts.now in
     let rest = c.loop-length.rest.now in
     let n = get_or c.args.runs.now c.loop-length.length-index 0 in

@@ -15,8 +15,8 @@ returns c =
     let ids = c.self.inside.texts.items in
     let entries = c.self.inside.entries.items in
     let test : Key → Bool = λ key. is_eq (compare_keys key (key_of (text_of t))) in
-    let keys : keys_at c.as_slice.result.now c.as_slice-2.result.now ≡ keys_at ids entries =
-    ap (λ ts. keys_at ts c.as_slice-2.result.now) c.as_slice.ensures.value ∙ ap (keys_at ids) c.as_slice-2.ensures.value in
+    let keys : keys_at c.as_slice.result.now c.as_slice-3.result.now ≡ keys_at ids entries =
+    ap (λ ts. keys_at ts c.as_slice-3.result.now) c.as_slice.ensures.value ∙ ap (keys_at ids) c.as_slice-3.ensures.value in
     c.is_in_runs.ensures ∙ ap (list_any test) keys
     ∙ sym (list_any-IsPermutation test (keys_of ids) (keys_at ids entries) c.self.invariant.each)
     ∙ has_key ids t ∙ ap (λ texts. is_one_of texts t) c.self.view_is

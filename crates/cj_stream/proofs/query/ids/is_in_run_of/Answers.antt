@@ -1,0 +1,14 @@
+use Rattle.std.proofs.Common.{◌∙◌}
+use Rattle.cj_spans.specs.Parts.{text_of}
+use Rattle.cj_spans.specs.View.{tree}
+use Rattle.cj_stream.specs.Ids.{Key, key_at}
+use Rattle.cj_stream.proofs.IdLemmas.{numbers_rise, part_keys}
+use Rattle.cj_stream.proofs.query.ids.is_in_run_of.Goals as goal
+
+pub part_of-requires : goal.part_of-requires
+part_of-requires c = numbers_rise (key_at c.args.texts.now) c.args.run.now c.requires
+
+pub returns-in-Some : goal.returns-in-Some
+returns-in-Some c =
+    let key : Key = record { number = c.args.number; text = text_of (tree c.args.node) } in
+    c.is_among.ensures ∙ part_keys c.args.texts.now key c.in-Some.part.now c.args.run.now c.in-Some.ensures
