@@ -29,6 +29,7 @@ pub mod LineRowLemmas
 pub mod ManyPartsLemmas
 pub mod MovedLemmas
 pub mod NoteLemmas
+pub mod OutcomeLemmas
 pub mod OutputLemmas
 pub mod PartsLemmas
 pub mod PhaseLemmas

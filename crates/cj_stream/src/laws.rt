@@ -113,9 +113,9 @@ pub fn parts_are_joined()
         → IsTallyOf (kept rules (headed h (a ++ b))) both }
 {}
 
-/// A header with all the lines of any number of parts, each of which is complete with the header, is complete. What is kept of it is
-/// the header and what is kept of each part behind it, and what is written is the header's line and then what is written of each part
-/// without that line. A last part, which may end in any way, follows by [`parts_are_joined`].
+/// A header with all the lines of any number of parts, each of which is complete with the header, is complete. What is kept of
+/// it is the header, and then what is kept of each part behind the header. What is written is the header's line, and then what
+/// is written of each part without that line. A last part, which may end in any way, follows by [`parts_are_joined`].
 pub fn complete_parts_are_joined()
     ensures complete { (rules : Rules) (h : List ℕ) (parts : List (List ℕ)) → IsCut h []
         → ending rules (headed h []) ≡ End.Complete → AreComplete rules h parts

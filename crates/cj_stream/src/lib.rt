@@ -25,6 +25,7 @@
 //!
 //! - `running`: a whole run, from a reader to a sink ([`run`]), also within a number of reads ([`run_within`]), with the
 //!   reader's faults in `source`;
+//! - `parts`: runs over parts of a stream as one ([`Outcome::then`]);
 //! - `pieces`: the same of a stream that comes in pieces ([`put_pieces`]), and the promise of the whole ([`headline`]);
 //!   `line_pieces`: both of what comes after a header ([`put_lines`], [`headline_of_lines`]);
 //! - `sink`: what a sink is ([`LineSink`]), one that ignores and one that counts; `output`: the one that writes

@@ -56,9 +56,10 @@ fn both(first: Outcome, second: Outcome) -> Outcome
 }
 
 impl Outcome {
-    /// How a run over a header and the lines of two parts goes, by how one over the header with the lines of the first part went,
-    /// and by `next`, how one over the header with what follows went. Where the first one did not end complete, it stands for
-    /// both. The first part ends with an LF, and its reads did not fail. Counts and line numbers stop at 2^64 - 1.
+    /// How a run over a header and the lines of two parts goes, by how one over the header with the lines of the first part
+    /// went, and by `next`, how one over the header with what follows these went. Where the first one did not end complete, it
+    /// stands for both. The first part ends with an LF, no read of it failed, and its reads did not run out. Counts and line
+    /// numbers stop at 2^64 - 1.
     pub fn then(self, next: Outcome) -> Outcome
         ensures ended { self.ended ≢ End.Complete → result ≡ self }
         ensures account { (rules : Rules) (h a b : List ℕ) (left more : Option (List ℕ)) → IsCut h a

@@ -119,7 +119,8 @@ impl TallySink {
         self.translate
     }
 
-    /// The tally of a stream whose parts have this tally and `next`: each is that of the header and some of the lines behind it.
+    /// The tally of a stream by those of two parts, this one and `next`: each part is the header with some of the lines behind
+    /// it, and the first one is complete. At 2^64 - 1 a count stays.
     pub fn then(&self, next: &TallySink) -> TallySink
         ensures { JoinsTallies self.now next.now result }
     {
