@@ -2,6 +2,7 @@
 //! to an engine and to a reader of lines.
 use super::calls::{check_bytes, check_ended, check_outcome, held, joined, outcome, refused};
 use super::devices::SlowReader;
+use super::line_pieces::give_header;
 use super::reports::{NoteReports, check_notes, going};
 use super::rows::{FEATURE, HEADER, SMALL, attributed, with_last_index};
 use crate::{
@@ -356,21 +357,6 @@ fn refused_lines_of_any_query(rt: HostRuntime) -> Result<(), Fail> {
 
 // ---- behind a header
 
-/// The reader of the lines behind the header, which was given with its LF.
-fn behind<'q>(
-    rt: &impl Abort,
-    header: HeaderReader<'q>,
-    sink: &mut WriteSink<Vec<u8>>,
-) -> crate::LineReader<'q> {
-    let mut header = header;
-    assert!(rt; !header.accepted() && header.taken() == 0);
-    assert!(rt; header.feed(HEADER, sink).is_ok());
-    assert!(rt; !header.accepted() && header.taken() == 140);
-    assert!(rt; header.feed(b"\n", sink).is_ok());
-    assert!(rt; header.accepted());
-    header.into_lines()
-}
-
 /// Gives what comes behind the header to a reader of lines, cut in two at this place.
 fn check_lines(
     rt: &impl Abort,
@@ -383,8 +369,10 @@ fn check_lines(
     let query = Query::all(alloc);
     let mut sink = WriteSink::new(Vec::new(alloc));
     let mut reports = NoteReports::new(alloc);
-    let header = HeaderReader::open(alloc, Limits::new(210, 64)?, &query, going())?;
-    let mut lines = behind(rt, header, &mut sink);
+    let mut header = HeaderReader::open(alloc, Limits::new(210, 64)?, &query, going())?;
+    give_header(rt, &mut header, &mut sink);
+    assert!(rt; header.accepted());
+    let mut lines = header.into_lines();
     assert!(rt; lines.taken() == 141);
     let pieces = [&rest[..at], &rest[at..]];
     let copied = headline_of_lines(&mut lines, &pieces, &mut sink, &mut reports);

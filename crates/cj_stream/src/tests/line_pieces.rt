@@ -17,7 +17,7 @@ struct Behind<'a> {
 }
 
 /// Gives a header and its LF to its reader.
-fn give_header(rt: &impl Abort, header: &mut HeaderReader, sink: &mut WriteSink<Vec<u8>>) {
+pub fn give_header(rt: &impl Abort, header: &mut HeaderReader, sink: &mut WriteSink<Vec<u8>>) {
     assert!(rt; !header.accepted() && header.taken() == 0);
     assert!(rt; header.feed(HEADER, sink).is_ok());
     assert!(rt; !header.accepted() && header.taken() == 140);
