@@ -20,6 +20,7 @@ TEXTS = {
     20: "id not among the city objects", 21: "child not found", 22: "link not mutual", 23: "no parent in the feature",
     24: "unknown geometry type", 25: "vertex index out of range", 26: "semantics count",
     27: "semantics index out of range", 28: "template index out of range", 29: "bad instance", 30: "transform not fixed",
+    31: "not reached from the main object",
 }
 
 H = ('{"type":"CityJSON","version":"2.0","transform":{"scale":[0.001,0.001,0.001],"translate":[1000.0,2000.0,0.0]},'

@@ -239,6 +239,20 @@ row("box-and-a-product-too-great", [great, feature(B, "[[999999999999999999,0,0]
 row("box-between-two-products", [great, feature(B, "[[-999999999999999999,0,0],[999999999999999999,0,0]]")],
     words=["--bbox=0,0,999999999999999999,0"])
 
+section("31: city objects apart")
+row("one-apart", [H, feature(B + ',"c":^{"type":"Building"}')], 31, words=["--tree"])
+row("one-apart-and-no-tree-asked", [H, feature(B + ',"c":{"type":"Building"}')])
+row("one-apart-before-the-main-one", [H, feature('"c":^{"type":"Building"},' + B)], 31, words=["--tree"])
+row("one-apart-of-an-unknown-type", [H, feature(B + ',"c":^{"type":"Shed"}')], 31, words=["--tree"])
+row("one-apart-asked-for-by-its-type", [H, feature(B + ',"c":^{"type":"Road"}')], 31, words=["--tree", "--type", "Road"])
+row("a-circle-apart", [H, feature(B + ',"c":^{"type":"Building","children":["d"],"parents":["d"]},'
+                                  '"d":{"type":"Building","children":["c"],"parents":["c"]}')], 31, words=["--tree"])
+row("a-group-apart", [H, feature(B + ',"g":^{"type":"CityObjectGroup","children":["b"]}')], 31, words=["--tree"])
+row("a-chain-from-the-end", [H, feature('"q":{"type":"BuildingPart","parents":["p"]},"p":{"type":"BuildingPart","parents":["b"],'
+                                        '"children":["q"]},"b":{"type":"Building","children":["p"]}')], words=["--tree"])
+row("a-child-by-an-escape", [H, feature('"b":{"type":"Building","children":["\\u0070"]},"p":{"type":"BuildingPart","parents":["b"]}')],
+    words=["--tree"])
+
 section("ids, types and LoDs")
 row("asked-for-by-its-id", [H, F], words=["--id", "b1"])
 row("asked-for-by-another-id", [H, F], words=["--id", "b2"], kept=[1])

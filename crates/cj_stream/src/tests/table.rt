@@ -382,6 +382,24 @@ fn boxes(rt: HostRuntime) -> Result<(), Fail> {
     check_rows(&rt, rt.alloc(), BOXES)
 }
 
+/// 31: city objects apart.
+const CITY_OBJECTS_APART: &str = r#"
+one-apart|1000|64|tree|&H;&lf;{"type":"CityJSONFeature","id":"b","CityObjects":{"b":{"type":"Building"},"c":{"type":"Building"}},"vertices":[]}&lf;|&H;&lf;|line 2, byte 78: 31 not reached from the main object|1|0|-
+one-apart-and-no-tree-asked|1000|64|-|&H;&lf;{"type":"CityJSONFeature","id":"b","CityObjects":{"b":{"type":"Building"},"c":{"type":"Building"}},"vertices":[]}&lf;|all|complete|2|1|253 38 3
+one-apart-before-the-main-one|1000|64|tree|&H;&lf;{"type":"CityJSONFeature","id":"b","CityObjects":{"c":{"type":"Building"},"b":{"type":"Building"}},"vertices":[]}&lf;|&H;&lf;|line 2, byte 54: 31 not reached from the main object|1|0|-
+one-apart-of-an-unknown-type|1000|64|tree|&H;&lf;{"type":"CityJSONFeature","id":"b","CityObjects":{"b":{"type":"Building"},"c":{"type":"Shed"}},"vertices":[]}&lf;|&H;&lf;|line 2, byte 78: 31 not reached from the main object|1|0|-
+one-apart-asked-for-by-its-type|1000|64|tree type=Road|&H;&lf;{"type":"CityJSONFeature","id":"b","CityObjects":{"b":{"type":"Building"},"c":{"type":"Road"}},"vertices":[]}&lf;|&H;&lf;|line 2, byte 78: 31 not reached from the main object|1|0|-
+a-circle-apart|1000|64|tree|&H;&lf;{"type":"CityJSONFeature","id":"b","CityObjects":{"b":{"type":"Building"},"c":{"type":"Building","children":["d"],"parents":["d"]},"d":{"type":"Building","children":["c"],"parents":["c"]}},"vertices":[]}&lf;|&H;&lf;|line 2, byte 78: 31 not reached from the main object|1|0|-
+a-group-apart|1000|64|tree|&H;&lf;{"type":"CityJSONFeature","id":"b","CityObjects":{"b":{"type":"Building"},"g":{"type":"CityObjectGroup","children":["b"]}},"vertices":[]}&lf;|&H;&lf;|line 2, byte 78: 31 not reached from the main object|1|0|-
+a-chain-from-the-end|1000|64|tree|&H;&lf;{"type":"CityJSONFeature","id":"b","CityObjects":{"q":{"type":"BuildingPart","parents":["p"]},"p":{"type":"BuildingPart","parents":["b"],"children":["q"]},"b":{"type":"Building","children":["p"]}},"vertices":[]}&lf;|all|complete|2|1|351 54 4
+a-child-by-an-escape|1000|64|tree|&H;&lf;{"type":"CityJSONFeature","id":"b","CityObjects":{"b":{"type":"Building","children":["\u0070"]},"p":{"type":"BuildingPart","parents":["b"]}},"vertices":[]}&lf;|all|complete|2|1|295 44 4
+"#;
+
+#[test]
+fn city_objects_apart(rt: HostRuntime) -> Result<(), Fail> {
+    check_rows(&rt, rt.alloc(), CITY_OBJECTS_APART)
+}
+
 /// Ids, types and LoDs.
 const IDS_TYPES_AND_LODS: &str = r#"
 asked-for-by-its-id|1000|64|id=b1|&H;&lf;&F;&lf;|all|complete|2|1|350 65 8

@@ -2,7 +2,6 @@
 //! short and one with a byte that is no UTF-8, at each place, and all others, which `table` has.
 use super::calls::{check_bound, check_bytes, check_ended, check_outcome};
 use super::devices::{CutReader, SlowReader};
-use super::reports::going;
 use super::rows::{FEATURE, HEADER};
 use crate::{
     End, IgnoreSink, NoReports, Options, Outcome, Query, Report, ReportSink, WriteSink, run,
@@ -20,6 +19,7 @@ struct Vector<'a> {
     text: &'a [u8],
     limits: Limits,
     query: &'a Query,
+    options: Options,
     written: &'a [u8],
     /// What is told of the outcome.
     told: &'a str,
@@ -66,7 +66,7 @@ fn run_over<R: Read>(
         &mut NoReports,
         vector.limits,
         vector.query,
-        Options::new(),
+        vector.options,
     );
     check_bound(rt, vector.text, vector.limits, outcome.peaks);
     check_bytes(rt, &sink.into_inner(), vector.written, vector.name, at);
@@ -138,7 +138,7 @@ fn check_going(rt: &impl Abort, alloc: Global, vector: &Vector, ended: End) {
         &mut reports,
         vector.limits,
         vector.query,
-        going(),
+        vector.options.keep_going(true),
     );
     check_bound(rt, vector.text, vector.limits, outcome.peaks);
     check_ended(rt, outcome.ended, wanted, vector.name, SINGLE_BYTES);
@@ -176,6 +176,7 @@ fn check_second(
         text: &text,
         limits: Limits::new(1_000, 64)?,
         query: &Query::all(alloc),
+        options: Options::new(),
         written: &written,
         told: &told,
     };
@@ -248,15 +249,31 @@ fn ask(rt: &impl Abort, query: &mut Query, word: &str) -> Result<(), Fail> {
     Ok(())
 }
 
+/// The word of a cell that asks for city objects that hang together.
+const TREE: &str = "tree";
+
 /// The query that a cell asks.
 fn query_of(rt: &impl Abort, alloc: Global, cell: &str) -> Result<Query, Fail> {
     let mut query = Query::all(alloc);
     if cell != "-" {
         for word in cell.split(' ') {
-            ask(rt, &mut query, word)?;
+            if word != TREE {
+                ask(rt, &mut query, word)?;
+            }
         }
     }
     Ok(query)
+}
+
+/// The options that a cell sets.
+fn options_of(cell: &str) -> Options {
+    let mut options = Options::new();
+    for word in cell.split(' ') {
+        if word == TREE {
+            options = options.tree(true);
+        }
+    }
+    options
 }
 
 /// The first cell of a row, and the others.
@@ -285,6 +302,7 @@ fn check_row(rt: &impl Abort, alloc: Global, row: &str) -> Result<(), Fail> {
         text: &text,
         limits: limits_of(line, depth)?,
         query: &query,
+        options: options_of(asked),
         written: &kept,
         told,
     };
