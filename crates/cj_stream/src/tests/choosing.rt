@@ -322,10 +322,24 @@ fn features_of_which_all_is_reached(rt: HostRuntime) -> Result<(), Fail> {
     Ok(())
 }
 
+/// A feature with these city objects, which is refused at this place for this reason where each has to be reached.
+fn check_fault(
+    rt: &impl Abort,
+    alloc: Global,
+    objects: &str,
+    place: u64,
+    reason: Reason,
+) -> Result<(), Fail> {
+    let header = joined(alloc, &[HEADER, b"\n"])?;
+    let text = joined(alloc, &[&header, FRONT, objects.as_bytes(), BACK])?;
+    let came = came_of(alloc, &text, 100, &Query::all(alloc), trees())?;
+    check_went(rt, &came, 0, refused(2, place, reason), &header, objects);
+    Ok(())
+}
+
 /// A line that is invalid for more than one cause has the fault that stands first, and at one place not reached comes second.
 #[test]
 fn not_reached_beside_other_faults(rt: HostRuntime) -> Result<(), Fail> {
-    let header = joined(rt.alloc(), &[HEADER, b"\n"])?;
     for (objects, place, reason) in [
         (
             r#""b":{"type":"Shed"},"c":{"type":"Building"}"#,
@@ -339,9 +353,7 @@ fn not_reached_beside_other_faults(rt: HostRuntime) -> Result<(), Fail> {
         ),
         (r#""b":{"type":"Building"},"c":3"#, 78, Reason::WrongKind),
     ] {
-        let text = joined(rt.alloc(), &[&header, FRONT, objects.as_bytes(), BACK])?;
-        let came = came_of(rt.alloc(), &text, 100, &Query::all(rt.alloc()), trees())?;
-        check_went(&rt, &came, 0, refused(2, place, reason), &header, objects);
+        check_fault(&rt, rt.alloc(), objects, place, reason)?;
     }
     Ok(())
 }
