@@ -7,8 +7,8 @@
 //! what comes behind a header, and `calls` what all tests share. Of going on after refused lines `going` has rows by every
 //! cut, `dropped` lines that are too long, step by step, `reports` what is reported and when, and `streams` many lines
 //! beside the slow program in `plain`. What comes of the other options is in `choosing`: features whose city objects do not
-//! hang together, and features that are left out. A body of many asserts is dear to prove, and a call is not: a row is one
-//! call of a function that checks it.
+//! hang together, and features that are left out. `parts` has streams that are read in parts. A body of many asserts is dear
+//! to prove, and a call is not: a row is one call of a function that checks it.
 mod blank_lines;
 mod calls;
 mod choosing;
@@ -24,6 +24,7 @@ mod line_pieces;
 mod long_devices;
 mod long_lines;
 mod order;
+mod parts;
 mod plain;
 mod queries;
 mod reads;
