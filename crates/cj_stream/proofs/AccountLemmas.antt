@@ -1,8 +1,8 @@
 -- The account of a run over a stream, from those of runs over its parts.
-use Rattle.std.proofs.Common.{◌≡◌, ℕ, ◌+◌, ◌-◌, ◌/◌, ◌^◌, ◌<◌, ◌≤◌, ◌⊎◌, inl, inr, List, [], ◌∷◌, ◌++◌, Bool, true, false, cond, zero, suc, length, take, map, max, min, Option, Some, None, arith, refl, sym, ap, ◌∙◌, subst, append_assoc, length-append}
+use Rattle.std.proofs.Common.{◌≡◌, ℕ, ◌+◌, ◌-◌, ◌/◌, ◌≤◌, ◌⊎◌, inl, inr, List, [], ◌∷◌, ◌++◌, true, zero, suc, length, take, map, max, min, Option, Some, None, arith, refl, sym, ap, ◌∙◌, subst, append_assoc, length-append}
 use Rattle.std.specs.Prelude.{◌&&◌, option_map, unwrap_or}
 use Rattle.std.specs.List.{filter, list_all}
-use Rattle.std.proofs.lemmas.List.{append-nil, length-map, length-take, take-append-le}
+use Rattle.std.proofs.lemmas.List.{append-nil, length-map, take-append-le}
 use Rattle.std.proofs.lemmas.List.Elements.{filter-append}
 use Rattle.std.proofs.lemmas.List.Folds.{list_all-append}
 use Rattle.std.proofs.Math.Seq.{take-append-add}
@@ -17,11 +17,10 @@ use Rattle.cj_stream.specs.Cut.{IsUnread}
 use Rattle.cj_stream.specs.Engine.{Counts}
 use Rattle.cj_stream.specs.Item.{is_feature}
 use Rattle.cj_stream.specs.Lines.{Line, NoLf, closed, begun, ended_line, lines, whole, later_of, first_content}
-use Rattle.cj_stream.specs.Parts.{headed, IsCut, moved_end, moved_report, greater_peaks, capped_end, both_outcomes, capped_outcome}
+use Rattle.cj_stream.specs.Parts.{headed, IsCut, moved_end, moved_report, greater_peaks, both_outcomes}
 use Rattle.cj_stream.specs.Run.{Run, Ends, Account}
-use Rattle.cj_stream.specs.Tallied.{capped}
-use Rattle.cj_stream.specs.Verdict.{Rules, Verdict, Refuse, Blank, Unwanted, Valid, verdict, item_after, is_kept, report_of, refusal_in, judged, long_line, good, kept_from, kept_first, reported_from, reported_first, ending, ending_of}
-use Rattle.cj_stream.proofs.GoodLemmas.{kept_first-good, good-refused}
+use Rattle.cj_stream.specs.Verdict.{Rules, Valid, verdict, refusal_in, judged, long_line, good, kept_from, kept_first, reported_from, reported_first, ending, ending_of}
+use Rattle.cj_stream.proofs.GoodLemmas.{kept_first-good}
 use Rattle.cj_stream.proofs.IsLinesLemmas.{lines-whole}
 use Rattle.cj_stream.proofs.LineLemmas.{closed-ended, begun-ended, closed-then, begun-then}
 use Rattle.cj_stream.proofs.NoteLemmas.{reported_first-good}

@@ -1,34 +1,20 @@
 -- How runs over two parts went, as one: with counts that stop at the greatest u64.
-use Rattle.std.proofs.Common.{◌≡◌, ℕ, ◌+◌, ◌-◌, ◌/◌, ◌^◌, ◌<◌, ◌≤◌, ◌⊎◌, inl, inr, List, [], ◌∷◌, ◌++◌, Bool, true, false, cond, zero, suc, length, take, map, max, min, Option, Some, None, arith, refl, sym, ap, ◌∙◌, subst, append_assoc, length-append}
-use Rattle.std.specs.Prelude.{◌&&◌, option_map, unwrap_or}
-use Rattle.std.specs.List.{filter, list_all}
-use Rattle.std.proofs.lemmas.List.{append-nil, length-map, length-take, take-append-le}
-use Rattle.std.proofs.lemmas.List.Elements.{filter-append}
-use Rattle.std.proofs.lemmas.List.Folds.{list_all-append}
-use Rattle.std.proofs.Math.Seq.{take-append-add}
-use Rattle.cj_budget.specs.Limits.{LimitPair}
+use Rattle.std.proofs.Common.{◌≡◌, ℕ, ◌+◌, ◌-◌, ◌^◌, ◌<◌, ◌≤◌, List, [], ◌∷◌, ◌++◌, Bool, true, false, cond, length, take, arith, refl, sym, ap, ◌∙◌, subst, length-append}
+use Rattle.std.specs.List.{filter}
+use Rattle.std.proofs.lemmas.List.{length-take}
 use Rattle.cj_budget.specs.declared.limits.Peaks.{Peaks}
-use Rattle.cj_spans.specs.declared.reason.Reason.{Reason}
 use Rattle.cj_stream.specs.declared.ending.End.{End}
 use Rattle.cj_stream.specs.declared.ending.End.TheVariants.{Complete, Refused, ReadFault, ReadLimit, WriteFault, Memory}
 use Rattle.cj_stream.specs.declared.running.Outcome.{Outcome}
-use Rattle.cj_stream.specs.Bound.{IsBounded, IsExact, bytes_bound, tokens_bound, exact_peaks, contents, is_readable, is_legible}
-use Rattle.cj_stream.specs.Cut.{IsUnread}
 use Rattle.cj_stream.specs.Engine.{Counts}
 use Rattle.cj_stream.specs.Item.{is_feature}
-use Rattle.cj_stream.specs.Lines.{Line, NoLf, closed, begun, ended_line, lines, whole, later_of, first_content}
-use Rattle.cj_stream.specs.Parts.{headed, IsCut, moved_end, moved_report, greater_peaks, capped_end, both_outcomes, capped_outcome}
-use Rattle.cj_stream.specs.Run.{Run, Ends, Account}
+use Rattle.cj_stream.specs.Lines.{Line, lines}
+use Rattle.cj_stream.specs.Parts.{headed, IsCut, moved_end, capped_end, both_outcomes, capped_outcome}
+use Rattle.cj_stream.specs.Run.{Ends, Account}
 use Rattle.cj_stream.specs.Tallied.{capped}
-use Rattle.cj_stream.specs.Verdict.{Rules, Verdict, Refuse, Blank, Unwanted, Valid, verdict, item_after, is_kept, report_of, refusal_in, judged, long_line, good, kept_from, kept_first, reported_from, reported_first, ending, ending_of}
-use Rattle.cj_stream.proofs.GoodLemmas.{kept_first-good, good-refused}
-use Rattle.cj_stream.proofs.IsLinesLemmas.{lines-whole}
-use Rattle.cj_stream.proofs.LineLemmas.{closed-ended, begun-ended, closed-then, begun-then}
-use Rattle.cj_stream.proofs.NoteLemmas.{reported_first-good}
-use Rattle.cj_stream.proofs.PartsLemmas.{none-begun, contents-headed, contents-parts, first-headed, exact-parts, all-lines, front-lines, back-lines, front-none, header-valid, front-good, back-good, lines-counted, ending-parts, kept-first, reported-first, refusal-first, kept-joined, reported-joined, refusal-joined, refused-stays}
-use Rattle.cj_stream.proofs.ReadingLemmas.{map_lines-append}
-use Rattle.cj_stream.proofs.RunLemmas.{refusal-stays}
-use Rattle.cj_stream.proofs.VerdictLemmas.{and-both}
+use Rattle.cj_stream.specs.Verdict.{Rules, Verdict, Refuse, Blank, Unwanted, Valid, verdict, item_after, is_kept, report_of, kept_from, reported_from}
+use Rattle.cj_stream.proofs.GoodLemmas.{good-refused}
+use Rattle.cj_stream.proofs.PartsLemmas.{front-good}
 use Rattle.cj_stream.proofs.AccountLemmas.{run_over, Account-joined}
 
 -- ---- counts that fit

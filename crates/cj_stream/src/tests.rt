@@ -7,8 +7,9 @@
 //! what comes behind a header, and `calls` what all tests share. Of going on after refused lines `going` has rows by every
 //! cut, `dropped` lines that are too long, step by step, `reports` what is reported and when, and `streams` many lines
 //! beside the slow program in `plain`. What comes of the other options is in `choosing`: features whose city objects do not
-//! hang together, and features that are left out; and in `pairs` that of two options beside two parts of a query. A body of
-//! many asserts is dear to prove, and a call is not: a row is one call of a function that checks it.
+//! hang together, and features that are left out; and in `pairs` that of two options beside two parts of a query. `parts` has
+//! streams that are read in parts. A body of many asserts is dear to prove, and a call is not: a row is one call of a function
+//! that checks it.
 mod blank_lines;
 mod calls;
 mod choosing;
@@ -25,6 +26,7 @@ mod long_devices;
 mod long_lines;
 mod order;
 mod pairs;
+mod parts;
 mod plain;
 mod queries;
 mod reads;

@@ -178,6 +178,34 @@ fn a_stream_is_tallied(rt: HostRuntime) -> Result<(), Fail> {
     Ok(())
 }
 
+/// The tally of the header of the sample and of one feature.
+fn tally_of(alloc: Global, feature: &[u8]) -> Result<TallySink, Fail> {
+    let text = joined(alloc, &[TEMPLATES.as_bytes(), b"\n", feature, b"\n"])?;
+    let limits = Limits::new(8_388_608, 64)?;
+    let query = Query::all(alloc);
+    let mut reader = SlowReader::new(&text, 100);
+    let mut tally = TallySink::new();
+    let _ = run(
+        alloc,
+        &mut reader,
+        &mut tally,
+        &mut NoReports,
+        limits,
+        &query,
+        Options::new(),
+    );
+    Ok(tally)
+}
+
+#[test]
+fn parts_are_tallied(rt: HostRuntime) -> Result<(), Fail> {
+    let first = tally_of(rt.alloc(), FEATURE)?;
+    let second = tally_of(rt.alloc(), TREE.as_bytes())?;
+    let told = report(rt.alloc(), &first.then(&second))?;
+    check_bytes(&rt, told.as_bytes(), TALLY.as_bytes(), "parts", 0);
+    Ok(())
+}
+
 #[test]
 fn pieces_are_tallied(rt: HostRuntime) -> Result<(), Fail> {
     let text = sample(rt.alloc())?;

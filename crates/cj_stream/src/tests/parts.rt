@@ -1,0 +1,173 @@
+//! Streams that are read in parts: how runs over a header with some of the lines behind it went together, and what is reported
+//! of them.
+use super::calls::{check_outcome, held, joined, outcome, refused};
+use super::devices::SlowReader;
+use super::going::complete;
+use super::reports::{NoteReports, check_notes, going};
+use super::rows::{FEATURE, HEADER, SMALL, with_last_index};
+use crate::{IgnoreSink, Options, Outcome, Query, run};
+use cj_budget::Limits;
+use cj_spans::Reason;
+use std::alloc::Global;
+use std::process::Abort;
+use std::test::Fail;
+
+/// A header, and what is behind it in two parts.
+#[derive(Clone, Copy)]
+struct Parts<'a> {
+    name: &'a str,
+    header: &'a [u8],
+    first: &'a [u8],
+    second: &'a [u8],
+    options: Options,
+}
+
+/// Runs over a header and these bytes, of which this has to be reported.
+fn over(
+    rt: &impl Abort,
+    alloc: Global,
+    parts: &Parts,
+    behind: &[u8],
+    notes: &str,
+) -> Result<Outcome, Fail> {
+    let text = joined(alloc, &[parts.header, b"\n", behind])?;
+    let mut reader = SlowReader::new(&text, 100);
+    let mut reports = NoteReports::new(alloc);
+    let outcome = run(
+        alloc,
+        &mut reader,
+        &mut IgnoreSink,
+        &mut reports,
+        Limits::new(1_000, 64)?,
+        &Query::all(alloc),
+        parts.options,
+    );
+    check_notes(rt, &reports, notes, parts.name, behind.len() as u64);
+    Ok(outcome)
+}
+
+/// Both parts together, and the stream that they make, have to come to this, with these reports of the parts and of the stream.
+fn check(
+    rt: &impl Abort,
+    alloc: Global,
+    parts: &Parts,
+    notes: [&str; 3],
+    wanted: Outcome,
+) -> Result<(), Fail> {
+    let [of_first, of_second, of_all] = notes;
+    let first = over(rt, alloc, parts, parts.first, of_first)?;
+    let second = over(rt, alloc, parts, parts.second, of_second)?;
+    check_outcome(rt, first.then(second), wanted, parts.name, 1);
+    let behind = joined(alloc, &[parts.first, parts.second])?;
+    let all = over(rt, alloc, parts, &behind, of_all)?;
+    check_outcome(rt, all, wanted, parts.name, 2);
+    Ok(())
+}
+
+/// A feature and a blank line, and then three lines of which the second one is refused, under these options.
+fn check_lines(
+    rt: &impl Abort,
+    alloc: Global,
+    options: Options,
+    notes: [&str; 3],
+    wanted: Outcome,
+) -> Result<(), Fail> {
+    let line = with_last_index(alloc, b"4")?;
+    let first = joined(alloc, &[FEATURE, b"\n\n"])?;
+    let second = joined(alloc, &[SMALL, b"\n", &line, b"\n", FEATURE])?;
+    let parts = Parts {
+        name: "a line of the second part",
+        header: HEADER,
+        first: &first,
+        second: &second,
+        options,
+    };
+    check(rt, alloc, &parts, notes, wanted)
+}
+
+#[test]
+fn two_features_in_two_parts(rt: HostRuntime) -> Result<(), Fail> {
+    let first = joined(rt.alloc(), &[SMALL, b"\n"])?;
+    let parts = Parts {
+        name: "two features",
+        header: HEADER,
+        first: &first,
+        second: FEATURE,
+        options: Options::new(),
+    };
+    let wanted = complete(3, 2, 0, held(350, 65, 8));
+    check(&rt, rt.alloc(), &parts, [""; 3], wanted)
+}
+
+/// The part that has the most of all may come first.
+#[test]
+fn the_longer_part_first(rt: HostRuntime) -> Result<(), Fail> {
+    let first = joined(rt.alloc(), &[FEATURE, b"\n"])?;
+    let parts = Parts {
+        name: "the longer part first",
+        header: HEADER,
+        first: &first,
+        second: SMALL,
+        options: Options::new(),
+    };
+    let wanted = complete(3, 2, 0, held(350, 65, 8));
+    check(&rt, rt.alloc(), &parts, [""; 3], wanted)
+}
+
+#[test]
+fn parts_of_nothing(rt: HostRuntime) -> Result<(), Fail> {
+    let parts = Parts {
+        name: "nothing",
+        header: HEADER,
+        first: b"",
+        second: b"",
+        options: Options::new(),
+    };
+    let wanted = complete(1, 0, 0, held(140, 21, 3));
+    check(&rt, rt.alloc(), &parts, [""; 3], wanted)
+}
+
+#[test]
+fn a_refused_line_of_the_second_part(rt: HostRuntime) -> Result<(), Fail> {
+    let ended = refused(5, 144, Reason::VertexIndex);
+    let wanted = outcome(4, 2, held(350, 65, 8), ended);
+    check_lines(&rt, rt.alloc(), Options::new(), [""; 3], wanted)
+}
+
+#[test]
+fn a_reported_line_of_the_second_part(rt: HostRuntime) -> Result<(), Fail> {
+    let notes = ["", "3 144 25\n", "5 144 25\n"];
+    let wanted = complete(6, 3, 1, held(350, 65, 8));
+    check_lines(&rt, rt.alloc(), going(), notes, wanted)
+}
+
+#[test]
+fn a_refused_line_of_the_first_part(rt: HostRuntime) -> Result<(), Fail> {
+    let first = joined(rt.alloc(), &[&with_last_index(rt.alloc(), b"4")?, b"\n"])?;
+    let parts = Parts {
+        name: "a line of the first part",
+        header: HEADER,
+        first: &first,
+        second: SMALL,
+        options: Options::new(),
+    };
+    let ended = refused(2, 144, Reason::VertexIndex);
+    let wanted = outcome(1, 0, held(350, 65, 8), ended);
+    check(&rt, rt.alloc(), &parts, [""; 3], wanted)
+}
+
+#[test]
+fn parts_of_a_refused_header(rt: HostRuntime) -> Result<(), Fail> {
+    let header = joined(rt.alloc(), &[&HEADER[..29], b"\"1.1\"", &HEADER[34..]])?;
+    let first = joined(rt.alloc(), &[FEATURE, b"\n"])?;
+    let parts = Parts {
+        name: "a header",
+        header: &header,
+        first: &first,
+        second: SMALL,
+        options: going(),
+    };
+    let ended = refused(1, 29, Reason::WrongVersion);
+    let wanted = outcome(0, 0, held(140, 21, 3), ended);
+    check(&rt, rt.alloc(), &parts, [""; 3], wanted)
+}
