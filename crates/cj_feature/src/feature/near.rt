@@ -473,6 +473,9 @@ impl Near {
     }
 
     /// Marks city objects that are reached from the feature's id: all, as far as there is room for what leads to them.
+    ///
+    /// It is kept apart, so that a feature of few city objects needs none of its room on the stack.
+    #[inline(never)]
     pub fn mark_many(line: &[u8], tokens: &mut Bounded<Token>)
         requires scanned { AreOf line.now tokens.old.elements }
         requires sound { (feature : Tree) → Json line.now feature → AllReached feature line.now tokens.old.elements }

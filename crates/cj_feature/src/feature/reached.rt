@@ -93,7 +93,8 @@ fn find_wanted_child(objects: Node, object: Node, wanted: &Wanted) -> Option<u32
     None
 }
 
-/// As `find_listed_of_few`, where there are many.
+/// As `find_listed_of_few`, where there are many. It is kept apart, so that few need none of its room on the stack.
+#[inline(never)]
 fn find_listed_of_many(objects: Node) -> Option<u32>
     ensures found { IfSome result (IsNext objects.entry) }
     ensures none { IfNone result (ListMarks objects.entry (members_of (tree objects.entry))) }
@@ -179,6 +180,9 @@ fn mark_most(line: &[u8], tokens: &mut Bounded<Token>)
 /// Marks the city objects of a feature that are reached from its id, at their tokens, and nothing else: these are all
 /// city objects of that name, and with each one all that are named as its children. Nothing is marked where there is no
 /// such id, or no city object of its name. What the tokens show stays, and no memory is taken.
+///
+/// It is kept apart from its caller, which for most lines has no use for it.
+#[inline(never)]
 pub fn mark_reached(line: &[u8], tokens: &mut Bounded<Token>)
     requires scanned { AreOf line.now tokens.old.elements }
     requires unmarked { AreUnmarked tokens.old.elements }
