@@ -12,12 +12,6 @@ use cj_budget::Bounded;
 use cj_spans::{Doc, Node, Token, set_mark};
 use std::cmp::Ordering;
 
-/// So many city objects are at hand at once.
-const OBJECTS: usize = 200_000;
-
-/// So many lists of them there are: a prime.
-const LISTS: usize = 16_381;
-
 /// A list that is longer is put in order.
 const LONG: usize = 32;
 
@@ -30,10 +24,10 @@ const PENDING: usize = 16_384;
 /// So often the city objects are gone over.
 const ROUNDS: usize = 64;
 
-/// City objects at hand, and those that wait to be marked, by their numbers; 0 is none. Those at hand stand list after
-/// list, each from where it starts to where it ends.
+/// City objects at hand, at most `OBJECTS`, and those that wait to be marked, by their numbers; 0 is none. Those at hand
+/// stand list after list, each from where it starts to where it ends.
 #[derive(Drop)]
-pub struct Near {
+pub struct Near<const OBJECTS: usize, const LISTS: usize> {
     objects: [u32; OBJECTS],
     starts: [u32; LISTS],
     ends: [u32; LISTS],
@@ -44,11 +38,13 @@ pub struct Near {
     waiting: usize,
     changed: bool,
     ghost room: { waiting ≤ 16384 },
+    ghost lists: { 0 < LISTS },
 }
 
-/// The list of a text.
-fn list_of(text: Node) -> usize
-    ensures { result < 16381 }
+/// The list of a text, of so many.
+fn list_of<const LISTS: usize>(text: Node) -> usize
+    requires { 0 < LISTS }
+    ensures { result < LISTS }
 {
     (text.text_mix() % LISTS as u64) as usize
 }
@@ -89,8 +85,15 @@ fn sort(objects: Node, numbers: &mut [u32], start: usize, end: usize)
     numbers[start..end].sort_unstable_by(|first, second| compare_numbers(objects, *first, *second));
 }
 
+/// Leaves only lengths of 0.
+fn clear(lengths: &mut [u32]) {
+    for one in lengths.iter_mut() {
+        *one = 0;
+    }
+}
+
 /// Turns the lengths of lists into the places where they begin.
-fn add_up(lengths: &mut [u32; LISTS]) {
+fn add_up(lengths: &mut [u32]) {
     let mut sum: u32 = 0;
     for one in lengths.iter_mut() {
         let length = *one;
@@ -99,8 +102,8 @@ fn add_up(lengths: &mut [u32; LISTS]) {
     }
 }
 
-impl Near {
-    ghost use Rattle.std.specs.Prelude.{IfSome, List, ℕ, ◌-◌, codes};
+impl<const OBJECTS: usize, const LISTS: usize> Near<OBJECTS, LISTS> {
+    ghost use Rattle.std.specs.Prelude.{IfSome, List, ℕ, ◌-◌, ◌^◌, codes};
     ghost use Rattle.std.specs.List.{Contains};
     ghost use Rattle.std.specs.Str.{chars};
     ghost use Rattle.cj_spans.specs.Json.{Json};
@@ -113,7 +116,8 @@ impl Near {
     ghost use Rattle.cj_feature.specs.Reached.{IsReachedObject};
 
     /// None at hand, and none that waits.
-    fn new() -> Near
+    fn new() -> Self
+        requires { 0 < LISTS }
         ensures objects { (k n : ℕ) → slice_get result.objects k ≡ Some n → n ≡ 0 }
         ensures waiting { result.waiting ≡ 0 }
     {
@@ -140,7 +144,7 @@ impl Near {
         ensures waiting { self.new.waiting ≡ self.old.waiting }
         ensures pending { self.new.pending ≡ self.old.pending }
     {
-        self.ends = [0; LISTS];
+        clear(&mut self.ends);
         self.count = 0;
         let mut passed = 0;
         for (name, object) in objects.members() {
@@ -150,7 +154,7 @@ impl Near {
             if passed < skip {
                 passed += 1;
             } else if self.count < OBJECTS {
-                let list = list_of(name);
+                let list = list_of::<LISTS>(name);
                 self.ends[list] = self.ends[list].wrapping_add(1);
                 self.count += 1;
             }
@@ -170,8 +174,8 @@ impl Near {
 
     /// Where a list starts and where it ends.
     fn bounds(&self, list: usize) -> (usize, usize)
-        requires { list < 16381 }
-        ensures { result.0 ≤ result.1 × result.1 ≤ 200000 }
+        requires { list < LISTS }
+        ensures { result.0 ≤ result.1 × result.1 ≤ OBJECTS }
     {
         let end = (self.ends[list] as usize).min(OBJECTS);
         let start = (self.starts[list] as usize).min(end);
@@ -194,9 +198,10 @@ impl Near {
 
     /// The place of the first city object of a long list that has this name and is not done with, if there is one.
     fn first_of(&self, objects: Node, text: Node, start: usize, end: usize) -> usize
-        requires { start ≤ end × end ≤ 200000 }
+        requires { start ≤ end × end ≤ OBJECTS }
     {
-        let list = &self.objects[start..end];
+        let all = &self.objects[..];
+        let list = &all[start..end];
         start + list.partition_point(|number| is_behind(objects, *number, text))
     }
 
@@ -214,7 +219,7 @@ impl Near {
         if number == 0 || name.number() != number - 1 {
             return;
         }
-        let list = list_of(name);
+        let list = list_of::<LISTS>(name);
         let place = self.ends[list] as usize;
         if place < OBJECTS {
             self.objects[place] = number;
@@ -271,7 +276,7 @@ impl Near {
 
     /// The city object of this number, which is at this place, is done with.
     fn finish(&mut self, place: usize, number: u32)
-        requires place { place < 200000 }
+        requires place { place < OBJECTS }
         requires number { number < 2147483648 }
         ensures hand { AddsNone self.old self.new }
         ensures waiting { self.new.waiting ≡ self.old.waiting }
@@ -285,7 +290,7 @@ impl Near {
     /// waits if it has no mark.
     fn note_one(&mut self, objects: Node, place: usize, number: u32, text: Node) -> bool
         requires room { self.old.waiting < 16384 }
-        requires place { place < 200000 }
+        requires place { place < OBJECTS }
         requires positive { 0 < number }
         requires within { number < 2147483648 → number < length (spans_by objects) }
         requires held { number < 2147483648 → Contains (members_of (tree objects))
@@ -314,7 +319,7 @@ impl Near {
             → WaitsFor feature (line_of objects.entry) (spans_by objects.entry) self.old
             → WaitsFor feature (line_of objects.entry) (spans_by objects.entry) self.new }
     {
-        let (start, end) = self.bounds(list_of(text));
+        let (start, end) = self.bounds(list_of::<LISTS>(text));
         let is_long = end - start > LONG;
         let first = if is_long {
             self.first_of(objects, text, start, end)
@@ -450,7 +455,7 @@ impl Near {
         ensures marks { OnlyMarks tokens.old tokens.new }
     {
         for block in 0..u32::MAX {
-            self.mark_block(line, tokens, block as usize * OBJECTS);
+            self.mark_block(line, tokens, (block as usize).saturating_mul(OBJECTS));
             if self.count < OBJECTS {
                 return;
             }
@@ -473,16 +478,15 @@ impl Near {
     }
 
     /// Marks city objects that are reached from the feature's id: all, as far as there is room for what leads to them.
-    ///
-    /// It is kept apart, so that a feature of few city objects needs none of its room on the stack.
-    #[inline(never)]
-    pub fn mark_many(line: &[u8], tokens: &mut Bounded<Token>)
+    pub fn mark_all(line: &[u8], tokens: &mut Bounded<Token>)
+        requires lists { 0 < LISTS × LISTS < 2 ^ 32 }
+        requires objects { OBJECTS < 2 ^ 32 }
         requires scanned { AreOf line.now tokens.old.elements }
         requires sound { (feature : Tree) → Json line.now feature → AllReached feature line.now tokens.old.elements }
         ensures sound { (feature : Tree) → Json line.now feature → AllReached feature line.now tokens.new.elements }
         ensures marks { OnlyMarks tokens.old tokens.new }
     {
-        let mut near = Near::new();
+        let mut near: Self = Near::new();
         near.mark_rounds(line, tokens);
         near.parents = false;
         near.mark_round(line, tokens);

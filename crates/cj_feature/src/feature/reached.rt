@@ -28,6 +28,18 @@ use cj_budget::Bounded;
 use cj_geometry::rule::add;
 use cj_spans::{Doc, Least, Node, Reason, Token, set_mark};
 
+/// So many city objects a small guide has at hand at once.
+const SOME_OBJECTS: usize = 4_096;
+
+/// So many lists of them it has: a prime.
+const SOME_LISTS: usize = 1_021;
+
+/// So many a large guide has at hand at once: no line of 8 MiB has more.
+const MANY_OBJECTS: usize = 440_000;
+
+/// So many lists of them it has: a prime.
+const MANY_LISTS: usize = 16_381;
+
 /// The first city object of this name that has no mark, by its number.
 fn find_unmarked(objects: Node, id: Node) -> Option<u32>
     ensures found { IfSome result (IsUnmarked objects.entry (tree id.entry)) }
@@ -165,6 +177,52 @@ fn is_large(doc: Doc) -> bool {
     }
 }
 
+/// Whether there are more city objects than a small guide has room for.
+fn needs_many(objects: Node) -> bool {
+    let mut room = SOME_OBJECTS;
+    for _ in objects.members() {
+        if room == 0 {
+            return true;
+        }
+        room -= 1;
+    }
+    false
+}
+
+/// Whether a feature has more city objects than a small guide has room for.
+fn is_huge(doc: Doc) -> bool {
+    match doc.root().get("CityObjects") {
+        Some(objects) => needs_many(objects),
+        None => false,
+    }
+}
+
+/// Marks city objects that are reached from the feature's id, by a small guide.
+///
+/// It is kept apart, so that a feature of few city objects needs none of its room on the stack.
+#[inline(never)]
+fn mark_some(line: &[u8], tokens: &mut Bounded<Token>)
+    requires scanned { AreOf line.now tokens.old.elements }
+    requires sound { (feature : Tree) → Json line.now feature → AllReached feature line.now tokens.old.elements }
+    ensures sound { (feature : Tree) → Json line.now feature → AllReached feature line.now tokens.new.elements }
+    ensures marks { OnlyMarks tokens.old tokens.new }
+{
+    Near::<SOME_OBJECTS, SOME_LISTS>::mark_all(line, tokens);
+}
+
+/// Marks city objects that are reached from the feature's id, by a large guide.
+///
+/// It is kept apart, so that a feature of fewer city objects needs none of its room on the stack.
+#[inline(never)]
+fn mark_many(line: &[u8], tokens: &mut Bounded<Token>)
+    requires scanned { AreOf line.now tokens.old.elements }
+    requires sound { (feature : Tree) → Json line.now feature → AllReached feature line.now tokens.old.elements }
+    ensures sound { (feature : Tree) → Json line.now feature → AllReached feature line.now tokens.new.elements }
+    ensures marks { OnlyMarks tokens.old tokens.new }
+{
+    Near::<MANY_OBJECTS, MANY_LISTS>::mark_all(line, tokens);
+}
+
 /// Marks most of those that are reached, or none where there are few.
 fn mark_most(line: &[u8], tokens: &mut Bounded<Token>)
     requires scanned { AreOf line.now tokens.old.elements }
@@ -172,8 +230,13 @@ fn mark_most(line: &[u8], tokens: &mut Bounded<Token>)
     ensures sound { (t : Tree) → Json line.now t → AllReached t line.now tokens.new.elements }
     ensures marks { OnlyMarks tokens.old tokens.new }
 {
-    if is_large(Doc::of(line, tokens.as_slice())) {
-        Near::mark_many(line, tokens);
+    if !is_large(Doc::of(line, tokens.as_slice())) {
+        return;
+    }
+    if is_huge(Doc::of(line, tokens.as_slice())) {
+        mark_many(line, tokens);
+    } else {
+        mark_some(line, tokens);
     }
 }
 

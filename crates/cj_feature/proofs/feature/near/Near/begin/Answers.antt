@@ -1,4 +1,4 @@
-use Rattle.std.proofs.Common.{◌≡◌, Some, sym, ap, subst, ◌∙◌, option_map}
+use Rattle.std.proofs.Common.{rules, ◌≡◌, Some, sym, ap, subst, ◌∙◌, option_map}
 use Rattle.std.specs.Prelude.{codes}
 use Rattle.std.specs.Str.{chars}
 use Rattle.cj_spans.specs.Json.{Json}
@@ -13,15 +13,15 @@ use Rattle.cj_feature.proofs.NearLemmas.{id-reached, named-kept, known-there, kn
 use Rattle.cj_feature.proofs.feature.near.Near.begin.Goals as goal
 
 pub gather-requires : goal.gather-requires
-gather-requires c =
+gather-requires g c =
     let d = c.args.doc in
     let n = c.in-Some-Some.objects in
     let source : source_of n ≡ document_source d = c.in-Some-Some.ensures'.source ∙ c.root-root.ensures.source in
     let o : member_of (chars (codes "CityObjects")) (document d) ≡ Some (tree n) = ap (member_of (chars (codes "CityObjects"))) (sym c.root-root.ensures.tree) ∙ sym c.get-2.ensures.value ∙ ap (option_map tree) c.in-Some-Some.is-1 in
-    known-here n d source c.args.self.now (c.requires.known (document d) (tree n) (the-json d c.requires.of) o)
+    (search rules, known-here n d source c.args.self.now (c.requires.known (document d) (tree n) (the-json d c.requires.of) o))
 
 pub returns : goal.returns
-returns c =
+returns g c =
     let d = c.args.doc in
     let line = document_line d in
     let spans = spans_of (tokens_in (document_source d)) in

@@ -3,7 +3,7 @@ use Rattle.cj_feature.specs.Marking.{AddsNone}
 use Rattle.cj_feature.proofs.feature.near.Near.count_lists.Given as goal
 
 abbrev pub invariant-loop-name : goal.invariant-loop-name
-invariant-loop-name l = record {
+invariant-loop-name g l = record {
   hand : AddsNone l.fn.self l.self;
   waiting : l.self.waiting ≡ l.fn.self.waiting;
   pending : l.self.pending ≡ l.fn.self.pending;

@@ -4,7 +4,7 @@ use Rattle.cj_feature.proofs.Walking.{Among}
 use Rattle.cj_feature.proofs.feature.near.Near.fill_lists.Given as goal
 
 abbrev pub invariant-loop-name : goal.invariant-loop-name
-invariant-loop-name l = record {
+invariant-loop-name g l = record {
   walk : Among l.objects l.name-iterator;
   known : Knows l.objects l.self;
   waiting : l.self.waiting ≡ l.fn.self.waiting;

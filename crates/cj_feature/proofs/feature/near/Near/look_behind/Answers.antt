@@ -1,4 +1,4 @@
-use Rattle.std.proofs.Common.{◌≡◌, Some, sym, ap, subst, ◌∙◌, option_map}
+use Rattle.std.proofs.Common.{rules, ◌≡◌, Some, sym, ap, subst, ◌∙◌, option_map}
 use Rattle.std.specs.Prelude.{codes}
 use Rattle.std.specs.Str.{chars}
 use Rattle.cj_spans.specs.Marks.{IsMarked}
@@ -9,15 +9,15 @@ use Rattle.cj_feature.proofs.NearLemmas.{guide-on, known-here, waits-here, waits
 use Rattle.cj_feature.proofs.feature.near.Near.look_behind.Goals as goal
 
 pub note_children-requires : goal.note_children-requires
-note_children-requires c =
+note_children-requires g c =
     let d = c.args.doc in
     let n = c.in-Some.objects in
     let source : source_of n ≡ document_source d = c.in-Some.ensures.source ∙ c.root-root.ensures.source in
     let o : member_of (chars (codes "CityObjects")) (document d) ≡ Some (tree n) = ap (member_of (chars (codes "CityObjects"))) (sym c.root-root.ensures.tree) ∙ sym c.get.ensures.value ∙ ap (option_map tree) c.in-Some.is in
-    known-here n d source c.args.self.now (c.requires.known (document d) (tree n) (the-json d c.requires.of) o)
+    (search rules, known-here n d source c.args.self.now (c.requires.known (document d) (tree n) (the-json d c.requires.of) o))
 
 pub returns-in-Some : goal.returns-in-Some
-returns-in-Some c =
+returns-in-Some g c =
     let d = c.args.doc in
     let line = document_line d in
     let n = c.in-Some.objects in

@@ -6,7 +6,7 @@ use Rattle.cj_feature.proofs.NearLemmas.{more-hand, known-kept, lists-reached}
 use Rattle.cj_feature.proofs.feature.near.Near.note_children.Goals as goal
 
 pub loop-item-preserved : goal.loop-item-preserved
-loop-item-preserved c =
+loop-item-preserved g c =
     let inv = c.loop-item.invariant in
     let e = c.in-Some-item.ensures.steps.0 in
     let item = tree c.in-Some-item.item in

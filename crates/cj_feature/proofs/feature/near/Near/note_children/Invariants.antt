@@ -11,7 +11,7 @@ use Rattle.cj_feature.specs.Marking.{Knows, WaitsFor, AddsNone, spans_by}
 use Rattle.cj_feature.proofs.feature.near.Near.note_children.Given as goal
 
 abbrev pub invariant-loop-item : goal.invariant-loop-item
-invariant-loop-item l = record {
+invariant-loop-item g l = record {
   among : (item : Tree) → Contains (items_left l.item-iterator) item → Contains (listed_in (chars (codes "children")) (tree l.object)) item;
   hand : AddsNone l.initial.self l.self;
   known : Knows l.objects l.self;

@@ -4,10 +4,11 @@ use Rattle.cj_spans.proofs.Marking.{found_at-number}
 use Rattle.cj_spans.proofs.Scanned.{length-spans_of}
 use Rattle.cj_feature.specs.Links.{same_text}
 use Rattle.cj_feature.specs.Marking.{spans_by}
+use Rattle.cj_feature.proofs.NearLemmas.{more-hand}
 use Rattle.cj_feature.proofs.feature.near.Near.note_one.Goals as goal
 
 pub returns-then-not-marked-clause-pending : goal.returns-then-not-marked-clause-pending
-returns-then-not-marked-clause-pending c = λ f reaches waits.
+returns-then-not-marked-clause-pending g c = λ f reaches waits.
     let o = c.args.objects in
     let n = c.args.number in
     let line = line_of o in
@@ -21,4 +22,7 @@ returns-then-not-marked-clause-pending c = λ f reaches waits.
     c.wait.ensures.pending f line spans within (reaches (tree_at line spans (n - 1)) (tree_at line spans n) (c.requires.held small) same) (c.finish.ensures.pending f line spans waits)
 
 pub returns-else-not-marked-clause-pending : goal.returns-else-not-marked-clause-pending
-returns-else-not-marked-clause-pending c = λ f reaches waits. c.finish.ensures.pending f (line_of c.args.objects) (spans_by c.args.objects) waits
+returns-else-not-marked-clause-pending g c = λ f reaches waits. c.finish.ensures.pending f (line_of c.args.objects) (spans_by c.args.objects) waits
+
+pub returns-then-not-marked-clause-hand : goal.returns-then-not-marked-clause-hand
+returns-then-not-marked-clause-hand g c = more-hand c.args.self.now c.finish.new.self c.wait.new.self c.finish.ensures.hand c.wait.ensures.hand

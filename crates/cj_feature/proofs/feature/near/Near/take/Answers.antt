@@ -8,8 +8,8 @@ use Rattle.cj_feature.proofs.NearLemmas.{each-set}
 use Rattle.cj_feature.proofs.Walking.{shown-beside}
 use Rattle.cj_feature.proofs.feature.near.Near.take.Goals as goal
 
-pub returns-then-place-lt-OBJECTS-clause-known : goal.returns-then-place-lt-OBJECTS-clause-known
-returns-then-place-lt-OBJECTS-clause-known c =
+pub returns-then-place-clause-known : goal.returns-then-place-clause-known
+returns-then-place-clause-known g c =
     let o = c.args.objects in
     let all = members_of (tree o) in
     let n = c.number-number.result in

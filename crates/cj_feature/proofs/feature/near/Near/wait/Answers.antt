@@ -5,6 +5,6 @@ use Rattle.cj_feature.proofs.NearLemmas.{each-added}
 use Rattle.cj_feature.proofs.feature.near.Near.wait.Goals as goal
 
 pub returns-clause-pending : goal.returns-clause-pending
-returns-clause-pending c = λ f line spans within reached all.
+returns-clause-pending g c = λ f line spans within reached all.
     let P : ℕ → Type 0 = λ n. (n < length spans) × IsReachedObject f (tree_at line spans n) in
     each-added P c.args.self.now.pending c.args.self.now.waiting c.args.number all (within, reached)
