@@ -3,9 +3,10 @@
 //! Many city objects are at hand at once, in lists of those that one remainder of a number of their names puts
 //! together. A list that has become long is put in the order of its names, so that no names make a search long. What is
 //! found waits to be marked and is done with, so it is found once, however often it is listed; and what it lists is looked
-//! for then. Those that have children come first: what they lead to is all that has to be followed. Then those without
-//! are at hand, which lead to nothing, so that one time over all of them is enough. Nothing hangs on whether all are found:
-//! what is marked is reached, as what lists it is, and what is left out the search behind it finds.
+//! for then. Where all are at hand, and never so many wait that no more could, that is all. Where not, those that have
+//! children come next: what they lead to is all that has to be followed. Then those without are at hand, which lead to
+//! nothing, so that one time over all of them is enough. Nothing hangs on whether all are found: what is marked is reached,
+//! as what lists it is, and what is left out the search behind it finds.
 ghost use Rattle.std.specs.Prelude.{◌≡◌, ℕ, ◌<◌, ◌≤◌, Some, length, slice_get};
 
 use cj_budget::Bounded;
@@ -24,6 +25,14 @@ const PENDING: usize = 16_384;
 /// So often the city objects are gone over.
 const ROUNDS: usize = 64;
 
+/// Which city objects are taken to hand.
+#[derive(Clone, Copy, Drop)]
+pub enum Meant {
+    All,
+    Parents,
+    Others,
+}
+
 /// City objects at hand, at most `OBJECTS`, and those that wait to be marked, by their numbers; 0 is none. Those at hand
 /// stand list after list, each from where it starts to where it ends.
 #[derive(Drop)]
@@ -31,11 +40,12 @@ pub struct Near<const OBJECTS: usize, const LISTS: usize> {
     objects: [u32; OBJECTS],
     starts: [u32; LISTS],
     ends: [u32; LISTS],
-    /// Whether those with children are taken to hand, or those without.
-    parents: bool,
+    meant: Meant,
     count: usize,
     pending: [u32; PENDING],
     waiting: usize,
+    /// Whether so many waited that no more could, so that some may have been left out.
+    full: bool,
     changed: bool,
     ghost room: { waiting ≤ 16384 },
     ghost lists: { 0 < LISTS },
@@ -125,17 +135,22 @@ impl<const OBJECTS: usize, const LISTS: usize> Near<OBJECTS, LISTS> {
             objects: [0; OBJECTS],
             starts: [0; LISTS],
             ends: [0; LISTS],
-            parents: true,
+            meant: Meant::All,
             count: 0,
             pending: [0; PENDING],
             waiting: 0,
+            full: false,
             changed: false,
         }
     }
 
     /// Whether a city object is one of those that are taken to hand now.
     fn is_meant(&self, object: Node) -> bool {
-        object.get("children").is_some() == self.parents
+        match self.meant {
+            Meant::All => true,
+            Meant::Parents => object.get("children").is_some(),
+            Meant::Others => object.get("children").is_none(),
+        }
     }
 
     /// Counts for each list the city objects behind the first `skip`, as many as there is room for.
@@ -272,6 +287,7 @@ impl<const OBJECTS: usize, const LISTS: usize> Near<OBJECTS, LISTS> {
     {
         self.pending[self.waiting] = number;
         self.waiting += 1;
+        self.full |= self.waiting == PENDING;
     }
 
     /// The city object of this number, which is at this place, is done with.
@@ -431,20 +447,45 @@ impl<const OBJECTS: usize, const LISTS: usize> Near<OBJECTS, LISTS> {
     }
 
     /// Takes the city objects behind the first `skip` to hand, and marks those of them that are reached from the
-    /// feature's id and from all that have marks.
-    fn mark_block(&mut self, line: &[u8], tokens: &mut Bounded<Token>, skip: usize)
+    /// feature's id over others of them.
+    fn mark_from_id(&mut self, line: &[u8], tokens: &mut Bounded<Token>, skip: usize)
         requires { IsGuide line.now tokens.old.elements self.old }
         ensures guide { IsGuide line.now tokens.new.elements self.new }
         ensures marks { OnlyMarks tokens.old tokens.new }
     {
         self.begin(Doc::of(line, tokens.as_slice()), skip);
         self.follow(line, tokens);
+    }
+
+    /// Marks those at hand that the node of this number lists, if it has a mark, and all at hand that these lead to.
+    fn mark_behind(&mut self, line: &[u8], tokens: &mut Bounded<Token>, number: u32)
+        requires { IsGuide line.now tokens.old.elements self.old }
+        ensures guide { IsGuide line.now tokens.new.elements self.new }
+        ensures marks { OnlyMarks tokens.old tokens.new }
+    {
+        for _ in 0..ROUNDS {
+            self.full = false;
+            self.look_behind(Doc::of(line, tokens.as_slice()), number);
+            self.follow(line, tokens);
+            if !self.full {
+                return;
+            }
+        }
+    }
+
+    /// Takes the city objects behind the first `skip` to hand, and marks those of them that are reached from the
+    /// feature's id and from all that have marks.
+    fn mark_block(&mut self, line: &[u8], tokens: &mut Bounded<Token>, skip: usize)
+        requires { IsGuide line.now tokens.old.elements self.old }
+        ensures guide { IsGuide line.now tokens.new.elements self.new }
+        ensures marks { OnlyMarks tokens.old tokens.new }
+    {
+        self.mark_from_id(line, tokens, skip);
         for number in 0..u32::MAX {
             if number as usize >= tokens.len() {
                 return;
             }
-            self.look_behind(Doc::of(line, tokens.as_slice()), number);
-            self.follow(line, tokens);
+            self.mark_behind(line, tokens, number);
         }
     }
 
@@ -477,6 +518,19 @@ impl<const OBJECTS: usize, const LISTS: usize> Near<OBJECTS, LISTS> {
         }
     }
 
+    /// Marks city objects that are reached, where not all are at hand at once: first those that have children, then
+    /// those that have none.
+    fn mark_apart(&mut self, line: &[u8], tokens: &mut Bounded<Token>)
+        requires { IsGuide line.now tokens.old.elements self.old }
+        ensures guide { IsGuide line.now tokens.new.elements self.new }
+        ensures marks { OnlyMarks tokens.old tokens.new }
+    {
+        self.meant = Meant::Parents;
+        self.mark_rounds(line, tokens);
+        self.meant = Meant::Others;
+        self.mark_round(line, tokens);
+    }
+
     /// Marks city objects that are reached from the feature's id: all, as far as there is room for what leads to them.
     pub fn mark_all(line: &[u8], tokens: &mut Bounded<Token>)
         requires lists { 0 < LISTS × LISTS < 2 ^ 32 }
@@ -487,8 +541,9 @@ impl<const OBJECTS: usize, const LISTS: usize> Near<OBJECTS, LISTS> {
         ensures marks { OnlyMarks tokens.old tokens.new }
     {
         let mut near: Self = Near::new();
-        near.mark_rounds(line, tokens);
-        near.parents = false;
-        near.mark_round(line, tokens);
+        near.mark_from_id(line, tokens, 0);
+        if near.full || near.count == OBJECTS {
+            near.mark_apart(line, tokens);
+        }
     }
 }
