@@ -38,7 +38,7 @@ const SOME_LISTS: usize = 1_021;
 const MANY_OBJECTS: usize = 440_000;
 
 /// So many lists of them it has: a prime.
-const MANY_LISTS: usize = 16_381;
+const MANY_LISTS: usize = 65_521;
 
 /// The first city object of this name that has no mark, by its number.
 fn find_unmarked(objects: Node, id: Node) -> Option<u32>
