@@ -353,8 +353,9 @@ impl<const OBJECTS: usize, const LISTS: usize> Near<OBJECTS, LISTS> {
         }
     }
 
-    /// Has the city objects at hand wait that this one lists as children.
-    fn note_children(&mut self, objects: Node, object: Node)
+    /// Has the city objects at hand wait that this one lists as children, but for the first `skip` items. It ends where
+    /// no more can wait. The answer is how many items are gone over.
+    fn note_children(&mut self, objects: Node, object: Node, skip: usize) -> usize
         requires { Knows objects self.old }
         ensures hand { AddsNone self.old self.new }
         ensures pending { (feature : Tree)
@@ -364,11 +365,21 @@ impl<const OBJECTS: usize, const LISTS: usize> Near<OBJECTS, LISTS> {
             → WaitsFor feature (line_of objects.entry) (spans_by objects.entry) self.new }
     {
         let Some(value) = object.get("children") else {
-            return;
+            return 0;
         };
+        let mut gone: usize = 0;
         for item in value.items() {
+            if gone < skip {
+                gone += 1;
+                continue;
+            }
             self.note(objects, item);
+            if self.waiting == PENDING {
+                return gone;
+            }
+            gone = gone.saturating_add(1);
         }
+        gone
     }
 
     /// The one that has waited last, if one waits.
@@ -401,8 +412,9 @@ impl<const OBJECTS: usize, const LISTS: usize> Near<OBJECTS, LISTS> {
         self.note(objects, id);
     }
 
-    /// Has those at hand wait that the node of this number lists, if it has a mark.
-    fn look_behind(&mut self, doc: Doc, number: u32)
+    /// Has those at hand wait that the node of this number lists, if it has a mark, but for the first `skip` items. The
+    /// answer is how many items are gone over.
+    fn look_behind(&mut self, doc: Doc, number: u32, skip: usize) -> usize
         requires { IsGuide (document_line doc) (tokens_in (document_source doc)) self.old }
         ensures { IsGuide (document_line doc.entry) (tokens_in (document_source doc.entry)) self.new }
     {
@@ -410,9 +422,10 @@ impl<const OBJECTS: usize, const LISTS: usize> Near<OBJECTS, LISTS> {
         let object = root.at(number);
         if object.marked() {
             if let Some(objects) = root.get("CityObjects") {
-                self.note_children(objects, object);
+                return self.note_children(objects, object, skip);
             }
         }
+        skip
     }
 
     /// Marks one that is reached, and has those at hand wait that it lists.
@@ -429,7 +442,7 @@ impl<const OBJECTS: usize, const LISTS: usize> Near<OBJECTS, LISTS> {
         }
         self.changed = true;
         set_mark(tokens, number);
-        self.look_behind(Doc::of(line, tokens.as_slice()), number);
+        let _ = self.look_behind(Doc::of(line, tokens.as_slice()), number, 0);
     }
 
     /// Marks all that wait, and all at hand that these lead to.
@@ -463,9 +476,10 @@ impl<const OBJECTS: usize, const LISTS: usize> Near<OBJECTS, LISTS> {
         ensures guide { IsGuide line.now tokens.new.elements self.new }
         ensures marks { OnlyMarks tokens.old tokens.new }
     {
+        let mut gone = 0;
         for _ in 0..ROUNDS {
             self.full = false;
-            self.look_behind(Doc::of(line, tokens.as_slice()), number);
+            gone = self.look_behind(Doc::of(line, tokens.as_slice()), number, gone);
             self.follow(line, tokens);
             if !self.full {
                 return;

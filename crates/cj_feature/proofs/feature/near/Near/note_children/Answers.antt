@@ -17,3 +17,17 @@ loop-item-preserved g c =
       pending = λ f o r waits.
           c.note.ensures.pending f (lists-reached f (tree c.args.object) item c.args.objects o r (inv.among item (subst (λ ts. Contains ts item) (sym e) (here item _)))) (inv.pending f o r waits);
     }
+
+pub loop-item-preserved-then-gone-skip : goal.loop-item-preserved-then-gone-skip
+loop-item-preserved-then-gone-skip g c =
+    let inv = c.loop-item.invariant in
+    let e = c.in-Some-item.ensures.steps.0 in
+    let item = tree c.in-Some-item.item in
+    record { among = λ t h. inv.among t (subst (λ ts. Contains ts t) (sym e) (there item _ t h)); hand = inv.hand; known = inv.known; pending = inv.pending }
+
+pub returns-then-self-eq-PENDING-clause-pending : goal.returns-then-self-eq-PENDING-clause-pending
+returns-then-self-eq-PENDING-clause-pending g c = λ f o r waits.
+    let inv = c.loop-item.invariant in
+    let e = c.in-Some-item.ensures.steps.0 in
+    let item = tree c.in-Some-item.item in
+    c.note.ensures.pending f (lists-reached f (tree c.args.object) item c.args.objects o r (inv.among item (subst (λ ts. Contains ts item) (sym e) (here item _)))) (inv.pending f o r waits)
