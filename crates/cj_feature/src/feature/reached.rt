@@ -34,7 +34,7 @@ const SOME_OBJECTS: usize = 4_096;
 /// So many lists of them it has: a prime.
 const SOME_LISTS: usize = 1_021;
 
-/// So many a large guide has at hand at once: no line of 8 MiB has more.
+/// So many a large guide has at hand at once: a line of 8 MiB has fewer that list a child.
 const MANY_OBJECTS: usize = 440_000;
 
 /// So many lists of them it has: a prime.
