@@ -1,8 +1,7 @@
 -- The criteria that the options of `filter` make.
-use Rattle.std.specs.Prelude.{◌≡◌, ◌⊎◌, ℕ, List, [], ◌∷◌, Bool, true, Option, Some, None, Result, Ok, Err, IsSome, IsOk, slice_set, option_copied, option_map, option_and_then}
-use Rattle.cj_geometry.specs.ObjectTypes.{ObjectRow, row_named}
+use Rattle.std.specs.Prelude.{◌≡◌, ◌⊎◌, ℕ, List, Bool, Option, Some, None, Result, Ok, Err, IsSome, IsOk, option_copied, option_map}
 use Rattle.cj_stream.specs.Criteria.{Criteria, Box}
-use Rattle.cj_stream.specs.Adding.{no_types}
+use Rattle.cj_stream.specs.Adding.{flags_with, no_types}
 use Rattle.cj_stream.specs.BoxText.{fields, box_text}
 use Rattle.cj_stream.specs.declared.query.fault.QueryFault.{QueryFault}
 use Rattle.cj_stream.specs.declared.query.fault.QueryFault.TheVariants.{Memory, UnknownTypeName, BadBox, BoxRange, EmptyBox}
@@ -23,11 +22,6 @@ texts_of t = record {
   lods = option_copied t.lods;
   box = option_copied t.bbox;
 }
-
--- these flags, and those of the types of these names; none where a name is no type's
-abbrev pub flags_with : List (List ℕ) → List Bool → Option (List Bool)
-flags_with [] flags = Some flags
-flags_with (name ∷ names) flags = option_and_then (λ (row : ObjectRow). flags_with names (slice_set flags row.number true)) (row_named name)
 
 -- the types that an option names, between its commas; or its refusal
 abbrev pub types_or_fault : Option (List Bool) → Result (Option (List Bool)) QueryFault

@@ -1,12 +1,12 @@
 //! What the words ask for: an `Ask`, with its limits and its query, or why there is none.
 ghost use Rattle.std.specs.Prelude.{◌≡◌, ℕ, List, Some, Ok, Err, IfOk, IfErr, IsErrOf, OnOk, MatchOption};
 ghost use Rattle.clap.specs.declared.parser.matches.ArgMatches.{ArgMatches};
-ghost use Rattle.cj_stream.specs.Adding.{no_types};
+ghost use Rattle.cj_stream.specs.Adding.{flags_with, no_types};
 ghost use Rattle.cj_stream.specs.BoxText.{fields};
 ghost use Rattle.cj_stream.specs.Query.{criteria};
 ghost use Rattle.cj_stream.specs.declared.query.fault.QueryFault.{QueryFault};
 ghost use Rattle.cj_stream.specs.declared.query.fault.QueryFault.TheVariants.{Memory, UnknownTypeName};
-ghost use Rattle.cityseq.specs.Options.{criteria_by, flags_with, texts_of, RefusesBy};
+ghost use Rattle.cityseq.specs.Options.{criteria_by, texts_of, RefusesBy};
 ghost use Rattle.cityseq.specs.Performed.{MayDecline, TakesOptions};
 ghost use Rattle.cityseq.specs.Words.{AsksBy, CannotAsk};
 

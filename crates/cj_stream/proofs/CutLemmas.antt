@@ -9,7 +9,7 @@ use Rattle.cj_stream.specs.declared.ending.End.{End}
 use Rattle.cj_stream.specs.declared.ending.End.TheVariants.{Complete, Refused, ReadFault, ReadLimit, WriteFault, Memory}
 use Rattle.cj_stream.specs.Item.{Item}
 use Rattle.cj_stream.specs.Lines.{Line, NoLf, closed, begun, first_of, ended_line, last_line, lines, whole}
-use Rattle.cj_stream.specs.Verdict.{Rules, verdict, header_of, item_after, goes_on, refusal_of, refusal_in, refusal_from, good_from, kept_from, kept_first, kept, reported_from, reported, ending, judged, long_line}
+use Rattle.cj_stream.specs.Verdict.{Rules, verdict, header_of, item_after, goes_on, refusal_of, refusal_in, refusal_from, good_from, kept_from, kept_first, kept, reported_from, reported, good, ending, judged, long_line}
 use Rattle.cj_stream.specs.Cut.{joined, PutsPieces, EndsAt, Copies, TookWhole, IsUnread}
 use Rattle.cj_stream.specs.Engine.{EngineState, rules_of, lines_of, Delivers, Faults, Tells, Concludes}
 use Rattle.cj_stream.specs.Reading.{Reads}
@@ -123,6 +123,15 @@ refused-more rules q more e k =
     let front = judged-stays rules q [] e k in
     let same : good_from rules [] (lines q) ≡ good_from rules [] (map ended_line (closed q)) = let z = front.1 in rw (append-nil q) at z in
     (ending-refused rules (lines (q ++ more)) e all.0, ap (λ z. kept_from rules [] z) (all.1 ∙ sym same), ap (λ z. reported_from rules [] z) (all.1 ∙ sym same))
+
+-- and so are the good lines
+pub good-more : (rules : Rules) (q more : List ℕ) (e : End) → refusal_in rules (judged rules.limits q) ≡ Some e → good rules (q ++ more) ≡ good rules q
+unfolding Stays
+good-more rules q more e k =
+    let all = judged-stays rules q more e k in
+    let front = judged-stays rules q [] e k in
+    let same : good_from rules [] (lines q) ≡ good_from rules [] (map ended_line (closed q)) = let z = front.1 in rw (append-nil q) at z in
+    all.1 ∙ sym same
 
 -- what is kept of some pieces, of whose whole lines none is refused, are kept lines of these and the next
 kept-pieces : (rules : Rules) (pieces : List (List ℕ)) (n : ℕ) → refusal_in rules (lines (whole (joined (take n pieces)))) ≡ None

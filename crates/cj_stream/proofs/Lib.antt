@@ -46,3 +46,4 @@ pub mod TallyLemmas
 pub mod TallyPartsLemmas
 pub mod TallySinkLemmas
 pub mod VerdictLemmas
+pub mod WholeCounts

@@ -1,13 +1,14 @@
 -- What a whole run makes of the bytes that it reads.
 use Rattle.std.specs.Prelude.{◌≡◌, ◌⊎◌, ℕ, ◌*◌, ◌<◌, ◌≤◌, List, [], Option, Some, None, length}
+use Rattle.std.specs.List.{filter}
 use Rattle.std.specs.Io.KnownBytes.{Appends}
 use Rattle.cj_stream.specs.declared.ending.End.{End}
 use Rattle.cj_stream.specs.declared.ending.End.TheVariants.{Complete, Refused, ReadFault, ReadLimit, WriteFault, Memory}
 use Rattle.cj_stream.specs.declared.reporting.Report.{Report}
 use Rattle.cj_stream.specs.declared.running.Outcome.{Outcome}
 use Rattle.cj_stream.specs.Lines.{lines, whole}
-use Rattle.cj_stream.specs.Item.{Item}
-use Rattle.cj_stream.specs.Verdict.{Rules, refusal_in, judged, good, kept, ending, output}
+use Rattle.cj_stream.specs.Item.{Item, is_feature}
+use Rattle.cj_stream.specs.Verdict.{Rules, refusal_in, judged, good, kept, ending, output, reported}
 use Rattle.cj_stream.specs.Bound.{IsBounded, IsExact}
 use Rattle.cj_stream.specs.Engine.{EngineState, Counts, Delivers, lines_of, refused_of, peaks_of}
 use Rattle.cj_stream.specs.Reporting.{Notes, NotesRun}
@@ -41,6 +42,13 @@ pub record Account (run : Run) (at_end : Type 0) : Type 0 where
   pub exact : run.outcome.ended ≡ Complete → IsExact run.rules.limits run.read run.outcome.peaks
   pub counts : Counts run.rules run.read run.outcome.lines run.outcome.kept run.outcome.refused
   pub ends : Ends run.rules run.read run.outcome.lines at_end run.outcome.ended
+
+-- the counts of a run are of all of a stream: of its good lines, of the features among them that are kept, and of the lines
+-- among them that are reported
+pub record CountsAll (rules : Rules) (s : List ℕ) (outcome : Outcome) : Type 0 where
+  pub lines : outcome.lines ≡ length (good rules s)
+  pub kept : outcome.kept ≡ length (filter is_feature (kept rules s))
+  pub refused : outcome.refused ≡ length (reported rules s)
 
 -- what a sink took of the bytes r, by the end of the run: what is kept of them, or of their whole lines where a read
 -- failed or the reads ran out; or a prefix of that, and then what a failed step of the next one may leave, or nothing

@@ -4,10 +4,10 @@
 ghost use Rattle.std.specs.Prelude.{◌≡◌, ◌+◌, ◌≤◌, ◌^◌, length, map, take};
 ghost use Rattle.cj_stream.specs.Cut.{joined, Copies, PutsPieces, TookWhole, Fed};
 ghost use Rattle.cj_stream.specs.Engine.{IsFresh, rules_of, lines_of};
-ghost use Rattle.cj_stream.specs.Headline.{Headline};
+ghost use Rattle.cj_stream.specs.Headline.{Headline, IsUnhindered};
 ghost use Rattle.cj_stream.specs.Output.{output_writer, channel};
 ghost use Rattle.cj_stream.specs.Reporting.{NotesPieces};
-ghost use Rattle.cj_stream.specs.Run.{Runs, RunsNoting, outcome_of};
+ghost use Rattle.cj_stream.specs.Run.{CountsAll, Runs, RunsNoting, outcome_of};
 ghost use Rattle.cj_stream.specs.Sink.{HasRisen};
 
 use crate::ending::End;
@@ -75,7 +75,8 @@ fn feed_all<S: LineSink, N: ReportSink>(
 /// ends. However the stream is cut, the sink takes what is kept of it, one after another, and the
 /// end is its ending, unless a step of the sink fails or memory is refused: then it took a prefix of what
 /// is kept of the pieces that were given, with all that is kept of the whole lines of those that were
-/// wholly taken. The sink of reports notes what is reported, by the same measure.
+/// wholly taken. The sink of reports notes what is reported, by the same measure. Without a fault the engine's counts are of
+/// the whole stream.
 pub fn put_pieces<S: LineSink, N: ReportSink>(
     engine: &mut Engine,
     pieces: &[&[u8]],
@@ -89,6 +90,8 @@ pub fn put_pieces<S: LineSink, N: ReportSink>(
         result.taken result.ended sink.old sink.new }
     ensures notes { NotesPieces N.notes (rules_of engine.old) (map (λ piece. piece.now) pieces.now)
         result.taken result.ended reports.old reports.new }
+    ensures counts { IsUnhindered result.ended → CountsAll (rules_of engine.old)
+        (joined (map (λ piece. piece.now) pieces.now)) (outcome_of engine.new result.ended) }
     ensures cause { result.ended ≡ End.WriteFault → HasRisen (S.failures sink.old) (S.failures sink.new) }
     ensures memory { result.ended ≡ End.Memory → (lines_of engine.new ≡ 0) × (sink.new ≡ sink.old)
         × (reports.new ≡ reports.old) }

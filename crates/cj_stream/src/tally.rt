@@ -87,6 +87,20 @@ impl TallySink {
         self.types[object_type.number() as usize]
     }
 
+    /// How many city objects of its features have each type, by the type's number.
+    pub fn types(&self) -> [u64; 33]
+        ensures { result ≡ self.now.types }
+    {
+        self.types
+    }
+
+    /// How many geometries of its features have an LoD of each class, as for [`TallySink::by_lod`].
+    pub fn lods(&self) -> [u64; CLASSES]
+        ensures { result ≡ self.now.lods }
+    {
+        self.lods
+    }
+
     /// How many geometries of its features have an LoD of this class: 0 to 4 for a text that begins with
     /// `0` to `4`, and 5 for any other and for none. An instance has the LoD of its template.
     pub fn by_lod(&self, class: u8) -> u64

@@ -254,7 +254,7 @@ fn is_among(texts: &[String], entries: &[Entry], number: u64, node: Node) -> boo
         (keys_at texts.now entries.now) }
 {
     for entry in entries {
-        if compare_with_node(texts, *entry, number, node).is_eq() {
+        if entry.number == number && compare_with_node(texts, *entry, number, node).is_eq() {
             return true;
         }
     }

@@ -1,9 +1,8 @@
 use Rattle.std.proofs.Common.{◌≡◌, Some, length, drop}
 use Rattle.std.specs.Prelude.{unwrap_or}
-use Rattle.cj_stream.specs.Adding.{no_types}
+use Rattle.cj_stream.specs.Adding.{flags_with, no_types}
 use Rattle.cj_stream.specs.BoxText.{fields}
 use Rattle.cj_stream.specs.Query.{criteria}
-use Rattle.cityseq.specs.Options.{flags_with}
 use Rattle.cityseq.proofs.asking.add_types.Given as goal
 
 abbrev pub invariant-loop-name : goal.invariant-loop-name

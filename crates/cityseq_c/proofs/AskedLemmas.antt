@@ -1,0 +1,19 @@
+-- Texts that are asked for.
+use Rattle.std.proofs.Common.{◌≡◌, ℕ, List, Bool, true, false, Some, Ok, Err, refl}
+use Rattle.std.specs.Prelude.{IsUtf8}
+use Rattle.std.specs.Str.{is_utf8}
+use Rattle.std.proofs.lemmas.Str.{is_utf8-from_IsUtf8, IsUtf8-from_is_utf8}
+use Rattle.cityseq_c.specs.Request.{text_asked}
+use Rattle.cityseq_c.specs.declared.request.Fault.TheVariants.{NotUtf8}
+
+pub asked-text : (asked : Bool) (s : List ℕ) → asked ≡ true → IsUtf8 s → text_asked asked s ≡ Ok (Some s)
+asked-text false s is text = absurd (cc is)
+asked-text true s is text = rw (is_utf8-from_IsUtf8 s text) refl
+
+not_text : (b : Bool) (s : List ℕ) → is_utf8 s ≡ b → ¬ (IsUtf8 s) → is_utf8 s ≡ false
+not_text true s is none = absurd (none (IsUtf8-from_is_utf8 s is))
+not_text false s is none = is
+
+pub asked-bytes : (asked : Bool) (s : List ℕ) → asked ≡ true → ¬ (IsUtf8 s) → text_asked asked s ≡ Err NotUtf8
+asked-bytes false s is none = absurd (cc is)
+asked-bytes true s is none = rw (not_text (is_utf8 s) s refl none) refl

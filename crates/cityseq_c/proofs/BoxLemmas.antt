@@ -1,0 +1,19 @@
+-- What is set of a box, by what its text answers.
+use Rattle.std.proofs.Common.{◌≡◌, Result, Ok, Err, sym, ap, ◌∙◌}
+use Rattle.std.specs.Prelude.{MatchResult}
+use Rattle.cj_stream.specs.Adding.{with_box}
+use Rattle.cj_stream.specs.Criteria.{Criteria, Box}
+use Rattle.cj_stream.specs.declared.query.fault.QueryFault.{QueryFault}
+use Rattle.cityseq_c.specs.Request.{edges_by}
+
+module _ (r : Result (Unit {0}) QueryFault) (old new : Criteria) where
+  abbrev Sets : Result Box QueryFault → Type 0
+  Sets box = MatchResult box (λ box. (r ≡ Ok tt) × (new ≡ with_box box old)) (λ fault. (r ≡ Err fault) × (new ≡ old))
+
+  pub box-set : (v : Unit {0}) (box : Result Box QueryFault) → Sets box → r ≡ Ok v → (edges_by box ≡ Ok new.box) × (new ≡ record old { box = new.box })
+  box-set v (Ok box) h ok = (ap (λ a. Ok a.box) (sym h.1), h.1 ∙ ap (λ box. record old { box = box }) (sym (ap (λ a. a.box) h.1)))
+  box-set v (Err fault) h ok = absurd (cc (h.0, ok))
+
+  pub box-refused : (fault : QueryFault) (box : Result Box QueryFault) → Sets box → r ≡ Err fault → box ≡ Err fault
+  box-refused fault (Ok box) h err = absurd (cc (h.0, err))
+  box-refused fault (Err other) h err = cc (h.0, err)

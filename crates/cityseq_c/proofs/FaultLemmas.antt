@@ -1,0 +1,99 @@
+-- What is wrong with a query is wrong with a request.
+use Rattle.std.proofs.Common.{◌≡◌, ℕ, List, Bool, true, false, cond, Option, None, Some, Result, Ok, Err, subst}
+use Rattle.std.specs.Str.{is_utf8}
+use Rattle.cj_stream.specs.Adding.{flags_with, no_types}
+use Rattle.cj_stream.specs.BoxText.{box_text}
+use Rattle.cj_stream.specs.Criteria.{Box}
+use Rattle.cj_stream.specs.declared.query.fault.QueryFault.{QueryFault}
+use Rattle.cj_stream.specs.declared.query.fault.QueryFault.TheVariants.{Memory as NoMemory, UnknownTypeName, BadBox as BadBoxText, BoxRange as BoxTextRange, EmptyBox as EmptyBoxText}
+use Rattle.cityseq_c.specs.Query.{RefusesCall, RefusesQuery}
+use Rattle.cityseq_c.specs.Request.{IsFit, box_asked, box_by, edges_by, fault_of, flags_by, ids_asked, items, lods_asked, or_fault, text_asked, texts_by, types_asked, types_by}
+use Rattle.cityseq_c.specs.declared.request.Fault.{Fault as WrongFault}
+use Rattle.cityseq_c.specs.declared.request.Fault.TheVariants.{LineLimit, DepthLimit, NoLine, NotUtf8, UnknownType, BadBox, BoxRange, EmptyBox, TooLong}
+use Rattle.cityseq_c.specs.declared.request.NotJudged.{NotJudged}
+use Rattle.cityseq_c.specs.declared.request.NotJudged.TheVariants.{Fault, Memory}
+use Rattle.cityseq_c.specs.declared.request.Request.{Request}
+
+-- a fault of a query
+abbrev IsOfQuery : WrongFault → Type 0
+IsOfQuery LineLimit = ⊥
+IsOfQuery DepthLimit = ⊥
+IsOfQuery NoLine = ⊥
+IsOfQuery NotUtf8 = Unit {0}
+IsOfQuery UnknownType = Unit {0}
+IsOfQuery BadBox = Unit {0}
+IsOfQuery BoxRange = Unit {0}
+IsOfQuery EmptyBox = Unit {0}
+IsOfQuery TooLong = ⊥
+
+-- an answer has no other fault
+abbrev Fails : {A : Type 0} → Result A WrongFault → Type 0
+Fails (Ok x) = Unit {0}
+Fails (Err fault) = IsOfQuery fault
+
+utf8-fails : (b : Bool) (s : List ℕ) → Fails (cond b (Ok (Some s)) (Err NotUtf8))
+utf8-fails true s = tt
+utf8-fails false s = tt
+
+text-fails : (asked : Bool) (s : List ℕ) → Fails (text_asked asked s)
+text-fails false s = tt
+text-fails true s = utf8-fails (is_utf8 s) s
+
+texts-fail : (r : Result (Option (List ℕ)) WrongFault) → Fails r → Fails (texts_by r)
+texts-fail (Ok text) h = tt
+texts-fail (Err fault) h = h
+
+flags-fail : (flags : Option (List Bool)) → Fails (flags_by flags)
+flags-fail None = tt
+flags-fail (Some flags) = tt
+
+types-fail : (r : Result (Option (List ℕ)) WrongFault) → Fails r → Fails (types_by r)
+types-fail (Ok None) h = tt
+types-fail (Ok (Some text)) h = flags-fail (flags_with (items text) no_types)
+types-fail (Err fault) h = h
+
+edges-fail : (r : Result Box QueryFault) → Fails (edges_by r)
+edges-fail (Ok box) = tt
+edges-fail (Err NoMemory) = tt
+edges-fail (Err UnknownTypeName) = tt
+edges-fail (Err BadBoxText) = tt
+edges-fail (Err BoxTextRange) = tt
+edges-fail (Err EmptyBoxText) = tt
+
+box-fails : (r : Result (Option (List ℕ)) WrongFault) → Fails r → Fails (box_by r)
+box-fails (Ok None) h = tt
+box-fails (Ok (Some text)) h = edges-fail (box_text text)
+box-fails (Err fault) h = h
+
+-- the first fault of several answers
+abbrev MayBe : Option WrongFault → Type 0
+MayBe None = Unit {0}
+MayBe (Some fault) = IsOfQuery fault
+
+first-fails : {A : Type 0} (r : Result A WrongFault) (later : Option WrongFault) → Fails r → MayBe later → MayBe (or_fault r later)
+first-fails (Ok x) later h more = more
+first-fails (Err fault) later h more = h
+
+fault-may : (r : Request) → MayBe (fault_of r)
+fault-may r =
+    first-fails (ids_asked r) _ (texts-fail (text_asked r.asks_ids r.ids.now) (text-fails r.asks_ids r.ids.now))
+    (first-fails (types_asked r) _ (types-fail (text_asked r.asks_types r.types.now) (text-fails r.asks_types r.types.now))
+    (first-fails (lods_asked r) _ (texts-fail (text_asked r.asks_lods r.lods.now) (text-fails r.asks_lods r.lods.now))
+    (first-fails (box_asked r) None (box-fails (text_asked r.asks_box r.bbox.now) (text-fails r.asks_box r.bbox.now)) tt)))
+
+module _ (r : Request) (header part : List ℕ) (fit : IsFit r header part) where
+  known : (fault : WrongFault) → fault_of r ≡ Some fault → IsOfQuery fault
+  known fault is = subst MayBe is (fault-may r)
+
+  -- a query that is refused makes the call refused
+  pub call-refused : (why : NotJudged) → RefusesQuery r why → RefusesCall r header part why
+  call-refused (Fault LineLimit) is = absurd (known LineLimit is)
+  call-refused (Fault DepthLimit) is = absurd (known DepthLimit is)
+  call-refused (Fault NoLine) is = absurd (known NoLine is)
+  call-refused (Fault TooLong) is = absurd (known TooLong is)
+  call-refused (Fault NotUtf8) is = (fit, is)
+  call-refused (Fault UnknownType) is = (fit, is)
+  call-refused (Fault BadBox) is = (fit, is)
+  call-refused (Fault BoxRange) is = (fit, is)
+  call-refused (Fault EmptyBox) is = (fit, is)
+  call-refused Memory is = fit

@@ -1,0 +1,10 @@
+pub mod AskedLemmas
+pub mod BoxLemmas
+pub mod CalledLemmas
+pub mod FaultLemmas
+pub mod ItemLemmas
+pub mod JudgedLemmas
+pub mod LineCutLemmas
+pub mod ReportLemmas
+pub mod RoomLemmas
+pub mod TallyLemmas

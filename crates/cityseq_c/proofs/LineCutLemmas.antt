@@ -1,0 +1,45 @@
+-- A header and a part, cut behind the first line or not.
+use Rattle.std.proofs.Common.{◌≡◌, ℕ, ◌+◌, List, [], ◌∷◌, length, take, drop, None, Some, inl, inr, sym, ap, ◌∙◌, arith, length-take, refl, nat_eq, true}
+use Rattle.std.proofs.lemmas.Bool.{eqb-true}
+use Rattle.std.proofs.lemmas.List.{take_all, length-append}
+use Rattle.memchr.specs.Find.{IsFirstByte, is_byte}
+use Rattle.cj_stream.specs.Lines.{closed}
+use Rattle.cj_stream.proofs.LineLemmas.{closed-ended, closed-none}
+use Rattle.cj_stream.proofs.PieceSlices.{lf_found, lf_front, NoLf-before, NoLf-nowhere}
+use Rattle.cityseq_c.specs.Request.{AreCut}
+
+module _ (header part : List ℕ) where
+  -- the first LF is the last byte
+  pub cut-last : (k : ℕ) → IsFirstByte (is_byte 10) header (Some k) → k + 1 ≡ length header → AreCut header part
+  cut-last k h end =
+      let all : take (k + 1) header ≡ header = take_all (k + 1) header (omega (arith, end)) in
+      inl (take k header, NoLf-before header k h, sym all ∙ lf_front header k h)
+
+  -- a header that is a line has its first LF at its end
+  pub last-cut : (k : ℕ) → IsFirstByte (is_byte 10) header (Some k) → AreCut header part → k + 1 ≡ length header
+  last-cut k h (inl cut) =
+      let there : closed header ≡ take k header ∷ closed (drop (k + 1) header) = ap closed (lf_found header k h) ∙ closed-ended (take k header) (drop (k + 1) header) (NoLf-before header k h) in
+      let here : closed header ≡ cut.0 ∷ [] = ap closed cut.2 ∙ closed-ended cut.0 [] cut.1 in
+      let same : take k header ≡ cut.0 = cc (sym there ∙ here) in
+      let size : length header ≡ length cut.0 + 1 = ap length cut.2 ∙ length-append cut.0 (10 ∷ []) in
+      omega (arith, h.0.high, length-take k header, ap length same, size)
+  last-cut k h (inr cut) =
+      let there : closed header ≡ take k header ∷ closed (drop (k + 1) header) = ap closed (lf_found header k h) ∙ closed-ended (take k header) (drop (k + 1) header) (NoLf-before header k h) in
+      let none : closed header ≡ [] = closed-none header cut.0 in
+      absurd (cc (sym there ∙ none))
+
+  -- a header without LF is cut only where there is no more
+  pub cut-none : IsFirstByte (is_byte 10) header None → AreCut header part → part ≡ []
+  cut-none h (inl cut) =
+      let here : closed header ≡ cut.0 ∷ [] = ap closed cut.2 ∙ closed-ended cut.0 [] cut.1 in
+      let none : closed header ≡ [] = closed-none header (NoLf-nowhere header h) in
+      absurd (cc (sym here ∙ none))
+  cut-none h (inr cut) = cut.1
+
+  pub none-cut : IsFirstByte (is_byte 10) header None → part ≡ [] → AreCut header part
+  none-cut h empty = inr (NoLf-nowhere header h, empty)
+
+-- a list without length is empty
+pub empty-length : (s : List ℕ) → nat_eq (length s) 0 ≡ true → s ≡ []
+empty-length [] is = refl
+empty-length (b ∷ s) is = absurd (omega (arith, eqb-true (length (b ∷ s)) 0 is))

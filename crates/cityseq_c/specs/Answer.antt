@@ -1,0 +1,82 @@
+-- What C is told of how it went.
+use Rattle.std.specs.Prelude.{ℕ, Result, Ok, Err}
+use Rattle.cj_spans.specs.Reason.{code_of}
+use Rattle.cj_stream.specs.declared.ending.End.{End}
+use Rattle.cj_stream.specs.declared.ending.End.TheVariants.{Complete, Refused, ReadFault, ReadLimit, WriteFault, Memory as NoMemory}
+use Rattle.cj_stream.specs.declared.running.Outcome.{Outcome}
+use Rattle.cityseq_c.specs.Request.{fault_code}
+use Rattle.cityseq_c.specs.declared.answer.Answer.{Answer}
+use Rattle.cityseq_c.specs.declared.request.NotJudged.{NotJudged}
+use Rattle.cityseq_c.specs.declared.request.NotJudged.TheVariants.{Fault, Memory}
+
+-- the status of an end
+abbrev pub status_of : End → ℕ
+status_of Complete = 0
+status_of (Refused line place reason) = 1
+status_of ReadFault = 3
+status_of ReadLimit = 3
+status_of WriteFault = 4
+status_of NoMemory = 5
+
+-- the code, the line and the byte of an end
+abbrev pub code_at : End → ℕ
+code_at Complete = 0
+code_at (Refused line place reason) = code_of reason
+code_at ReadFault = 0
+code_at ReadLimit = 0
+code_at WriteFault = 0
+code_at NoMemory = 0
+
+abbrev pub line_at : End → ℕ
+line_at Complete = 0
+line_at (Refused line place reason) = line
+line_at ReadFault = 0
+line_at ReadLimit = 0
+line_at WriteFault = 0
+line_at NoMemory = 0
+
+abbrev pub place_at : End → ℕ
+place_at Complete = 0
+place_at (Refused line place reason) = place
+place_at ReadFault = 0
+place_at ReadLimit = 0
+place_at WriteFault = 0
+place_at NoMemory = 0
+
+-- what is told of an outcome, where so many bytes were written
+abbrev pub answer_of : Outcome → ℕ → Answer
+answer_of o written = record {
+  status = status_of o.ended;
+  code = code_at o.ended;
+  line = line_at o.ended;
+  place = place_at o.ended;
+  lines = o.lines;
+  kept = o.kept;
+  refused = o.refused;
+  peak_bytes = o.peaks.bytes;
+  peak_tokens = o.peaks.tokens;
+  peak_depth = o.peaks.depth;
+  written = written;
+}
+
+-- what is told where nothing was read
+abbrev pub not_judged : ℕ → ℕ → Answer
+not_judged status code = record {
+  status = status;
+  code = code;
+  line = 0;
+  place = 0;
+  lines = 0;
+  kept = 0;
+  refused = 0;
+  peak_bytes = 0;
+  peak_tokens = 0;
+  peak_depth = 0;
+  written = 0;
+}
+
+-- what is told, by how it went
+abbrev pub answer_to : Result Outcome NotJudged → ℕ → Answer
+answer_to (Ok outcome) written = answer_of outcome written
+answer_to (Err (Fault fault)) written = not_judged 2 (fault_code fault)
+answer_to (Err Memory) written = not_judged 5 0

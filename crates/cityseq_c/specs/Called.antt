@@ -1,0 +1,64 @@
+-- What the calls of C answer.
+use Rattle.std.specs.Prelude.{◌≡◌, ℕ, ◌<◌, List, ◌++◌, Result, Ok, Err, length, take}
+use Rattle.cj_stream.specs.declared.ending.End.TheVariants.{WriteFault}
+use Rattle.cj_stream.specs.declared.running.Outcome.{Outcome}
+use Rattle.cj_stream.specs.Headline.{IsUnhindered}
+use Rattle.cj_stream.specs.TallySink.{Tally as Tallied, IsTallyOf}
+use Rattle.cj_stream.specs.Verdict.{Rules, kept, output}
+use Rattle.cityseq_c.specs.Answer.{answer_to}
+use Rattle.cityseq_c.specs.Judged.{Tells}
+use Rattle.cityseq_c.specs.Query.{RefusesCall}
+use Rattle.cityseq_c.specs.Request.{IsAsked}
+use Rattle.cityseq_c.specs.Tally.{IsTally}
+use Rattle.cityseq_c.specs.declared.answer.Answer.{Answer}
+use Rattle.cityseq_c.specs.declared.reports.Told.{Told}
+use Rattle.cityseq_c.specs.declared.request.NotJudged.{NotJudged}
+use Rattle.cityseq_c.specs.declared.request.Request.{Request}
+use Rattle.cityseq_c.specs.declared.tally.Tally.{Tally}
+
+-- A call over a header and a part, by how it went: they were judged, as one stream, by the rules that were asked for, and this is
+-- told of it, with what else comes of these; or nothing was read, for what is wrong or for want of memory, and no room has
+-- changed.
+abbrev pub Goes : Request → List ℕ → List ℕ → List Told → List Told → (Rules → Outcome → Type 0) → Result Outcome NotJudged → Type 0
+Goes r header part old new also (Ok outcome) =
+    (rules : Rules) × IsAsked r rules × Tells rules (header ++ part) outcome old new × also rules outcome
+Goes r header part old new also (Err why) = RefusesCall r header part why × (new ≡ old)
+
+-- a call answers by how it went, where so many bytes of output were written
+pub record Calls (r : Request) (header part : List ℕ) (old new : List Told) (also : Rules → Outcome → Type 0) (written : ℕ) (answer : Answer) : Type 0 where
+  pub went : Result Outcome NotJudged
+  pub goes : Goes r header part old new also went
+  pub told : answer ≡ answer_to went written
+
+-- a check
+abbrev pub Checks : Request → List ℕ → List ℕ → List Told → List Told → Answer → Type 0
+Checks r header part old new answer = Calls r header part old new (λ rules outcome. Unit {0}) 0 answer
+
+-- the output did not fit: a front of it is there
+pub record IsFull (rules : Rules) (text out : List ℕ) (written : ℕ) : Type 0 where
+  pub given : List ℕ
+  pub more : List ℕ
+  pub rest : List ℕ
+  pub front : text ≡ given ++ more
+  pub there : output rules given ≡ take written out ++ rest
+  pub full : length out < length (output rules given)
+
+-- what was written of a text: its output, or a front of that where it did not fit
+pub record Copied (rules : Rules) (text out : List ℕ) (written : ℕ) (outcome : Outcome) : Type 0 where
+  pub all : IsUnhindered outcome.ended → take written out ≡ output rules text
+  pub full : outcome.ended ≡ WriteFault → IsFull rules text out written
+
+-- a filter, with what was lent for the output as it is then
+abbrev pub Filters : Request → List ℕ → List ℕ → List ℕ → List Told → List Told → Answer → Type 0
+Filters r header part out old new answer = Calls r header part old new (λ rules outcome. Copied rules (header ++ part) out answer.written outcome) answer.written answer
+
+-- the tally is that of what is kept of a text
+pub record IsTalliedOf (rules : Rules) (text : List ℕ) (tally : Tally) : Type 0 where
+  pub tallied : Tallied
+  pub all : IsTallyOf (kept rules text) tallied
+  pub told : IsTally tallied tally
+
+-- a tally
+abbrev pub TalliesPart : Request → List ℕ → List ℕ → Tally → List Told → List Told → Answer → Type 0
+TalliesPart r header part tally old new answer =
+    Calls r header part old new (λ rules outcome. IsUnhindered outcome.ended → IsTalliedOf rules (header ++ part) tally) 0 answer

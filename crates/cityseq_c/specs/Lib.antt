@@ -1,0 +1,9 @@
+pub mod Answer
+pub mod Called
+pub mod Judged
+pub mod Query
+pub mod Reports
+pub mod Request
+pub mod Room
+pub mod Tally
+pub mod Words

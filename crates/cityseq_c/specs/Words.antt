@@ -1,0 +1,34 @@
+-- The texts of reasons and the names of types, by their numbers.
+use Rattle.std.specs.Prelude.{◌≡◌, ℕ, List, [], ◌∷◌, ◌++◌, length, take, drop, min, nat_eq, if◌then◌else◌}
+use Rattle.cj_geometry.specs.ObjectTypes.{ObjectRow, object_types}
+use Rattle.cj_spans.specs.Reason.{code_of, words_of}
+use Rattle.cj_spans.specs.declared.reason.Reason.{Reason}
+use Rattle.cj_spans.specs.declared.reason.Reason.TheVariants.{NoHeader, LineTooLong, NotUtf8, Syntax, TooDeep, MissingMember, DuplicateName, WrongKind, NumberRange, WrongType, WrongVersion, NotEmpty, NotThree, NotWhole, UnknownObjectType, IdNotFound, ChildNotFound, LinkNotMutual, NoParent, UnknownGeometryType, VertexIndex, SemanticsCount, SemanticsIndex, TemplateIndex, BadInstance, TransformNotFixed, NotReached}
+
+-- all reasons
+abbrev pub reasons : List Reason
+reasons =
+    NoHeader ∷ LineTooLong ∷ NotUtf8 ∷ Syntax ∷ TooDeep ∷ MissingMember ∷ DuplicateName ∷ WrongKind ∷ NumberRange ∷ WrongType ∷ WrongVersion ∷ NotEmpty ∷ NotThree
+    ∷ NotWhole ∷ UnknownObjectType ∷ IdNotFound ∷ ChildNotFound ∷ LinkNotMutual ∷ NoParent ∷ UnknownGeometryType ∷ VertexIndex ∷ SemanticsCount ∷ SemanticsIndex
+    ∷ TemplateIndex ∷ BadInstance ∷ TransformNotFixed ∷ NotReached ∷ []
+
+-- the text of the first of these that has a code; empty where none has
+abbrev pub words_in : ℕ → List Reason → List ℕ
+words_in code [] = []
+words_in code (r ∷ rs) = if nat_eq (code_of r) code then words_of r else words_in code rs
+
+abbrev pub reason_words : ℕ → List ℕ
+reason_words code = words_in code reasons
+
+-- the name of the first of these that has a number; empty where none has
+abbrev pub name_in : ℕ → List ObjectRow → List ℕ
+name_in number [] = []
+name_in number (row ∷ rows) = if nat_eq row.number number then row.name else name_in number rows
+
+abbrev pub type_words : ℕ → List ℕ
+type_words number = name_in number object_types
+
+-- a text was copied to room as far as it fits, and its length was told
+pub record IsCopied (text old new : List ℕ) (size : ℕ) : Type 0 where
+  pub copied : new ≡ take (min (length text) (length old)) text ++ drop (min (length text) (length old)) old
+  pub length : size ≡ length text

@@ -1,0 +1,160 @@
+//! The query that the texts of a request make.
+ghost use Rattle.std.specs.Prelude.{◌≡◌, None, Some, Ok, Err, IfOk, IfErr, OnOk, MatchOption};
+ghost use Rattle.cj_stream.specs.Adding.{flags_with, no_types};
+ghost use Rattle.cj_stream.specs.Query.{criteria};
+ghost use Rattle.cityseq_c.specs.Query.{Reads, Refuses, RefusesQuery};
+ghost use Rattle.cityseq_c.specs.Request.{AsksFor, box_asked, box_fault as fault_of_box, ids_asked, items, lods_asked, text_asked, types_asked};
+
+use crate::request::{Fault, NotJudged, Request};
+use cj_stream::{Query, QueryFault};
+use std::alloc::Global;
+
+/// A text, if it is asked for.
+fn text_of(asked: bool, text: &[u8]) -> Result<Option<&str>, NotJudged>
+    ensures { Reads (text_asked asked text.now) result }
+{
+    if !asked {
+        return Ok(None);
+    }
+    match str::from_utf8(text) {
+        Ok(text) => Ok(Some(text)),
+        Err(_) => Err(NotJudged::Fault(Fault::NotUtf8)),
+    }
+}
+
+/// Sets the part on ids to the items of a text.
+fn add_ids(query: &mut Query, ids: &str) -> Result<(), NotJudged>
+    ensures ok { OnOk result (criteria query.new ≡ record (criteria query.old) { ids = Some (items ids.now) }) }
+    ensures memory { IfErr result (λ why. why ≡ NotJudged.Memory) }
+{
+    query.start_ids();
+    if ids.is_empty() {
+        return Ok(());
+    }
+    for id in ids.split('\n') {
+        if query.add_id(id).is_err() {
+            return Err(NotJudged::Memory);
+        }
+    }
+    query.sort_ids();
+    Ok(())
+}
+
+/// Sets the part on LoDs to the items of a text.
+fn add_lods(query: &mut Query, lods: &str) -> Result<(), NotJudged>
+    ensures ok { OnOk result (criteria query.new ≡ record (criteria query.old) { lods = Some (items lods.now) }) }
+    ensures memory { IfErr result (λ why. why ≡ NotJudged.Memory) }
+{
+    query.start_lods();
+    if lods.is_empty() {
+        return Ok(());
+    }
+    for lod in lods.split('\n') {
+        if query.add_lod(lod).is_err() {
+            return Err(NotJudged::Memory);
+        }
+    }
+    Ok(())
+}
+
+/// Sets the part on types to those whose names are the items of a text.
+fn add_types(query: &mut Query, types: &str) -> Result<(), NotJudged>
+    ensures { MatchOption (flags_with (items types.now) no_types)
+        (result ≡ Err (NotJudged.Fault Fault.UnknownType))
+        (λ flags. (result ≡ Ok tt) × (criteria query.new ≡ record (criteria query.old) { types = Some flags })) }
+{
+    query.start_types();
+    if types.is_empty() {
+        return Ok(());
+    }
+    for name in types.split('\n') {
+        if query.add_type(name).is_err() {
+            return Err(NotJudged::Fault(Fault::UnknownType));
+        }
+    }
+    Ok(())
+}
+
+/// What is wrong with the text of a box.
+fn box_fault(fault: QueryFault) -> Fault
+    ensures { result ≡ fault_of_box fault }
+{
+    match fault {
+        QueryFault::BoxRange => Fault::BoxRange,
+        QueryFault::EmptyBox => Fault::EmptyBox,
+        QueryFault::UnknownTypeName => Fault::UnknownType,
+        QueryFault::BadBox | QueryFault::Memory => Fault::BadBox,
+    }
+}
+
+/// Sets the part on ids, if it is asked for.
+fn set_ids(query: &mut Query, request: &Request<'_>) -> Result<(), NotJudged>
+    requires { (criteria query.old).ids ≡ None }
+    ensures ok { OnOk result ((ids_asked request.now ≡ Ok (criteria query.new).ids)
+        × (criteria query.new ≡ record (criteria query.old) { ids = (criteria query.new).ids })) }
+    ensures refused { IfErr result (Refuses (ids_asked request.now)) }
+{
+    match text_of(request.asks_ids, request.ids)? {
+        Some(ids) => add_ids(query, ids),
+        None => Ok(()),
+    }
+}
+
+/// Sets the part on types, if it is asked for.
+fn set_types(query: &mut Query, request: &Request<'_>) -> Result<(), NotJudged>
+    requires { (criteria query.old).types ≡ None }
+    ensures ok { OnOk result ((types_asked request.now ≡ Ok (criteria query.new).types)
+        × (criteria query.new ≡ record (criteria query.old) { types = (criteria query.new).types })) }
+    ensures refused { IfErr result (Refuses (types_asked request.now)) }
+{
+    match text_of(request.asks_types, request.types)? {
+        Some(types) => add_types(query, types),
+        None => Ok(()),
+    }
+}
+
+/// Sets the part on LoDs, if it is asked for.
+fn set_lods(query: &mut Query, request: &Request<'_>) -> Result<(), NotJudged>
+    requires { (criteria query.old).lods ≡ None }
+    ensures ok { OnOk result ((lods_asked request.now ≡ Ok (criteria query.new).lods)
+        × (criteria query.new ≡ record (criteria query.old) { lods = (criteria query.new).lods })) }
+    ensures refused { IfErr result (Refuses (lods_asked request.now)) }
+{
+    match text_of(request.asks_lods, request.lods)? {
+        Some(lods) => add_lods(query, lods),
+        None => Ok(()),
+    }
+}
+
+/// Sets the box, if it is asked for.
+fn set_box(query: &mut Query, request: &Request<'_>) -> Result<(), NotJudged>
+    requires { (criteria query.old).box ≡ None }
+    ensures ok { OnOk result ((box_asked request.now ≡ Ok (criteria query.new).box)
+        × (criteria query.new ≡ record (criteria query.old) { box = (criteria query.new).box })) }
+    ensures refused { IfErr result (Refuses (box_asked request.now)) }
+{
+    match text_of(request.asks_box, request.bbox)? {
+        Some(bbox) => match query.bbox(bbox) {
+            Ok(()) => Ok(()),
+            Err(fault) => Err(NotJudged::Fault(box_fault(fault))),
+        },
+        None => Ok(()),
+    }
+}
+
+/// The query that a request asks for. The parts are read in the order ids, types, LoDs, box.
+///
+/// # Errors
+///
+/// The first refusal.
+pub fn query_of(alloc: Global, request: &Request<'_>) -> Result<Query, NotJudged>
+    ensures ok { IfOk result (λ query. AsksFor request.now (criteria query)) }
+    ensures refused { IfErr result (RefusesQuery request.now) }
+{
+    let mut query = Query::all(alloc);
+    set_ids(&mut query, request)?;
+    set_types(&mut query, request)?;
+    set_lods(&mut query, request)?;
+    set_box(&mut query, request)?;
+    Ok(query)
+}

@@ -1,0 +1,75 @@
+//! Texts of reasons and names of types, by their numbers.
+ghost use Rattle.std.specs.Prelude.{◌≡◌, length};
+ghost use Rattle.cityseq_c.specs.Words.{IsCopied, reason_words, reasons, type_words};
+
+use cj_geometry::ObjectType;
+use cj_stream::Reason;
+
+/// All reasons, in the order of their codes.
+fn all_reasons() -> [Reason; 27]
+    ensures { result ≡ reasons }
+{
+    [
+        Reason::NoHeader,
+        Reason::LineTooLong,
+        Reason::NotUtf8,
+        Reason::Syntax,
+        Reason::TooDeep,
+        Reason::MissingMember,
+        Reason::DuplicateName,
+        Reason::WrongKind,
+        Reason::NumberRange,
+        Reason::WrongType,
+        Reason::WrongVersion,
+        Reason::NotEmpty,
+        Reason::NotThree,
+        Reason::NotWhole,
+        Reason::UnknownObjectType,
+        Reason::IdNotFound,
+        Reason::ChildNotFound,
+        Reason::LinkNotMutual,
+        Reason::NoParent,
+        Reason::UnknownGeometryType,
+        Reason::VertexIndex,
+        Reason::SemanticsCount,
+        Reason::SemanticsIndex,
+        Reason::TemplateIndex,
+        Reason::BadInstance,
+        Reason::TransformNotFixed,
+        Reason::NotReached,
+    ]
+}
+
+/// The text of the reason of a code; empty where there is none.
+pub fn reason_text(code: u64) -> &'static str
+    ensures { result.now ≡ reason_words code }
+{
+    for reason in all_reasons() {
+        if reason.code() as u64 == code {
+            return reason.text();
+        }
+    }
+    ""
+}
+
+/// The name of the type of a number; empty where there is none.
+pub fn type_name(number: u64) -> &'static str
+    ensures { result.now ≡ type_words number }
+{
+    for object_type in ObjectType::all() {
+        if object_type.number() as u64 == number {
+            return object_type.name();
+        }
+    }
+    ""
+}
+
+/// Copies a text as far as it fits, and answers how many bytes it has.
+pub fn copy(text: &str, room: &mut [u8]) -> usize
+    ensures { IsCopied text.now room.old room.new result }
+{
+    let bytes = text.as_bytes();
+    let fits = bytes.len().min(room.len());
+    room[..fits].copy_from_slice(&bytes[..fits]);
+    bytes.len()
+}

@@ -1,0 +1,392 @@
+/* Tries the library for C on a stream on standard input.
+ *
+ *     library LINE_LIMIT DEPTH [OPTION..] < STREAM     options as the program has them
+ *     library rows                                     rows of requests that are wrong, of little room, and of many threads
+ *
+ * The stream is filtered and tallied as a header and one part; as a header and two parts, cut behind each LF; and as a header
+ * and a part for each line. The answers of the parts, joined, have to be that of the one part. It prints that answer, the reports,
+ * and the output. Its status is 0 where all is the same, and 1 with a line on standard error where something differs. */
+#include "../c/cityseq.h"
+#include <pthread.h>
+#include <stdio.h>
+#include <stdlib.h>
+#include <string.h>
+
+enum { threads = 8, rounds = 50 };
+
+/* What came of a stream, joined of parts. */
+struct joined {
+    struct cityseq_answer answer;
+    struct cityseq_tally tally;
+    struct cityseq_report *reports;
+    char *output;
+};
+
+struct text {
+    const char *bytes;
+    size_t length;
+};
+
+static void *room(size_t size)
+{
+    void *found = malloc(size + 1);
+    if (!found)
+        exit(3);
+    return found;
+}
+
+static uint64_t greater(uint64_t a, uint64_t b) { return a > b ? a : b; }
+
+static void widen(struct cityseq_range *range, struct cityseq_range next)
+{
+    if (!next.some)
+        return;
+    if (!range->some) {
+        *range = next;
+        return;
+    }
+    range->least = next.least < range->least ? next.least : range->least;
+    range->greatest = next.greatest > range->greatest ? next.greatest : range->greatest;
+}
+
+static void add_tally(struct cityseq_tally *tally, const struct cityseq_tally *next)
+{
+    tally->features += next->features;
+    for (int i = 0; i < 33; i++)
+        tally->types[i] += next->types[i];
+    for (int i = 0; i < 6; i++)
+        tally->lods[i] += next->lods[i];
+    for (int i = 0; i < 3; i++)
+        widen(&tally->ranges[i], next->ranges[i]);
+}
+
+/* The answer for a header and one part. */
+static struct joined judge(struct text header, struct text part, const struct cityseq_request *request)
+{
+    struct joined found;
+    size_t lines = 1, length = header.length + part.length;
+    memset(&found, 0, sizeof found);
+    for (size_t i = 0; i < part.length; i++)
+        lines += part.bytes[i] == '\n';
+    found.reports = room(sizeof *found.reports * (lines + 1));
+    found.output = room(length);
+    found.answer = cityseq_filter(header.bytes, header.length, part.bytes, part.length, request, found.output, length,
+                                  found.reports, lines);
+    struct cityseq_report none;
+    struct cityseq_answer tallied =
+        cityseq_tally(header.bytes, header.length, part.bytes, part.length, request, &found.tally, &none, 0);
+    tallied.written = found.answer.written;
+    struct cityseq_answer checked =
+        cityseq_check(header.bytes, header.length, part.bytes, part.length, request, &none, 0);
+    checked.written = found.answer.written;
+    if (memcmp(&tallied, &found.answer, sizeof tallied) || memcmp(&checked, &found.answer, sizeof checked)) {
+        fprintf(stderr, "check, filter and tally answer differently\n");
+        exit(1);
+    }
+    return found;
+}
+
+/* Joins what came of the parts so far with what came of the next one, by the law of parts. */
+static void join(struct joined *all, struct joined next, size_t header)
+{
+    struct cityseq_answer *a = &all->answer, b = next.answer;
+    uint64_t before = a->lines - 1;
+    all->reports = realloc(all->reports, sizeof *all->reports * (a->refused + b.refused + 1));
+    all->output = realloc(all->output, a->written + b.written + 1);
+    if (!all->reports || !all->output)
+        exit(3);
+    for (uint64_t i = 0; i < b.refused; i++) {
+        all->reports[a->refused + i] = next.reports[i];
+        all->reports[a->refused + i].line += before;
+    }
+    memcpy(all->output + a->written, next.output + header, b.written - header);
+    add_tally(&all->tally, &next.tally);
+    a->written += b.written - header;
+    a->status = b.status;
+    a->code = b.code;
+    a->line = b.status == CITYSEQ_REFUSED ? b.line + before : b.line;
+    a->place = b.place;
+    a->lines += b.lines - 1;
+    a->kept += b.kept;
+    a->refused += b.refused;
+    a->peak_bytes = greater(a->peak_bytes, b.peak_bytes);
+    a->peak_tokens = greater(a->peak_tokens, b.peak_tokens);
+    a->peak_depth = greater(a->peak_depth, b.peak_depth);
+    free(next.reports);
+    free(next.output);
+}
+
+static void forget(struct joined found)
+{
+    free(found.reports);
+    free(found.output);
+}
+
+/* Whether both are the same. The peaks of a stream that was refused are only bounded. */
+static int same(const struct joined *a, struct joined b)
+{
+    if (b.answer.status != CITYSEQ_COMPLETE) {
+        b.answer.peak_bytes = a->answer.peak_bytes;
+        b.answer.peak_tokens = a->answer.peak_tokens;
+        b.answer.peak_depth = a->answer.peak_depth;
+    }
+    return !memcmp(&a->answer, &b.answer, sizeof b.answer) && !memcmp(&a->tally, &b.tally, sizeof b.tally) &&
+           !memcmp(a->reports, b.reports, sizeof *b.reports * b.answer.refused) &&
+           !memcmp(a->output, b.output, b.answer.written);
+}
+
+/* The whole as its lines up to each of these cuts, one part after another. */
+static struct joined judge_parts(struct text header, struct text rest, const size_t *cuts, size_t count,
+                                 const struct cityseq_request *request)
+{
+    struct text part = {rest.bytes, count ? cuts[0] : rest.length};
+    struct joined all = judge(header, part, request);
+    for (size_t i = 0; i < count && all.answer.status == CITYSEQ_COMPLETE; i++) {
+        size_t end = i + 1 < count ? cuts[i + 1] : rest.length;
+        part.bytes = rest.bytes + cuts[i];
+        part.length = end - cuts[i];
+        join(&all, judge(header, part, request), header.length);
+    }
+    return all;
+}
+
+static int try_cuts(struct text header, struct text rest, const struct cityseq_request *request, const struct joined *whole)
+{
+    size_t *cuts = room(sizeof *cuts * (rest.length + 1)), count = 0, wrong = 0;
+    for (size_t i = 0; i < rest.length; i++)
+        if (rest.bytes[i] == '\n')
+            cuts[count++] = i + 1;
+    for (size_t i = 0; i <= count; i++) {
+        struct joined parts = i < count ? judge_parts(header, rest, &cuts[i], 1, request)
+                                        : judge_parts(header, rest, cuts, count, request);
+        if (!same(whole, parts)) {
+            fprintf(stderr, "cut %zu of %zu: another answer\n", i, count);
+            wrong++;
+        }
+        forget(parts);
+    }
+    free(cuts);
+    return wrong != 0;
+}
+
+static void show(const struct joined *found)
+{
+    struct cityseq_answer a = found->answer;
+    printf("%u %u %llu %llu %llu %llu %llu %llu %llu %llu %llu\n", a.status, a.code, (unsigned long long)a.line,
+           (unsigned long long)a.place, (unsigned long long)a.lines, (unsigned long long)a.kept,
+           (unsigned long long)a.refused, (unsigned long long)a.peak_bytes, (unsigned long long)a.peak_tokens,
+           (unsigned long long)a.peak_depth, (unsigned long long)a.written);
+    for (uint64_t i = 0; i < a.refused; i++)
+        printf("%llu %llu %llu\n", (unsigned long long)found->reports[i].line,
+               (unsigned long long)found->reports[i].place, (unsigned long long)found->reports[i].code);
+    fwrite(found->output, 1, a.written, stdout);
+}
+
+/* Texts with commas between them, with LFs between them instead. */
+static const char *with_lfs(const char *word)
+{
+    char *text = room(strlen(word));
+    strcpy(text, word);
+    for (char *at = text; *at; at++)
+        *at = *at == ',' ? '\n' : *at;
+    return text;
+}
+
+/* Takes an option of the program, with the word behind it if it has one. It answers how many words it took. */
+static int take_option(struct cityseq_request *request, const char *word, const char *next)
+{
+    if (!strcmp(word, "--tree"))
+        return request->tree = 1;
+    if (!strcmp(word, "--exclude"))
+        return request->exclude = 1;
+    if (!strcmp(word, "--keep-going"))
+        return request->keep_going = 1;
+    const char *value = strchr(word, '=') ? strchr(word, '=') + 1 : next;
+    if (!strncmp(word, "--bbox", 6)) {
+        request->asks_box = 1;
+        request->box = value;
+        request->box_length = strlen(value);
+    } else if (!strncmp(word, "--id", 4)) {
+        request->asks_ids = 1;
+        request->ids = with_lfs(value);
+        request->ids_length = strlen(value);
+    } else if (!strncmp(word, "--type", 6)) {
+        request->asks_types = 1;
+        request->types = with_lfs(value);
+        request->types_length = strlen(value);
+    } else if (!strncmp(word, "--lod", 5)) {
+        request->asks_lods = 1;
+        request->lods = with_lfs(value);
+        request->lods_length = strlen(value);
+    } else {
+        exit(2);
+    }
+    return value == next ? 2 : 1;
+}
+
+static struct text read_all(void)
+{
+    size_t length = 0, size = 1 << 16;
+    char *bytes = room(size);
+    for (size_t n; (n = fread(bytes + length, 1, size - length, stdin)) > 0;) {
+        length += n;
+        if (length == size && !(bytes = realloc(bytes, size *= 2)))
+            exit(3);
+    }
+    struct text found = {bytes, length};
+    return found;
+}
+
+static int try_stream(int count, char **words)
+{
+    struct cityseq_request request = CITYSEQ_USUAL;
+    request.line_limit = strtoull(words[1], NULL, 10);
+    request.depth_limit = strtoull(words[2], NULL, 10);
+    for (int i = 3; i < count;)
+        i += take_option(&request, words[i], i + 1 < count ? words[i + 1] : "");
+    struct text all = read_all();
+    const char *end = memchr(all.bytes, '\n', all.length);
+    size_t length = end ? (size_t)(end - all.bytes) + 1 : all.length;
+    struct text header = {all.bytes, length}, rest = {all.bytes + length, all.length - length};
+    struct joined whole = judge(header, rest, &request);
+    show(&whole);
+    return try_cuts(header, rest, &request, &whole);
+}
+
+/* ---- rows */
+
+static const char header_line[] = "{\"type\":\"CityJSON\",\"version\":\"2.0\",\"transform\":{\"scale\":[1,1,1],"
+                                  "\"translate\":[0,0,0]},\"CityObjects\":{},\"vertices\":[]}\n";
+static const char good_line[] = "{\"type\":\"CityJSONFeature\",\"id\":\"b\",\"CityObjects\":{\"b\":{\"type\":\"Building\"}},"
+                                "\"vertices\":[]}\n";
+static int failed, passed;
+
+static void row(const char *name, int holds)
+{
+    passed += holds != 0;
+    failed += holds == 0;
+    if (!holds)
+        printf("%s: failed\n", name);
+}
+
+/* The answer for a header and a good feature. */
+static struct cityseq_answer ask(const struct cityseq_request *request, const char *header, const char *part)
+{
+    struct cityseq_report none;
+    return cityseq_check(header, strlen(header), part, strlen(part), request, &none, 0);
+}
+
+static void refuses(const char *name, struct cityseq_request request, enum cityseq_fault fault)
+{
+    struct cityseq_answer answer = ask(&request, header_line, good_line);
+    row(name, answer.status == CITYSEQ_BAD_REQUEST && answer.code == fault && answer.lines == 0);
+}
+
+static void wrong_requests(void)
+{
+    struct cityseq_request usual = CITYSEQ_USUAL, r = usual;
+    r.line_limit = 0, refuses("no line limit", r, CITYSEQ_LINE_LIMIT);
+    r.line_limit = 1073741825, refuses("a line limit above 2^30", r, CITYSEQ_LINE_LIMIT);
+    r = usual, r.depth_limit = 0, refuses("no depth", r, CITYSEQ_DEPTH_LIMIT);
+    r = usual, r.depth_limit = 1025, refuses("a depth above 1,024", r, CITYSEQ_DEPTH_LIMIT);
+    r = usual, r.asks_types = 1, r.types = "Building\nHouse", r.types_length = 14;
+    refuses("an unknown type", r, CITYSEQ_UNKNOWN_TYPE);
+    r = usual, r.asks_ids = 1, r.ids = "\xff", r.ids_length = 1, refuses("an id that is not UTF-8", r, CITYSEQ_NOT_UTF8);
+    r = usual, r.asks_box = 1, r.box = "1,2,3", r.box_length = 5, refuses("three numbers", r, CITYSEQ_BAD_BOX);
+    r.box = "0,0,1e18,1", r.box_length = 10, refuses("a great number", r, CITYSEQ_BOX_RANGE);
+    r.box = "1,0,0,1", r.box_length = 7, refuses("an empty box", r, CITYSEQ_EMPTY_BOX);
+    struct cityseq_answer answer = ask(&usual, "{}", good_line);
+    row("a header without LF", answer.status == CITYSEQ_BAD_REQUEST && answer.code == CITYSEQ_NO_LINE);
+    answer = ask(&usual, "{}\n{}\n", "");
+    row("a header of two lines", answer.status == CITYSEQ_BAD_REQUEST && answer.code == CITYSEQ_NO_LINE);
+    answer = ask(&usual, "", "");
+    row("nothing at all", answer.status == CITYSEQ_REFUSED && answer.code == 1 && answer.line == 1);
+}
+
+/* What a query of some texts keeps of the good feature. */
+static void keeps(const char *name, const char *ids, size_t length, uint64_t kept)
+{
+    struct cityseq_request r = CITYSEQ_USUAL;
+    r.asks_ids = 1, r.ids = ids, r.ids_length = length;
+    struct cityseq_answer answer = ask(&r, header_line, good_line);
+    row(name, answer.status == CITYSEQ_COMPLETE && answer.kept == kept && answer.lines == 2);
+}
+
+static void queries(void)
+{
+    keeps("its id", "b", 1, 1);
+    keeps("its id behind another", "a\nb", 3, 1);
+    keeps("another id", "a", 1, 0);
+    keeps("no id", "", 0, 0);
+    keeps("the empty id", "\n", 1, 0);
+}
+
+static void little_room(void)
+{
+    struct cityseq_request r = CITYSEQ_USUAL;
+    struct cityseq_report reports[2] = {{7, 7, 7}, {7, 7, 7}};
+    char part[400], out[400];
+    size_t header = strlen(header_line), good = strlen(good_line), length;
+    length = (size_t)snprintf(part, sizeof part, "{\n%s[\n", good_line);
+    memset(out, 'x', sizeof out);
+    r.keep_going = 1;
+    struct cityseq_answer a = cityseq_filter(header_line, header, part, length, &r, out, header + good, reports, 1);
+    row("one report of two", a.status == CITYSEQ_COMPLETE && a.refused == 2 && reports[0].line == 2 &&
+                                 reports[0].place == 1 && reports[0].code == 4 && reports[1].line == 7);
+    row("room for the output alone", a.written == header + good && out[header + good] == 'x' &&
+                                         !memcmp(out, header_line, header) && !memcmp(out + header, good_line, good));
+    a = cityseq_filter(header_line, header, part, length, &r, out, header + good - 1, reports, 1);
+    row("a byte too little", a.status == CITYSEQ_NO_ROOM && a.written == header);
+    a = cityseq_filter(header_line, header, part, length, &r, out, 0, reports, 0);
+    row("no room", a.status == CITYSEQ_NO_ROOM && a.written == 0);
+}
+
+static void texts(void)
+{
+    char text[64];
+    row("a reason", cityseq_reason_text(25, text, sizeof text) == 25 && !memcmp(text, "vertex index out of range", 25));
+    row("the first letters", cityseq_reason_text(4, text, 3) == 6 && !memcmp(text, "syntex index", 12));
+    row("the last reason", cityseq_reason_text(31, text, sizeof text) == 32);
+    row("no reason", cityseq_reason_text(6, text, sizeof text) == 0 && cityseq_reason_text(32, text, 9) == 0);
+    row("a type", cityseq_type_name(1, text, sizeof text) == 8 && !memcmp(text, "Building", 8));
+    row("the last type", cityseq_type_name(32, text, sizeof text) == 10 && !memcmp(text, "TunnelPart", 10));
+    row("no type", cityseq_type_name(33, text, sizeof text) == 0);
+}
+
+static void *call_often(void *unused)
+{
+    struct cityseq_request r = CITYSEQ_USUAL;
+    uintptr_t good = 0;
+    for (int i = 0; i < rounds; i++)
+        good += ask(&r, header_line, good_line).kept == 1;
+    (void)unused;
+    return (void *)good;
+}
+
+static void at_once(void)
+{
+    pthread_t started[threads];
+    uintptr_t good = 0;
+    void *one;
+    for (int i = 0; i < threads; i++)
+        if (pthread_create(&started[i], NULL, call_often, NULL))
+            exit(3);
+    for (int i = 0; i < threads; i++) {
+        pthread_join(started[i], &one);
+        good += (uintptr_t)one;
+    }
+    row("threads at once", good == (uintptr_t)threads * rounds);
+}
+
+int main(int count, char **words)
+{
+    if (count > 2)
+        return try_stream(count, words);
+    wrong_requests();
+    queries();
+    little_room();
+    texts();
+    at_once();
+    printf("%d passed, %d failed\n", passed, failed);
+    return failed != 0;
+}

@@ -1,0 +1,79 @@
+#!/usr/bin/env bash
+# Tries the library for C: builds it, and runs the example and the tests in C over it, under valgrind too where it is there.
+#
+#     tests/library.sh [PROGRAM]
+#
+# PROGRAM is the built program, crates/cityseq/out/cityseq if none is given. The last line is 'N passed, M failed', and the
+# status is 0 where all passed.
+set -u
+cd "$(dirname "$0")/.." || exit
+program=$(realpath -e -- "${1:-crates/cityseq/out/cityseq}") || exit
+scratch=$(mktemp -d)
+trap 'rm -rf "$scratch"' EXIT
+passed=0 failed=0
+compiler=${CC:-cc}
+strict='-std=c11 -Wall -Wextra -Werror -O2 -D_GNU_SOURCE'
+
+# Counts a command as passed if its status is 0, and shows what it printed else.
+row() {
+  local name=$1
+  shift
+  if "$@" > "$scratch/printed" 2>&1; then
+    passed=$((passed + 1))
+  else
+    failed=$((failed + 1))
+    echo "$name: failed"
+    tail -n 20 "$scratch/printed"
+  fi
+}
+
+# Adds the counts of a command's last line.
+count() {
+  local last
+  "$@" > "$scratch/printed" 2>&1
+  last=$(tail -n 1 "$scratch/printed")
+  if [[ $last =~ ^([0-9]+)' passed, '([0-9]+)' failed'$ ]]; then
+    passed=$((passed + BASH_REMATCH[1]))
+    failed=$((failed + BASH_REMATCH[2]))
+    [ "${BASH_REMATCH[2]}" = 0 ] || cat "$scratch/printed"
+  else
+    failed=$((failed + 1))
+    echo "$*: it did not say what passed"
+    tail -n 20 "$scratch/printed"
+  fi
+}
+
+# Whether the example says of a stream what the program says, with the same status.
+example_agrees() {
+  local wanted status
+  "$scratch/example" "$1" > "$scratch/example_said"
+  status=$?
+  wanted=$("$program" check < "$1" 2>&1)
+  [ "$(cat "$scratch/example_said")" = "$wanted" ] && { "$program" check < "$1" > "$scratch/unread" 2>&1; [ $? = "$status" ]; }
+}
+
+row 'the library is built' c/build.sh
+row 'the example is compiled' "$compiler" $strict c/example.c c/out/libcityseq.a -o "$scratch/example"
+row 'the tests are compiled' "$compiler" $strict tests/library.c c/out/libcityseq.a -pthread -o "$scratch/library"
+row 'the tests are compiled over the shared library' \
+  "$compiler" $strict tests/library.c -Lc/out -lcityseq -Wl,-rpath,"$PWD/c/out" -pthread -o "$scratch/shared"
+if command -v c++ > "$scratch/unread"; then
+  row 'the header is one of C++ too' c++ -Wall -Wextra -Werror -fsyntax-only -x c++ c/cityseq.h
+else
+  echo 'left out: the header as one of C++, for want of a compiler'
+fi
+for stream in examples/*.city.jsonl vectors/byte-order-mark.jsonl; do
+  row "the example on $stream" example_agrees "$stream"
+done
+row 'the example on no file' eval '! "$scratch/example" "$scratch/none"'
+count "$scratch/library" rows
+count "$scratch/shared" rows
+if command -v valgrind > "$scratch/unread"; then
+  row 'rows under valgrind' valgrind -q --error-exitcode=9 --leak-check=full "$scratch/library" rows
+  row 'the example under valgrind' valgrind -q --error-exitcode=9 --leak-check=full "$scratch/example" examples/town.city.jsonl
+else
+  echo 'left out: rows under valgrind, which is not here'
+fi
+count python3 tests/library.py "$scratch/library" "$program"
+echo "$passed passed, $failed failed"
+[ "$failed" = 0 ]
