@@ -126,7 +126,8 @@ class Library:
     @staticmethod
     def _text(call: Any, number: int) -> str:
         room = ctypes.create_string_buffer(128)
-        return room.raw[:call(number, room, len(room))].decode("ascii")
+        length = call(number, room, len(room))
+        return room.raw[:length].decode("ascii")
 
 
 _lock = threading.Lock()

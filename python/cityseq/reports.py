@@ -11,6 +11,7 @@ from typing import Dict, Iterable, Iterator, Optional, Tuple, Union
 
 Text = Union[bytes, bytearray]
 
+TOO_LONG = 2
 BESIDE = 40  # how many bytes an excerpt shows on each side of the place
 LONGEST_READ = 1 << 20  # lines that are longer are not read as JSON to find an id
 # A feature that begins as usual: with its id, or with its type and then its id.
@@ -122,6 +123,7 @@ def describe(raws: Iterable[Tuple[int, int, int]], header: Text, part: Text, fil
     """The reports of lines of a header and a part, each given as its line, place and code."""
     raws = list(raws)
     for (number, place, code), line in zip(raws, lines_at(header, part, [raw[0] for raw in raws])):
+        line = line[:place + 1] if code == TOO_LONG else line  # the rest may not have been read
         excerpt, column = excerpt_of(line, place)
         told = find_id(line) if number > 1 else None
         yield Report(file, number, place, code, _text_of(code), told, excerpt, column)

@@ -93,7 +93,7 @@ class Stream:
         self._joined = Joined()
         self._header, self._head = b"", b""
         self._fault: Optional[Tuple[int, str]] = None
-        self._late: Optional[Tuple[int, str]] = None  # a fault that counts where no part before it ends the stream
+        self._late: Optional[Tuple[int, str]] = None
 
     @property
     def ended(self) -> bool:
@@ -106,7 +106,11 @@ class Stream:
             with opened(self.source) as reader:
                 yield from self._tasks(reader)
         except ReadFault as fault:
-            self._late = (fault.status, fault.words)
+            self.fail(fault)
+
+    def fail(self, fault: ReadFault) -> None:
+        """Notes a fault that counts where no part ends the stream before it."""
+        self._late = fault.status, fault.words
 
     def _tasks(self, reader: Reader) -> Iterator[Callable[[], PartAnswer]]:
         limit = self.work.line_limit
