@@ -25,7 +25,7 @@ suite = unittest.defaultTestLoader.discover("tests", top_level_dir=".")
 result = unittest.TextTestRunner(sys.stdout, resultclass=Counted, verbosity=1).run(suite)
 for test, why in result.skipped:
     print(f"left out: {test}: {why}")
-failed = len({test.id().split(" (")[0] if hasattr(test, "test_case") else test.id() for test, _ in result.failures + result.errors})
+failed = len({getattr(test, "test_case", test).id() for test, _ in result.failures + result.errors})
 print(f"{result.passed} passed, {failed} failed")
 sys.exit(failed > 0)
 TESTS

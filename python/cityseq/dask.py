@@ -16,11 +16,11 @@ from typing import Any, Callable, Iterable, Iterator, List, Optional
 
 from ._library import USUAL_DEPTH, USUAL_LINE
 from .faults import CityseqError, ReadFault, RequestError
-from .parts import PartAnswer
+from .parts import Answer
 from .query import Box, Texts, Work, asked
 from .ranges import Seen, cut, judge_range, judge_whole, look
 from .reports import Report
-from .running import Info, Result, Stream, results
+from .running import Info, Result, Stream, Tasks, results
 from .sources import Target, Writer, is_path, is_same_file
 
 PART = 32 << 20  # how long the parts of tasks are
@@ -38,7 +38,7 @@ class _Ranged(Stream):
         super().__init__(path, work, size, output, tell)
         self._seen, self._path = seen, path
 
-    def tasks(self) -> Iterator[Callable[[], PartAnswer]]:
+    def tasks(self) -> Tasks:
         """What is to be called for each part."""
         seen = self._seen
         self.heads(seen.header, seen.behind)
@@ -82,10 +82,11 @@ def _run(client: Any, paths: Any, work: Work, size: int, output: Optional[Writer
         if not is_path(path):
             raise RequestError(f"the workers open files by their paths: {path!r} is none")
 
-    def submit(task: Callable[[], PartAnswer]) -> Any:
+    def submit(task: Callable[[], Answer]) -> Any:
         return client.submit(task, pure=False, retries=RETRIES)
 
-    ahead = max(AHEAD * sum(client.nthreads().values()), AHEAD)
+    threads: Any = client.nthreads()  # type: ignore[no-untyped-call]
+    ahead = AHEAD * max(sum(threads.values()), 1)
     return results(_streams(client, list(map(str, paths)), work, size, output, tell), submit, ahead)
 
 

@@ -51,7 +51,7 @@ def texts_of(spellings: Dict[bytes, int]) -> Tuple[List[str], FrozenSet[str]]:
 def _features_with(texts: List[str], work: Work, header: bytes, part: Text) -> int:
     """How many features have one of these LoDs, and are wanted."""
     request = replace(work, lods="".join(text + "\n" for text in texts).encode("utf-8")).request()
-    return library().tally(header, part, request, 0)[2].features
+    return int(library().tally(header, part, request, 0)[2].features)
 
 
 def _groups(texts: List[str]) -> List[List[str]]:

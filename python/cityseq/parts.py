@@ -100,10 +100,11 @@ class Cutter:
 
 
 @dataclass
-class PartAnswer:
-    """What came of a header and a part: lines and reports are counted in these two."""
+class Answer:
+    """What came of a header and a part, or of the parts so far: lines and reports are counted in these. None is joined yet where
+    `parts` is 0."""
 
-    status: int
+    status: int = COMPLETE
     lines: int = 0
     kept: int = 0
     refused: int = 0
@@ -114,6 +115,25 @@ class PartAnswer:
     tally: Optional[Tally] = None
     size: int = 0
     fault: Optional[str] = None  # of a read behind the part
+    parts: int = 1
+
+    def add(self, answer: "Answer", tell: Callable[[Report], None]) -> None:
+        """Joins the answer of the next part, and tells its reports as those of the stream. The header's line counts once."""
+        header = min(self.parts, 1)
+        before = self.lines - header
+        for report in answer.reports:
+            tell(report.moved(before))
+        if answer.end is not None:
+            self.end = answer.end.moved(before)
+            tell(self.end)
+        self.status, self.fault = answer.status, answer.fault
+        self.lines += answer.lines - header
+        self.kept += answer.kept
+        self.refused += answer.refused
+        self.peaks = (max(self.peaks[0], answer.peaks[0]), max(self.peaks[1], answer.peaks[1]), max(self.peaks[2], answer.peaks[2]))
+        if answer.tally is not None:
+            self.tally = answer.tally if self.tally is None else self.tally.joined(answer.tally)
+        self.parts += 1
 
 
 def _call(work: Work, header: bytes, part: Text, room: int) -> Tuple[RawAnswer, List[RawReport], Text, Optional[Tally]]:
@@ -129,15 +149,15 @@ def _call(work: Work, header: bytes, part: Text, room: int) -> Tuple[RawAnswer, 
     return answer, reports, b"", None
 
 
-def judge(work: Work, file: str, header: bytes, part: Text, first: bool) -> PartAnswer:
+def judge(work: Work, file: str, header: bytes, part: Text, first: bool) -> Answer:
     """Judges a header and a part, of which only the first has the header's line in its output."""
     try:
         return _judge(work, file, header, part, first)
     except MemoryError:
-        return PartAnswer(NO_MEMORY)
+        return Answer(NO_MEMORY)
 
 
-def _judge(work: Work, file: str, header: bytes, part: Text, first: bool) -> PartAnswer:
+def _judge(work: Work, file: str, header: bytes, part: Text, first: bool) -> Answer:
     """The same. Where reports have no room it is judged again, with as much as they need."""
     answer, raws, output, tally = _call(work, header, part, ROOM if work.keep_going else 0)
     if answer.refused > len(raws) and work.keep_going:
@@ -148,40 +168,9 @@ def _judge(work: Work, file: str, header: bytes, part: Text, first: bool) -> Par
     told = list(describe([(raw.line, raw.place, raw.code) for raw in raws] + ended, header, part, file))
     if tally is not None and work.exact_lods and answer.status == COMPLETE:
         lods.count(tally, work, header, part)
-    return PartAnswer(
+    return Answer(
         status=answer.status, lines=answer.lines, kept=answer.kept, refused=answer.refused,
         peaks=(answer.peak_bytes, answer.peak_tokens, answer.peak_depth),
         end=told.pop() if ended else None, reports=told,
         output=output if first else output[min(len(header), len(output)):], tally=tally,
         size=len(part) + (len(header) if first else 0))
-
-
-@dataclass
-class Joined:
-    """What came of the parts so far, in order, as what comes of the stream that they make."""
-
-    status: int = COMPLETE
-    lines: int = 0
-    kept: int = 0
-    refused: int = 0
-    peaks: Tuple[int, int, int] = (0, 0, 0)
-    end: Optional[Report] = None
-    tally: Optional[Tally] = None
-    parts: int = 0
-
-    def add(self, answer: PartAnswer, tell: Callable[[Report], None]) -> None:
-        """Joins the answer of the next part, and tells its reports as those of the stream."""
-        before = max(self.lines - 1, 0) if self.parts else 0
-        for report in answer.reports:
-            tell(report.moved(before))
-        if answer.end is not None:
-            self.end = answer.end.moved(before)
-            tell(self.end)
-        self.status = answer.status
-        self.lines += answer.lines - (1 if self.parts else 0)
-        self.kept += answer.kept
-        self.refused += answer.refused
-        self.peaks = tuple(map(max, self.peaks, answer.peaks))  # type: ignore[assignment]
-        if answer.tally is not None:
-            self.tally = answer.tally if self.tally is None else self.tally.joined(answer.tally)
-        self.parts += 1

@@ -6,7 +6,7 @@ from typing import IO, Iterator, Optional, Tuple
 
 from .faults import ReadFault
 from .hints import HEAD
-from .parts import PartAnswer, judge, read_header
+from .parts import Answer, judge, read_header
 from .query import Work
 from .running import Done, Stream, results
 from .sources import PIECE, READ_FAULTS, Reader, opened, size_of, why
@@ -81,7 +81,7 @@ def _lines_from(file: IO[bytes], begin: int, end: int, work: Work) -> bytearray:
     return lines
 
 
-def judge_range(work: Work, path: str, begin: int, end: int, first: bool) -> PartAnswer:
+def judge_range(work: Work, path: str, begin: int, end: int, first: bool) -> Answer:
     """Judges the header of a file and the lines that begin in a range of it."""
     try:
         with open(path, "rb") as file:
@@ -91,13 +91,13 @@ def judge_range(work: Work, path: str, begin: int, end: int, first: bool) -> Par
             left = max(_first_line(file, begin, end), begin)
             part = _lines_from(file, left, end, work) if left < end else bytearray()
     except READ_FAULTS as fault:
-        return PartAnswer(0, lines=1, fault=f"read fault: {why(fault)}")
+        return Answer(0, lines=1, fault=f"read fault: {why(fault)}")
     if not part and not first:
-        return PartAnswer(0, lines=1, size=end - begin)
+        return Answer(0, lines=1, size=end - begin)
     return judge(work, path, header, part, first)
 
 
-def judge_whole(work: Work, path: str) -> PartAnswer:
+def judge_whole(work: Work, path: str) -> Answer:
     """Judges a file whose bytes cannot be gone to, as one that is packed."""
     stream = Stream(path, work)
     for _ in results([stream], Done, 0):

@@ -5,21 +5,24 @@ import contextlib
 import os
 from collections import deque
 from concurrent.futures import ThreadPoolExecutor
-from dataclasses import asdict, dataclass, field
+from dataclasses import asdict, dataclass, field, replace
 from decimal import Decimal
-from typing import Any, Callable, Deque, Dict, Iterable, Iterator, List, Optional, Tuple
+from typing import Any, Callable, Deque, Dict, Generator, Iterable, List, Optional, Tuple, Type
 
 from . import tally as tallies
 from ._library import NO_MEMORY, REFUSED
 from .faults import MemoryFault, ReadFault, RequestError, WriteFault
 from .hints import HEAD, hints_for
-from .parts import PART, Cutter, Joined, PartAnswer, judge, read_header
+from .parts import PART, Answer, Cutter, judge, read_header
 from .query import Work
 from .reports import Report
 from .sources import Reader, Source, Writer, name_of, opened
 
 AHEAD = 2  # how many parts wait beside those that are judged
 Tell = Callable[[Report], None]
+Task = Callable[[], Answer]
+Tasks = Generator[Task, None, None]
+Results = Generator["Result", None, None]
 FAULTS = {fault.status: fault for fault in (ReadFault, WriteFault, MemoryFault)}
 
 
@@ -90,7 +93,7 @@ class Stream:
         self._output, self._progress = output, progress
         self._reports: List[Report] = []
         self._tell: Tell = self._reports.append if tell is None else tell
-        self._joined = Joined()
+        self._joined = Answer(parts=0)
         self._header, self._head = b"", b""
         self._fault: Optional[Tuple[int, str]] = None
         self._late: Optional[Tuple[int, str]] = None
@@ -100,7 +103,7 @@ class Stream:
         """Whether nothing after the parts that were added counts."""
         return self._joined.status != 0 or self._fault is not None
 
-    def tasks(self) -> Iterator[Callable[[], PartAnswer]]:
+    def tasks(self) -> Tasks:
         """What is to be called for each part, in order. A read that fails is told after them."""
         try:
             with opened(self.source) as reader:
@@ -112,7 +115,7 @@ class Stream:
         """Notes a fault that counts where no part ends the stream before it."""
         self._late = fault.status, fault.words
 
-    def _tasks(self, reader: Reader) -> Iterator[Callable[[], PartAnswer]]:
+    def _tasks(self, reader: Reader) -> Tasks:
         limit = self.work.line_limit
         header, rest = read_header(reader, limit)
         self.heads(header, bytes(rest[:HEAD]))
@@ -128,14 +131,14 @@ class Stream:
         if reader.fault is not None:
             raise ReadFault(f"read fault: {reader.fault}")
 
-    def _task(self, header: bytes, part: bytearray, first: bool) -> Callable[[], PartAnswer]:
+    def _task(self, header: bytes, part: bytearray, first: bool) -> Task:
         return lambda: judge(self.work, self.file, header, part, first)
 
     def heads(self, header: bytes, behind: bytes) -> None:
         """Notes the stream's first line, and some of what follows it."""
         self._header, self._head = header, header[:HEAD] + behind
 
-    def add(self, answer: PartAnswer) -> None:
+    def add(self, answer: Answer) -> None:
         """Joins the answer of the next part."""
         self._joined.add(answer, self._tell)
         if answer.status == NO_MEMORY:
@@ -153,11 +156,11 @@ class Stream:
         except WriteFault as fault:
             self._fault = fault.status, fault.words
 
-    def answer(self) -> PartAnswer:
+    def answer(self) -> Answer:
         """What came of the stream, as that of one part."""
-        joined, fault = self._joined, self._fault or self._late
-        return PartAnswer(joined.status, joined.lines, joined.kept, joined.refused, joined.peaks, joined.end,
-                          self._reports[:-1] if joined.end else self._reports, b"", joined.tally, fault=fault and fault[1])
+        fault = self._fault or self._late
+        reports = self._reports[:-1] if self._joined.end is not None else self._reports
+        return replace(self._joined, reports=reports, fault=fault and fault[1], parts=1)
 
     def finish(self) -> Result:
         """What came of the stream, when all its parts were added."""
@@ -171,7 +174,7 @@ class Stream:
         refused = joined.status == REFUSED or joined.refused > 0
         status, fault = self._fault or (int(refused), None)
         hints = hints_for(joined.end, self._head) if joined.end is not None else []
-        made = Info if self.work.kind == "info" else Result
+        made: Type[Result] = Info if self.work.kind == "info" else Result
         result = made(self.file, status, joined.lines, joined.kept, joined.refused, *joined.peaks, end=joined.end,
                       reports=self._reports, fault=fault, hints=hints)
         if isinstance(result, Info) and not self.ended and joined.tally is not None:
@@ -187,12 +190,12 @@ class Stream:
         info.lods, info.unasked = tally.lods, tuple(sorted(tally.unasked))
 
 
-def results(streams: Iterable[Stream], submit: Callable[[Any], Any], ahead: int) -> Iterator[Result]:
+def results(streams: Iterable[Stream], submit: Callable[[Task], Any], ahead: int) -> Results:
     """What comes of each stream, in order. `submit` begins a task and answers its future; so many are begun before the first is
     waited for. What was begun of a stream after its end is cancelled."""
     waiting: Deque[Tuple[Stream, Any]] = deque()
 
-    def taken(most: int) -> Iterator[Result]:
+    def taken(most: int) -> Results:
         while waiting and (len(waiting) > most or waiting[0][1] is None or waiting[0][1].done()):
             stream, future = waiting.popleft()
             if future is None:
@@ -221,10 +224,10 @@ def results(streams: Iterable[Stream], submit: Callable[[Any], Any], ahead: int)
 class Done:
     """A task that is done at once, in the thread that asks for it."""
 
-    def __init__(self, task: Callable[[], PartAnswer]) -> None:
+    def __init__(self, task: Task) -> None:
         self._answer = task()
 
-    def result(self) -> PartAnswer:
+    def result(self) -> Answer:
         """What the task answered."""
         return self._answer
 
@@ -242,7 +245,7 @@ def usual_jobs() -> int:
     return len(os.sched_getaffinity(0)) if hasattr(os, "sched_getaffinity") else os.cpu_count() or 1
 
 
-def threaded(streams: Iterable[Stream], jobs: Optional[int]) -> Iterator[Result]:
+def threaded(streams: Iterable[Stream], jobs: Optional[int]) -> Results:
     """What comes of each stream, in order, by so many threads."""
     jobs = usual_jobs() if jobs is None else jobs
     if isinstance(jobs, bool) or not isinstance(jobs, int) or jobs < 1:
@@ -250,6 +253,6 @@ def threaded(streams: Iterable[Stream], jobs: Optional[int]) -> Iterator[Result]
     return results(streams, Done, 0) if jobs == 1 else _pooled(streams, jobs)
 
 
-def _pooled(streams: Iterable[Stream], jobs: int) -> Iterator[Result]:
+def _pooled(streams: Iterable[Stream], jobs: int) -> Results:
     with ThreadPoolExecutor(jobs) as pool:
         yield from results(streams, pool.submit, jobs + AHEAD)

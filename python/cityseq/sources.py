@@ -47,7 +47,7 @@ class Reader:
     """Reads a file object. A read that fails is kept as `fault`, and is the end of the input."""
 
     def __init__(self, file: IO[bytes]) -> None:
-        self._read = getattr(file, "read1", None) or file.read
+        self._read: Any = getattr(file, "read1", None) or file.read
         self.fault: Optional[str] = None
 
     def read(self, most: int) -> bytes:
@@ -59,7 +59,7 @@ class Reader:
             self.fault = "the source gives text: open it as binary" if isinstance(piece, str) else "no bytes were ready"
         except READ_FAULTS as fault:
             self.fault = why(fault)
-        self._read = lambda most: b""
+        self._read = io.BytesIO().read
         return b""
 
 
@@ -69,7 +69,7 @@ def why(fault: BaseException) -> str:
     return " ".join(str(told).split())
 
 
-def _open(source: Source) -> IO[bytes]:
+def _open(source: Source) -> Any:
     """The file object of a source, which is to be closed if the source is a path or bytes."""
     if isinstance(source, (bytes, bytearray, memoryview)):
         return io.BytesIO(source)

@@ -20,14 +20,14 @@ NESTED = 1_100  # arrays and objects that a header may have open at once, and so
 class Tally:
     """City objects by type, geometries by the class of their LoD, and the least and greatest vertex on each axis.
 
-    `lods` has each exact text of an LoD with how many features have it; it is None where there are too many to count.
+    `lods` has each exact text of an LoD with how many features have it; it is None where that was not counted.
     `unasked` are some texts that may be LoDs, and that cannot be asked for: those with an LF or half a character."""
 
     features: int = 0
     types: Dict[str, int] = field(default_factory=dict)
     classes: Dict[str, int] = field(default_factory=dict)
     ranges: Tuple[Range, Range, Range] = (None, None, None)
-    lods: Optional[Dict[str, int]] = field(default_factory=dict)
+    lods: Optional[Dict[str, int]] = None
     unasked: FrozenSet[str] = frozenset()
 
     def joined(self, other: "Tally") -> "Tally":

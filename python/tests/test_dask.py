@@ -24,8 +24,8 @@ else:
 
 def by_ranges(path, each, work):
     """What comes of a file whose ranges are judged one after another, as each task does."""
-    from cityseq.parts import Joined
-    seen, joined, output, reports, first = look(path, work.line_limit), Joined(), b"", [], True
+    from cityseq.parts import Answer
+    seen, joined, output, reports, first = look(path, work.line_limit), Answer(parts=0), b"", [], True
     begin = len(seen.header)
     for left, right in list(cut(begin, seen.size, each) if seen.header.endswith(b"\n") else ()) or [(begin, begin)]:
         if joined.status == 0:
