@@ -12,7 +12,7 @@ from dataclasses import replace
 from typing import Dict, FrozenSet, Iterator, List, Optional, Tuple
 
 from ._library import Text, library
-from .query import Work
+from .query import Work, lines_of
 from .tally import Tally
 
 ALONE = 8  # so many texts, those that come most often, are asked for alone
@@ -50,7 +50,7 @@ def texts_of(spellings: Dict[bytes, int]) -> Tuple[List[str], FrozenSet[str]]:
 
 def _features_with(texts: List[str], work: Work, header: bytes, part: Text) -> int:
     """How many features have one of these LoDs, and are wanted."""
-    request = replace(work, lods="".join(text + "\n" for text in texts).encode("utf-8")).request()
+    request = replace(work, lods=lines_of(texts)).request()
     return int(library().tally(header, part, request, 0)[2].features)
 
 

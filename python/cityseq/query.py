@@ -12,8 +12,14 @@ Texts = Union[str, Iterable[str]]
 Box = Union[str, Iterable[Union[int, float, str, Decimal]]]
 
 
-def _lines_of(texts: Optional[Texts], what: str) -> Optional[bytes]:
-    """Texts as the library takes them, one a line. One text may come alone."""
+def lines_of(texts: Iterable[str]) -> bytes:
+    """Texts as the library takes them, one a line. The empty one comes first, so that the last line is not empty and needs no LF."""
+    listed = sorted(texts, key=bool)
+    return ("\n".join(listed) or "\n" * len(listed)).encode("utf-8")
+
+
+def _asked_lines(texts: Optional[Texts], what: str) -> Optional[bytes]:
+    """The texts that are asked for, of which one may come alone."""
     if texts is None:
         return None
     listed = [texts] if isinstance(texts, str) else list(texts)
@@ -23,7 +29,7 @@ def _lines_of(texts: Optional[Texts], what: str) -> Optional[bytes]:
         if "\n" in text:
             raise RequestError(f"no text with a line's end in it can be asked for among {what}: {text!r}")
     try:
-        return "".join(text + "\n" for text in listed).encode("utf-8")
+        return lines_of(listed)
     except UnicodeEncodeError as fault:
         raise RequestError(f"{FAULTS[4]}, among {what}") from fault
 
@@ -80,7 +86,7 @@ def asked(
     work = Work(
         kind, _limit(line_limit, *LINE_LIMITS, "line limit"), _limit(depth, *DEPTH_LIMITS, "depth"),
         bool(keep_going), bool(tree), bool(exclude),
-        _lines_of(ids, "ids"), _lines_of(types, "types"), _lines_of(lods, "LoDs"), _box_of(box), bool(exact_lods))
+        _asked_lines(ids, "ids"), _asked_lines(types, "types"), _asked_lines(lods, "LoDs"), _box_of(box), bool(exact_lods))
     answer = library().check(b"", b"", work.request(), 0)[0]
     if answer.status == BAD_REQUEST:
         raise RequestError(FAULTS.get(answer.code, f"bad request {answer.code}") + _which(work, answer.code))
@@ -92,4 +98,4 @@ def _which(work: Work, code: int) -> str:
     if code != 5 or work.types is None:
         return ""
     known = {library().type_name(number) for number in range(TYPES)}
-    return ": " + next((name for name in work.types.decode().split("\n")[:-1] if name not in known), "")
+    return ": " + next((name for name in work.types.decode().split("\n") if name not in known), "")
