@@ -4,28 +4,6 @@
 #
 #     tests/python.sh [PYTHON]      (python3 if left out)
 set -u
+python=$(command -v "${1:-python3}") || exit
 cd "$(dirname "$0")/../python" || exit
-
-"${1:-python3}" -B -W ignore - <<'TESTS'
-import sys
-import unittest
-
-
-class Counted(unittest.TextTestResult):
-    """Counts the tests that passed."""
-
-    passed = 0
-
-    def addSuccess(self, test):
-        super().addSuccess(test)
-        self.passed += 1
-
-
-suite = unittest.defaultTestLoader.discover("tests", top_level_dir=".")
-result = unittest.TextTestRunner(sys.stdout, resultclass=Counted, verbosity=1).run(suite)
-for test, why in result.skipped:
-    print(f"left out: {test}: {why}")
-failed = len({getattr(test, "test_case", test).id() for test, _ in result.failures + result.errors})
-print(f"{result.passed} passed, {failed} failed")
-sys.exit(failed > 0)
-TESTS
+exec "$python" -B -W ignore -m tests

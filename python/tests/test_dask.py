@@ -1,6 +1,7 @@
 """Files over a cluster of two workers on this machine, one of which may die: the same as by one run."""
 import gzip
 import io
+import logging
 import os
 import random
 import time
@@ -40,7 +41,7 @@ class Ranges(InFolder):
     """Parts that are read where they are judged, without a cluster."""
 
     def test_ranges_by_chance(self):
-        for seed in range(150):
+        for seed in range(60):
             text, chance = support.stream_by_chance(seed), random.Random(seed)
             path, options = str(self.file(text)), {"line_limit": 1_000, "keep_going": seed % 2 == 0}
             one = support.in_one(text, **options)
@@ -57,7 +58,10 @@ class Clusters(InFolder):
     @classmethod
     def setUpClass(cls):
         os.environ["PYTHONPATH"] = os.path.join(support.ROOT, "python")
-        cls.cluster = distributed.LocalCluster(n_workers=2, threads_per_worker=1, processes=True, host="127.0.0.1", dashboard_address=None)
+        for name in ("scheduler", "client", "nanny", "worker"):
+            logging.getLogger(f"distributed.{name}").setLevel(logging.CRITICAL)  # that a worker died is what is tested
+        cls.cluster = distributed.LocalCluster(n_workers=2, threads_per_worker=1, processes=True, host="127.0.0.1",
+                                               dashboard_address=None, silence_logs=logging.CRITICAL)
         cls.client = distributed.Client(cls.cluster)
 
     @classmethod
