@@ -79,7 +79,7 @@ _CALLS = {
 def _pointed(text: Text) -> Any:
     """What a call takes as the pointer to these bytes, of which nothing is copied."""
     if isinstance(text, bytearray) and text:
-        return (ctypes.c_char * len(text)).from_buffer(text)
+        return ctypes.byref(ctypes.c_char.from_buffer(text))
     return bytes(text)
 
 

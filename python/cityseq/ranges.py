@@ -91,9 +91,9 @@ def judge_range(work: Work, path: str, begin: int, end: int, first: bool) -> Ans
             left = max(_first_line(file, begin, end), begin)
             part = _lines_from(file, left, end, work) if left < end else bytearray()
     except READ_FAULTS as fault:
-        return Answer(0, lines=1, fault=f"read fault: {why(fault)}")
+        return Answer(lines=int(not first), fault=f"read fault: {why(fault)}")
     if not part and not first:
-        return Answer(0, lines=1, size=end - begin)
+        return Answer(lines=1, size=end - begin)
     return judge(work, path, header, part, first)
 
 

@@ -121,6 +121,21 @@ class Sources(InFolder):
             "(2, 8388608, 2) 1", "(1, 8388608, 2) 0", "(2, 8388608, 2) 2", "(1, 8388608, 2) 0", "True"])
 
 
+    def test_memory_that_is_refused(self):
+        script = """if True:
+            import io, resource, cityseq
+            resource.setrlimit(resource.RLIMIT_AS, (1 << 31, 1 << 31))
+            for jobs in (1, 3):
+                try:
+                    cityseq.filter(%r, io.BytesIO(), line_limit=1 << 30, jobs=jobs, part_size=100)
+                except cityseq.MemoryFault as fault:
+                    print(fault, fault.status, fault.result.lines)
+            print(cityseq.check(%r).status)"""
+        ran = subprocess.run([sys.executable, "-c", script % (GOOD, GOOD)], stdout=subprocess.PIPE, timeout=60,
+                             env={**os.environ, "PYTHONPATH": os.path.join(support.ROOT, "python")})
+        self.assertEqual(ran.stdout.decode(), "out of memory 5 0\nout of memory 5 0\n0\n")
+
+
 class Requests(unittest.TestCase):
     """What cannot be asked is an exception with clear words, and nothing is read or written."""
 
