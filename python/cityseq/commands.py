@@ -5,9 +5,9 @@ import argparse
 import json
 import os
 import sys
-from contextlib import closing
+from contextlib import closing, suppress
 from dataclasses import asdict
-from typing import IO, Any, Callable, Iterator, List, Optional, Sequence
+from typing import Any, Callable, Iterator, List, Optional, Sequence
 
 from . import __version__
 from ._library import USUAL_DEPTH, USUAL_LINE
@@ -17,7 +17,7 @@ from .progress import Bar
 from .query import Work, asked
 from .reports import Report, explain
 from .running import Info, Result, Stream, threaded
-from .sources import Writer, is_same_file, size_of
+from .sources import Writer, is_same_file, size_of, why
 from .tally import normal
 
 STATUSES = """\
@@ -126,23 +126,40 @@ def _outputs(options: argparse.Namespace) -> List[Optional[str]]:
     return outputs
 
 
+def _complain(words: str) -> None:
+    """Says something on standard error. Where it takes nothing, the status alone tells of it."""
+    with suppress(OSError, ValueError):
+        print(words, file=sys.stderr, flush=True)
+
+
+def _print(text: str) -> None:
+    """Writes a line to standard output."""
+    try:
+        if sys.stdout is None:
+            raise OSError("standard output is closed")
+        print(text)
+    except (OSError, ValueError) as fault:
+        raise WriteFault(f"write fault: {why(fault)}") from fault
+
+
+def _make_folder(path: str) -> None:
+    try:
+        os.makedirs(path, exist_ok=True)
+    except OSError as fault:
+        raise WriteFault(f"{path}: write fault: {why(fault)}") from fault
+
+
 class Printer:
     """Prints reports as they come, and what came of each file."""
 
     def __init__(self, options: argparse.Namespace, bar: Bar) -> None:
         self._options, self._bar = options, bar
         to_output = options.command == "filter" and options.output == "-" and options.output_dir is None
-        self._json: IO[str] = sys.stderr if to_output else sys.stdout
+        self._json = _complain if to_output else _print
 
-    def _say(self, text: str, to: Optional[IO[str]] = None) -> None:
-        """Prints a text. Where standard error takes none, the status alone tells of it."""
+    def _say(self, text: str, say: Callable[[str], None] = _complain) -> None:
         self._bar.clear()
-        to = sys.stderr if to is None else to
-        try:
-            print(text.encode("utf-8", "backslashreplace").decode("utf-8"), file=to, flush=to is sys.stderr)
-        except (OSError, ValueError) as fault:
-            if to is not sys.stderr:
-                raise WriteFault(f"write fault: {fault}") from fault
+        say(text.encode("utf-8", "backslashreplace").decode("utf-8"))
 
     def report(self, report: Report) -> None:
         """Tells of an invalid line: by the program's words, and below them of which feature, where in it, and how to fix it."""
@@ -168,11 +185,11 @@ class Printer:
             self._say(f"{result.file}: {result.fault}")
         elif self._options.command == "info" and isinstance(result, Info) and result.end is None:
             before = f"{result.file}: " if len(self._options.files) > 1 else ""
-            self._say("\n".join(before + line for line in info_lines(result)), sys.stdout)
+            self._say("\n".join(before + line for line in info_lines(result)), _print)
         elif self._options.command == "check" and result.end is None:
             refused = f" refused={result.refused}" if result.refused else ""
             words = f"{'invalid' if refused else 'valid'} lines={result.lines} features={result.features}{refused}"
-            self._say(f"{result.file}: {words}", sys.stdout)
+            self._say(f"{result.file}: {words}", _print)
 
 
 def info_lines(info: Info) -> Iterator[str]:
@@ -200,8 +217,8 @@ def _run(options: argparse.Namespace) -> int:
     work, outputs, worst = _work(options), _outputs(options), 0
     if options.part_size < 1:
         raise RequestError("a part has one byte or more")
-    if options.output_dir is not None if options.command == "filter" else False:
-        os.makedirs(options.output_dir, exist_ok=True)
+    if options.command == "filter" and options.output_dir is not None:
+        _make_folder(options.output_dir)
     sizes = [size_of(file) for file in options.files]
     with Bar(None if None in sizes else sum(filter(None, sizes)), options.progress) as bar:
         printer = Printer(options, bar)
@@ -219,18 +236,18 @@ def _explain(code: int) -> int:
         told = explain(code)
     except KeyError:
         raise RequestError(f"no reason has the code {code}") from None
-    print(f"{code} {told.text}\n\n{told.meaning}\n\nFix: {told.fix}")
+    _print(f"{code} {told.text}\n\n{told.meaning}\n\nFix: {told.fix}")
     return 0
 
 
-def _flushed(run: Callable[[], int]) -> int:
-    """The status of a run, whose output is then flushed."""
-    status = run()
+def _done(options: argparse.Namespace) -> int:
+    """Does what is asked, and flushes what was written."""
+    status = _explain(options.explain) if options.explain is not None else _run(options)
     try:
         if sys.stdout is not None:
             sys.stdout.flush()
     except (OSError, ValueError) as fault:
-        raise WriteFault(f"write fault: {fault}") from fault
+        raise WriteFault(f"write fault: {why(fault)}") from fault
     return status
 
 
@@ -242,14 +259,14 @@ def main(words: Optional[Sequence[str]] = None) -> int:
         parser.print_help(sys.stderr)
         return 2
     try:
-        return _flushed(lambda: _explain(options.explain) if getattr(options, "explain", None) is not None else _run(options))
+        return _done(options)
     except CityseqError as fault:
-        print(fault.words, file=sys.stderr)
+        _complain(fault.words)
         if fault.status == WriteFault.status and sys.stdout is not None:
             os.dup2(os.open(os.devnull, os.O_WRONLY), 1)  # what is still in the buffer has nowhere to go
         return fault.status
     except MemoryError:
-        print("out of memory", file=sys.stderr)
+        _complain("out of memory")
         return MemoryFault.status
     except KeyboardInterrupt:
         return 130

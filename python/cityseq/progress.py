@@ -3,6 +3,7 @@ from __future__ import annotations
 
 import sys
 import time
+from contextlib import suppress
 from typing import Any, Optional
 
 EACH = 0.5  # seconds between two counts
@@ -44,8 +45,10 @@ class Bar:
         if self._bar is not None:
             self._bar.clear()
         elif self._shown:
-            print("\r", end="", file=sys.stderr)
+            with suppress(OSError, ValueError):
+                print("\r", end="", file=sys.stderr)
 
     def _count(self, end: str) -> None:
         share = f" of {self._total / 1e6:.0f}" if self._total else ""
-        print(f"\r{self._done / 1e6:.0f}{share} MB", end=end, file=sys.stderr, flush=True)
+        with suppress(OSError, ValueError):
+            print(f"\r{self._done / 1e6:.0f}{share} MB", end=end, file=sys.stderr, flush=True)

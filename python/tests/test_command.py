@@ -126,12 +126,22 @@ class Commands(InFolder):
         self.assertEqual(command("check", self.folder)[2], 3)
         self.assertEqual(command("check", none, self.file(GOOD))[::2], (f"{self.folder}/stream.city.jsonl: valid lines=3 features=2\n".encode(), 3))
         self.assertEqual(command("filter", "--output", self.folder, "-", given=GOOD)[::2], (b"", 4))
-        if os.path.exists("/dev/full"):
-            for words in ("check", "filter", "info"):
-                with open("/dev/full", "wb") as full:
-                    ran = subprocess.run([sys.executable, "-m", "cityseq", words, "-"], input=GOOD, stdout=full, stderr=subprocess.PIPE,
-                                         env={**os.environ, "PYTHONPATH": os.path.join(support.ROOT, "python")})
-                self.assertEqual((ran.returncode, b"write fault" in ran.stderr, b"Traceback" in ran.stderr), (4, True, False), words)
+
+    def told_on(self, stdout, stderr, *words):
+        """The status of a run with these as its outputs, and what it says where that is kept."""
+        ran = subprocess.run([sys.executable, "-m", "cityseq", *words], input=GOOD, stdout=stdout, stderr=stderr,
+                             env={**os.environ, "PYTHONPATH": os.path.join(support.ROOT, "python")})
+        return ran.returncode, (ran.stderr or b"").decode()
+
+    @unittest.skipUnless(os.path.exists("/dev/full"), "there is no device that is full")
+    def test_outputs_that_are_full(self):
+        with open("/dev/full", "wb") as full:
+            for words in (("check", "-"), ("filter", "-"), ("info", "-"), ("explain", "25"), ("check", "--json", "-")):
+                status, said = self.told_on(full, subprocess.PIPE, *words)
+                self.assertEqual((status, "write fault" in said, "Traceback" in said), (4, True, False), words)
+            for words, status in ((("check", "-"), 0), (("check", "--progress", self.file(BROKEN)), 1), (("check", "--depth", "0", "-"), 2),
+                                  (("check", "/nowhere"), 3), (("check",), 2)):
+                self.assertEqual(self.told_on(subprocess.DEVNULL, full, *words)[0], status, words)
 
 
 if __name__ == "__main__":
