@@ -5,7 +5,7 @@ import ctypes
 import os
 import threading
 from ctypes import POINTER, c_bool, c_char_p, c_int64, c_size_t, c_uint32, c_uint64
-from typing import Any, List, Optional, Tuple, Union
+from typing import Any, Iterable, Optional, Tuple, Union
 
 from .faults import LibraryMissing
 
@@ -65,6 +65,7 @@ class RawTally(ctypes.Structure):
 
 
 Text = Union[bytes, bytearray]
+RawReports = Iterable[RawReport]
 _COMMON = [c_char_p, c_size_t, c_char_p, c_size_t, POINTER(RawRequest)]
 _ROOM = [POINTER(RawReport), c_size_t]
 _CALLS = {
@@ -89,27 +90,27 @@ class Library:
     def __init__(self, calls: Any) -> None:
         self._calls = calls
 
-    def check(self, header: bytes, part: Text, request: RawRequest, room: int) -> Tuple[RawAnswer, List[RawReport]]:
-        """Judges a header and a part, with room for so many reports."""
+    def check(self, header: bytes, part: Text, request: RawRequest, room: int) -> Tuple[RawAnswer, RawReports]:
+        """Judges a header and a part. The second is the room for reports, of which the first ones are written."""
         reports = (RawReport * max(room, 1))()
         answer = self._calls.cityseq_check(*self._given(header, part, request), reports, room)
-        return answer, reports[:min(answer.refused, room)]
+        return answer, reports
 
-    def filter(self, header: bytes, part: Text, request: RawRequest, room: int) -> Tuple[RawAnswer, List[RawReport], bytearray]:
-        """The same, and what is kept of them is the third."""
+    def filter(self, header: bytes, part: Text, request: RawRequest, room: int) -> Tuple[RawAnswer, RawReports, bytearray]:
+        """The same, and what is kept is the third."""
         reports = (RawReport * max(room, 1))()
         output = bytearray(len(header) + len(part) + 1)
         given = self._given(header, part, request)
         answer = self._calls.cityseq_filter(*given, _pointed(output), len(output), reports, room)
         del output[answer.written:]
-        return answer, reports[:min(answer.refused, room)], output
+        return answer, reports, output
 
-    def tally(self, header: bytes, part: Text, request: RawRequest, room: int) -> Tuple[RawAnswer, List[RawReport], RawTally]:
+    def tally(self, header: bytes, part: Text, request: RawRequest, room: int) -> Tuple[RawAnswer, RawReports, RawTally]:
         """The same as `check`, and what is in the features that are wanted is the third."""
         reports, tally = (RawReport * max(room, 1))(), RawTally()
         given = self._given(header, part, request)
         answer = self._calls.cityseq_tally(*given, ctypes.byref(tally), reports, room)
-        return answer, reports[:min(answer.refused, room)], tally
+        return answer, reports, tally
 
     def reason_text(self, code: int) -> str:
         """The words of a reason; none where no reason has this code."""

@@ -4,11 +4,12 @@ The law of parts: what comes of a stream is what comes of its header with the fi
 the same header with the rest. Each part is judged behind the header, so the header's line counts once."""
 from __future__ import annotations
 
-from dataclasses import dataclass, field
-from typing import Callable, Iterator, List, Optional, Tuple
+from dataclasses import dataclass
+from itertools import islice
+from typing import Callable, Iterable, Iterator, Optional, Tuple
 
 from . import lods
-from ._library import COMPLETE, NO_MEMORY, REFUSED, RawAnswer, RawReport, Text, library
+from ._library import COMPLETE, NO_MEMORY, REFUSED, RawAnswer, RawReports, Text, library
 from .faults import CityseqError
 from .query import Work
 from .reports import Report, describe
@@ -110,7 +111,7 @@ class Answer:
     refused: int = 0
     peaks: Tuple[int, int, int] = (0, 0, 0)
     end: Optional[Report] = None
-    reports: List[Report] = field(default_factory=list)
+    reports: Iterable[Report] = ()
     output: Text = b""
     tally: Optional[Tally] = None
     size: int = 0
@@ -136,7 +137,7 @@ class Answer:
         self.parts += 1
 
 
-def _call(work: Work, header: bytes, part: Text, room: int) -> Tuple[RawAnswer, List[RawReport], Text, Optional[Tally]]:
+def _call(work: Work, header: bytes, part: Text, room: int) -> Tuple[RawAnswer, RawReports, Text, Optional[Tally]]:
     """The call of the library that the work asks for."""
     request = work.request()
     if work.kind == "filter":
@@ -158,19 +159,20 @@ def judge(work: Work, file: str, header: bytes, part: Text, first: bool) -> Answ
 
 
 def _judge(work: Work, file: str, header: bytes, part: Text, first: bool) -> Answer:
-    """The same. Where reports have no room it is judged again, with as much as they need."""
-    answer, raws, output, tally = _call(work, header, part, ROOM if work.keep_going else 0)
-    if answer.refused > len(raws) and work.keep_going:
+    """The same. Where reports have no room it is judged again, with as much as they need. They are read when they are joined, as
+    there may be very many."""
+    room = ROOM if work.keep_going else 0
+    answer, raws, output, tally = _call(work, header, part, room)
+    if answer.refused > room and work.keep_going:
         answer, raws, output, tally = _call(work, header, part, answer.refused)
     if answer.status not in (COMPLETE, REFUSED, NO_MEMORY):
         raise CityseqError(f"the library answered {answer.status}, code {answer.code}, of a part of {len(part)} bytes")
-    ended = [(answer.line, answer.place, answer.code)] if answer.status == REFUSED else []
-    told = list(describe([(raw.line, raw.place, raw.code) for raw in raws] + ended, header, part, file))
     if tally is not None and work.exact_lods and answer.status == COMPLETE:
         lods.count(tally, work, header, part)
     return Answer(
         status=answer.status, lines=answer.lines, kept=answer.kept, refused=answer.refused,
         peaks=(answer.peak_bytes, answer.peak_tokens, answer.peak_depth),
-        end=told.pop() if ended else None, reports=told,
+        end=next(describe([answer], header, part, file)) if answer.status == REFUSED else None,
+        reports=describe(islice(raws, answer.refused), header, part, file) if answer.refused else (),
         output=output if first else output[min(len(header), len(output)):], tally=tally,
         size=len(part) + (len(header) if first else 0))

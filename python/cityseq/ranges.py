@@ -1,7 +1,7 @@
 """Parts of a file that are read where they are judged: the lines that begin in a range of its bytes."""
 from __future__ import annotations
 
-from dataclasses import dataclass
+from dataclasses import dataclass, replace
 from typing import IO, Iterator, Optional, Tuple
 
 from .faults import ReadFault
@@ -94,7 +94,8 @@ def judge_range(work: Work, path: str, begin: int, end: int, first: bool) -> Ans
         return Answer(lines=int(not first), fault=f"read fault: {why(fault)}")
     if not part and not first:
         return Answer(lines=1, size=end - begin)
-    return judge(work, path, header, part, first)
+    answer = judge(work, path, header, part, first)
+    return replace(answer, reports=list(answer.reports))
 
 
 def judge_whole(work: Work, path: str) -> Answer:

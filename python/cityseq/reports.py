@@ -7,7 +7,7 @@ import os
 import re
 import unicodedata
 from dataclasses import dataclass, replace
-from typing import Dict, Iterable, Iterator, Optional, Tuple, Union
+from typing import Any, Dict, Iterable, Iterator, Optional, Tuple, Union
 
 Text = Union[bytes, bytearray]
 
@@ -106,27 +106,19 @@ def excerpt_of(line: Text, place: int) -> Tuple[str, int]:
     return before + after, sum(2 if unicodedata.east_asian_width(sign) in "WF" else 1 for sign in before)
 
 
-def lines_at(header: Text, part: Text, numbers: Iterable[int]) -> Iterator[bytes]:
-    """The lines of these numbers, which rise, of a header and a part."""
+def describe(raws: Iterable[Any], header: Text, part: Text, file: str) -> Iterator[Report]:
+    """The reports of lines of a header and a part, each given as its `line`, `place` and `code`; the lines rise."""
     begin, number = 0, 2
-    for wanted in numbers:
-        if wanted == 1:
-            yield bytes(header).rstrip(b"\n")
-            continue
-        while number < wanted:
+    for raw in raws:
+        while number < raw.line:
             begin, number = part.find(b"\n", begin) + 1, number + 1
-        end = part.find(b"\n", begin)
-        yield bytes(part[begin:end if end >= 0 else len(part)])
-
-
-def describe(raws: Iterable[Tuple[int, int, int]], header: Text, part: Text, file: str) -> Iterator[Report]:
-    """The reports of lines of a header and a part, each given as its line, place and code."""
-    raws = list(raws)
-    for (number, place, code), line in zip(raws, lines_at(header, part, [raw[0] for raw in raws])):
-        line = line[:place + 1] if code == TOO_LONG else line  # the rest may not have been read
-        excerpt, column = excerpt_of(line, place)
-        told = find_id(line) if number > 1 else None
-        yield Report(file, number, place, code, _text_of(code), told, excerpt, column)
+        text, left = (header, 0) if raw.line == 1 else (part, begin)
+        right = text.find(b"\n", left)
+        # of a line that is too long the rest may not have been read
+        stop = left + raw.place + 1 if raw.code == TOO_LONG else right if right >= 0 else len(text)
+        line = bytes(text[left:stop])
+        excerpt, column = excerpt_of(line, raw.place)
+        yield Report(file, raw.line, raw.place, raw.code, _text_of(raw.code), find_id(line) if raw.line > 1 else None, excerpt, column)
 
 
 def _text_of(code: int) -> str:

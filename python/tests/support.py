@@ -54,7 +54,9 @@ def wanted_of(row):
 def in_one(text, kind="filter", **options):
     """What comes of a stream that is given to the library whole."""
     end = text.find(b"\n") + 1 or len(text)
-    return judge(asked(kind, **options), "one", text[:end], bytearray(text[end:]), True)
+    answer = judge(asked(kind, **options), "one", text[:end], bytearray(text[end:]), True)
+    answer.reports = list(answer.reports)
+    return answer
 
 
 def numbered(reports):

@@ -113,12 +113,15 @@ class Sources(InFolder):
                 for source in (Headed(), Endless()):
                     result = cityseq.check(source, jobs=2, keep_going=keep_going)
                     print(*[(report.line, report.byte, report.code) for report in result.reports], result.lines)
+            found = [0]
+            cityseq.check(%r + b"x\\n" * (1 << 20), jobs=2, keep_going=True, on_report=lambda report: found.append(report.line))
+            print(len(found), found[-1])
             peak = dict(line.split(":") for line in open("/proc/self/status"))["VmHWM"]
             print(int(peak.split()[0]) < 200_000)"""
-        ran = subprocess.run([sys.executable, "-c", script % HEADER], stdout=subprocess.PIPE, timeout=60,
+        ran = subprocess.run([sys.executable, "-c", script % (HEADER, HEADER)], stdout=subprocess.PIPE, timeout=60,
                              env={**os.environ, "PYTHONPATH": os.path.join(support.ROOT, "python")})
         self.assertEqual(ran.stdout.decode().splitlines(), [
-            "(2, 8388608, 2) 1", "(1, 8388608, 2) 0", "(2, 8388608, 2) 2", "(1, 8388608, 2) 0", "True"])
+            "(2, 8388608, 2) 1", "(1, 8388608, 2) 0", "(2, 8388608, 2) 2", "(1, 8388608, 2) 0", "1048577 1048577", "True"])
 
 
     def test_memory_that_is_refused(self):
