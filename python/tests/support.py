@@ -67,14 +67,15 @@ def numbered(reports):
 def lines_by_chance(chance, count):
     """Valid lines, some of them broken, and blank ones."""
     for number in range(count):
-        line = feature(f"b{number}", chance.choice(("Building", "Road", "Bridge")), chance.choice(("1", "2.2", "\\u0032.2")), x=chance.randrange(-9, 9))
+        kind, lod = chance.choice(("Building", "Road", "Bridge")), chance.choice(("1", "2.2", "\\u0032.2"))
+        line = feature(f"b{number}", kind, lod, x=chance.randrange(-9, 9))
         turn = chance.randrange(14)
         if turn == 0:
             line = feature(f"b{number}", last=4)
         elif turn == 1:
             line = line[:chance.randrange(len(line))].rstrip() + b"\n"
         elif turn == 2:
-            line = chance.choice((b"\n", b" \t\r\n", b"[]\n", b"\xff\n", b"{}\n", line.replace(b"Building", b"Shed"), b"[" * 700 + b"\n"))
+            line = chance.choice((b"\n", b" \t\r\n", b"[]\n", b"\xff\n", b"{}\n", line.replace(b"Road", b"Shed"), b"[" * 700 + b"\n"))
         elif turn == 3:
             line = line[:-1] + b"\r\n"
         elif turn == 4:
@@ -85,7 +86,8 @@ def lines_by_chance(chance, count):
 def stream_by_chance(seed):
     """A stream made by chance, the same for each seed. It may end without LF, and its header may be broken."""
     chance = random.Random(seed)
-    header = HEADER if chance.randrange(10) else chance.choice((b"", b"\n", HEADER[:-1], HEADER[:-9] + b"\n", PLAIN, HEADER[:-2] + b" " * 900 + b"}\n"))
+    others = (b"", b"\n", HEADER[:-1], HEADER[:-9] + b"\n", PLAIN, HEADER[:-2] + b" " * 900 + b"}\n")
+    header = HEADER if chance.randrange(10) else chance.choice(others)
     text = header + b"".join(lines_by_chance(chance, chance.randrange(25)))
     return text[:-1] if chance.randrange(3) == 0 else text
 

@@ -124,7 +124,8 @@ class Commands(InFolder):
         none = self.folder / "none"
         self.assertEqual(command("check", none), (b"", f"{none}: read fault: No such file or directory\n", 3))
         self.assertEqual(command("check", self.folder)[2], 3)
-        self.assertEqual(command("check", none, self.file(GOOD))[::2], (f"{self.folder}/stream.city.jsonl: valid lines=3 features=2\n".encode(), 3))
+        good = self.file(GOOD)
+        self.assertEqual(command("check", none, good)[::2], (f"{good}: valid lines=3 features=2\n".encode(), 3))
         self.assertEqual(command("filter", "--output", self.folder, "-", given=GOOD)[::2], (b"", 4))
 
     def told_on(self, stdout, stderr, *words):

@@ -45,7 +45,8 @@ class Ranges(InFolder):
             text, chance = support.stream_by_chance(seed), random.Random(seed)
             path, options = str(self.file(text)), {"line_limit": 1_000, "keep_going": seed % 2 == 0}
             one = support.in_one(text, **options)
-            wanted = (bytes(one.output), numbered(one.reports + [one.end] * (one.end is not None)), one.lines, one.kept, one.refused, one.peaks)
+            reports = numbered(one.reports + [one.end] * (one.end is not None))
+            wanted = (bytes(one.output), reports, one.lines, one.kept, one.refused, one.peaks)
             for each in (1, chance.randrange(2, 300), 700, 100_000):
                 with self.subTest(seed=seed, each=each):
                     self.assertEqual(by_ranges(path, each, asked("filter", **options)), wanted)
@@ -85,7 +86,8 @@ class Clusters(InFolder):
     def test_what_cannot_be_read_or_asked(self):
         packed = self.file(gzip.compress(HEADER + feature("a")), "a.jsonl")
         packed.rename(self.folder / "a.jsonl.gz")
-        found = list(cityseq.dask.check(self.client, [self.folder / "none", self.folder / "a.jsonl.gz", self.folder, self.file(b"")]))
+        paths = [self.folder / "none", self.folder / "a.jsonl.gz", self.folder, self.file(b"")]
+        found = list(cityseq.dask.check(self.client, paths))
         self.assertEqual([(result.status, result.features) for result in found], [(3, 0), (0, 1), (3, 0), (1, 0)])
         for call in (lambda: cityseq.dask.filter(self.client, self.folder / "a.jsonl.gz", io.BytesIO()),
                      lambda: list(cityseq.dask.check(self.client, b"bytes")), lambda: list(cityseq.dask.check(None, "a")),
@@ -94,7 +96,8 @@ class Clusters(InFolder):
         self.assertRaises(cityseq.ReadFault, cityseq.dask.filter, self.client, "/nowhere", io.BytesIO())
 
     def test_a_worker_that_dies(self):
-        path = self.file(HEADER + b"".join(feature(f"b{number}", last=4 if number % 1_000 == 999 else 3) for number in range(200_000)))
+        lasts = (4 if number % 1_000 == 999 else 3 for number in range(200_000))
+        path = self.file(HEADER + b"".join(feature("b", last=last) for last in lasts))
         here, killed = cityseq.check(path, keep_going=True), []
 
         def kill(_report):

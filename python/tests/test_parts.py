@@ -107,7 +107,8 @@ class Chance(unittest.TestCase):
     def test_filters(self):
         for seed in range(400):
             text, chance = support.stream_by_chance(seed), random.Random(seed)
-            options = chance.choice(({}, {"types": "Road"}, {"lods": ["2.2"]}, {"exclude": True, "ids": ["b1", "b2"]}, {"box": [0, 0, 11, 21]}))
+            options = chance.choice((
+                {}, {"types": "Road"}, {"lods": ["2.2"]}, {"exclude": True, "ids": ["b1", "b2"]}, {"box": [0, 0, 11, 21]}))
             with self.subTest(seed=seed, **options):
                 self.compare(text, chance, line_limit=1_000, keep_going=seed % 2 == 0, **options)
 
@@ -131,7 +132,8 @@ class Chance(unittest.TestCase):
             with self.subTest(seed=seed):
                 output, result = filtered(text, line_limit=1_000, keep_going=True, part_size=200, jobs=2)
                 said = "".join(f"{report}\n" for report in result.reports).encode()
-                self.assertEqual((output, said, result.status), support.program("filter", "--line-limit", "1000", "--keep-going", given=text))
+                wanted = support.program("filter", "--line-limit", "1000", "--keep-going", given=text)
+                self.assertEqual((output, said, result.status), wanted)
 
 
 class Many(unittest.TestCase):

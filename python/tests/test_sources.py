@@ -41,8 +41,8 @@ class Sources(InFolder):
                 sources = [path, str(path), packed, str(packed), text, bytearray(text), memoryview(text), file, raw, unpacked,
                            io.BytesIO(text), support.Slow(text, 3)]
                 results = [cityseq.check(source, part_size=200) for source in sources]
-            self.assertEqual({(result.status, result.lines, str(result.end)) for result in results},
-                             {(status, 3 if status == 0 else 2, "None" if status == 0 else "line 3, byte 142: 25 vertex index out of range")})
+            wanted = (0, 3, "None") if status == 0 else (1, 2, "line 3, byte 142: 25 vertex index out of range")
+            self.assertEqual({(result.status, result.lines, str(result.end)) for result in results}, {wanted})
             self.assertEqual([results[0].file, results[2].file, results[4].file], [str(path), str(packed), "<bytes>"])
 
     def test_outputs(self):

@@ -62,7 +62,8 @@ class Reports(unittest.TestCase):
             self.assertEqual(find_id(line), wanted)
 
     def test_excerpts(self):
-        for line, place, wanted in ((b"abc", 1, ("abc", 1)), (b"abc", 3, ("abc", 3)), (b"", 0, ("", 0)), (b"\x1b[2J", 1, ("\ufffd[2J", 1)),
+        for line, place, wanted in ((b"abc", 1, ("abc", 1)), (b"abc", 3, ("abc", 3)), (b"", 0, ("", 0)),
+                                    (b"\x1b[2J", 1, ("\ufffd[2J", 1)),
                                     ("é€築".encode(), 8, ("é€築", 4)), (b"a\xffb", 1, ("a\ufffdb", 1)),
                                     (b"x" * 100 + b"!" + b"y" * 100, 100, ("x" * 40 + "!" + "y" * 39, 40)),
                                     ("é".encode() * 100, 101, ("é" * 19 + "\ufffd", 20))):
@@ -108,12 +109,14 @@ class Infos(unittest.TestCase):
             self.assertEqual((info.x, info.y, info.z), ((-5000, 50000), (-10000, 5000), (0, 3000)))
 
     def test_the_texts_of_lods(self):
-        text = HEADER + feature("a", lod="2.2") + feature("b", lod="\\u0032.2") + feature("c").replace(b'"lod"', b'"l\\u006Fd"') + feature(
-            "d", lod="x\\n") + feature("e", lod="\\ud800") + PLAIN.replace(b"{\"type\":\"Building\"", b'{"type":"Building","attributes":{"lod":"none"}')
+        text = HEADER + b"".join(feature("b", lod=lod) for lod in ("2.2", "\\u0032.2", "x\\n", "\\ud800"))
+        text += feature("c").replace(b'"lod"', b'"l\\u006Fd"')
+        text += PLAIN.replace(b'"Building"', b'"Building","attributes":{"lod":"none"}')
         for size in (1, 1 << 20):
             info = cityseq.info(text, part_size=size)
             self.assertEqual((info.lods, info.unasked), ({"2.2": 3}, ("x\n", "\ud800")))
-        many = HEADER + b"".join(PLAIN.replace(b'"Building"', b'"Building","attributes":{"lod":"%d"}' % n) for n in range(500)) + feature("z")
+        others = (PLAIN.replace(b'"Building"', b'"Building","attributes":{"lod":"%d"}' % number) for number in range(500))
+        many = HEADER + b"".join(others) + feature("z")
         self.assertEqual(cityseq.info(many).lods, {"2.2": 1})
         self.assertIsNone(cityseq.info(HEADER + b"".join(feature("b", lod=str(n)) for n in range(500))).lods)
         self.assertIsNone(cityseq.info(many, exact_lods=False).lods or None)
@@ -139,7 +142,8 @@ class Infos(unittest.TestCase):
         self.assertEqual(cityseq.info(deep + feature("a"), depth=1_024).box, "10,20,11,21")
 
     def test_numbers(self):
-        for text, wanted in (("0.001", "1e-3"), ("2000.0", "2e3"), ("84616.468", "84616468e-3"), ("-0.0", "0e0"), ("0e99", "0e0"), ("-1.50e3", "-15e2")):
+        for text, wanted in (("0.001", "1e-3"), ("2000.0", "2e3"), ("84616.468", "84616468e-3"), ("-0.0", "0e0"), ("0e99", "0e0"),
+                             ("-1.50e3", "-15e2")):
             self.assertEqual(normal(Decimal(text)), wanted)
         self.assertEqual([plain(Decimal(text)) for text in ("1E+3", "-0", "1.500", "1E-18")], ["1000", "0", "1.5", "0.000000000000000001"])
         almost = Decimal("999999999999999999.999999999999999999")
