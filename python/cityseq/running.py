@@ -18,6 +18,7 @@ from .query import Work
 from .reports import Report
 from .sources import Reader, Source, Writer, name_of, opened
 
+HEADERS = 4  # so many times the header's length is a part
 AHEAD = 2  # how many parts wait beside those that are judged
 Tell = Callable[[Report], None]
 Task = Callable[[], Answer]
@@ -81,7 +82,8 @@ class Info(Result):
 
     def summary(self) -> Dict[str, Any]:
         """All but the reports, as JSON may have it: the numbers of the transform as the program writes them."""
-        return {**super().summary(), "scale": list(map(tallies.normal, self.scale)), "translate": list(map(tallies.normal, self.translate))}
+        transform = {"scale": list(map(tallies.normal, self.scale)), "translate": list(map(tallies.normal, self.translate))}
+        return {**super().summary(), **transform}
 
 
 class Stream:
@@ -119,7 +121,9 @@ class Stream:
         limit = self.work.line_limit
         header, rest = read_header(reader, limit)
         self.heads(header, bytes(rest[:HEAD]))
-        cutter = Cutter(reader, rest, max(self.size, 4 * len(header) if self.size == PART else 1), limit, self.work.keep_going)
+        # a long header is judged again with each part, so that parts are to be longer
+        size = max(PART, HEADERS * len(header)) if self.size == PART else self.size
+        cutter = Cutter(reader, rest, size, limit, self.work.keep_going)
         is_line = header.endswith(b"\n")
         if is_line or reader.fault is None or len(header) > limit:
             first = True
