@@ -25,6 +25,42 @@ Exit status, the greatest over all files: 0 valid up to the end; 1 a line is not
 failed; 4 a write failed; 5 no memory was granted. FILE - is standard input. A FILE that ends in .gz is unpacked."""
 
 
+def _complain(words: str) -> None:
+    """Says something on standard error. Where it takes nothing, the status alone tells of it."""
+    with suppress(OSError, ValueError):
+        print(words, file=sys.stderr, flush=True)
+
+
+def _print(text: str) -> None:
+    """Writes a line to standard output."""
+    try:
+        if sys.stdout is None:
+            raise OSError("standard output is closed")
+        print(text)
+    except (OSError, ValueError) as fault:
+        raise WriteFault(f"write fault: {why(fault)}") from fault
+
+
+def _flush() -> None:
+    """Flushes what was written to standard output."""
+    try:
+        if sys.stdout is not None:
+            sys.stdout.flush()
+    except (OSError, ValueError) as fault:
+        raise WriteFault(f"write fault: {why(fault)}") from fault
+
+
+class Parser(argparse.ArgumentParser):
+    """Reads the words. What it says where they are wrong, or help that is asked for, may meet an output that is full."""
+
+    def _print_message(self, message: str, file: Any = None) -> None:
+        if file is sys.stderr:
+            _complain(message.rstrip("\n"))
+        else:
+            _print(message.rstrip("\n"))
+            _flush()
+
+
 class Once(argparse.Action):
     """An option that is given once."""
 
@@ -63,9 +99,9 @@ def _add_query(command: argparse.ArgumentParser) -> None:
     option("--output-dir", metavar="FOLDER", action=Once, help="write what is kept of each FILE to a file of its name in here")
 
 
-def _parser() -> argparse.ArgumentParser:
-    parser = argparse.ArgumentParser(prog="cityseq-run", epilog=STATUSES, allow_abbrev=False,
-                                     description="Checks, filters and summarises CityJSONSeq 2.0 streams on many cores")
+def _parser() -> Parser:
+    parser = Parser(prog="cityseq-run", epilog=STATUSES, allow_abbrev=False,
+                    description="Checks, filters and summarises CityJSONSeq 2.0 streams on many cores")
     parser.add_argument("--version", action="version", version=f"cityseq-run {__version__}")
     parser.add_argument("--explain", metavar="CODE", type=int, help="say what the code of a reason means, and how to fix it")
     commands = parser.add_subparsers(dest="command", metavar="COMMAND")
@@ -124,22 +160,6 @@ def _outputs(options: argparse.Namespace) -> List[Optional[str]]:
         if is_same_file(file, output):
             raise RequestError(f"{file}: the output is the stream that is read")
     return outputs
-
-
-def _complain(words: str) -> None:
-    """Says something on standard error. Where it takes nothing, the status alone tells of it."""
-    with suppress(OSError, ValueError):
-        print(words, file=sys.stderr, flush=True)
-
-
-def _print(text: str) -> None:
-    """Writes a line to standard output."""
-    try:
-        if sys.stdout is None:
-            raise OSError("standard output is closed")
-        print(text)
-    except (OSError, ValueError) as fault:
-        raise WriteFault(f"write fault: {why(fault)}") from fault
 
 
 def _make_folder(path: str) -> None:
@@ -240,26 +260,22 @@ def _explain(code: int) -> int:
     return 0
 
 
-def _done(options: argparse.Namespace) -> int:
-    """Does what is asked, and flushes what was written."""
+def _done(words: Optional[Sequence[str]]) -> int:
+    """Does what the words ask for, and flushes what was written."""
+    parser = _parser()
+    options = parser.parse_args(words)
+    if options.command is None and options.explain is None:
+        parser.print_help(sys.stderr)
+        return RequestError.status
     status = _explain(options.explain) if options.explain is not None else _run(options)
-    try:
-        if sys.stdout is not None:
-            sys.stdout.flush()
-    except (OSError, ValueError) as fault:
-        raise WriteFault(f"write fault: {why(fault)}") from fault
+    _flush()
     return status
 
 
 def main(words: Optional[Sequence[str]] = None) -> int:
     """Runs the command with these words, or those of the command line, and answers the status."""
-    parser = _parser()
-    options = parser.parse_args(words)
-    if options.command is None and options.explain is None:
-        parser.print_help(sys.stderr)
-        return 2
     try:
-        return _done(options)
+        return _done(words)
     except CityseqError as fault:
         _complain(fault.words)
         if fault.status == WriteFault.status and sys.stdout is not None:

@@ -137,7 +137,7 @@ class Commands(InFolder):
     @unittest.skipUnless(os.path.exists("/dev/full"), "there is no device that is full")
     def test_outputs_that_are_full(self):
         with open("/dev/full", "wb") as full:
-            for words in (("check", "-"), ("filter", "-"), ("info", "-"), ("explain", "25"), ("check", "--json", "-")):
+            for words in (("check", "-"), ("filter", "-"), ("info", "-"), ("explain", "25"), ("check", "--json", "-"), ("--help",), ("filter", "--help")):
                 status, said = self.told_on(full, subprocess.PIPE, *words)
                 self.assertEqual((status, "write fault" in said, "Traceback" in said), (4, True, False), words)
             for words, status in ((("check", "-"), 0), (("check", "--progress", self.file(BROKEN)), 1), (("check", "--depth", "0", "-"), 2),
