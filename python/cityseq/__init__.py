@@ -1,0 +1,93 @@
+"""Checks, filters and summarises CityJSONSeq 2.0 streams on many cores, by a library that is proved.
+
+    >>> import cityseq
+    >>> result = cityseq.check("examples/broken.city.jsonl")
+    >>> result.status, str(result.end)
+    (1, 'line 3, byte 144: 25 vertex index out of range')
+    >>> print(result.end.caret())          # the excerpt, and a caret under the place
+    >>> print(result.end.explanation.fix)  # how to fix it
+    >>> cityseq.filter("town.city.jsonl.gz", "roads.city.jsonl", types=["Road", "Railway"]).features
+    >>> cityseq.info("examples/town.city.jsonl").box
+    '995,1990,1050,2005'
+
+A source is a path, `-` for standard input, bytes or a binary file; a path that ends in `.gz` is unpacked. `jobs` says how many threads
+judge parts of it at once; None is as many as there are processors. `progress` is called with the bytes of each part that is done, as
+`tqdm.update` may be, and `on_report` with each report as it comes, instead of their list."""
+from __future__ import annotations
+
+from typing import Callable, Iterable, Iterator, Optional
+
+from ._library import USUAL_DEPTH, USUAL_LINE
+from .faults import CityseqError, LibraryMissing, MemoryFault, ReadFault, RequestError, WriteFault
+from .parts import PART
+from .query import Box, Texts, asked
+from .reports import Explanation, Report, explain
+from .running import Info, Result, Stream, threaded
+from .sources import Source, Target, Writer, is_same_file
+
+__all__ = [
+    "CityseqError", "Explanation", "Info", "LibraryMissing", "MemoryFault", "ReadFault", "Report", "RequestError", "Result",
+    "WriteFault", "check", "check_files", "explain", "filter", "info",
+]
+__version__ = "0.1.0"
+
+OnReport = Optional[Callable[[Report], None]]
+Progress = Optional[Callable[[int], None]]
+
+
+def _part_size(size: int) -> int:
+    if isinstance(size, bool) or not isinstance(size, int) or size < 1:
+        raise RequestError(f"a part has one byte or more: {size!r}")
+    return size
+
+
+def check(source: Source, *, jobs: Optional[int] = None, line_limit: int = USUAL_LINE, depth: int = USUAL_DEPTH,
+          keep_going: bool = False, tree: bool = False, on_report: OnReport = None, progress: Progress = None,
+          part_size: int = PART) -> Result:
+    """Says whether a stream is valid, and counts its lines and features.
+
+    The limits are those of the program: bytes in a line, and arrays and objects that are open at once. With `keep_going` each invalid
+    line is reported, and with `tree` each city object has to be reached from the main one. Raises `ReadFault` or `MemoryFault` where
+    the run did not come to its end, and `RequestError` where it cannot be asked."""
+    work = asked("check", line_limit=line_limit, depth=depth, keep_going=keep_going, tree=tree)
+    stream = Stream(source, work, _part_size(part_size), tell=on_report, progress=progress)
+    return next(threaded([stream], jobs)).raised()
+
+
+def check_files(sources: Iterable[Source], *, jobs: Optional[int] = None, line_limit: int = USUAL_LINE, depth: int = USUAL_DEPTH,
+                keep_going: bool = False, tree: bool = False, on_report: OnReport = None, progress: Progress = None,
+                part_size: int = PART) -> Iterator[Result]:
+    """Checks many streams, by threads that are shared, and gives the result of each, in order. A fault is told by the result."""
+    work, size = asked("check", line_limit=line_limit, depth=depth, keep_going=keep_going, tree=tree), _part_size(part_size)
+    return threaded((Stream(source, work, size, tell=on_report, progress=progress) for source in sources), jobs)
+
+
+def filter(source: Source, output: Target, *, ids: Optional[Texts] = None, types: Optional[Texts] = None,
+           lods: Optional[Texts] = None, box: Optional[Box] = None, exclude: bool = False, jobs: Optional[int] = None,
+           line_limit: int = USUAL_LINE, depth: int = USUAL_DEPTH, keep_going: bool = False, tree: bool = False,
+           on_report: OnReport = None, progress: Progress = None, part_size: int = PART) -> Result:
+    """Copies the header and the features that are wanted, byte for byte, to a path, `-` or a binary file.
+
+    A feature is wanted if its id is one of `ids`, some city object has one of `types`, some geometry one of `lods`, and its vertices
+    reach into `box`, four numbers or a text minx,miny,maxx,maxy; None asks nothing. With `exclude` all others are. The other options
+    are those of `check`. An output has what was kept before the end, whatever that was. Raises `WriteFault` too."""
+    work = asked("filter", ids=ids, types=types, lods=lods, box=box, exclude=exclude,
+                 line_limit=line_limit, depth=depth, keep_going=keep_going, tree=tree)
+    if is_same_file(source, output):
+        raise RequestError("the output is the stream that is read")
+    stream = Stream(source, work, _part_size(part_size), Writer(output), on_report, progress)
+    return next(threaded([stream], jobs)).raised()
+
+
+def info(source: Source, *, exact_lods: bool = True, jobs: Optional[int] = None, line_limit: int = USUAL_LINE,
+         depth: int = USUAL_DEPTH, keep_going: bool = False, tree: bool = False, on_report: OnReport = None,
+         progress: Progress = None, part_size: int = PART) -> Info:
+    """Reports what is in a stream: transform, types, LoDs, ranges of vertices, and their box in world coordinates.
+
+    `exact_lods` asks for each text of an LoD with how many features have it, which takes as long again for each text. The other
+    options are those of `check`. Where a stream is not valid to its end, all of the report is empty."""
+    work = asked("info", exact_lods=exact_lods, line_limit=line_limit, depth=depth, keep_going=keep_going, tree=tree)
+    stream = Stream(source, work, _part_size(part_size), tell=on_report, progress=progress)
+    result = next(threaded([stream], jobs)).raised()
+    assert isinstance(result, Info)
+    return result

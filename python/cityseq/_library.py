@@ -1,0 +1,158 @@
+"""The library `libcityseq.so`, by `ctypes`: the structs of `c/cityseq.h` and its calls, which run without the interpreter's lock."""
+from __future__ import annotations
+
+import ctypes
+import os
+import threading
+from ctypes import POINTER, c_bool, c_char_p, c_int64, c_size_t, c_uint32, c_uint64
+from typing import Any, Iterable, Optional, Tuple, Union
+
+from .faults import LibraryMissing
+
+COMPLETE, REFUSED, BAD_REQUEST, TOO_LONG, NO_ROOM, NO_MEMORY = range(6)
+LINE_LIMITS, DEPTH_LIMITS = (1, 1_073_741_824), (1, 1_024)
+USUAL_LINE, USUAL_DEPTH = 8_388_608, 64
+TYPES, LOD_CLASSES = 33, ("0", "1", "2", "3", "4", "other")
+
+# What is wrong with a request, by its code: the program's own words where it has them.
+FAULTS = {
+    1: "the line limit is not from 1 to 1,073,741,824",
+    2: "the depth is not from 1 to 1,024",
+    3: "the header is not one line that ends with LF",
+    4: "a text is not UTF-8",
+    5: "unknown object type",
+    6: "bad box",
+    7: "box number out of range",
+    8: "empty box",
+}
+
+
+class RawRequest(ctypes.Structure):
+    """`struct cityseq_request`."""
+
+    _fields_ = [
+        ("line_limit", c_uint64), ("depth_limit", c_uint64),
+        ("keep_going", c_bool), ("tree", c_bool), ("exclude", c_bool),
+        ("asks_ids", c_bool), ("asks_types", c_bool), ("asks_lods", c_bool), ("asks_box", c_bool),
+        ("ids", c_char_p), ("ids_length", c_size_t), ("types", c_char_p), ("types_length", c_size_t),
+        ("lods", c_char_p), ("lods_length", c_size_t), ("box", c_char_p), ("box_length", c_size_t),
+    ]
+
+
+class RawReport(ctypes.Structure):
+    """`struct cityseq_report`."""
+
+    _fields_ = [("line", c_uint64), ("place", c_uint64), ("code", c_uint64)]
+
+
+class RawAnswer(ctypes.Structure):
+    """`struct cityseq_answer`."""
+
+    _fields_ = [("status", c_uint32), ("code", c_uint32)] + [(name, c_uint64) for name in (
+        "line", "place", "lines", "kept", "refused", "peak_bytes", "peak_tokens", "peak_depth", "written")]
+
+
+class RawRange(ctypes.Structure):
+    """`struct cityseq_range`."""
+
+    _fields_ = [("some", c_uint64), ("least", c_int64), ("greatest", c_int64)]
+
+
+class RawTally(ctypes.Structure):
+    """`struct cityseq_tally`."""
+
+    _fields_ = [("features", c_uint64), ("types", c_uint64 * TYPES), ("lods", c_uint64 * len(LOD_CLASSES)), ("ranges", RawRange * 3)]
+
+
+Text = Union[bytes, bytearray]
+RawReports = Iterable[RawReport]
+_COMMON = [c_char_p, c_size_t, c_char_p, c_size_t, POINTER(RawRequest)]
+_ROOM = [POINTER(RawReport), c_size_t]
+_CALLS = {
+    "cityseq_check": (RawAnswer, _COMMON + _ROOM),
+    "cityseq_filter": (RawAnswer, _COMMON + [c_char_p, c_size_t] + _ROOM),
+    "cityseq_tally": (RawAnswer, _COMMON + [POINTER(RawTally)] + _ROOM),
+    "cityseq_reason_text": (c_size_t, [c_uint64, c_char_p, c_size_t]),
+    "cityseq_type_name": (c_size_t, [c_uint64, c_char_p, c_size_t]),
+}
+
+
+def _pointed(text: Text) -> Any:
+    """What a call takes as the pointer to these bytes, of which nothing is copied."""
+    if isinstance(text, bytearray) and text:
+        return ctypes.byref(ctypes.c_char.from_buffer(text))
+    return bytes(text)
+
+
+class Library:
+    """The calls of the library. Any number of threads may make them at once."""
+
+    def __init__(self, calls: Any) -> None:
+        self._calls = calls
+
+    def check(self, header: bytes, part: Text, request: RawRequest, room: int) -> Tuple[RawAnswer, RawReports]:
+        """Judges a header and a part. The second is the room for reports, of which the first ones are written."""
+        reports = (RawReport * max(room, 1))()
+        answer = self._calls.cityseq_check(*self._given(header, part, request), reports, room)
+        return answer, reports
+
+    def filter(self, header: bytes, part: Text, request: RawRequest, room: int) -> Tuple[RawAnswer, RawReports, bytearray]:
+        """The same, and what is kept is the third."""
+        reports = (RawReport * max(room, 1))()
+        output = bytearray(len(header) + len(part) + 1)
+        given = self._given(header, part, request)
+        answer = self._calls.cityseq_filter(*given, _pointed(output), len(output), reports, room)
+        del output[answer.written:]
+        return answer, reports, output
+
+    def tally(self, header: bytes, part: Text, request: RawRequest, room: int) -> Tuple[RawAnswer, RawReports, RawTally]:
+        """The same as `check`, and what is in the features that are wanted is the third."""
+        reports, tally = (RawReport * max(room, 1))(), RawTally()
+        given = self._given(header, part, request)
+        answer = self._calls.cityseq_tally(*given, ctypes.byref(tally), reports, room)
+        return answer, reports, tally
+
+    def reason_text(self, code: int) -> str:
+        """The words of a reason; none where no reason has this code."""
+        return self._text(self._calls.cityseq_reason_text, code)
+
+    def type_name(self, number: int) -> str:
+        """The name of a type of city objects."""
+        return self._text(self._calls.cityseq_type_name, number)
+
+    @staticmethod
+    def _given(header: bytes, part: Text, request: RawRequest) -> Tuple[Any, ...]:
+        return header, len(header), _pointed(part), len(part), ctypes.byref(request)
+
+    @staticmethod
+    def _text(call: Any, number: int) -> str:
+        room = ctypes.create_string_buffer(128)
+        length = call(number, room, len(room))
+        return room.raw[:length].decode("ascii")
+
+
+_lock = threading.Lock()
+_loaded: Optional[Library] = None
+
+
+def _load() -> Library:
+    path = os.environ.get("CITYSEQ_LIBRARY") or os.path.join(os.path.dirname(os.path.abspath(__file__)), "libcityseq.so")
+    if not os.path.isfile(path):
+        raise LibraryMissing(f"there is no library {path}: build it, and put it there or name it by CITYSEQ_LIBRARY")
+    try:
+        calls = ctypes.CDLL(os.path.abspath(path))
+        for name, (result, arguments) in _CALLS.items():
+            call = getattr(calls, name)
+            call.restype, call.argtypes = result, arguments
+    except (OSError, AttributeError) as fault:
+        raise LibraryMissing(f"{path} is no library of cityseq: {fault}") from fault
+    return Library(calls)
+
+
+def library() -> Library:
+    """The library, loaded at the first call."""
+    global _loaded
+    with _lock:
+        if _loaded is None:
+            _loaded = _load()
+        return _loaded

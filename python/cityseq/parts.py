@@ -1,0 +1,178 @@
+"""Streams in parts: how one is cut at LF in bounded memory, how a part is judged, and how the answers are joined.
+
+The law of parts: what comes of a stream is what comes of its header with the first of its later lines, joined with what comes of
+the same header with the rest. Each part is judged behind the header, so the header's line counts once."""
+from __future__ import annotations
+
+from dataclasses import dataclass
+from itertools import islice
+from typing import Callable, Iterable, Iterator, Optional, Tuple
+
+from . import lods
+from ._library import COMPLETE, NO_MEMORY, REFUSED, RawAnswer, RawReports, Text, library
+from .faults import CityseqError
+from .query import Work
+from .reports import Report, describe
+from .sources import PIECE, Reader
+from .tally import Tally, tally_of
+
+PART = 8 << 20  # how long parts are, where their lines allow it
+ROOM = 1_024  # the room for reports at first
+
+
+def read_header(reader: Reader, line_limit: int) -> Tuple[bytes, bytearray]:
+    """The first line with its LF, and what was read behind it. A line past the limit has one byte more than that, and no LF."""
+    buffer, end = bytearray(), -1
+    while end < 0 and len(buffer) <= line_limit:
+        begin = len(buffer)
+        piece = reader.read(PIECE)
+        if not piece:
+            break
+        buffer += piece
+        end = buffer.find(b"\n", begin)
+    if 0 <= end <= line_limit:
+        return bytes(buffer[:end + 1]), buffer[end + 1:]
+    return bytes(buffer[:line_limit + 1]), bytearray()
+
+
+class Cutter:
+    """Cuts what comes behind the header into parts of whole lines, which are as long as asked, or as one line that is longer."""
+
+    def __init__(self, reader: Reader, rest: bytearray, size: int, line_limit: int, keep_going: bool) -> None:
+        self._reader, self._rest, self._size = reader, rest, size
+        self._line_limit, self._keep_going = line_limit, keep_going
+
+    def _fill(self, size: int) -> bool:
+        """Reads until so many bytes are there. False where the input ends before."""
+        while len(self._rest) < size:
+            piece = self._reader.read(min(PIECE, size - len(self._rest)))
+            if not piece:
+                return False
+            self._rest += piece
+        return True
+
+    def _take(self, end: int) -> bytearray:
+        """The bytes up to this one, which are a part; the others are kept."""
+        part, self._rest = self._rest, self._rest[end:]
+        del part[end:]
+        return part
+
+    def _take_last(self) -> bytearray:
+        """All that is left; where a read failed, the whole lines of it alone."""
+        return self._take(len(self._rest) if self._reader.fault is None else self._rest.rfind(b"\n") + 1)
+
+    def _take_long_line(self) -> Tuple[bytearray, bool]:
+        """A part of one line that is longer than the size, and whether there may be more behind it."""
+        seen = 0
+        while len(self._rest) <= self._line_limit:
+            if self._rest.find(b"\n", seen) >= 0:
+                break
+            seen = len(self._rest)
+            if not self._fill(min(seen + PIECE, self._line_limit + 1)):
+                return self._take_last(), False
+        end = self._rest.find(b"\n", 0, self._line_limit + 1) + 1
+        return (self._take(end), True) if end else self._take_too_long()
+
+    def _take_too_long(self) -> Tuple[bytearray, bool]:
+        """A part of a line that is too long, of which so much is enough, and whether there may be more behind it."""
+        part = self._rest[:self._line_limit + 1]
+        if not self._keep_going:
+            return part, False
+        while True:
+            end = self._rest.find(b"\n") + 1
+            if end:
+                self._rest = self._rest[end:]
+                return part + b"\n", True
+            self._rest = bytearray(self._reader.read(PIECE))
+            if not self._rest:
+                return (part if self._reader.fault is None else bytearray()), False
+
+    def parts(self) -> Iterator[bytearray]:
+        """The parts, in order."""
+        more = True
+        while more:
+            if not self._fill(self._size):
+                part, more = self._take_last(), False
+            else:
+                end = self._rest.rfind(b"\n", 0, self._size) + 1
+                part, more = (self._take(end), True) if end else self._take_long_line()
+            if part:
+                yield part
+
+
+@dataclass
+class Answer:
+    """What came of a header and a part, or of the parts so far: lines and reports are counted in these. None is joined yet where
+    `parts` is 0."""
+
+    status: int = COMPLETE
+    lines: int = 0
+    kept: int = 0
+    refused: int = 0
+    peaks: Tuple[int, int, int] = (0, 0, 0)
+    end: Optional[Report] = None
+    reports: Iterable[Report] = ()
+    output: Text = b""
+    tally: Optional[Tally] = None
+    size: int = 0
+    fault: Optional[str] = None  # of a read behind the part
+    parts: int = 1
+
+    def add(self, answer: "Answer", tell: Callable[[Report], None]) -> None:
+        """Joins the answer of the next part, and tells its reports as those of the stream. The header's line counts once."""
+        header = min(self.parts, 1)
+        before = self.lines - header
+        for report in answer.reports:
+            tell(report.moved(before))
+        if answer.end is not None:
+            self.end = answer.end.moved(before)
+            tell(self.end)
+        self.status, self.fault = answer.status, answer.fault
+        self.lines += answer.lines - header
+        self.kept += answer.kept
+        self.refused += answer.refused
+        self.peaks = (max(self.peaks[0], answer.peaks[0]), max(self.peaks[1], answer.peaks[1]), max(self.peaks[2], answer.peaks[2]))
+        if answer.tally is not None:
+            self.tally = answer.tally if self.tally is None else self.tally.joined(answer.tally)
+        self.parts += 1
+
+
+def _call(work: Work, header: bytes, part: Text, room: int) -> Tuple[RawAnswer, RawReports, Text, Optional[Tally]]:
+    """The call of the library that the work asks for."""
+    request = work.request()
+    if work.kind == "filter":
+        answer, reports, output = library().filter(header, part, request, room)
+        return answer, reports, output, None
+    if work.kind == "info":
+        answer, reports, tally = library().tally(header, part, request, room)
+        return answer, reports, b"", tally_of(tally)
+    answer, reports = library().check(header, part, request, room)
+    return answer, reports, b"", None
+
+
+def judge(work: Work, file: str, header: bytes, part: Text, first: bool) -> Answer:
+    """Judges a header and a part, of which only the first has the header's line in its output."""
+    try:
+        return _judge(work, file, header, part, first)
+    except MemoryError:
+        return Answer(NO_MEMORY)
+
+
+def _judge(work: Work, file: str, header: bytes, part: Text, first: bool) -> Answer:
+    """The same. Where reports have no room it is judged again, with as much as they need. They are read when they are joined, as
+    there may be very many."""
+    room = ROOM if work.keep_going else 0
+    answer, raws, output, tally = _call(work, header, part, room)
+    if answer.refused > room and work.keep_going:
+        answer, raws, output, tally = _call(work, header, part, answer.refused)
+    if answer.status not in (COMPLETE, REFUSED, NO_MEMORY):
+        raise CityseqError(f"the library answered {answer.status}, code {answer.code}, of a part of {len(part)} bytes")
+    if tally is not None and work.exact_lods and answer.status == COMPLETE:
+        lods.count(tally, work, header, part)
+    return Answer(
+        status=answer.status, lines=answer.lines, kept=answer.kept, refused=answer.refused,
+        peaks=(answer.peak_bytes, answer.peak_tokens, answer.peak_depth),
+        end=next(describe([answer], header, part, file)) if answer.status == REFUSED else None,
+        reports=describe(islice(raws, answer.refused), header, part, file) if answer.refused else (),
+        output=output if first else output[min(len(header), len(output)):], tally=tally,
+        size=len(part) + (len(header) if first else 0))

@@ -1,0 +1,101 @@
+"""What is asked: how lines are judged, and which features are wanted, checked before anything is read."""
+from __future__ import annotations
+
+from dataclasses import dataclass
+from decimal import Decimal
+from typing import Iterable, Optional, Union
+
+from ._library import BAD_REQUEST, DEPTH_LIMITS, FAULTS, LINE_LIMITS, TYPES, USUAL_DEPTH, USUAL_LINE, RawRequest, library
+from .faults import RequestError
+
+Texts = Union[str, Iterable[str]]
+Box = Union[str, Iterable[Union[int, float, str, Decimal]]]
+
+
+def lines_of(texts: Iterable[str]) -> bytes:
+    """Texts as the library takes them, one a line. The empty one comes first, so that the last line is not empty and needs no LF."""
+    listed = sorted(texts, key=bool)
+    return ("\n".join(listed) or "\n" * len(listed)).encode("utf-8")
+
+
+def _asked_lines(texts: Optional[Texts], what: str) -> Optional[bytes]:
+    """The texts that are asked for, of which one may come alone."""
+    if texts is None:
+        return None
+    listed = [texts] if isinstance(texts, str) else list(texts)
+    for text in listed:
+        if not isinstance(text, str):
+            raise RequestError(f"{what} are texts: {text!r} is none")
+        if "\n" in text:
+            raise RequestError(f"no text with a line's end in it can be asked for among {what}: {text!r}")
+    try:
+        return lines_of(listed)
+    except UnicodeEncodeError as fault:
+        raise RequestError(f"{FAULTS[4]}, among {what}") from fault
+
+
+def _box_of(box: Optional[Box]) -> Optional[bytes]:
+    """A box as the library takes it: minx,miny,maxx,maxy."""
+    if box is None:
+        return None
+    text = box if isinstance(box, str) else ",".join(map(str, box))
+    return text.encode("utf-8", "replace")
+
+
+def _limit(value: int, least: int, greatest: int, what: str) -> int:
+    if isinstance(value, bool) or not isinstance(value, int) or not least <= value <= greatest:
+        raise RequestError(f"the {what} is not from {least:,} to {greatest:,}: {value!r}")
+    return value
+
+
+@dataclass(frozen=True)
+class Work:
+    """What is done with a stream: `check`, `filter` or `info`, with these options."""
+
+    kind: str
+    line_limit: int = USUAL_LINE
+    depth: int = USUAL_DEPTH
+    keep_going: bool = False
+    tree: bool = False
+    exclude: bool = False
+    ids: Optional[bytes] = None
+    types: Optional[bytes] = None
+    lods: Optional[bytes] = None
+    box: Optional[bytes] = None
+    exact_lods: bool = False
+
+    def request(self) -> RawRequest:
+        """The same, as the library takes it."""
+        request = RawRequest(
+            line_limit=self.line_limit, depth_limit=self.depth,
+            keep_going=self.keep_going, tree=self.tree, exclude=self.exclude)
+        for name in ("ids", "types", "lods", "box"):
+            text = getattr(self, name)
+            setattr(request, "asks_" + name, text is not None)
+            setattr(request, name, text or b"")
+            setattr(request, name + "_length", len(text or b""))
+        return request
+
+
+def asked(
+    kind: str, *, line_limit: int = USUAL_LINE, depth: int = USUAL_DEPTH, keep_going: bool = False, tree: bool = False,
+    exclude: bool = False, ids: Optional[Texts] = None, types: Optional[Texts] = None, lods: Optional[Texts] = None,
+    box: Optional[Box] = None, exact_lods: bool = False,
+) -> Work:
+    """The work of these options. Raises `RequestError` where it cannot be asked."""
+    work = Work(
+        kind, _limit(line_limit, *LINE_LIMITS, "line limit"), _limit(depth, *DEPTH_LIMITS, "depth"),
+        bool(keep_going), bool(tree), bool(exclude),
+        _asked_lines(ids, "ids"), _asked_lines(types, "types"), _asked_lines(lods, "LoDs"), _box_of(box), bool(exact_lods))
+    answer = library().check(b"", b"", work.request(), 0)[0]
+    if answer.status == BAD_REQUEST:
+        raise RequestError(FAULTS.get(answer.code, f"bad request {answer.code}") + _which(work, answer.code))
+    return work
+
+
+def _which(work: Work, code: int) -> str:
+    """Which of the types is unknown, where that is the fault."""
+    if code != 5 or work.types is None:
+        return ""
+    known = {library().type_name(number) for number in range(TYPES)}
+    return ": " + next((name for name in work.types.decode().split("\n") if name not in known), "")

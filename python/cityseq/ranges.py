@@ -1,0 +1,106 @@
+"""Parts of a file that are read where they are judged: the lines that begin in a range of its bytes."""
+from __future__ import annotations
+
+from dataclasses import dataclass, replace
+from typing import IO, Iterator, Optional, Tuple
+
+from .faults import ReadFault
+from .hints import HEAD
+from .parts import Answer, judge, read_header
+from .query import Work
+from .running import Done, Stream, results
+from .sources import PIECE, READ_FAULTS, Reader, opened, size_of, why
+
+Range = Tuple[int, int]
+
+
+@dataclass(frozen=True)
+class Seen:
+    """How a file begins: its first line and some bytes behind it, and its size, where its bytes can be gone to."""
+
+    header: bytes = b""
+    behind: bytes = b""
+    size: Optional[int] = None
+    fault: Optional[str] = None
+
+
+def look(path: str, line_limit: int) -> Seen:
+    """Looks how a file begins."""
+    try:
+        with opened(path) as reader:
+            header, rest = read_header(reader, line_limit)
+            return Seen(header, bytes(rest[:HEAD]), size_of(path), reader.fault and f"read fault: {reader.fault}")
+    except ReadFault as fault:
+        return Seen(fault=fault.words)
+
+
+def cut(begin: int, size: int, each: int) -> Iterator[Range]:
+    """The ranges of so many bytes from one byte of a file to its end."""
+    return ((left, min(left + each, size)) for left in range(begin, size, each))
+
+
+def _first_line(file: IO[bytes], begin: int, end: int) -> int:
+    """Where the first line begins at this byte or after it; some place from the end on where none begins before that."""
+    file.seek(begin - 1)
+    place = begin - 1
+    while place < end:
+        piece = file.read(min(PIECE, end - place))
+        found = piece.find(b"\n")
+        if found >= 0:
+            return place + found + 1
+        if not piece:
+            break
+        place += len(piece)
+    return end
+
+
+def _lines_from(file: IO[bytes], begin: int, end: int, work: Work) -> bytearray:
+    """The lines that begin from one byte on and before another. Of a last one that is too long, as much as tells that."""
+    file.seek(begin)
+    reader, lines = Reader(file), bytearray()
+    while len(lines) < end - begin:
+        piece = reader.read(end - begin - len(lines))
+        if not piece:
+            break
+        lines += piece
+    last = lines.rfind(b"\n") + 1
+    while last < len(lines) <= last + work.line_limit:
+        piece = reader.read(min(PIECE, last + work.line_limit + 1 - len(lines)))
+        if not piece:
+            break
+        found = piece.find(b"\n") + 1
+        lines += piece[:found] if found else piece
+        if found:
+            break
+    if reader.fault is not None:
+        raise OSError(reader.fault)
+    if len(lines) > last + work.line_limit + 1 or not lines.endswith(b"\n"):
+        del lines[last + work.line_limit + 1:]
+        if work.keep_going and len(lines) > last + work.line_limit:
+            lines += b"\n"
+    return lines
+
+
+def judge_range(work: Work, path: str, begin: int, end: int, first: bool) -> Answer:
+    """Judges the header of a file and the lines that begin in a range of it."""
+    try:
+        with open(path, "rb") as file:
+            header = file.readline(work.line_limit + 1)
+            if first and begin >= end:
+                return judge(work, path, header, b"", True)
+            left = max(_first_line(file, begin, end), begin)
+            part = _lines_from(file, left, end, work) if left < end else bytearray()
+    except READ_FAULTS as fault:
+        return Answer(lines=int(not first), fault=f"read fault: {why(fault)}")
+    if not part and not first:
+        return Answer(lines=1, size=end - begin)
+    answer = judge(work, path, header, part, first)
+    return replace(answer, reports=list(answer.reports))
+
+
+def judge_whole(work: Work, path: str) -> Answer:
+    """Judges a file whose bytes cannot be gone to, as one that is packed."""
+    stream = Stream(path, work)
+    for _ in results([stream], Done, 0):
+        pass
+    return stream.answer()

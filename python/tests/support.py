@@ -1,0 +1,121 @@
+"""What the tests share: the vectors with what has to come of them, small lines, and streams made by chance."""
+import io
+import os
+import random
+import subprocess
+import sys
+
+ROOT = os.path.abspath(os.path.join(os.path.dirname(__file__), "..", ".."))
+PROGRAM = os.path.join(ROOT, "crates", "cityseq", "out", "cityseq")
+sys.path[:0] = [os.path.join(ROOT, "python"), os.path.join(ROOT, "vectors")]
+
+import table  # noqa: E402
+from cityseq.parts import judge  # noqa: E402
+from cityseq.query import asked  # noqa: E402
+
+HEADER = (b'{"type":"CityJSON","version":"2.0","transform":{"scale":[0.001,0.001,0.001],"translate":[10,20,0]},'
+          b'"CityObjects":{},"vertices":[]}\n')
+PLAIN = b'{"type":"CityJSONFeature","id":"b","CityObjects":{"b":{"type":"Building"}},"vertices":[]}\n'
+
+
+def feature(name, kind="Building", lod="2.2", last=3, x=0):
+    """A feature of four vertices, whose last index is the one given."""
+    return (f'{{"type":"CityJSONFeature","id":"{name}","CityObjects":{{"{name}":{{"type":"{kind}","geometry":[{{"type":"MultiSurface",'
+            f'"lod":"{lod}","boundaries":[[[0,1,2,{last}]]]}}]}}}},"vertices":[[{x},0,0],[1000,0,0],[1000,1000,0],[0,1000,5]]}}\n').encode()
+
+
+def options_of(row):
+    """The limits and the query of a vector, as the package takes them."""
+    options = {"line_limit": int(row["line limit"]), "depth": int(row["depth"])}
+    names = {"--id": "ids", "--type": "types", "--lod": "lods", "--bbox": "box"}
+    words = [] if row["query"] == "-" else row["query"].replace("=", " ").split(" ")
+    while words:
+        word = words.pop(0)
+        if word == "--tree":
+            options["tree"] = True
+        elif word == "--bbox":
+            options["box"] = words.pop(0)
+        else:
+            options[names[word]] = words.pop(0).split(",")
+    return options
+
+
+def rows():
+    """The vectors."""
+    return list(table.rows())
+
+
+def wanted_of(row):
+    """What a filter has to write and to answer."""
+    output, said, status = table.wanted_of(row)
+    return output, said.decode().rstrip("\n"), status
+
+
+def in_one(text, kind="filter", **options):
+    """What comes of a stream that is given to the library whole."""
+    end = text.find(b"\n") + 1 or len(text)
+    answer = judge(asked(kind, **options), "one", text[:end], bytearray(text[end:]), True)
+    answer.reports = list(answer.reports)
+    return answer
+
+
+def numbered(reports):
+    """Reports as numbers alone."""
+    return [(report.line, report.byte, report.code) for report in reports]
+
+
+def lines_by_chance(chance, count):
+    """Valid lines, some of them broken, and blank ones."""
+    for number in range(count):
+        kind, lod = chance.choice(("Building", "Road", "Bridge")), chance.choice(("1", "2.2", "\\u0032.2"))
+        line = feature(f"b{number}", kind, lod, x=chance.randrange(-9, 9))
+        turn = chance.randrange(14)
+        if turn == 0:
+            line = feature(f"b{number}", last=4)
+        elif turn == 1:
+            line = line[:chance.randrange(len(line))].rstrip() + b"\n"
+        elif turn == 2:
+            line = chance.choice((b"\n", b" \t\r\n", b"[]\n", b"\xff\n", b"{}\n", line.replace(b"Road", b"Shed"), b"[" * 700 + b"\n"))
+        elif turn == 3:
+            line = line[:-1] + b"\r\n"
+        elif turn == 4:
+            line = line[:-1] + b" " * chance.randrange(1_000) + b"\n"
+        yield line
+
+
+def stream_by_chance(seed):
+    """A stream made by chance, the same for each seed. It may end without LF, and its header may be broken."""
+    chance = random.Random(seed)
+    others = (b"", b"\n", HEADER[:-1], HEADER[:-9] + b"\n", PLAIN, HEADER[:-2] + b" " * 900 + b"}\n")
+    header = HEADER if chance.randrange(10) else chance.choice(others)
+    text = header + b"".join(lines_by_chance(chance, chance.randrange(25)))
+    return text[:-1] if chance.randrange(3) == 0 else text
+
+
+class Slow(io.RawIOBase):
+    """A source that gives few bytes at a time, and fails after so many, where that is said."""
+
+    def __init__(self, text, piece, fails_at=None):
+        super().__init__()
+        self._file, self._piece, self._left = io.BytesIO(text), piece, fails_at
+
+    def read(self, most=-1):
+        if self._left is not None and self._left <= 0:
+            raise OSError(5, "Input/output error")
+        most = min(most, self._piece, self._piece if self._left is None else self._left)
+        piece = self._file.read(most)
+        if self._left is not None:
+            self._left -= len(piece)
+        return piece
+
+
+def command(*words, given=b"", **more):
+    """What the command writes, says and answers."""
+    ran = subprocess.run([sys.executable, "-m", "cityseq", *words], input=given, capture_output=True, timeout=60,
+                         env={**os.environ, "PYTHONPATH": os.path.join(ROOT, "python"), "PYTHONIOENCODING": "utf-8"}, **more)
+    return ran.stdout, ran.stderr.decode("utf-8", "replace"), ran.returncode
+
+
+def program(*words, given=b""):
+    """The same of the program, where it is built."""
+    return table.run([PROGRAM, *words], given)

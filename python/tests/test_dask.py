@@ -1,0 +1,121 @@
+"""Files over a cluster of two workers on this machine, one of which may die: the same as by one run."""
+import gzip
+import io
+import logging
+import os
+import random
+import time
+import unittest
+
+from . import support
+from .support import HEADER, feature, numbered
+from .test_sources import InFolder
+
+import cityseq
+
+try:
+    import distributed
+except ImportError:
+    distributed = None
+else:
+    import cityseq.dask
+    from cityseq.query import asked
+    from cityseq.ranges import cut, judge_range, look
+
+
+def by_ranges(path, each, work):
+    """What comes of a file whose ranges are judged one after another, as each task does."""
+    from cityseq.parts import Answer
+    seen, joined, output, reports, first = look(path, work.line_limit), Answer(parts=0), b"", [], True
+    begin = len(seen.header)
+    for left, right in list(cut(begin, seen.size, each) if seen.header.endswith(b"\n") else ()) or [(begin, begin)]:
+        if joined.status == 0:
+            answer = judge_range(work, path, left, right, first)
+            joined.add(answer, reports.append)
+            output, first = output + answer.output, False
+    return output, numbered(reports), joined.lines, joined.kept, joined.refused, joined.peaks
+
+
+@unittest.skipIf(distributed is None, "distributed is not there")
+class Ranges(InFolder):
+    """Parts that are read where they are judged, without a cluster."""
+
+    def test_ranges_by_chance(self):
+        for seed in range(60):
+            text, chance = support.stream_by_chance(seed), random.Random(seed)
+            path, options = str(self.file(text)), {"line_limit": 1_000, "keep_going": seed % 2 == 0}
+            one = support.in_one(text, **options)
+            reports = numbered(one.reports + [one.end] * (one.end is not None))
+            wanted = (bytes(one.output), reports, one.lines, one.kept, one.refused, one.peaks)
+            for each in (1, chance.randrange(2, 300), 700, 100_000):
+                with self.subTest(seed=seed, each=each):
+                    self.assertEqual(by_ranges(path, each, asked("filter", **options)), wanted)
+
+
+@unittest.skipIf(distributed is None, "distributed is not there")
+class Clusters(InFolder):
+    """Two workers, each a process of its own."""
+
+    @classmethod
+    def setUpClass(cls):
+        os.environ["PYTHONPATH"] = os.path.join(support.ROOT, "python")
+        for name in ("scheduler", "client", "nanny", "worker"):
+            logging.getLogger(f"distributed.{name}").setLevel(logging.CRITICAL)  # that a worker died is what is tested
+        cls.cluster = distributed.LocalCluster(n_workers=2, threads_per_worker=1, processes=True, host="127.0.0.1",
+                                               dashboard_address=None, silence_logs=logging.CRITICAL)
+        cls.client = distributed.Client(cls.cluster)
+
+    @classmethod
+    def tearDownClass(cls):
+        cls.client.close()
+        cls.cluster.close()
+
+    def test_the_examples(self):
+        paths = [os.path.join(support.ROOT, "examples", f"{name}.city.jsonl") for name in ("broken", "delivery", "sample", "town")]
+        for options in ({}, {"keep_going": True}):
+            here = list(cityseq.check_files(paths, **options))
+            there = list(cityseq.dask.check(self.client, paths, part_size=5_000, **options))
+            self.assertEqual(there, here)
+        for path in paths:
+            self.assertEqual(list(cityseq.dask.info(self.client, path, part_size=50_000)), [cityseq.info(path)])
+            here, there = io.BytesIO(), io.BytesIO()
+            for options in ({"types": ["Road", "BuildingPart"]}, {"keep_going": True}):
+                self.assertEqual(cityseq.dask.filter(self.client, path, there, part_size=900, **options), cityseq.filter(path, here, **options))
+            self.assertEqual(there.getvalue(), here.getvalue())
+
+    def test_what_cannot_be_read_or_asked(self):
+        packed = self.file(gzip.compress(HEADER + feature("a")), "a.jsonl")
+        packed.rename(self.folder / "a.jsonl.gz")
+        paths = [self.folder / "none", self.folder / "a.jsonl.gz", self.folder, self.file(b"")]
+        found = list(cityseq.dask.check(self.client, paths))
+        self.assertEqual([(result.status, result.features) for result in found], [(3, 0), (0, 1), (3, 0), (1, 0)])
+        for call in (lambda: cityseq.dask.filter(self.client, self.folder / "a.jsonl.gz", io.BytesIO()),
+                     lambda: list(cityseq.dask.check(self.client, b"bytes")), lambda: list(cityseq.dask.check(None, "a")),
+                     lambda: list(cityseq.dask.check(self.client, "a", depth=0))):
+            self.assertRaises(cityseq.RequestError, call)
+        self.assertRaises(cityseq.ReadFault, cityseq.dask.filter, self.client, "/nowhere", io.BytesIO())
+
+    def test_a_worker_that_dies(self):
+        lasts = (4 if number % 1_000 == 999 else 3 for number in range(200_000))
+        path = self.file(HEADER + b"".join(feature("b", last=last) for last in lasts))
+        here, killed = cityseq.check(path, keep_going=True), []
+
+        def kill(_report):
+            if not killed:
+                killed.append(min(self.client.run(os.getpid).values()))
+                os.kill(killed[0], 9)
+
+        told = []
+        there, = cityseq.dask.check(self.client, path, keep_going=True, part_size=200_000,
+                                    on_report=lambda report: (told.append(report), kill(report)))
+        self.assertEqual((told, there.lines, there.features, there.refused, there.status),
+                         (here.reports, here.lines, here.features, here.refused, 1))
+        for _ in range(100):
+            if len(self.client.scheduler_info()["workers"]) == 2:
+                break
+            time.sleep(0.1)
+        self.assertNotIn(killed[0], self.client.run(os.getpid).values())
+
+
+if __name__ == "__main__":
+    unittest.main()

@@ -1,0 +1,182 @@
+"""Where streams come from and go to, and what is said of those that cannot be read or asked for."""
+import gzip
+import io
+import os
+import pathlib
+import subprocess
+import sys
+import tempfile
+import unittest
+
+from . import support
+from .support import HEADER, PLAIN, feature, numbered
+
+import cityseq
+
+GOOD = HEADER + feature("a") + feature("b", "Road")
+BROKEN = HEADER + feature("a") + feature("b", last=4) + feature("c")
+
+
+class InFolder(unittest.TestCase):
+    """Tests that have a folder of their own."""
+
+    def setUp(self):
+        folder = tempfile.TemporaryDirectory()
+        self.addCleanup(folder.cleanup)
+        self.folder = pathlib.Path(folder.name)
+
+    def file(self, text, name="stream.city.jsonl"):
+        path = self.folder / name
+        path.write_bytes(gzip.compress(text) if name.endswith(".gz") else text)
+        return path
+
+
+class Sources(InFolder):
+    """Each kind of source and of output."""
+
+    def test_each_kind(self):
+        for text, status in ((GOOD, 0), (BROKEN, 1)):
+            path, packed = self.file(text), self.file(text, "stream.city.jsonl.gz")
+            with open(path, "rb") as file, open(path, "rb", buffering=0) as raw, gzip.open(packed) as unpacked:
+                sources = [path, str(path), packed, str(packed), text, bytearray(text), memoryview(text), file, raw, unpacked,
+                           io.BytesIO(text), support.Slow(text, 3)]
+                results = [cityseq.check(source, part_size=200) for source in sources]
+            wanted = (0, 3, "None") if status == 0 else (1, 2, "line 3, byte 142: 25 vertex index out of range")
+            self.assertEqual({(result.status, result.lines, str(result.end)) for result in results}, {wanted})
+            self.assertEqual([results[0].file, results[2].file, results[4].file], [str(path), str(packed), "<bytes>"])
+
+    def test_outputs(self):
+        path, packed, memory = self.folder / "out.jsonl", self.folder / "out.jsonl.gz", io.BytesIO()
+        for output in (path, str(packed), memory):
+            self.assertEqual(cityseq.filter(GOOD, output, types=["Road"]).features, 1)
+        wanted = HEADER + feature("b", "Road")
+        self.assertEqual([path.read_bytes(), gzip.decompress(packed.read_bytes()), memory.getvalue()], [wanted] * 3)
+        with open(path, "wb", buffering=0) as raw:
+            cityseq.filter(BROKEN, raw)
+        self.assertEqual(path.read_bytes(), HEADER + feature("a"))
+
+    def test_an_archive_that_is_cut_short(self):
+        path = self.file(GOOD, "stream.jsonl.gz")
+        path.write_bytes(path.read_bytes()[:-20])
+        with self.assertRaises(cityseq.ReadFault):
+            cityseq.check(path)
+        path.write_bytes(gzip.compress(BROKEN + b" " * 5_000_000)[:-20])
+        self.assertEqual(cityseq.check(path).end.line, 3)
+        path.write_bytes(b"no archive")
+        self.assertEqual([result.status for result in cityseq.check_files([path, GOOD])], [3, 0])
+
+    def test_a_read_that_fails(self):
+        for fails_at, lines in ((0, 0), (50, 0), (len(HEADER), 1), (len(GOOD) - 3, 2), (len(GOOD), 3)):
+            with self.assertRaises(cityseq.ReadFault) as caught:
+                cityseq.check(support.Slow(GOOD, 11, fails_at), jobs=2)
+            self.assertEqual((caught.exception.status, caught.exception.result.lines), (3, lines))
+            self.assertEqual(caught.exception.words, "read fault: Input/output error")
+        self.assertEqual(cityseq.check(support.Slow(BROKEN, 11, len(BROKEN) - 3)).status, 1)
+        with self.assertRaises(cityseq.ReadFault) as caught:
+            cityseq.check(support.Slow(BROKEN, 11, len(BROKEN)), keep_going=True)
+        self.assertEqual(numbered(caught.exception.result.reports), [(3, 142, 25)])
+
+    def test_what_cannot_be_read(self):
+        with open(self.file(GOOD)) as text:
+            for source, kind in ((self.folder / "none", cityseq.ReadFault), (self.folder, cityseq.ReadFault), (text, cityseq.ReadFault),
+                                 (3, cityseq.RequestError), (None, cityseq.RequestError)):
+                with self.subTest(source=source), self.assertRaises(kind):
+                    cityseq.check(source)
+
+    def test_what_cannot_be_written(self):
+        path = self.file(GOOD)
+        for output, kind in ((self.folder, cityseq.WriteFault), (self.folder / "no" / "file", cityseq.WriteFault),
+                             (io.StringIO(), cityseq.RequestError), (3, cityseq.RequestError), (path, cityseq.RequestError)):
+            with self.subTest(output=output), self.assertRaises(kind):
+                cityseq.filter(path, output)
+        self.assertEqual(path.read_bytes(), GOOD)
+        if os.path.exists("/dev/full"):
+            with self.assertRaises(cityseq.WriteFault):
+                cityseq.filter(HEADER + PLAIN * 100_000, "/dev/full", part_size=1 << 20)
+
+    @unittest.skipUnless(os.path.exists("/proc/self/status"), "the system does not tell the peak of memory")
+    def test_memory_is_bounded(self):
+        """A stream of a gigabyte that has no LF behind its header, in less than a fifth of that."""
+        script = """if True:
+            import cityseq
+            class Endless:
+                left = 1 << 30
+                def read(self, most):
+                    self.left -= most
+                    return b"[" * most if self.left > 0 else b""
+            class Headed(Endless):
+                header = %r
+                def read(self, most):
+                    told, self.header = self.header, b""
+                    return told or super().read(most)
+            for keep_going in (False, True):
+                for source in (Headed(), Endless()):
+                    result = cityseq.check(source, jobs=2, keep_going=keep_going)
+                    print(*[(report.line, report.byte, report.code) for report in result.reports], result.lines)
+            found = [0]
+            cityseq.check(%r + b"x\\n" * (1 << 20), jobs=2, keep_going=True, on_report=lambda report: found.append(report.line))
+            print(len(found), found[-1])
+            peak = dict(line.split(":") for line in open("/proc/self/status"))["VmHWM"]
+            print(int(peak.split()[0]) < 200_000)"""
+        ran = subprocess.run([sys.executable, "-c", script % (HEADER, HEADER)], stdout=subprocess.PIPE, timeout=60,
+                             env={**os.environ, "PYTHONPATH": os.path.join(support.ROOT, "python")})
+        self.assertEqual(ran.stdout.decode().splitlines(), [
+            "(2, 8388608, 2) 1", "(1, 8388608, 2) 0", "(2, 8388608, 2) 2", "(1, 8388608, 2) 0", "1048577 1048577", "True"])
+
+
+    def test_memory_that_is_refused(self):
+        script = """if True:
+            import io, resource, cityseq
+            resource.setrlimit(resource.RLIMIT_AS, (1 << 31, 1 << 31))
+            for jobs in (1, 3):
+                try:
+                    cityseq.filter(%r, io.BytesIO(), line_limit=1 << 30, jobs=jobs, part_size=100)
+                except cityseq.MemoryFault as fault:
+                    print(fault, fault.status, fault.result.lines)
+            print(cityseq.check(%r).status)"""
+        ran = subprocess.run([sys.executable, "-c", script % (GOOD, GOOD)], stdout=subprocess.PIPE, timeout=60,
+                             env={**os.environ, "PYTHONPATH": os.path.join(support.ROOT, "python")})
+        self.assertEqual(ran.stdout.decode(), "out of memory 5 0\nout of memory 5 0\n0\n")
+
+
+class Requests(unittest.TestCase):
+    """What cannot be asked is an exception with clear words, and nothing is read or written."""
+
+    def test_limits(self):
+        for options, words in (
+                ({"line_limit": 0}, "the line limit is not from 1 to 1,073,741,824: 0"),
+                ({"line_limit": 1_073_741_825}, "the line limit is not from 1 to 1,073,741,824: 1073741825"),
+                ({"line_limit": 1 << 64 | 5}, "the line limit is not from 1 to 1,073,741,824: 18446744073709551621"),
+                ({"depth": 1_025}, "the depth is not from 1 to 1,024: 1025"), ({"depth": -1}, "the depth is not from 1 to 1,024: -1"),
+                ({"depth": "9"}, "the depth is not from 1 to 1,024: '9'"), ({"jobs": 0}, "jobs are a whole number from 1: 0"),
+                ({"part_size": 0}, "a part has one byte or more: 0")):
+            with self.subTest(**options), self.assertRaises(cityseq.RequestError) as caught:
+                cityseq.check(GOOD, **options)
+            self.assertEqual((str(caught.exception), caught.exception.status), (words, 2))
+        self.assertEqual(cityseq.check(GOOD, line_limit=1_073_741_824, depth=1_024).status, 0)
+
+    def test_queries(self):
+        for options, words in (
+                ({"types": ["Building", "Shed"]}, "unknown object type: Shed"), ({"types": "building"}, "unknown object type: building"),
+                ({"box": "1,2,3"}, "bad box"), ({"box": [1, 2, 3]}, "bad box"), ({"box": "1e18,0,2e18,1"}, "box number out of range"),
+                ({"box": [3, 0, 1, 1]}, "empty box"), ({"box": [float("nan"), 0, 1, 1]}, "bad box"), ({"box": "\0"}, "bad box"),
+                ({"ids": ["a\nb"]}, "no text with a line's end in it can be asked for among ids: 'a\\nb'"),
+                ({"ids": ["\ud800"]}, "a text is not UTF-8, among ids"), ({"lods": [2.2]}, "LoDs are texts: 2.2 is none")):
+            output = io.BytesIO()
+            with self.subTest(**options), self.assertRaises(ValueError) as caught:
+                cityseq.filter(GOOD, output, **options)
+            self.assertEqual((str(caught.exception), output.getvalue()), (words, b""))
+
+    def test_one_text_and_none(self):
+        for ids, features in (("a", 1), (["a", "b"], 2), ([], 0), ([""], 0), (None, 2), (iter(["b"]), 1), (["a\r"], 0)):
+            self.assertEqual(cityseq.filter(GOOD, io.BytesIO(), ids=ids).features, features)
+
+    def test_no_library(self):
+        for path, words in (("/nowhere", b"there is no library /nowhere"), (__file__, b"is no library of cityseq")):
+            ran = subprocess.run([sys.executable, "-m", "cityseq", "check", "-"], input=b"", stderr=subprocess.PIPE, env={
+                **os.environ, "PYTHONPATH": os.path.join(support.ROOT, "python"), "CITYSEQ_LIBRARY": path})
+            self.assertEqual((ran.returncode, words in ran.stderr, b"Traceback" in ran.stderr), (2, True, False))
+
+
+if __name__ == "__main__":
+    unittest.main()

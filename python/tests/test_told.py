@@ -1,0 +1,156 @@
+"""What is told: explanations, excerpts, ids, hints, and what `info` says beside the program."""
+import json
+import os
+import random
+import sys
+import unittest
+from decimal import Decimal
+
+from . import support
+from .support import HEADER, PLAIN, feature
+
+import cityseq
+from cityseq.reports import excerpt_of, find_id
+from cityseq.tally import box_of, normal, plain
+
+sys.path.insert(0, os.path.join(support.ROOT, "python"))
+import make_reasons  # noqa: E402
+
+EXAMPLES = os.path.join(support.ROOT, "examples")
+
+
+def example(name):
+    return os.path.join(EXAMPLES, f"{name}.city.jsonl")
+
+
+class Explanations(unittest.TestCase):
+    """Those of the package are those of docs/REASONS.md."""
+
+    def test_they_are_those_of_the_document(self):
+        for code, wanted in make_reasons.read_reasons().items():
+            told = cityseq.explain(int(code))
+            self.assertEqual({"text": told.text, "meaning": told.meaning, "fix": told.fix}, wanted)
+
+    def test_each_code_of_the_document(self):
+        with open(make_reasons.SOURCE, encoding="utf-8") as document:
+            table = [line.split("|") for line in document if line.startswith("| [")]
+        self.assertEqual({int(row[1].split("]")[0].strip(" [")): row[2].strip() for row in table},
+                         {code: cityseq.explain(code).text for code in range(1, 32) if code not in range(6, 10)})
+        self.assertRaises(KeyError, cityseq.explain, 6)
+        with open(os.path.join(support.ROOT, "python", "cityseq", "reasons.json"), encoding="utf-8") as told:
+            self.assertEqual(json.load(told), make_reasons.read_reasons())
+
+    def test_the_library_has_the_same_words(self):
+        from cityseq._library import library
+        self.assertEqual([library().reason_text(code) for code in range(1, 40)],
+                         [cityseq.explain(code).text if code < 32 and code not in range(6, 10) else "" for code in range(1, 40)])
+
+
+class Reports(unittest.TestCase):
+    """Where a fault is, and in which feature."""
+
+    def test_the_example(self):
+        report = cityseq.check(example("broken")).end
+        self.assertEqual((str(report), report.id), ("line 3, byte 144: 25 vertex index out of range", "b2"))
+        excerpt, caret = report.caret().split("\n")
+        self.assertEqual(excerpt[len(caret) - 1:][:3], "4]]")
+
+    def test_ids(self):
+        for line, wanted in ((b'{"id":"a"', "a"), (b' {"type" : "CityJSONFeature", "id":"a\\u0062"', "ab"), (b'{"x":1,"id":"b"}', "b"),
+                             (b'{"x":1,"id":"b"', None), (b'{"id":3}', None), (b"[]", None), (b"", None), (b"[" * 5_000, None),
+                             (b'{"id":"\xff"', None), (b'{"id":"\\ud800"}', "\ud800"), (b'{"a":{"id":"c"}}', None)):
+            self.assertEqual(find_id(line), wanted)
+
+    def test_excerpts(self):
+        for line, place, wanted in ((b"abc", 1, ("abc", 1)), (b"abc", 3, ("abc", 3)), (b"", 0, ("", 0)),
+                                    (b"\x1b[2J", 1, ("\ufffd[2J", 1)),
+                                    ("é€築".encode(), 8, ("é€築", 4)), (b"a\xffb", 1, ("a\ufffdb", 1)),
+                                    (b"x" * 100 + b"!" + b"y" * 100, 100, ("x" * 40 + "!" + "y" * 39, 40)),
+                                    ("é".encode() * 100, 101, ("é" * 19 + "\ufffd", 20))):
+            told = excerpt_of(line, place)
+            self.assertEqual(told[1], wanted[1], line)
+            self.assertTrue(told[0].startswith(wanted[0][:wanted[1]]), line)
+
+    def test_any_place_of_any_bytes(self):
+        chance = random.Random(5)
+        for _ in range(3_000):
+            line = bytes(chance.choice(b"a\xc3\xa9\xe2\x82\xac\xff\x00\xf0\x9f\x8f\xa0") for _ in range(chance.randrange(120)))
+            excerpt, column = excerpt_of(line, chance.randrange(len(line) + 1))
+            self.assertTrue(column <= 2 * len(excerpt) and excerpt.isprintable())
+
+
+class Hints(unittest.TestCase):
+    """What is no stream."""
+
+    def test_each(self):
+        whole = HEADER.replace(b'"CityObjects":{}', b'"CityObjects":{"b":{"type":"Building"}}')
+        for text, wanted in ((b"", "empty"), (b"\x1f\x8b\x08\0", "gzip"), (b"PK\x03\x04", "zip"), (b"\xef\xbb\xbf" + HEADER, "byte order mark"),
+                             (HEADER.decode().encode("utf-16"), "UTF-16"), (b'{\n  "type": "CityJSON"\n}\n', "over many lines"),
+                             (b'{ "type": "CityJSON",\r\n "version": "2.0"}', "over many lines"), (whole, "one CityJSON object"),
+                             (PLAIN + HEADER, "is a feature")):
+            hints = cityseq.check(text).hints
+            self.assertEqual(len(hints), 1, text)
+            self.assertIn(wanted, hints[0])
+
+    def test_none(self):
+        for text in (HEADER, HEADER + PLAIN, HEADER + b"[]\n", HEADER.replace(b"2.0", b"1.1"), b"{\n", b'{"a"\n'):
+            self.assertEqual(cityseq.check(text).hints, [])
+
+
+class Infos(unittest.TestCase):
+    """What is in a stream."""
+
+    def test_the_example(self):
+        for size in (1, 1 << 20):
+            info = cityseq.info(example("town"), part_size=size, jobs=2)
+            self.assertEqual((info.lines, info.features, info.box), (5, 4, "995,1990,1050,2005"))
+            self.assertEqual(info.types, {"Building": 2, "Road": 1, "SolitaryVegetationObject": 1, "BuildingPart": 1})
+            self.assertEqual((info.classes, info.lods), ({"0": 1, "1": 2, "2": 1}, {"2.2": 1, "1.2": 1, "0": 1, "1": 1}))
+            self.assertEqual((info.x, info.y, info.z), ((-5000, 50000), (-10000, 5000), (0, 3000)))
+
+    def test_the_texts_of_lods(self):
+        text = HEADER + b"".join(feature("b", lod=lod) for lod in ("2.2", "\\u0032.2", "x\\n", "\\ud800"))
+        text += feature("c").replace(b'"lod"', b'"l\\u006Fd"')
+        text += PLAIN.replace(b'"Building"', b'"Building","attributes":{"lod":"none"}')
+        for size in (1, 1 << 20):
+            info = cityseq.info(text, part_size=size)
+            self.assertEqual((info.lods, info.unasked), ({"2.2": 3}, ("x\n", "\ud800")))
+        others = (PLAIN.replace(b'"Building"', b'"Building","attributes":{"lod":"%d"}' % number) for number in range(500))
+        many = HEADER + b"".join(others) + feature("z")
+        self.assertEqual(cityseq.info(many).lods, {"2.2": 1})
+        self.assertIsNone(cityseq.info(HEADER + b"".join(feature("b", lod=str(n)) for n in range(500))).lods)
+        self.assertIsNone(cityseq.info(many, exact_lods=False).lods or None)
+
+    def test_the_box_is_taken_and_exact(self):
+        header = HEADER.replace(b"[0.001,0.001,0.001]", b"[0.000000000000000001,1e-3,7]").replace(b"[10,20,0]", b"[-0.5E1,99999999999,0]")
+        text = header + feature("a", x=-123_456_789)
+        info = cityseq.info(text)
+        self.assertEqual(info.box, "-5.000000000123456789,99999999999,-4.999999999999999,100000000000")
+        self.assertEqual(cityseq.filter(text, os.devnull, box=info.box).features, 1)
+        just_beside = ",".join(["-9", "0", "-5.00000000012345679", "1e17"])
+        self.assertEqual(cityseq.filter(text, os.devnull, box=just_beside).features, 0)
+
+    def test_no_box(self):
+        for scale in (b"1e-19", b"1e-1000000", b"1e20", b"1e1000000"):
+            info = cityseq.info(HEADER.replace(b"[0.001", b"[" + scale) + feature("a"))
+            self.assertEqual((info.status, info.box), (0, None))
+        self.assertIsNone(cityseq.info(HEADER + PLAIN).box)
+        self.assertEqual(cityseq.info(HEADER.replace(b"[0.001", b"[1" + b"0" * 9_000) + feature("a")).status, 0)
+
+    def test_a_header_that_is_nested_deep(self):
+        deep = HEADER.replace(b'"vertices"', b'"metadata":' + b"[" * 1_000 + b"]" * 1_000 + b',"vertices"')
+        self.assertEqual(cityseq.info(deep + feature("a"), depth=1_024).box, "10,20,11,21")
+
+    def test_numbers(self):
+        for text, wanted in (("0.001", "1e-3"), ("2000.0", "2e3"), ("84616.468", "84616468e-3"), ("-0.0", "0e0"), ("0e99", "0e0"),
+                             ("-1.50e3", "-15e2")):
+            self.assertEqual(normal(Decimal(text)), wanted)
+        self.assertEqual([plain(Decimal(text)) for text in ("1E+3", "-0", "1.500", "1E-18")], ["1000", "0", "1.5", "0.000000000000000001"])
+        almost = Decimal("999999999999999999.999999999999999999")
+        self.assertEqual(box_of(((0, 1), (0, 0), None), [Decimal("-1E-18"), Decimal(1), Decimal(1)], [almost] * 3),
+                         "999999999999999999.999999999999999998,999999999999999999.999999999999999999,"
+                         "999999999999999999.999999999999999999,999999999999999999.999999999999999999")
+
+
+if __name__ == "__main__":
+    unittest.main()
