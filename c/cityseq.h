@@ -24,6 +24,9 @@
 extern "C" {
 #endif
 
+/* The interface that this file declares. The library tells by cityseq_interface which one it has. */
+#define CITYSEQ_INTERFACE 1
+
 /* How a call ended. */
 enum cityseq_status {
     CITYSEQ_COMPLETE = 0,    /* all lines were read, and none was the end */
@@ -108,6 +111,9 @@ struct cityseq_tally {
     uint64_t lods[6];               /* geometries by the class of their LoD: 0 to 4, and other */
     struct cityseq_range ranges[3]; /* the vertices, x, y and z, as they stand in the features */
 };
+
+/* The number of the library's interface: CITYSEQ_INTERFACE where it fits this file. */
+uint32_t cityseq_interface(void);
 
 /* Judges the lines of a stream. The first reports are written to the room for them, as many as fit. */
 struct cityseq_answer cityseq_check(const char *header, size_t header_length, const char *part, size_t part_length,

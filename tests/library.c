@@ -350,6 +350,7 @@ static void texts(void)
     row("no reason", cityseq_reason_text(6, text, sizeof text) == 0 && cityseq_reason_text(32, text, 9) == 0);
     row("a type", cityseq_type_name(1, text, sizeof text) == 8 && !memcmp(text, "Building", 8));
     row("the last type", cityseq_type_name(32, text, sizeof text) == 10 && !memcmp(text, "TunnelPart", 10));
+    row("the interface", cityseq_interface() == CITYSEQ_INTERFACE);
     row("no type", cityseq_type_name(33, text, sizeof text) == 0);
 }
 

@@ -52,7 +52,7 @@ class Code:
                 owners = [name for name in found.group(2, 3) if name]
             elif line == '}':
                 owners = []
-            if found := re.match(r'\s*(?:pub(?:\(\w+\))? )?(?:const )?fn (\w+)', line):
+            if found := re.match(r'\s*(?:pub(?:\(\w+\))? )?(?:const )?(?:extern "C" )?fn (\w+)', line):
                 clauses = set()
                 for name in [found[1], *(f'{owner}::{found[1]}' for owner in owners)]:
                     self.functions[name].append(clauses)

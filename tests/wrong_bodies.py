@@ -14,7 +14,7 @@ import re
 import subprocess
 import sys
 
-HEAD = re.compile(r"( *)(?:pub(?:\([^)]*\))? )?(?:default )?(?:const )?(?:unsafe )?fn (\w+)")
+HEAD = re.compile(r"( *)(?:pub(?:\([^)]*\))? )?(?:default )?(?:const )?(?:unsafe )?(?:extern \"C\" )?fn (\w+)")
 IMPL = re.compile(r"impl\b[^{]*")
 
 

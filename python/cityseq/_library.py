@@ -9,7 +9,8 @@ from typing import Any, Iterable, Optional, Tuple, Union
 
 from .faults import LibraryMissing
 
-COMPLETE, REFUSED, BAD_REQUEST, TOO_LONG, NO_ROOM, NO_MEMORY = range(6)
+INTERFACE = 1
+COMPLETE, REFUSED, BAD_REQUEST, NO_ROOM, NO_MEMORY = 0, 1, 2, 4, 5
 LINE_LIMITS, DEPTH_LIMITS = (1, 1_073_741_824), (1, 1_024)
 USUAL_LINE, USUAL_DEPTH = 8_388_608, 64
 TYPES, LOD_CLASSES = 33, ("0", "1", "2", "3", "4", "other")
@@ -24,6 +25,7 @@ FAULTS = {
     6: "bad box",
     7: "box number out of range",
     8: "empty box",
+    9: "the stream has more than 2^60 bytes",
 }
 
 
@@ -69,6 +71,7 @@ RawReports = Iterable[RawReport]
 _COMMON = [c_char_p, c_size_t, c_char_p, c_size_t, POINTER(RawRequest)]
 _ROOM = [POINTER(RawReport), c_size_t]
 _CALLS = {
+    "cityseq_interface": (c_uint32, []),
     "cityseq_check": (RawAnswer, _COMMON + _ROOM),
     "cityseq_filter": (RawAnswer, _COMMON + [c_char_p, c_size_t] + _ROOM),
     "cityseq_tally": (RawAnswer, _COMMON + [POINTER(RawTally)] + _ROOM),
@@ -146,6 +149,8 @@ def _load() -> Library:
             call.restype, call.argtypes = result, arguments
     except (OSError, AttributeError) as fault:
         raise LibraryMissing(f"{path} is no library of cityseq: {fault}") from fault
+    if calls.cityseq_interface() != INTERFACE:
+        raise LibraryMissing(f"{path} has another interface than this package: build both anew")
     return Library(calls)
 
 

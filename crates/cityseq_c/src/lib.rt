@@ -35,6 +35,14 @@ use room::Room;
 use std::alloc::Global;
 use tally::Tally;
 
+/// The number of this interface: another one where what `c/cityseq.h` declares has changed.
+#[unsafe(no_mangle)]
+pub extern "C" fn cityseq_interface() -> u32
+    ensures { result ≡ 1 }
+{
+    1
+}
+
 /// Judges the lines of a stream. The first reports are written to the room for them, as many as fit.
 #[unsafe(no_mangle)]
 pub extern "C" fn cityseq_check(

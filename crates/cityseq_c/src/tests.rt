@@ -1,0 +1,201 @@
+//! Each export, run with ample memory: on a header and a feature, on lines that are invalid, and on requests that are wrong.
+use crate::reports::Told;
+use crate::request::Request;
+use crate::tally::{Range, Tally};
+use crate::{
+    Answer, cityseq_check, cityseq_filter, cityseq_interface, cityseq_reason_text, cityseq_tally,
+    cityseq_type_name,
+};
+use std::process::Abort;
+use std::test::Fail;
+
+/// A header of 140 bytes and its LF.
+const HEADER: &[u8] =
+    b"{\"type\":\"CityJSON\",\"version\":\"2.0\",\"transform\":{\"scale\":[0.001,0.001,0.001],\"translate\":[1000.0,2000.0,0.0]},\"CityObjects\":{},\"vertices\":[]}\n";
+
+/// A feature of 210 bytes and its LF.
+const FEATURE: &[u8] =
+    b"{\"type\":\"CityJSONFeature\",\"id\":\"b1\",\"CityObjects\":{\"b1\":{\"type\":\"Building\",\"geometry\":[{\"type\":\"MultiSurface\",\"lod\":\"2.2\",\"boundaries\":[[[0,1,2,3]]]}]}},\"vertices\":[[0,0,0],[1000,0,0],[1000,1000,0],[0,1000,0]]}\n";
+
+/// The same with an index that is one too great, and a line that is no JSON text.
+const BROKEN: &[u8] =
+    b"{\"type\":\"CityJSONFeature\",\"id\":\"b1\",\"CityObjects\":{\"b1\":{\"type\":\"Building\",\"geometry\":[{\"type\":\"MultiSurface\",\"lod\":\"2.2\",\"boundaries\":[[[0,1,2,4]]]}]}},\"vertices\":[[0,0,0],[1000,0,0],[1000,1000,0],[0,1000,0]]}\n{\n";
+
+/// Room for no report.
+const NO_REPORT: Told = Told {
+    line: 0,
+    place: 0,
+    code: 0,
+};
+
+/// A request for all features at the usual limits.
+fn usual<'a>() -> Request<'a> {
+    Request {
+        line_limit: 8_388_608,
+        depth_limit: 64,
+        keep_going: false,
+        tree: false,
+        exclude: false,
+        asks_ids: false,
+        asks_types: false,
+        asks_lods: false,
+        asks_box: false,
+        ids: b"",
+        types: b"",
+        lods: b"",
+        bbox: b"",
+    }
+}
+
+/// Compares how a call ended.
+fn check_ended(rt: &impl Abort, answer: Answer, wanted: (u32, u32, u64, u64)) {
+    let ended = (answer.status, answer.code, answer.line, answer.place);
+    assert_eq!(rt; ended, wanted);
+}
+
+/// Compares what was counted.
+fn check_counts(rt: &impl Abort, answer: Answer, wanted: (u64, u64, u64, u64)) {
+    let counts = (answer.lines, answer.kept, answer.refused, answer.written);
+    assert_eq!(rt; counts, wanted);
+}
+
+#[test]
+fn a_feature_is_checked(rt: HostRuntime) -> Result<(), Fail> {
+    let answer = cityseq_check(rt.alloc(), HEADER, FEATURE, &usual(), &mut []);
+    check_ended(&rt, answer, (0, 0, 0, 0));
+    check_counts(&rt, answer, (2, 1, 0, 0));
+    let peaks = (answer.peak_bytes, answer.peak_tokens, answer.peak_depth);
+    assert_eq!(rt; peaks, (350, 65, 8));
+    Ok(())
+}
+
+#[test]
+fn an_invalid_line_is_told(rt: HostRuntime) -> Result<(), Fail> {
+    let answer = cityseq_check(rt.alloc(), HEADER, BROKEN, &usual(), &mut []);
+    check_ended(&rt, answer, (1, 25, 2, 144));
+    check_counts(&rt, answer, (1, 0, 0, 0));
+    Ok(())
+}
+
+#[test]
+fn invalid_lines_are_reported(rt: HostRuntime) -> Result<(), Fail> {
+    let request = Request {
+        keep_going: true,
+        ..usual()
+    };
+    let mut reports = [NO_REPORT; 1];
+    let answer = cityseq_check(rt.alloc(), HEADER, BROKEN, &request, &mut reports);
+    check_ended(&rt, answer, (0, 0, 0, 0));
+    check_counts(&rt, answer, (3, 0, 2, 0));
+    let told = reports[0];
+    assert_eq!(rt; (told.line, told.place, told.code), (2, 144, 25));
+    Ok(())
+}
+
+#[test]
+fn a_feature_is_filtered(rt: HostRuntime) -> Result<(), Fail> {
+    let mut output = [0u8; 352];
+    let answer = cityseq_filter(rt.alloc(), HEADER, FEATURE, &usual(), &mut output, &mut []);
+    check_counts(&rt, answer, (2, 1, 0, 352));
+    assert!(rt; output.starts_with(HEADER));
+    assert!(rt; output.ends_with(FEATURE));
+    Ok(())
+}
+
+#[test]
+fn an_output_that_does_not_fit_is_cut(rt: HostRuntime) -> Result<(), Fail> {
+    let mut output = [0u8; 351];
+    let answer = cityseq_filter(rt.alloc(), HEADER, FEATURE, &usual(), &mut output, &mut []);
+    check_ended(&rt, answer, (4, 0, 0, 0));
+    assert_eq!(rt; answer.written, 141);
+    Ok(())
+}
+
+/// The tally of nothing.
+fn no_tally() -> Tally {
+    Tally {
+        features: 0,
+        types: [0; 33],
+        lods: [0; 6],
+        ranges: [Range {
+            some: 0,
+            least: 0,
+            greatest: 0,
+        }; 3],
+    }
+}
+
+#[test]
+fn a_feature_is_tallied(rt: HostRuntime) -> Result<(), Fail> {
+    let mut tally = no_tally();
+    let answer = cityseq_tally(rt.alloc(), HEADER, FEATURE, &usual(), &mut tally, &mut []);
+    check_ended(&rt, answer, (0, 0, 0, 0));
+    assert_eq!(rt; (tally.features, tally.types[1], tally.lods[2]), (1, 1, 1));
+    let x = tally.ranges[0];
+    assert_eq!(rt; (x.some, x.least, x.greatest), (1, 0, 1000));
+    Ok(())
+}
+
+#[test]
+fn a_feature_is_asked_for(rt: HostRuntime) -> Result<(), Fail> {
+    let request = Request {
+        asks_ids: true,
+        ids: b"b2\nb1",
+        asks_types: true,
+        types: b"Road\nBuilding",
+        asks_lods: true,
+        lods: b"2.2",
+        asks_box: true,
+        bbox: b"1000.5,2000,1001,2001",
+        ..usual()
+    };
+    let answer = cityseq_check(rt.alloc(), HEADER, FEATURE, &request, &mut []);
+    check_counts(&rt, answer, (2, 1, 0, 0));
+    Ok(())
+}
+
+#[test]
+fn wrong_requests_are_told(rt: HostRuntime) -> Result<(), Fail> {
+    let limit = Request {
+        line_limit: 0,
+        ..usual()
+    };
+    let answer = cityseq_check(rt.alloc(), HEADER, FEATURE, &limit, &mut []);
+    check_ended(&rt, answer, (2, 1, 0, 0));
+    let answer = cityseq_check(rt.alloc(), b"{}", FEATURE, &usual(), &mut []);
+    check_ended(&rt, answer, (2, 3, 0, 0));
+    Ok(())
+}
+
+#[test]
+fn an_unknown_type_is_told(rt: HostRuntime) -> Result<(), Fail> {
+    let request = Request {
+        asks_types: true,
+        types: b"Building\nHouse",
+        ..usual()
+    };
+    let answer = cityseq_check(rt.alloc(), HEADER, FEATURE, &request, &mut []);
+    check_ended(&rt, answer, (2, 5, 0, 0));
+    Ok(())
+}
+
+/// Compares bytes.
+fn check_text(rt: &impl Abort, got: &[u8], wanted: &[u8]) {
+    assert_eq!(rt; got, wanted);
+}
+
+#[test]
+fn words_are_copied(rt: HostRuntime) -> Result<(), Fail> {
+    let mut text = [b'.'; 10];
+    assert_eq!(rt; cityseq_reason_text(4, &mut text), 6);
+    check_text(&rt, &text, b"syntax....");
+    assert_eq!(rt; cityseq_type_name(1, &mut text), 8);
+    check_text(&rt, &text, b"Building..");
+    Ok(())
+}
+
+#[test]
+fn the_interface_has_its_number(rt: HostRuntime) -> Result<(), Fail> {
+    assert_eq!(rt; cityseq_interface(), 1);
+    Ok(())
+}

@@ -1,0 +1,16 @@
+#!/usr/bin/env bash
+# Installs the Debian packages that some tests need: distributed and tqdm for Python, and valgrind. It says what it could not
+# install, and its status is 0 in any case: what needs such a package is left out then, and that is said too.
+set -u
+missing=()
+for package in python3-distributed python3-tqdm valgrind; do
+  dpkg -s "$package" > /dev/null 2>&1 || missing+=("$package")
+done
+[ ${#missing[@]} = 0 ] && exit 0
+if [ "$(id -u)" != 0 ] || ! command -v apt-get > /dev/null; then
+  echo "not installed, as this user may not: ${missing[*]}"
+  exit 0
+fi
+export DEBIAN_FRONTEND=noninteractive
+{ timeout 120 apt-get update && timeout 480 apt-get install -y --no-install-recommends "${missing[@]}"; } > /dev/null 2>&1 ||
+  echo "not installed, as that failed: ${missing[*]}"
