@@ -6,6 +6,7 @@ pub mod Lengths
 pub mod LinkFaults
 pub mod Listed
 pub mod MarkLemmas
+pub mod NameLemmas
 pub mod NearLemmas
 pub mod None
 pub mod Passes

@@ -53,7 +53,7 @@ shared a b c e f = subst (λ o. are_same_texts o (text_of c) ≡ true) (same_tex
 texts_total : IsTotalOrder compare_texts
 texts_total = options_total nat_list_cmp_total
 
-sides_total : IsTotalOrder compare_sides
+pub sides_total : IsTotalOrder compare_sides
 sides_total = then_total (on_total (λ (s : Side). s.0) nat_cmp_total) (on_total (λ (s : Side). s.1) texts_total)
 
 pub keys_total : IsTotalOrder compare_keys

@@ -12,6 +12,6 @@ pub mod Relations
 pub mod Reached
 pub mod Shown
 pub mod Typed
+pub mod Unmarked
 pub mod View
 pub mod Walks
-pub mod Wanting

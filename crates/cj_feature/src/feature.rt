@@ -19,8 +19,8 @@ mod questions;
 mod reached;
 mod rules;
 mod tagged;
+mod unmarked;
 mod vertices;
-mod wanted;
 
 pub use city_object::{CityObject, Objects};
 use cj_geometry::Templates;

@@ -22,6 +22,7 @@ ghost use Rattle.cj_spans.specs.Tree.{Tree};
 ghost use Rattle.cj_spans.specs.Parts.{members_of, text_of};
 ghost use Rattle.cj_spans.specs.View.{tree, trees, members_left, source_of, tree_in};
 ghost use Rattle.cj_feature.specs.Links.{same_text, listed_in, has_item as has_item_of, lists as lists_of};
+ghost use Rattle.cj_feature.specs.Tag.{tag_of as tag_of_text};
 ghost use Rattle.cj_feature.specs.Questions.{compare_sides, text_side, noted_in, side_in, pair_key, key_in, compare_keys, AreInOrder, IsPlaceOf, IsFirstOn, IsQuestion, AreAnswered, IsAnswer};
 
 use crate::feature::tagged::{Text, tag_of};
@@ -102,11 +103,14 @@ pub struct Questions {
 }
 
 /// What room holds before a question is noted.
-const NOTHING: Noted = Noted { tag: 0, number: 0 };
+pub const NOTHING: Noted = Noted { tag: 0, number: 0 };
 
 impl Noted {
     /// The text of a node.
-    fn of(node: Node) -> Noted {
+    pub fn of(node: Node) -> Noted
+        ensures tag { result.tag ≡ tag_of_text (text_of (tree node.entry)) }
+        ensures node { tree_in (source_of node.entry) result.number ≡ tree node.entry }
+    {
         Noted {
             tag: tag_of(node),
             number: node.number(),
@@ -121,7 +125,7 @@ impl Noted {
     }
 
     /// How two texts are ordered: by their tags, and where these are the same, by code points.
-    fn compare(self, other: Noted, objects: Node) -> Ordering
+    pub fn compare(self, other: Noted, objects: Node) -> Ordering
         ensures { result ≡ compare_sides (side_in objects.entry self) (side_in objects.entry other) }
     {
         match self.tag.cmp(&other.tag) {
@@ -131,7 +135,7 @@ impl Noted {
     }
 
     /// How the text is ordered beside one that is looked up.
-    fn compare_with(self, text: Text, objects: Node) -> Ordering
+    pub fn compare_with(self, text: Text, objects: Node) -> Ordering
         ensures { result ≡ compare_sides (side_in objects.entry self) (text_side text.entry) }
     {
         match self.tag.cmp(&text.tag) {

@@ -18,12 +18,13 @@ ghost use Rattle.cj_feature.specs.Feature.{unreached, reach_rule, reach_if};
 ghost use Rattle.cj_feature.specs.Links.{listed_in};
 ghost use Rattle.cj_feature.specs.Marking.{IsUnmarked, AllMarked, HaveMarks, ItemsHaveMarks, ListMarks, IsListedUnmarked, IsNext, IsToMark, MarksFit, IsBeside, AllReached, OnlyMarks};
 ghost use Rattle.cj_feature.specs.Reached.{AreMarks, IsReachedObject};
-ghost use Rattle.cj_feature.specs.Wanting.{AreMarkedOrWanted};
+ghost use Rattle.cj_feature.specs.Unmarked.{AreInNameOrder, NotedHaveMarks, ListNotedMarks};
 
 use crate::feature::ids::is_known;
 use crate::feature::links::has_many;
 use crate::feature::near::Near;
-use crate::feature::wanted::Wanted;
+use crate::feature::questions::{NOTHING, Noted};
+use crate::feature::unmarked::{gather_next, has};
 use cj_budget::Bounded;
 use cj_geometry::rule::add;
 use cj_spans::{Doc, Least, Node, Reason, Token, set_mark};
@@ -39,6 +40,9 @@ const MANY_OBJECTS: usize = 440_000;
 
 /// So many lists of them it has: a prime.
 const MANY_LISTS: usize = 65_521;
+
+/// So many names of city objects without marks are looked for at once, where there are more than a small guide has at hand.
+const MANY_NAMES: usize = 262_144;
 
 /// The first city object of this name that has no mark, by its number.
 fn find_unmarked(objects: Node, id: Node) -> Option<u32>
@@ -83,20 +87,19 @@ fn are_marked(objects: Node) -> bool
     true
 }
 
-/// The first city object that this one lists as a child and that has no mark, by its number, where it is known which
-/// names to look for.
-fn find_wanted_child(objects: Node, object: Node, wanted: &Wanted) -> Option<u32>
-    requires { AreMarkedOrWanted objects wanted.now (members_of (tree objects)) }
+/// The first city object that this one lists as a child by one of these names, and that has no mark, by its number.
+fn find_noted_child(objects: Node, object: Node, names: &[Noted]) -> Option<u32>
+    requires { AreInNameOrder objects names.now }
     ensures found { IfSome result
         (IsListedUnmarked objects.entry (listed_in (chars (codes "children")) (tree object.entry))) }
     ensures none { IfNone result
-        (ItemsHaveMarks objects.entry (listed_in (chars (codes "children")) (tree object.entry))) }
+        (NotedHaveMarks objects.entry names.now (listed_in (chars (codes "children")) (tree object.entry))) }
 {
     let Some(value) = object.get("children") else {
         return None;
     };
     for item in value.items() {
-        if wanted.may_have(item) {
+        if has(objects, names, item) {
             if let Some(number) = find_unmarked(objects, item) {
                 return Some(number);
             }
@@ -105,21 +108,72 @@ fn find_wanted_child(objects: Node, object: Node, wanted: &Wanted) -> Option<u32
     None
 }
 
+/// The first city object that one with a mark lists as a child by one of these names, and that has none, by its number.
+fn find_noted(objects: Node, names: &[Noted]) -> Option<u32>
+    requires { AreInNameOrder objects names.now }
+    ensures found { IfSome result (IsNext objects.entry) }
+    ensures none { IfNone result (ListNotedMarks objects.entry names.now (members_of (tree objects.entry))) }
+{
+    for (_, object) in objects.members() {
+        if object.marked() {
+            if let Some(number) = find_noted_child(objects, object, names) {
+                return Some(number);
+            }
+        }
+    }
+    None
+}
+
+/// As `find_listed_of_few`, where the names of city objects without marks are looked for, as many at once as there is room
+/// for.
+fn find_by_names(objects: Node, names: &mut [Noted]) -> Option<u32>
+    requires { 0 < length names.old }
+    ensures found { IfSome result (IsNext objects.entry) }
+    ensures none { IfNone result (ListMarks objects.entry (members_of (tree objects.entry))) }
+{
+    let mut later = objects.members();
+    loop {
+        let count = gather_next(objects, names, &mut later);
+        if count == 0 {
+            return None;
+        }
+        if let Some(number) = find_noted(objects, &names[..count]) {
+            return Some(number);
+        }
+    }
+}
+
+/// The same with room for the names of a small guide's city objects, which is 32 KiB of the stack.
+#[inline(never)]
+fn find_by_some(objects: Node) -> Option<u32>
+    ensures found { IfSome result (IsNext objects.entry) }
+    ensures none { IfNone result (ListMarks objects.entry (members_of (tree objects.entry))) }
+{
+    let mut names = [NOTHING; SOME_OBJECTS];
+    find_by_names(objects, &mut names)
+}
+
+/// The same with room for more names, which is 2 MiB of the stack.
+#[inline(never)]
+fn find_by_many(objects: Node) -> Option<u32>
+    ensures found { IfSome result (IsNext objects.entry) }
+    ensures none { IfNone result (ListMarks objects.entry (members_of (tree objects.entry))) }
+{
+    let mut names = [NOTHING; MANY_NAMES];
+    find_by_names(objects, &mut names)
+}
+
 /// As `find_listed_of_few`, where there are many. It is kept apart, so that few need none of its room on the stack.
 #[inline(never)]
 fn find_listed_of_many(objects: Node) -> Option<u32>
     ensures found { IfSome result (IsNext objects.entry) }
     ensures none { IfNone result (ListMarks objects.entry (members_of (tree objects.entry))) }
 {
-    let wanted = Wanted::of(objects);
-    for (_, object) in objects.members() {
-        if object.marked() {
-            if let Some(number) = find_wanted_child(objects, object, &wanted) {
-                return Some(number);
-            }
-        }
+    if needs_many(objects) {
+        find_by_many(objects)
+    } else {
+        find_by_some(objects)
     }
-    None
 }
 
 /// The first city object that one with a mark lists as a child and that has none, by its number.

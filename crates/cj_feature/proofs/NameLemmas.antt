@@ -1,0 +1,64 @@
+-- Names that are noted in order.
+use Rattle.std.proofs.Common.{◌≡◌, inl, inr, ℕ, ◌+◌, ◌<◌, List, [], length, get_or, take, false, true, is_ok, Result, Ok, Err, arith, sym, ap, ◌∙◌, subst}
+use Rattle.std.specs.Prelude.{slice_set}
+use Rattle.std.specs.Cmp.{tied_itself}
+use Rattle.std.specs.List.{Contains}
+use Rattle.std.specs.List.Sorted.{IsPermutation, IsBinarySearchResult}
+use Rattle.std.specs.declared.cmp.Ordering.TheVariants.{Equal}
+use Rattle.std.proofs.lemmas.Bool.{cases_lt}
+use Rattle.std.proofs.lemmas.List.{get_or-take, get_or-set_same, get_or-set_other, length-set, length-take-le}
+use Rattle.std.proofs.lemmas.List.Sorted.{Contains-permutation, searchable_from_sorted}
+use Rattle.cj_spans.specs.declared.node.Node.{Node}
+use Rattle.cj_spans.specs.Tree.{Tree}
+use Rattle.cj_spans.specs.Parts.{text_of}
+use Rattle.cj_feature.specs.declared.feature.questions.Noted.{Noted}
+use Rattle.cj_feature.specs.Links.{same_text}
+use Rattle.cj_feature.specs.Questions.{Side, compare_sides, side_of, side_in}
+use Rattle.cj_feature.specs.Unmarked.{AreInNameOrder, IsNoted}
+use Rattle.cj_feature.proofs.LinkFaults.{from-texts}
+use Rattle.cj_feature.proofs.Questions.{sides_total}
+
+module _ {X : Type 0} (xs : List X) (c : ℕ) (v : X) (below : c < length xs) where
+  long : length (take (c + 1) (slice_set xs c v)) ≡ c + 1
+  long = length-take-le (c + 1) (slice_set xs c v) (omega (arith, length-set xs c v, below))
+
+  -- what is among the first ones is so with one more
+  pub kept-first : (x : X) → Contains (take c xs) x → Contains (take (c + 1) (slice_set xs c v)) x
+  kept-first x h =
+      let low : h.0 < c = omega (arith, h.1, length-take-le c xs (omega (arith, below))) in (
+        h.0,
+        omega (arith, long, low),
+        get_or-take (c + 1) (slice_set xs c v) h.0 x (omega arith) ∙ get_or-set_other xs c h.0 v x (λ e. absurd (omega arith)) ∙ sym (get_or-take c xs h.0 x low) ∙ h.2,
+      )
+
+  -- and so is that one
+  pub last-first : Contains (take (c + 1) (slice_set xs c v)) v
+  last-first = (c, omega (arith, long), get_or-take (c + 1) (slice_set xs c v) c v (omega arith) ∙ get_or-set_same xs c v v below)
+
+module _ (objects : Node) where
+  -- names in another order are the same
+  pub noted-moved : (xs ys : List Noted) (t : Tree) → IsPermutation xs ys → IsNoted objects xs t → IsNoted objects ys t
+  noted-moved xs ys t moved n = (n.0, Contains-permutation xs ys n.0 moved n.1, n.2)
+
+  -- what has the text of a noted name is noted
+  pub noted-same : (names : List Noted) (t u : Tree) → same_text t u ≡ true → IsNoted objects names t → IsNoted objects names u
+  noted-same names t u same n =
+      let both = from-texts (text_of t) (text_of u) same in
+      (n.0, n.1, n.2 ∙ ap side_of (both.1 ∙ sym both.2))
+
+  -- no name is noted where there is none
+  pub none-noted : (t : Tree) → IsNoted objects [] t → ⊥
+  none-noted t n = omega (arith, n.1.1)
+
+  -- where a search by halves finds none, no name has the text
+  pub not-found : (names : List Noted) (t : Tree) (side : Side) (r : Result ℕ ℕ) → AreInNameOrder objects names → side ≡ side_of (text_of t) → is_ok r ≡ false
+      → IsBinarySearchResult (λ n. compare_sides (side_in objects n) side) names r → IsNoted objects names t → ⊥
+  not-found names t side (Ok i) order e none is n = cc
+  not-found names t side (Err i) order e none is n =
+      let parts = is (searchable_from_sorted sides_total (side_in objects) names side order) in
+      let x : Noted = n.0 in
+      let k : ℕ = n.1.0 in
+      let same : get_or names k x ≡ x = n.1.2 in
+      let equal : compare_sides (side_in objects (get_or names k x)) side ≡ Equal =
+      subst (λ y. compare_sides (side_in objects y) side ≡ Equal) (sym same) (subst (λ s. compare_sides s side ≡ Equal) (e ∙ sym n.2) (tied_itself sides_total side)) in
+      elim (cases_lt k i) [ inl below ↦ let less = parts.0 k x (omega arith) below in cc | inr above ↦ let more = parts.1 k x above n.1.1 in cc ]
