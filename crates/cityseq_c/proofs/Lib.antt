@@ -2,6 +2,7 @@ pub mod AskedLemmas
 pub mod BoxLemmas
 pub mod CalledLemmas
 pub mod FaultLemmas
+pub mod FitLemmas
 pub mod ItemLemmas
 pub mod JudgedLemmas
 pub mod LineCutLemmas

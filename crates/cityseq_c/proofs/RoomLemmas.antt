@@ -13,6 +13,7 @@ use Rattle.cj_stream.specs.Sink.{LeavesNext, Took}
 use Rattle.cj_stream.specs.Verdict.{Rules, kept, output}
 use Rattle.cj_stream.specs.declared.running.Outcome.{Outcome}
 use Rattle.cj_stream.proofs.JoinedLemmas.{joined-cut}
+use Rattle.cityseq_c.proofs.FitLemmas.{output-fits}
 use Rattle.cityseq_c.specs.Called.{Copied, IsFull}
 use Rattle.cityseq_c.specs.Judged.{Judged}
 use Rattle.cityseq_c.specs.declared.reports.Told.{Told}
@@ -100,10 +101,16 @@ module _ (rules : Rules) (pieces : List (List ℕ)) (o : Outcome) (a b : Room) (
         full = omega (arith, left.full, ap length (back left.loan), ap length parts, length-append (flat_map raw_item front) (flat_map raw_item h.others));
       }
 
+  when-full : o.ended ≡ WriteFault → IsFull rules (joined pieces) out written
+  when-full is =
+      let puts = j.puts (λ other. cc (is, other)) in
+      full-copied puts.0 (subst (λ e. PutsPieces GrowsBy StaysAt rules pieces puts.0 e a b) is puts.1)
+
   pub copied : Copied rules (joined pieces) out written o
   copied = record {
     all = all-copied;
-    full = λ is.
-        let puts = j.puts (λ other. cc (is, other)) in
-        full-copied puts.0 (subst (λ e. PutsPieces GrowsBy StaysAt rules pieces puts.0 e a b) is puts.1);
+    full = when-full;
+    enough = λ room is.
+        let f = when-full is in
+        omega (arith, room, f.full, output-fits rules f.given, ap length f.front, length-append f.given f.more);
   }

@@ -1,5 +1,5 @@
 -- What the calls of C answer.
-use Rattle.std.specs.Prelude.{◌≡◌, ℕ, ◌<◌, List, ◌++◌, Result, Ok, Err, length, take}
+use Rattle.std.specs.Prelude.{◌≡◌, ℕ, ◌<◌, ◌≤◌, ◌≢◌, List, ◌++◌, Result, Ok, Err, length, take}
 use Rattle.cj_stream.specs.declared.ending.End.TheVariants.{WriteFault}
 use Rattle.cj_stream.specs.declared.running.Outcome.{Outcome}
 use Rattle.cj_stream.specs.Headline.{IsUnhindered}
@@ -43,10 +43,12 @@ pub record IsFull (rules : Rules) (text out : List ℕ) (written : ℕ) : Type 0
   pub there : output rules given ≡ take written out ++ rest
   pub full : length out < length (output rules given)
 
--- what was written of a text: its output, or a front of that where it did not fit
+-- what was written of a text: its output, or a front of that where it did not fit; room for as many bytes as the text has is
+-- always enough
 pub record Copied (rules : Rules) (text out : List ℕ) (written : ℕ) (outcome : Outcome) : Type 0 where
   pub all : IsUnhindered outcome.ended → take written out ≡ output rules text
   pub full : outcome.ended ≡ WriteFault → IsFull rules text out written
+  pub enough : length text ≤ length out → outcome.ended ≢ WriteFault
 
 -- a filter, with what was lent for the output as it is then
 abbrev pub Filters : Request → List ℕ → List ℕ → List ℕ → List Told → List Told → Answer → Type 0
