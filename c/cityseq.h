@@ -11,8 +11,8 @@
  * - lines (less one for each later header), kept, refused and all counts of a tally add up; peaks are the greatest.
  *
  * No pointer may be NULL, also where its length is 0. A bool is 0 or 1. Nothing that is given is changed, but for what is said
- * to be written. A call takes memory by malloc and frees it before it returns. It takes up to 1 MB of the stack, and with tree up
- * to 3 MB, as a thread has by default where the C library is glibc.
+ * to be written, which overlaps nothing else. A call takes memory by malloc and frees it before it returns. It takes up to 1 MB of
+ * the stack, and with tree up to 3 MB, as a thread has by default where the C library is glibc.
  */
 #ifndef CITYSEQ_H
 #define CITYSEQ_H

@@ -16,7 +16,7 @@ from .reports import Report, describe
 from .sources import PIECE, Reader
 from .tally import Tally, tally_of
 
-PART = 8 << 20  # how long parts are, where their lines allow it
+PART = 4 << 20  # how long parts are, where their lines allow it
 ROOM = 1_024  # the room for reports at first
 
 
