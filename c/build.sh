@@ -1,12 +1,43 @@
 #!/usr/bin/env bash
 # Proves and builds the library for C: c/out/libcityseq.a and c/out/libcityseq.so, and a copy of the second for the Python
 # package. It takes a minute where the crates below are proved already.
+#
+#     c/build.sh [--after-gate]
+#
+# Behind the gate, which leaves the libraries of the crates as it has proved them, `rt lib` would prove them all once more.
+# With the option they are taken as they are, and the crate of the library for C alone is proved over them.
 set -eu
 cd "$(dirname "$0")/.."
 kit=$(dirname "$(rt doc)")
-(cd crates/cityseq_c && rt lib >&2)
-mkdir -p c/out
 built=crates/cityseq_c/out/libcityseq_c.a
+below="cj_budget cj_decimal cj_spans cj_geometry cj_feature cj_stream"
+
+# Whether the libraries are those that the gate left; those of another command have a stamp.
+are_of_gate() {
+  local crate
+  for crate in $below; do
+    [ -e "crates/$crate/out/rlib/$crate.rlib/format" ] && ! [ -e "crates/$crate/out/rlib/stamp" ] || return 1
+  done
+}
+
+# Proves the crate over them, and compiles it, by the words that `rt lib` has for the compiler.
+build_over_them() {
+  local crate words=(--crate-name cityseq_c src/lib.rt --crate-type staticlib --links cityseq_c= --jobs 2)
+  for crate in std memchr; do words+=(--extern "$crate=$kit/rlibs/$crate.rlib"); done
+  for crate in $below; do
+    words+=(--extern "$crate=../$crate/out/rlib/$crate.rlib" -L "dependency=../$crate/out/rlib")
+  done
+  words+=(-L "dependency=$kit/rlibs" --antt-project "$kit/rattle/logic/antt-project.json" --logic-built "$kit/logic_built")
+  (cd crates/cityseq_c && "$kit/bin/rattle" build "${words[@]}" --toolchain "$kit/toolchain" --backend llvm -o out/libcityseq_c.a)
+}
+
+if [ "${1:-}" = --after-gate ] && are_of_gate; then
+  mkdir -p crates/cityseq_c/out
+  build_over_them >&2
+else
+  (cd crates/cityseq_c && rt lib >&2)
+fi
+mkdir -p c/out
 system=$kit/c/liblibc_c.a
 printf 'CREATE c/out/libcityseq.a\nADDLIB %s\nADDLIB %s\nSAVE\nEND\n' "$built" "$system" | ar -M
 "${CC:-cc}" -shared -o c/out/libcityseq.so -Wl,-soname,libcityseq.so -Wl,--version-script=c/cityseq.map \

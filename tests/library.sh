@@ -1,10 +1,10 @@
 #!/usr/bin/env bash
 # Tries the library for C: builds it, and runs the example and the tests in C over it, under valgrind too where it is there.
 #
-#     tests/library.sh [PROGRAM]
+#     tests/library.sh [PROGRAM [--after-gate]]
 #
-# PROGRAM is the built program, crates/cityseq/out/cityseq if none is given. The last line is 'N passed, M failed', and the
-# status is 0 where all passed.
+# PROGRAM is the built program, crates/cityseq/out/cityseq if none is given; the option is that of c/build.sh. The last line is
+# 'N passed, M failed', and the status is 0 where all passed.
 set -u
 cd "$(dirname "$0")/.." || exit
 program=$(realpath -e -- "${1:-crates/cityseq/out/cityseq}") || exit
@@ -52,7 +52,7 @@ example_agrees() {
   [ "$(cat "$scratch/example_said")" = "$wanted" ] && { "$program" check < "$1" > "$scratch/unread" 2>&1; [ $? = "$status" ]; }
 }
 
-row 'the library is built' c/build.sh
+row 'the library is built' c/build.sh ${2:+"$2"}
 row 'the example is compiled' "$compiler" $strict c/example.c c/out/libcityseq.a -o "$scratch/example"
 row 'the tests are compiled' "$compiler" $strict tests/library.c c/out/libcityseq.a -pthread -o "$scratch/library"
 row 'the tests are compiled over the shared library' \

@@ -1,9 +1,11 @@
 #!/usr/bin/env python3
-"""Times `cityseq check`, `cityseq info` and `cityseq filter --lod 2` on lines that are made to cost, each of several lengths,
-beside a usual line of the same length: measure.py PROGRAM MEETING SECONDS [WORD]. Of the three commands the dearest beside
-its usual line is shown. MEETING is the program of meeting.c. A run that takes more than SECONDS is ended, and no longer line
-of its shape is tried. With a WORD only shapes whose names have it are measured. Times are of the processor, so that other
-work on the machine does not count; what the program takes to start is in them."""
+"""Times `cityseq check`, `cityseq info` and `cityseq filter --lod 2` on lines that are made to cost, and `check --tree` on trees
+that are, each of several lengths, beside a usual line of the same length: measure.py PROGRAM MEETING SECONDS [WORD]. Of several
+commands the dearest beside its usual line is shown. MEETING is the program of meeting.c. A run that takes more than SECONDS is
+ended, and no longer line of its shape is tried. With a WORD only shapes whose names have it are measured. Times are of the
+processor, so that other work on the machine does not count but for the memory it takes; what the program takes to start is in
+them."""
+import fractions
 import itertools
 import json
 import os
@@ -16,6 +18,7 @@ import tempfile
 LENGTHS = (125_000, 1_000_000, 8_000_000)
 RUNS = 3
 COMMANDS = (("check",), ("info",), ("filter", "--lod", "2"))
+TREE_COMMANDS = (("check", "--tree"),)
 LETTERS = "-0123456789ABCDEFGHIJKLMNOPQRSTUVWXYZ_abcdefghijklmnopqrstuvwxyz"
 HEADER = ('{"type":"CityJSON","version":"2.0","transform":{"scale":[1,1,1],"translate":[0,0,0]},'
           '"CityObjects":{},"vertices":[]%s}\n')
@@ -238,6 +241,101 @@ def names_of_one_hash(n):
     return many(n, lambda i: f'"{"".join(next(texts))}":0')
 
 
+def hanging(objects, order):
+    """City objects, each a name with its children and with its parents, in an order, behind `b`, which lists the first."""
+    each = ",".join('"%s":{"type":"BuildingPart","parents":[%s],"children":[%s]}' % (
+        objects[i][0], *(",".join(f'"{text}"' for text in listed) for listed in objects[i][1:])) for i in in_order(order, len(objects)))
+    return feature(building(f',"children":["{objects[0][0]}"]') + "," + each)
+
+
+def chain_in(n, order, spell=str):
+    """A chain of city objects, each of which lists the next one, in an order."""
+    count = n // (3 * len(spell("p000000")) + 57)
+    ids = [spell(f"p{i:06}") for i in range(count)]
+    return hanging([(ids[i], ids[max(i - 1, 0):i] or ["b"], ids[i + 1:i + 2]) for i in range(count)], order)
+
+
+def comb(n, order):
+    """A chain of which each city object also lists one that lists none, in an order."""
+    count = n // 2 // 80
+    teeth = [(f"q{i:06}", [f"p{i:06}"], []) for i in range(count)]
+    back = [(f"p{i:06}", [f"p{i - 1:06}" if i else "b"], [f"q{i:06}"] + [f"p{i + 1:06}"] * (i + 1 < count)) for i in range(count)]
+    return hanging(back + teeth, order)
+
+
+def one_of_all(n, order):
+    """A child that all others list, in an order; the first of these lists the others."""
+    count = n // 100
+    ids = [f"p{i:06}" for i in range(count)]
+    first = [(ids[0], ["b"], ids[1:] + ["q"]), ("q", ids, [])]
+    return hanging(first + [(text, [ids[0]], ["q"]) for text in ids[1:]], order)
+
+
+def groups(n, order):
+    """A group in which a group is, and so on, in an order."""
+    count = n // 60
+    each = ",".join(f'"g{i:06}":{{"type":"CityObjectGroup","children":["g{i + 1:06}"]}}' for i in in_order(order, count - 1))
+    last = f'"g{count - 1:06}":{{"type":"CityObjectGroup","children":["b"]}}'
+    return feature('"b":{"type":"CityObjectGroup","children":["g000000"]},' + last + "," + each)
+
+
+def half_listed(ids):
+    """A group that lists half of the city objects, in no order."""
+    order = in_order("none", len(ids))
+    listed = ",".join(f'"{ids[i]}"' for i in order[::2])
+    each = ",".join(f'"{text}":{{"type":"Road"}}' for text in ids)
+    return feature(f'"b":{{"type":"CityObjectGroup","children":[{listed}]}},' + each)
+
+
+def reduced(basis):
+    """A basis of the same lattice whose vectors are short (Lenstra, Lenstra and Lovasz)."""
+    def dot(left, right):
+        return sum(a * b for a, b in zip(left, right))
+
+    def orthogonal():
+        found, sizes = [], []
+        for row in basis:
+            for other, size in zip(found, sizes):
+                share = dot(row, other) / size
+                row = [a - share * b for a, b in zip(row, other)]
+            found.append(row)
+            sizes.append(dot(row, row))
+        return found, sizes
+
+    basis = [list(map(fractions.Fraction, row)) for row in basis]
+    across, sizes = orthogonal()
+    place = 1
+    while place < len(basis):
+        for other in reversed(range(place)):
+            times = round(dot(basis[place], across[other]) / sizes[other])
+            basis[place] = [a - times * b for a, b in zip(basis[place], basis[other])]
+        share = dot(basis[place], across[place - 1]) / sizes[place - 1]
+        if sizes[place] >= (fractions.Fraction(3, 4) - share * share) * sizes[place - 1]:
+            place += 1
+        else:
+            basis[place - 1], basis[place] = basis[place], basis[place - 1]
+            across, sizes = orthogonal()
+            place = max(place - 1, 1)
+    return [list(map(int, row)) for row in basis]
+
+
+def names_of_one_mix(count):
+    """Names of 16 letters that are all mixed to one number of 64 bits: they are apart by short vectors for which the mix is 0."""
+    letters, size, factor = 16, 1 << 64, 11400714819323198485
+    weights = [pow(factor, letters - 1 - i, size) for i in range(letters)]
+    basis = [[int(i == j) for j in range(letters - 1)] + [-weights[i]] for i in range(letters - 1)]
+    short = reduced(basis + [[0] * (letters - 1) + [size]])
+    names, chance = set(), random.Random(1)
+    while len(names) < count:
+        codes = [63] * letters
+        for vector in short:
+            times = chance.choice((-1, 0, 1))
+            codes = [code + times * step for code, step in zip(codes, vector)]
+        if all(35 <= code <= 91 for code in codes):
+            names.add("".join(map(chr, codes)))
+    return list(names)
+
+
 def instances(n, template):
     """Instances, each of the template of a number that is told by its own and by how many there are."""
     matrix, count = ",".join(["1"] * 16), n // 80
@@ -298,6 +396,7 @@ SHAPES = {
     "parts of one, by escapes": lambda n: parts_of_one(n, "none", spell=escaped),
     "parts of one hash": links_of_one_hash,
     "parts of one tag": parts_of_one_tag,
+    "parts of one mix": lambda n: parts(names_of_one_mix(n // 81), "none"),
     "a part of unknown parents": lambda n: parents_of_none(n, "none"),
     "a part of unknown parents, falling": lambda n: parents_of_none(n, "falling", "a" * 9),
     "instances of the last template": lambda n: instances(n, lambda i, count: count - 1),
@@ -313,6 +412,22 @@ SHAPES = {
         building(f',"children":["{"a" * (n // 4)}"]') + f',"{"a" * (n // 4)}":{{"type":"Building","parents":["b"]}}'),
 }
 
+TREES = {
+    "tree: a chain in order": lambda n: chain_in(n, "rising"),
+    "tree: a chain in reverse": lambda n: chain_in(n, "falling"),
+    "tree: a chain in no order": lambda n: chain_in(n, "none"),
+    "tree: a chain by escapes, in no order": lambda n: chain_in(n, "none", escaped),
+    "tree: a comb in reverse": lambda n: comb(n, "falling"),
+    "tree: a comb in no order": lambda n: comb(n, "none"),
+    "tree: one parent of all": one_parent,
+    "tree: one parent, listed backwards": lambda n: one_parent(n, True),
+    "tree: one child of all": lambda n: one_of_all(n, "none"),
+    "tree: groups in groups, in reverse": lambda n: groups(n, "falling"),
+    "tree: groups in groups, in no order": lambda n: groups(n, "none"),
+    "tree: half are listed": lambda n: half_listed([f"p{i:06}" for i in range(n // 33)]),
+    "tree: half are listed, of one list": lambda n: half_listed(found("list", n // 33)),
+    "tree: half are listed, of one mix": lambda n: half_listed(names_of_one_mix(n // 47)),
+}
 
 # What stands in the header beside lines of a shape; none where it is not told here.
 HEADERS = {
@@ -330,7 +445,7 @@ def processor_seconds():
 
 
 def seconds_of(program, command, path, most):
-    """The best time of a few runs, or None where one took more than `most`."""
+    """The best time of a few runs, or None where one took more than `most`. A city object that is not reached is no error here."""
     best = most
     for _ in range(RUNS):
         before = processor_seconds()
@@ -340,7 +455,7 @@ def seconds_of(program, command, path, most):
                                      stderr=subprocess.PIPE, timeout=4 * most)
             except subprocess.TimeoutExpired:
                 return None
-        if ran.returncode:
+        if ran.returncode and b": 31 " not in ran.stderr:
             sys.exit(f"{path}: {ran.stderr.decode()}")
         best = min(best, processor_seconds() - before)
         if best > most / 4:
@@ -348,11 +463,11 @@ def seconds_of(program, command, path, most):
     return best if best < most else None
 
 
-def dearest(program, stream, most, usual_seconds):
+def dearest(program, commands, stream, most, usual_seconds):
     """The dearest command on a stream beside a usual one: its time and how many times as long it took; None where one took
     more than `most`. A usual stream, of which no times are known yet, has its times noted."""
     worst = (0, 0)
-    for command in COMMANDS:
+    for command in commands:
         took = seconds_of(program, command, stream, most)
         if took is None:
             return None
@@ -366,15 +481,16 @@ def main():
     word = sys.argv[4] if len(sys.argv) > 4 else ""
     usual_seconds = {length: {} for length in LENGTHS}
     print(f"{'shape':<46}" + "".join(f"{length:>12,}{'of usual':>10}" for length in LENGTHS) + f"{'growth by a doubling':>24}")
-    for shape, line in SHAPES.items():
+    for shape, line in {**SHAPES, **TREES}.items():
         if word not in shape and shape != "usual":
             continue
+        commands = COMMANDS + TREE_COMMANDS if shape == "usual" else TREE_COMMANDS if shape in TREES else COMMANDS
         shown, last, growth = "", None, None
         for length in LENGTHS:
             templates = HEADERS[shape](length) if shape in HEADERS else ""
             with tempfile.NamedTemporaryFile(delete=False) as stream:
                 stream.write((HEADER % templates + line(length)).encode())
-            worst = dearest(program, stream.name, most, usual_seconds[length])
+            worst = dearest(program, commands, stream.name, most, usual_seconds[length])
             os.unlink(stream.name)
             if worst is None:
                 shown += f"{f'over {most:.0f}':>12}{'':>10}"

@@ -7,6 +7,8 @@
  *                           taken, in order, these texts together have one and the same hash of 64 bits: N pairs are
  *                           2^N names
  *   meeting tag COUNT       so many names of nine letters, one a line, that all have one tag
+ *   meeting list COUNT      so many names of seven letters, one a line, that all stand in one list where many city objects
+ *                           are marked
  */
 #include <stdint.h>
 #include <stdio.h>
@@ -83,6 +85,19 @@ static int names_of_one_tag(long count) {
     return 0;
 }
 
+/* The list is the remainder of that number by another prime; each front of six letters is looked up for a last letter. */
+static void names_of_one_list(long count) {
+    const uint64_t lists = 65521, list = 12345;
+    char text[16];
+    for (uint64_t number = 0; count > 0; number++) {
+        uint64_t front = mix_of(0, number, 6, text) * FACTOR;
+        uint64_t last = (list + lists - front % lists) % lists;
+        if (last == 0 || last > 127 || !strchr(LETTERS, (int)last) || front + last < front) continue;
+        printf("%s%c\n", text, (int)last);
+        count--;
+    }
+}
+
 static void names_of_few_marks(long count) {
     char text[16];
     for (uint64_t number = 0; count > 0; number++) {
@@ -152,6 +167,10 @@ int main(int count, char **words) {
         return 0;
     }
     if (count == 3 && !strcmp(words[1], "tag")) return names_of_one_tag(atol(words[2]));
-    fputs("meeting marks COUNT | meeting whole PAIRS | meeting tag COUNT\n", stderr);
+    if (count == 3 && !strcmp(words[1], "list")) {
+        names_of_one_list(atol(words[2]));
+        return 0;
+    }
+    fputs("meeting marks COUNT | meeting whole PAIRS | meeting tag COUNT | meeting list COUNT\n", stderr);
     return 2;
 }

@@ -66,7 +66,7 @@ class RawTally(ctypes.Structure):
     _fields_ = [("features", c_uint64), ("types", c_uint64 * TYPES), ("lods", c_uint64 * len(LOD_CLASSES)), ("ranges", RawRange * 3)]
 
 
-Text = Union[bytes, bytearray]
+Text = Union[bytes, bytearray, memoryview]
 RawReports = Iterable[RawReport]
 _COMMON = [c_char_p, c_size_t, c_char_p, c_size_t, POINTER(RawRequest)]
 _ROOM = [POINTER(RawReport), c_size_t]
@@ -82,7 +82,7 @@ _CALLS = {
 
 def _pointed(text: Text) -> Any:
     """What a call takes as the pointer to these bytes, of which nothing is copied."""
-    if isinstance(text, bytearray) and text:
+    if isinstance(text, (bytearray, memoryview)) and text:
         return ctypes.byref(ctypes.c_char.from_buffer(text))
     return bytes(text)
 

@@ -19,13 +19,14 @@ ALONE = 8  # so many texts, those that come most often, are asked for alone
 MOST_TEXTS = 4_096  # that a part may have
 MOST_CALLS = 64  # for one part
 VALUE = rb'[ \t\r]*:[ \t\r]*"((?:[^"\\\x00-\x1f]|\\.)*)"'
+ESCAPE = re.compile(rb"\\u00")
 USUAL = re.compile(rb'"lod"' + VALUE)
 ESCAPED = re.compile(rb'"(?:l|\\u006[cC])(?:o|\\u006[fF])(?:d|\\u0064)"' + VALUE)
 
 
 def spelled(text: Text) -> "Counter[bytes]":
     """How often each spelling comes that may be that of an LoD."""
-    return Counter(found.group(1) for found in (ESCAPED if b"\\u00" in text else USUAL).finditer(text))
+    return Counter(found.group(1) for found in (ESCAPED if ESCAPE.search(text) else USUAL).finditer(text))
 
 
 def texts_of(spellings: Dict[bytes, int]) -> Tuple[List[str], FrozenSet[str]]:

@@ -6,7 +6,7 @@ from __future__ import annotations
 
 from dataclasses import dataclass
 from itertools import islice
-from typing import Callable, Iterable, Iterator, Optional, Tuple
+from typing import Callable, Iterable, Iterator, Optional, Tuple, Union
 
 from . import lods
 from ._library import COMPLETE, NO_MEMORY, REFUSED, RawAnswer, RawReports, Text, library
@@ -158,6 +158,11 @@ def judge(work: Work, file: str, header: bytes, part: Text, first: bool) -> Answ
         return Answer(NO_MEMORY)
 
 
+def _held(part: Text) -> Union[bytes, bytearray]:
+    """The bytes of a part, which may be lent for as long as it is judged, to be kept."""
+    return bytes(part) if isinstance(part, memoryview) else part
+
+
 def _judge(work: Work, file: str, header: bytes, part: Text, first: bool) -> Answer:
     """The same. Where reports have no room it is judged again, with as much as they need. They are read when they are joined, as
     there may be very many."""
@@ -169,10 +174,11 @@ def _judge(work: Work, file: str, header: bytes, part: Text, first: bool) -> Ans
         raise CityseqError(f"the library answered {answer.status}, code {answer.code}, of a part of {len(part)} bytes")
     if tally is not None and work.exact_lods and answer.status == COMPLETE:
         lods.count(tally, work, header, part)
+    told = _held(part) if answer.refused or answer.status == REFUSED else b""
     return Answer(
         status=answer.status, lines=answer.lines, kept=answer.kept, refused=answer.refused,
         peaks=(answer.peak_bytes, answer.peak_tokens, answer.peak_depth),
-        end=next(describe([answer], header, part, file)) if answer.status == REFUSED else None,
-        reports=describe(islice(raws, answer.refused), header, part, file) if answer.refused else (),
-        output=output if first else output[min(len(header), len(output)):], tally=tally,
+        end=next(describe([answer], header, told, file)) if answer.status == REFUSED else None,
+        reports=describe(islice(raws, answer.refused), header, told, file) if answer.refused else (),
+        output=output if first else memoryview(output)[min(len(header), len(output)):], tally=tally,
         size=len(part) + (len(header) if first else 0))

@@ -95,7 +95,7 @@ def judge_range(work: Work, path: str, begin: int, end: int, first: bool) -> Ans
     if not part and not first:
         return Answer(lines=1, size=end - begin)
     answer = judge(work, path, header, part, first)
-    return replace(answer, reports=list(answer.reports))
+    return replace(answer, reports=list(answer.reports), output=bytes(answer.output))
 
 
 def judge_whole(work: Work, path: str) -> Answer:

@@ -7,16 +7,18 @@ from collections import deque
 from concurrent.futures import ThreadPoolExecutor
 from dataclasses import asdict, dataclass, field, replace
 from decimal import Decimal
-from typing import Any, Callable, Deque, Dict, Generator, Iterable, List, Optional, Tuple, Type
+from functools import partial
+from typing import Any, Callable, Deque, Dict, Generator, Iterable, Iterator, List, Optional, Tuple, Type
 
 from . import tally as tallies
-from ._library import NO_MEMORY, REFUSED
+from ._library import NO_MEMORY, REFUSED, Text
 from .faults import MemoryFault, ReadFault, RequestError, WriteFault
 from .hints import HEAD, hints_for
-from .parts import PART, Answer, Cutter, judge, read_header
+from .parts import PART, Answer, Cutter, read_header
+from .places import Places, Read, judge_read, placed
 from .query import Work
 from .reports import Report
-from .sources import Reader, Source, Writer, name_of, opened
+from .sources import Reader, Source, Writer, is_path, name_of, opened
 
 HEADERS = 4  # so many times the header's length is a part
 AHEAD = 2  # how many parts wait beside those that are judged
@@ -121,22 +123,33 @@ class Stream:
         limit = self.work.line_limit
         header, rest = read_header(reader, limit)
         self.heads(header, bytes(rest[:HEAD]))
-        # a long header is judged again with each part, so that parts are to be longer
-        size = max(PART, HEADERS * len(header)) if self.size == PART else self.size
-        cutter = Cutter(reader, rest, size, limit, self.work.keep_going)
         is_line = header.endswith(b"\n")
         if is_line or reader.fault is None or len(header) > limit:
             first = True
-            for part in cutter.parts() if is_line else ():
-                yield self._task(header, part, first)
+            for read in self._parts(reader, header, rest) if is_line else ():
+                yield self._task(header, read, first)
                 first = False
             if first:
-                yield self._task(header, bytearray(), True)
+                yield self._task(header, partial(_read_before, b""), True)
         if reader.fault is not None:
             raise ReadFault(f"read fault: {reader.fault}")
 
-    def _task(self, header: bytes, part: bytearray, first: bool) -> Task:
-        return lambda: judge(self.work, self.file, header, part, first)
+    def _parts(self, reader: Reader, header: bytes, rest: bytearray) -> Iterator[Read]:
+        """What gives each part behind the header: those of a file are read where they are judged, but for its end."""
+        # a long header is judged again with each part, so that parts are to be longer
+        size = max(PART, HEADERS * len(header)) if self.size == PART else self.size
+        file = placed(reader.file) if is_path(self.source) else None
+        if file is not None:
+            places = Places(file, len(header), size, self.work.line_limit)
+            yield from places.parts()
+            if places.begin > len(header):
+                reader.go_to(places.begin)
+                rest = bytearray()
+        for part in Cutter(reader, rest, size, self.work.line_limit, self.work.keep_going).parts():
+            yield partial(_read_before, part)
+
+    def _task(self, header: bytes, read: Read, first: bool) -> Task:
+        return partial(judge_read, self.work, self.file, header, read, first)
 
     def heads(self, header: bytes, behind: bytes) -> None:
         """Notes the stream's first line, and some of what follows it."""
@@ -147,10 +160,10 @@ class Stream:
         self._joined.add(answer, self._tell)
         if answer.status == NO_MEMORY:
             self._fault = MemoryFault.status, "out of memory"
-        elif answer.fault is not None:
-            self._fault = ReadFault.status, answer.fault
         if self._output is not None and self._fault is None:
             self._write(lambda: self._output.write(answer.output))  # type: ignore[union-attr]
+        if answer.fault is not None and self._fault is None:
+            self._fault = ReadFault.status, answer.fault
         if self._progress is not None:
             self._progress(answer.size)
 
@@ -192,6 +205,11 @@ class Stream:
         info.x, info.y, info.z = tally.ranges
         info.box = tallies.box_of(tally.ranges, info.scale, info.translate)
         info.lods, info.unasked = tally.lods, tuple(sorted(tally.unasked))
+
+
+def _read_before(part: Text) -> Tuple[Text, Optional[str]]:
+    """What is given for a part that has been read."""
+    return part, None
 
 
 def results(streams: Iterable[Stream], submit: Callable[[Task], Any], ahead: int) -> Results:

@@ -47,8 +47,16 @@ class Reader:
     """Reads a file object. A read that fails is kept as `fault`, and is the end of the input."""
 
     def __init__(self, file: IO[bytes]) -> None:
+        self.file = file
         self._read: Any = getattr(file, "read1", None) or file.read
         self.fault: Optional[str] = None
+
+    def go_to(self, place: int) -> None:
+        """Goes on from this byte of the file."""
+        try:
+            self.file.seek(place)
+        except READ_FAULTS as fault:
+            self._fail(why(fault))
 
     def read(self, most: int) -> bytes:
         """Some bytes, at most so many, and none at the end."""
@@ -56,11 +64,13 @@ class Reader:
             piece = self._read(min(most, PIECE))
             if isinstance(piece, (bytes, bytearray)):
                 return bytes(piece)
-            self.fault = "the source gives text: open it as binary" if isinstance(piece, str) else "no bytes were ready"
+            self._fail("the source gives text: open it as binary" if isinstance(piece, str) else "no bytes were ready")
         except READ_FAULTS as fault:
-            self.fault = why(fault)
-        self._read = io.BytesIO().read
+            self._fail(why(fault))
         return b""
+
+    def _fail(self, fault: str) -> None:
+        self.fault, self._read = fault, io.BytesIO().read
 
 
 def why(fault: BaseException) -> str:

@@ -1,0 +1,154 @@
+"""Files whose parts are read where they are judged: the same comes of them as of their bytes."""
+import io
+import os
+import random
+import unittest
+from dataclasses import replace
+from unittest import mock
+
+from . import support
+from .support import HEADER, PLAIN, feature, numbered
+from .test_sources import InFolder
+
+import cityseq
+from cityseq.parts import read_header
+from cityseq.places import Places, placed
+from cityseq.sources import Reader
+
+READ = os.preadv
+
+
+def failing_at(place):
+    """Reads of parts that fail from this byte of the file on."""
+
+    def read(descriptor, rooms, begin):
+        if begin == place:
+            raise OSError(5, "Input/output error")
+        count = place - begin if begin < place < begin + len(rooms[0]) else len(rooms[0])
+        return READ(descriptor, [rooms[0][:count]], begin)
+
+    return mock.patch("os.preadv", read)
+
+
+def placed_parts(path, size, line_limit):
+    """The header, the parts that are found by their places, and what they leave."""
+    with open(path, "rb") as file:
+        header, _ = read_header(Reader(file), line_limit)
+        places = Places(placed(file), len(header), size, line_limit)
+        parts = [(bytes(part), fault) for part, fault in (read() for read in places.parts())] if header.endswith(b"\n") else []
+        file.seek(places.begin)
+        return header, parts, file.read()
+
+
+class Cuts(InFolder):
+    """Where files are cut, without the library."""
+
+    def test_parts_make_the_file_again(self):
+        for seed in range(150):
+            text = support.stream_by_chance(seed)
+            path = self.file(text)
+            for size in (1, 10, 300, 10_000):
+                header, parts, rest = placed_parts(path, size, 5_000)
+                self.assertEqual(header + b"".join(part for part, _ in parts) + rest, text)
+                self.assertTrue(all(fault is None and part.endswith(b"\n") for part, fault in parts))
+                self.assertTrue(all(len(part) <= size or part.count(b"\n") == 1 for part, _ in parts))
+                if header.endswith(b"\n"):
+                    self.assertLessEqual(len(rest), max(size, 5_000))
+
+    def test_ends_far_from_where_they_are_looked_for(self):
+        lines = [bytes([97 + number % 26]) * (length - 1) + b"\n" for number, length in enumerate(
+            (1, 70_000, 300_000, 65_536, 65_537, 900_000, 3, 1_000_000, 1_000_001, 2_500_000, 1_048_576, 5, 200_000))]
+        path = self.file(b"h\n" + b"".join(lines) + b"z" * 100)
+        for size in (65_536, 300_000, 1_000_000):
+            _, parts, rest = placed_parts(path, size, 8_388_608)
+            self.assertEqual(b"".join(part for part, _ in parts) + rest, b"".join(lines) + b"z" * 100)
+            self.assertTrue(all(len(part) <= size or part.count(b"\n") == 1 for part, _ in parts))
+            self.assertLess(len(rest), size + 100)
+
+    def test_a_line_that_is_too_long_is_left(self):
+        path = self.file(b"h\na\n" + b"b" * 50 + b"\nc\n")
+        self.assertEqual(placed_parts(path, 4, 50), (b"h\n", [(b"a\n", None), (b"b" * 50 + b"\n", None)], b"c\n"))
+        self.assertEqual(placed_parts(path, 4, 49), (b"h\n", [(b"a\n", None)], b"b" * 50 + b"\nc\n"))
+
+    def test_what_has_no_places(self):
+        self.assertIsNone(placed(io.BytesIO(b"h\n")))
+        left, right = os.pipe()
+        os.close(right)
+        with open(left, "rb") as pipe:
+            self.assertIsNone(placed(pipe))
+
+    def test_a_file_that_is_cut_short(self):
+        path = self.file(b"h\n" + b"a\n" * 100)
+        with open(path, "rb") as file:
+            held = placed(file)
+            os.truncate(path, 50)
+            self.assertEqual([bytes(held.read(*ends)[0]) for ends in ((0, 10), (46, 60), (60, 70))],
+                             [b"h\n" + b"a\n" * 4, b"a\n" * 2, b""])
+
+
+class Runs(InFolder):
+    """What comes of files."""
+
+    def filtered(self, source, **options):
+        output = io.BytesIO()
+        try:
+            result = cityseq.filter(source, output, **options)
+        except cityseq.CityseqError as fault:
+            result = fault.result
+        end = result.end and replace(result.end, file="")
+        reports = [replace(report, file="") for report in result.reports]
+        return output.getvalue(), replace(result, file="", end=end, reports=reports)
+
+    def test_vectors(self):
+        for row in support.rows():
+            path = self.file(row["text"])
+            for size in (1, 60, 1 << 20):
+                with self.subTest(row["name"], size=size):
+                    output, result = self.filtered(path, part_size=size, jobs=3 if size == 60 else 1, **support.options_of(row))
+                    told = str(result.end) if result.end else ""
+                    self.assertEqual((output, told, result.status), support.wanted_of(row))
+                    self.assertEqual(result.lines, int(row["lines"]))
+
+    def test_streams_by_chance(self):
+        for seed in range(200):
+            text, chance = support.stream_by_chance(seed), random.Random(seed)
+            options = {"line_limit": 1_000, "keep_going": seed % 2 == 0, "types": chance.choice((None, "Road"))}
+            cut = {"part_size": chance.randrange(1, 900), "jobs": chance.randrange(1, 5)}
+            with self.subTest(seed=seed):
+                self.assertEqual(self.filtered(self.file(text), **cut, **options), self.filtered(text, **options))
+                one, many = (cityseq.info(source, line_limit=1_000, keep_going=True, part_size=cut["part_size"])
+                             for source in (text, self.file(text)))
+                self.assertEqual((one.lines, one.features, one.types, one.lods, one.box),
+                                 (many.lines, many.features, many.types, many.lods, many.box))
+
+    def test_lods_by_escapes(self):
+        path = self.file(HEADER + feature("a").replace(b'"lod"', b'"l\\u006fd"') * 3)
+        self.assertEqual([cityseq.info(path, part_size=size).lods for size in (1, 300, 1_000)], [{"2.2": 3}] * 3)
+
+    def test_a_read_that_fails(self):
+        text = HEADER + feature("a") * 2_000 + feature("b", last=4) + feature("c") * 2_000
+        path, length = self.file(text), len(feature("a"))
+        for place in (len(HEADER), len(HEADER) + 1_000 * length, len(HEADER) + 1_100 * length + 7, len(HEADER) + 3_000 * length + 7):
+            whole = text[:text.rfind(b"\n", 0, place) + 1]
+            for keep_going in (False, True):
+                wanted, result = self.filtered(whole, keep_going=keep_going)
+                for size, jobs in ((length * 500, 1), (length * 1_000, 3), (200_000, 2)):
+                    with self.subTest(place=place, keep_going=keep_going, size=size), failing_at(place):
+                        output, found = self.filtered(path, part_size=size, jobs=jobs, keep_going=keep_going)
+                        self.assertEqual((output, found.reports, found.lines), (wanted, result.reports, result.lines))
+                        fault = (1, None) if result.end is not None else (3, "read fault: Input/output error")
+                        self.assertEqual((found.status, found.fault), fault)
+
+    def test_what_is_opened_is_closed(self):
+        if not os.path.exists("/proc/self/fd"):
+            self.skipTest("the system does not tell what is open")
+        path = self.file(HEADER + PLAIN * 50 + b"{}\n" + PLAIN * 20_000)
+        before = len(os.listdir("/proc/self/fd"))
+        for jobs in (1, 4):
+            self.assertEqual(cityseq.check(path, part_size=1_000, jobs=jobs).end.line, 52)
+            self.assertEqual(cityseq.check(path, part_size=1_000, jobs=jobs, keep_going=True).refused, 1)
+        self.assertEqual(len(os.listdir("/proc/self/fd")), before)
+
+
+if __name__ == "__main__":
+    unittest.main()
