@@ -11,6 +11,9 @@ mkdir -p out
 megabytes=${1:-1000} shape=${2:-usual}
 stream=out/parts-$shape-$megabytes.jsonl
 [ -s "$stream" ] || python3 make_stream.py "$shape" "$megabytes" > "$stream"
+# what is installed has been compiled, and so is this before the first run
+export PYTHONPYCACHEPREFIX=$PWD/out/compiled
+unset PYTHONDONTWRITEBYTECODE
 PYTHONPATH=../python python3 - "${PROGRAM:-../crates/cityseq/out/cityseq}" "$stream" <<'MEASURE'
 import os
 import subprocess
@@ -38,6 +41,7 @@ for name, jobs, options in (("check", (1, 2, 4), []), ("filter", (1, 4), []), ("
     for count in jobs:
         shown = name if options or name != "info" else "info and LoDs"
         cases[f"{shown}, {count} jobs"] = [*python, name, "--jobs", str(count), *options, stream]
+subprocess.run([*python, "--version"], stdout=subprocess.DEVNULL, check=True)
 best = {name: [1e9] * 3 for name in cases}
 for _ in range(RUNS):
     for name, words in cases.items():

@@ -6,6 +6,7 @@ ended, and no longer line of its shape is tried. With a WORD only shapes whose n
 processor, so that other work on the machine does not count but for the memory it takes; what the program takes to start is in
 them."""
 import fractions
+import functools
 import itertools
 import json
 import os
@@ -319,18 +320,23 @@ def reduced(basis):
     return [list(map(int, row)) for row in basis]
 
 
-def names_of_one_mix(count):
-    """Names of 16 letters that are all mixed to one number of 64 bits: they are apart by short vectors for which the mix is 0."""
-    letters, size, factor = 16, 1 << 64, 11400714819323198485
+@functools.lru_cache()
+def vectors_of_no_mix(letters=16, size=1 << 64, factor=11400714819323198485):
+    """Short vectors that leave the number as it is to which the code points of a text are mixed."""
     weights = [pow(factor, letters - 1 - i, size) for i in range(letters)]
     basis = [[int(i == j) for j in range(letters - 1)] + [-weights[i]] for i in range(letters - 1)]
-    short = reduced(basis + [[0] * (letters - 1) + [size]])
+    return reduced(basis + [[0] * (letters - 1) + [size]])
+
+
+def names_of_one_mix(count):
+    """Names of 16 letters that are all mixed to one number of 64 bits."""
     names, chance = set(), random.Random(1)
     while len(names) < count:
-        codes = [63] * letters
-        for vector in short:
-            times = chance.choice((-1, 0, 1))
-            codes = [code + times * step for code, step in zip(codes, vector)]
+        codes = [63] * 16
+        for vector in vectors_of_no_mix():
+            times = chance.choice((-1, 0, 0, 1))
+            if times:
+                codes = [code + times * step for code, step in zip(codes, vector)]
         if all(35 <= code <= 91 for code in codes):
             names.add("".join(map(chr, codes)))
     return list(names)
