@@ -418,6 +418,7 @@ SHAPES = {
         building(f',"children":["{"a" * (n // 4)}"]') + f',"{"a" * (n // 4)}":{{"type":"Building","parents":["b"]}}'),
 }
 
+
 TREES = {
     "tree: a chain in order": lambda n: chain_in(n, "rising"),
     "tree: a chain in reverse": lambda n: chain_in(n, "falling"),
@@ -434,6 +435,7 @@ TREES = {
     "tree: half are listed, of one list": lambda n: half_listed(found("list", n // 33)),
     "tree: half are listed, of one mix": lambda n: half_listed(names_of_one_mix(n // 47)),
 }
+
 
 # What stands in the header beside lines of a shape; none where it is not told here.
 HEADERS = {
