@@ -61,8 +61,6 @@ mod running;
 mod sink;
 mod store;
 mod tally;
-#[cfg(test)]
-mod tests;
 
 pub use cj_budget::{LimitFault, Limits, NoMemory, Peaks};
 pub use cj_decimal::Decimal;

@@ -1,9 +1,9 @@
 //! What comes behind a header, in pieces given to its reader of lines.
 use super::calls::{check_bytes, check_ended, held, joined, refused};
 use super::rows::{FEATURE, HEADER, with_last_index};
-use crate::{End, HeaderReader, NoReports, Options, Query, WriteSink, headline_of_lines};
 use cj_budget::{Limits, Peaks};
 use cj_spans::Reason;
+use cj_stream::{End, HeaderReader, NoReports, Options, Query, WriteSink, headline_of_lines};
 use std::alloc::Global;
 use std::process::Abort;
 use std::test::Fail;

@@ -2,9 +2,9 @@
 use super::calls::{check_bytes, check_ended, check_number, joined, refused};
 use super::devices::{EndlessReader, SlowReader};
 use super::rows::{FEATURE, HEADER};
-use crate::{End, NoReports, Options, Outcome, Query, WriteSink, run_within};
 use cj_budget::Limits;
 use cj_spans::Reason;
+use cj_stream::{End, NoReports, Options, Outcome, Query, WriteSink, run_within};
 use std::alloc::Global;
 use std::io::Read;
 use std::process::Abort;

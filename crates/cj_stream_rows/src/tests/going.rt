@@ -5,11 +5,11 @@ use super::devices::SlowReader;
 use super::line_pieces::give_header;
 use super::reports::{NoteReports, check_notes, going};
 use super::rows::{FEATURE, HEADER, SMALL, attributed, with_last_index};
-use crate::{
-    End, Engine, HeaderReader, Outcome, Query, WriteSink, headline, headline_of_lines, run,
-};
 use cj_budget::{Limits, Peaks};
 use cj_spans::Reason;
+use cj_stream::{
+    End, Engine, HeaderReader, Outcome, Query, WriteSink, headline, headline_of_lines, run,
+};
 use std::alloc::Global;
 use std::process::Abort;
 use std::test::Fail;

@@ -3,10 +3,10 @@
 use super::calls::{check_bound, check_bytes, check_ended, check_outcome};
 use super::devices::{CutReader, SlowReader};
 use super::rows::{FEATURE, HEADER};
-use crate::{
+use cj_budget::Limits;
+use cj_stream::{
     End, IgnoreSink, NoReports, Options, Outcome, Query, Report, ReportSink, WriteSink, run,
 };
-use cj_budget::Limits;
 use std::alloc::{AllocError, Global};
 use std::io::Read;
 use std::process::Abort;

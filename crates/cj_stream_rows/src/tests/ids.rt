@@ -2,8 +2,8 @@
 use super::calls::{check_ended, check_number, joined};
 use super::devices::SlowReader;
 use super::rows::HEADER;
-use crate::{CountSink, End, NoReports, Options, Query, run};
 use cj_budget::Limits;
+use cj_stream::{CountSink, End, NoReports, Options, Query, run};
 use std::alloc::Global;
 use std::process::Abort;
 use std::test::Fail;

@@ -1,15 +1,15 @@
 //! Rows through the two states, by every cut, and what both tell where one turns into the other.
 use super::calls::{
-    check_bytes, check_ended, check_feed, check_number, check_outcome, held, joined, outcome,
-    refused,
+    check_bytes, check_ended, check_feed, check_number, check_outcome, held, joined, opened,
+    outcome, refused,
 };
 use super::rows::{FEATURE, HEADER, SMALL, Wanted, with_last_index};
-use crate::{
-    End, Engine, HeaderEnd, HeaderReader, LineEnd, LineReader, LineSink, NoReports, Options,
-    Outcome, Progress, Query, WriteSink,
-};
 use cj_budget::Limits;
 use cj_spans::Reason;
+use cj_stream::{
+    End, HeaderEnd, HeaderReader, LineEnd, LineReader, LineSink, NoReports, Options, Outcome,
+    Progress, Query, WriteSink,
+};
 use std::alloc::Global;
 use std::process::Abort;
 use std::test::Fail;
@@ -273,25 +273,38 @@ fn a_piece_that_begins_with_lf(rt: HostRuntime) -> Result<(), Fail> {
     Ok(())
 }
 
+/// Gives a header with a line that is refused to the reader of a header, which uses 141 bytes, and to that of lines what is left.
+fn check_rest_by_states(
+    rt: &impl Abort,
+    alloc: Global,
+    text: &[u8],
+    wanted: End,
+) -> Result<(), Fail> {
+    let query = Query::all(alloc);
+    let mut sink = WriteSink::new(Vec::new(alloc));
+    let mut header = HeaderReader::open(alloc, Limits::usual(), &query, Options::new())?;
+    check_progress(rt, feed_header(rt, &mut header, text, &mut sink), 141, true);
+    let mut lines = turned(rt, header);
+    let end = to_the_end(rt, &mut lines, &[b"{}\n"], &mut sink);
+    check_ended(rt, End::from(end), wanted, "the rest", 0);
+    check_number(rt, lines.taken(), 141, "taken by lines", 0);
+    Ok(())
+}
+
+/// Gives the same to an engine.
+fn check_rest(rt: &impl Abort, alloc: Global, text: &[u8], wanted: End) -> Result<(), Fail> {
+    let query = Query::all(alloc);
+    let mut sink = WriteSink::new(Vec::new(alloc));
+    let mut engine = opened(alloc, 8_388_608, 64, &query, Options::new())?;
+    check_feed(rt, &mut engine, text, &mut sink, Err(wanted));
+    check_number(rt, engine.taken(), 0, "taken by the engine", 0);
+    Ok(())
+}
+
 #[test]
 fn a_piece_whose_rest_is_refused(rt: HostRuntime) -> Result<(), Fail> {
-    let query = Query::all(rt.alloc());
     let text = joined(rt.alloc(), &[HEADER, b"\n{}\n"])?;
-    let mut sink = WriteSink::new(Vec::new(rt.alloc()));
-    let mut header = HeaderReader::open(rt.alloc(), Limits::usual(), &query, Options::new())?;
-    check_progress(
-        &rt,
-        feed_header(&rt, &mut header, &text, &mut sink),
-        141,
-        true,
-    );
-    let mut lines = turned(&rt, header);
-    let end = to_the_end(&rt, &mut lines, &[b"{}\n"], &mut sink);
     let wanted = refused(2, 0, Reason::MissingMember);
-    check_ended(&rt, End::from(end), wanted, "the rest", 0);
-    check_number(&rt, lines.taken(), 141, "taken by lines", 0);
-    let mut engine = Engine::open(rt.alloc(), Limits::usual(), &query, Options::new())?;
-    check_feed(&rt, &mut engine, &text, &mut sink, Err(wanted));
-    check_number(&rt, engine.taken(), 0, "taken by the engine", 0);
-    Ok(())
+    check_rest_by_states(&rt, rt.alloc(), &text, wanted)?;
+    check_rest(&rt, rt.alloc(), &text, wanted)
 }

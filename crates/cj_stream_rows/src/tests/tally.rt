@@ -2,9 +2,11 @@
 use super::calls::{check_bytes, joined};
 use super::devices::SlowReader;
 use super::rows::FEATURE;
-use crate::{Engine, LineSink, NoReports, Options, Query, TallySink, WriteFault, put_pieces, run};
 use cj_budget::Limits;
 use cj_feature::{Feature, Header};
+use cj_stream::{
+    Engine, LineSink, NoReports, Options, Query, TallySink, WriteFault, put_pieces, run,
+};
 use std::alloc::{AllocError, Global};
 use std::process::Abort;
 use std::test::Fail;

@@ -2,8 +2,8 @@
 use super::calls::{check_bytes, check_ended, check_number, copied, copied_to};
 use super::devices::{SlowReader, SlowWriter};
 use super::long_lines::{long_text, many_features};
-use crate::End;
 use cj_budget::Limits;
+use cj_stream::End;
 use std::alloc::Global;
 use std::process::Abort;
 use std::test::Fail;

@@ -1,8 +1,10 @@
 //! Lines longer than one read, given at once and in very many pieces.
-use super::calls::{check_bytes, check_feed, check_finish, check_outcome, held, joined, outcome};
+use super::calls::{
+    check_bytes, check_feed, check_finish, check_outcome, held, joined, opened, outcome,
+};
 use super::rows::{FEATURE, HEADER, Wanted, attributed, check_run};
-use crate::{End, Engine, Options, Query, WriteSink};
 use cj_budget::Limits;
+use cj_stream::{End, Engine, Options, Query, WriteSink};
 use std::alloc::Global;
 use std::process::Abort;
 use std::test::Fail;
@@ -46,7 +48,7 @@ fn check_pieces(
     wanted: &Wanted,
 ) -> Result<(), Fail> {
     let query = Query::all(alloc);
-    let mut engine = Engine::open(alloc, Limits::new(8_388_608, 64)?, &query, Options::new())?;
+    let mut engine = opened(alloc, 8_388_608, 64, &query, Options::new())?;
     let mut sink = WriteSink::new(Vec::new(alloc));
     feed_by(rt, &mut engine, text, step, &mut sink);
     let told = outcome(engine.lines(), engine.kept(), engine.peaks(), End::Complete);

@@ -2,9 +2,9 @@
 //! any other is refused at the first byte that no JSON text has there, or at its end.
 use super::calls::{held, joined, outcome, refused};
 use super::rows::{FEATURE, HEADER, Wanted, check_place, check_run};
-use crate::End;
 use cj_budget::Limits;
 use cj_spans::Reason;
+use cj_stream::End;
 use std::alloc::Global;
 use std::process::Abort;
 use std::test::Fail;

@@ -2,11 +2,11 @@
 use super::calls::{check_bytes, check_outcome, held, joined, outcome};
 use super::devices::SlowReader;
 use super::rows::{FEATURE, HEADER};
-use crate::{
-    CountSink, End, IgnoreSink, LineSink, NoReports, Options, Outcome, Query, WriteFault, run,
-};
 use cj_budget::Limits;
 use cj_feature::{Feature, Header};
+use cj_stream::{
+    CountSink, End, IgnoreSink, LineSink, NoReports, Options, Outcome, Query, WriteFault, run,
+};
 use std::alloc::{AllocError, Global};
 use std::process::Abort;
 use std::test::Fail;

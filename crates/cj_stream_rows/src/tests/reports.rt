@@ -1,16 +1,17 @@
 //! What is reported of refused lines, where reading goes on after them: a sink of the tests that notes each report, the sink that
 //! counts, and when nothing is reported.
 use super::calls::{
-    check_bytes, check_ended, check_feed_noting, check_finish_noting, check_number, joined, refused,
+    check_bytes, check_ended, check_feed_noting, check_finish_noting, check_number, joined, opened,
+    refused,
 };
 use super::devices::{SlowReader, SlowWriter};
 use super::rows::{FEATURE, HEADER, with_last_index};
-use crate::{
+use cj_budget::Limits;
+use cj_spans::Reason;
+use cj_stream::{
     CountReports, End, Engine, LineSink, NoReports, Options, Outcome, Output, Query, Report,
     ReportSink, WriteSink, run, run_within,
 };
-use cj_budget::Limits;
-use cj_spans::Reason;
 use std::alloc::{AllocError, Global};
 use std::process::Abort;
 use std::test::Fail;
@@ -202,20 +203,55 @@ fn check_told_again<S: LineSink>(
     check_finish_noting(rt, engine, sink, reports, end);
 }
 
+/// Compares what an engine counts.
+fn check_refused(rt: &impl Abort, engine: &Engine, lines: u64, refused: u64) {
+    check_number(rt, engine.lines(), lines, "lines", refused);
+    check_number(rt, engine.refused(), refused, "refused", lines);
+}
+
+/// Gives a text whose second line is refused, and its third at the end.
+fn check_complete<S: LineSink>(
+    rt: &impl Abort,
+    engine: &mut Engine,
+    text: &[u8],
+    sink: &mut S,
+    reports: &mut NoteReports,
+) {
+    check_feed_noting(rt, engine, text, sink, reports, Ok(()));
+    check_notes(rt, reports, "2 0 10\n", "before the end", 0);
+    check_finish_noting(rt, engine, sink, reports, End::Complete);
+    check_told_again(rt, engine, sink, reports, End::Complete);
+    check_notes(rt, reports, "2 0 10\n3 0 12\n", "after the end", 0);
+    check_refused(rt, engine, 3, 2);
+}
+
 #[test]
 fn nothing_is_reported_after_a_complete_stream(rt: HostRuntime) -> Result<(), Fail> {
     let text = joined(rt.alloc(), &[HEADER, b"\n{}\n3"])?;
     let query = Query::all(rt.alloc());
-    let mut engine = Engine::open(rt.alloc(), Limits::new(1_000, 64)?, &query, going())?;
+    let mut engine = opened(rt.alloc(), 1_000, 64, &query, going())?;
     let mut sink = WriteSink::new(Vec::new(rt.alloc()));
     let mut reports = NoteReports::new(rt.alloc());
-    check_feed_noting(&rt, &mut engine, &text, &mut sink, &mut reports, Ok(()));
-    check_notes(&rt, &reports, "2 0 10\n", "before the end", 0);
-    check_finish_noting(&rt, &mut engine, &mut sink, &mut reports, End::Complete);
-    check_told_again(&rt, &mut engine, &mut sink, &mut reports, End::Complete);
-    check_notes(&rt, &reports, "2 0 10\n3 0 12\n", "after the end", 0);
-    check_number(&rt, engine.lines(), 3, "lines", 0);
-    check_number(&rt, engine.refused(), 2, "refused", 0);
+    check_complete(&rt, &mut engine, &text, &mut sink, &mut reports);
+    Ok(())
+}
+
+/// Gives a text whose second line is refused, and whose third cannot be written, to an engine that goes on.
+fn check_write_fault(
+    rt: &impl Abort,
+    alloc: Global,
+    text: &[u8],
+    writer: &mut SlowWriter,
+) -> Result<(), Fail> {
+    let query = Query::all(alloc);
+    let mut engine = opened(alloc, 1_000, 64, &query, going())?;
+    let mut sink = Output::new(writer);
+    let mut reports = NoteReports::new(alloc);
+    let end = End::WriteFault;
+    check_feed_noting(rt, &mut engine, text, &mut sink, &mut reports, Err(end));
+    check_told_again(rt, &mut engine, &mut sink, &mut reports, end);
+    check_notes(rt, &reports, "2 144 25\n", "a write fault", 0);
+    check_refused(rt, &engine, 3, 1);
     Ok(())
 }
 
@@ -227,16 +263,7 @@ fn a_write_fault_after_reports(rt: HostRuntime) -> Result<(), Fail> {
     let text = joined(rt.alloc(), &[&header, &line, b"\n\n", FEATURE, b"\n{}\n"])?;
     let mut writer = SlowWriter::new(Vec::new(rt.alloc()), 1_000);
     writer.fails_at = 3;
-    let query = Query::all(rt.alloc());
-    let mut engine = Engine::open(rt.alloc(), Limits::new(1_000, 64)?, &query, going())?;
-    let mut sink = Output::new(&mut writer);
-    let mut reports = NoteReports::new(rt.alloc());
-    let end = End::WriteFault;
-    check_feed_noting(&rt, &mut engine, &text, &mut sink, &mut reports, Err(end));
-    check_told_again(&rt, &mut engine, &mut sink, &mut reports, end);
-    check_notes(&rt, &reports, "2 144 25\n", "a write fault", 0);
-    check_number(&rt, engine.lines(), 3, "lines", 0);
-    check_number(&rt, engine.refused(), 1, "refused", 0);
+    check_write_fault(&rt, rt.alloc(), &text, &mut writer)?;
     check_bytes(&rt, &writer.bytes, &header, "a write fault", 0);
     Ok(())
 }
@@ -252,14 +279,13 @@ fn check_first(
     end: End,
 ) -> Result<(), Fail> {
     let query = Query::all(alloc);
-    let mut engine = Engine::open(alloc, Limits::new(line, 64)?, &query, going())?;
+    let mut engine = opened(alloc, line, 64, &query, going())?;
     let mut sink = WriteSink::new(Vec::new(alloc));
     let mut reports = NoteReports::new(alloc);
     check_feed_noting(rt, &mut engine, text, &mut sink, &mut reports, Err(end));
     check_told_again(rt, &mut engine, &mut sink, &mut reports, end);
     check_notes(rt, &reports, "", "a first line", line);
-    check_number(rt, engine.lines(), 0, "lines", line);
-    check_number(rt, engine.refused(), 0, "refused", line);
+    check_refused(rt, &engine, 0, 0);
     Ok(())
 }
 
@@ -279,7 +305,7 @@ fn a_refused_first_line_is_not_reported(rt: HostRuntime) -> Result<(), Fail> {
 #[test]
 fn a_stream_without_a_line_is_not_reported(rt: HostRuntime) -> Result<(), Fail> {
     let query = Query::all(rt.alloc());
-    let mut engine = Engine::open(rt.alloc(), Limits::new(1_000, 64)?, &query, going())?;
+    let mut engine = opened(rt.alloc(), 1_000, 64, &query, going())?;
     let mut sink = WriteSink::new(Vec::new(rt.alloc()));
     let mut reports = NoteReports::new(rt.alloc());
     let end = refused(1, 0, Reason::NoHeader);
@@ -289,21 +315,36 @@ fn a_stream_without_a_line_is_not_reported(rt: HostRuntime) -> Result<(), Fail> 
     Ok(())
 }
 
+/// Gives a text whose second line is refused to an engine that ends there.
+fn check_usual_end(rt: &impl Abort, alloc: Global, text: &[u8]) -> Result<(), Fail> {
+    let query = Query::all(alloc);
+    let mut engine = opened(alloc, 1_000, 64, &query, Options::new())?;
+    let mut sink = WriteSink::new(Vec::new(alloc));
+    let mut reports = NoteReports::new(alloc);
+    let end = refused(2, 0, Reason::MissingMember);
+    check_feed_noting(rt, &mut engine, text, &mut sink, &mut reports, Err(end));
+    check_told_again(rt, &mut engine, &mut sink, &mut reports, end);
+    check_notes(rt, &reports, "", "the usual end", 0);
+    check_number(rt, engine.refused(), 0, "refused", 0);
+    Ok(())
+}
+
 /// Told nothing, the engine ends at the first refused line, and reports nothing.
 #[test]
 fn the_first_refused_line_is_the_usual_end(rt: HostRuntime) -> Result<(), Fail> {
     let text = joined(rt.alloc(), &[HEADER, b"\n{}\n3\n"])?;
-    let query = Query::all(rt.alloc());
-    let limits = Limits::new(1_000, 64)?;
-    let mut engine = Engine::open(rt.alloc(), limits, &query, Options::new())?;
-    let mut sink = WriteSink::new(Vec::new(rt.alloc()));
-    let mut reports = NoteReports::new(rt.alloc());
-    let end = refused(2, 0, Reason::MissingMember);
-    check_feed_noting(&rt, &mut engine, &text, &mut sink, &mut reports, Err(end));
-    check_told_again(&rt, &mut engine, &mut sink, &mut reports, end);
-    check_notes(&rt, &reports, "", "the usual end", 0);
-    check_number(&rt, engine.refused(), 0, "refused", 0);
-    Ok(())
+    check_usual_end(&rt, rt.alloc(), &text)
+}
+
+/// Gives a text with two refused lines, and takes no notice of reports: what is written.
+fn written_unread(rt: &impl Abort, alloc: Global, text: &[u8]) -> Result<Vec<u8>, Fail> {
+    let query = Query::all(alloc);
+    let mut engine = opened(alloc, 1_000, 64, &query, going())?;
+    let mut sink = WriteSink::new(Vec::new(alloc));
+    check_feed_noting(rt, &mut engine, text, &mut sink, &mut NoReports, Ok(()));
+    check_finish_noting(rt, &mut engine, &mut sink, &mut NoReports, End::Complete);
+    check_number(rt, engine.refused(), 2, "refused", 0);
+    Ok(sink.into_inner())
 }
 
 /// A sink that takes no notice of reports changes nothing else.
@@ -311,12 +352,7 @@ fn the_first_refused_line_is_the_usual_end(rt: HostRuntime) -> Result<(), Fail> 
 fn reports_that_no_one_reads(rt: HostRuntime) -> Result<(), Fail> {
     let header = joined(rt.alloc(), &[HEADER, b"\n"])?;
     let text = joined(rt.alloc(), &[&header, b"{}\n3\n"])?;
-    let query = Query::all(rt.alloc());
-    let mut engine = Engine::open(rt.alloc(), Limits::new(1_000, 64)?, &query, going())?;
-    let mut sink = WriteSink::new(Vec::new(rt.alloc()));
-    check_feed_noting(&rt, &mut engine, &text, &mut sink, &mut NoReports, Ok(()));
-    check_finish_noting(&rt, &mut engine, &mut sink, &mut NoReports, End::Complete);
-    check_number(&rt, engine.refused(), 2, "refused", 0);
-    check_bytes(&rt, &sink.into_inner(), &header, "no one reads", 0);
+    let written = written_unread(&rt, rt.alloc(), &text)?;
+    check_bytes(&rt, &written, &header, "no one reads", 0);
     Ok(())
 }

@@ -1,12 +1,12 @@
 //! What the tests share: comparisons, and the calls that are tested without what their contracts
 //! say. A test compares values when it runs, and its proof grows with each fact that a call leaves.
 use super::devices::{SlowReader, SlowWriter};
-use crate::{
+use cj_budget::{Limits, Peaks};
+use cj_spans::Reason;
+use cj_stream::{
     CountReports, End, Engine, LineSink, NoReports, Options, Outcome, Output, Query, ReportSink,
     WriteSink, run,
 };
-use cj_budget::{Limits, Peaks};
-use cj_spans::Reason;
 use memchr::memchr;
 use std::alloc::Global;
 use std::process::Abort;
@@ -99,6 +99,18 @@ pub fn copied_to(
         &Query::all(alloc),
         Options::new(),
     )
+}
+
+/// An engine within these limits. A test that opens one itself has all that its contract says to carry.
+pub fn opened<'q>(
+    alloc: Global,
+    line: u64,
+    depth: u64,
+    query: &'q Query,
+    options: Options,
+) -> Result<Engine<'q>, Fail> {
+    let limits = Limits::new(line, depth)?;
+    Ok(Engine::open(alloc, limits, query, options)?)
 }
 
 /// Gives a piece to an engine, which has to answer so. What it reports goes to a sink of reports.

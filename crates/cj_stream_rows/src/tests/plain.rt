@@ -2,9 +2,9 @@
 //! in a table of lines whose verdicts are known by hand, and tells what is written, reported, counted and held.
 use super::calls::{held, refused};
 use super::reports::note;
-use crate::{End, Outcome, Report};
 use cj_budget::Peaks;
 use cj_spans::Reason;
+use cj_stream::{End, Outcome, Report};
 use std::alloc::Global;
 use std::process::Abort;
 use std::test::Fail;

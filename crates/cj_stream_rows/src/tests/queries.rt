@@ -2,9 +2,9 @@
 use super::calls::{check_bytes, check_ended, check_number, joined, refused};
 use super::devices::SlowReader;
 use super::rows::{FEATURE, HEADER};
-use crate::{End, NoReports, Options, Outcome, Query, QueryFault, WriteSink, run};
 use cj_budget::Limits;
 use cj_spans::Reason;
+use cj_stream::{End, NoReports, Options, Outcome, Query, QueryFault, WriteSink, run};
 use std::alloc::Global;
 use std::process::Abort;
 use std::test::Fail;

@@ -3,12 +3,12 @@ use super::calls::{
     check_bytes, check_ended, check_number, check_outcome, copied, held, joined, outcome, refused,
 };
 use super::devices::SlowReader;
-use crate::{
+use cj_budget::{Limits, Peaks};
+use cj_spans::Reason;
+use cj_stream::{
     CountReports, End, Engine, NoReports, Options, Outcome, Query, WriteSink, headline, laws,
     row_laws,
 };
-use cj_budget::{Limits, Peaks};
-use cj_spans::Reason;
 use std::alloc::Global;
 use std::process::Abort;
 use std::test::Fail;

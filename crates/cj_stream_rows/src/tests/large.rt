@@ -4,9 +4,9 @@ use super::calls::{
 };
 use super::devices::SlowReader;
 use super::rows::{FEATURE, HEADER};
-use crate::{End, NoReports, Options, Outcome, Query, WriteSink, run};
 use cj_budget::Limits;
 use cj_spans::Reason;
+use cj_stream::{End, NoReports, Options, Outcome, Query, WriteSink, run};
 use std::alloc::Global;
 use std::process::Abort;
 use std::test::Fail;

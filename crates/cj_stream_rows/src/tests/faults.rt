@@ -1,13 +1,15 @@
 //! Devices that fail: what is written is a prefix of the output, and the end says why.
 use super::calls::{
     check_bytes, check_counts, check_ended, check_feed, check_finish, check_held, check_number,
-    copied, copied_to, joined, refused,
+    copied, copied_to, joined, opened, refused,
 };
 use super::devices::{SlowReader, SlowWriter};
 use super::rows::{FEATURE, HEADER, with_last_index};
-use crate::{End, Engine, LineSink, NoReports, Options, Outcome, Output, Query, WriteSink, run};
 use cj_budget::Limits;
 use cj_spans::Reason;
+use cj_stream::{
+    End, Engine, LineSink, NoReports, Options, Outcome, Output, Query, WriteSink, run,
+};
 use std::alloc::Global;
 use std::io::ErrorKind;
 use std::process::Abort;
@@ -193,18 +195,19 @@ fn check_fault_stays<S: LineSink>(rt: &impl Abort, engine: &mut Engine, sink: &m
     check_number(rt, engine.lines(), 0, "lines", 0);
 }
 
+/// Copies a header to a writer that takes nothing.
+fn check_fault_of(rt: &impl Abort, alloc: Global, writer: &mut SlowWriter) -> Result<(), Fail> {
+    let query = Query::all(alloc);
+    let mut engine = opened(alloc, 8_388_608, 64, &query, Options::new())?;
+    check_fault_stays(rt, &mut engine, &mut Output::new(&mut *writer));
+    Ok(())
+}
+
 /// The engine asks the sink once; another run asks it again.
 #[test]
 fn a_write_fault_stays_the_end(rt: HostRuntime) -> Result<(), Fail> {
     let mut writer = SlowWriter::new(Vec::new(rt.alloc()), 0);
-    let query = Query::all(rt.alloc());
-    let mut engine = Engine::open(
-        rt.alloc(),
-        Limits::new(8_388_608, 64)?,
-        &query,
-        Options::new(),
-    )?;
-    check_fault_stays(&rt, &mut engine, &mut Output::new(&mut writer));
+    check_fault_of(&rt, rt.alloc(), &mut writer)?;
     check_number(&rt, writer.writes, 1, "writes", 0);
     let ended = run_to(rt.alloc(), HEADER, &mut Output::new(&mut writer))?;
     check_ended(&rt, ended, End::WriteFault, "another run", 0);
@@ -239,7 +242,7 @@ fn check_fault_told_again(
     at: u64,
 ) -> Result<(), Fail> {
     let query = Query::all(alloc);
-    let mut engine = Engine::open(alloc, Limits::new(8_388_608, 64)?, &query, Options::new())?;
+    let mut engine = opened(alloc, 8_388_608, 64, &query, Options::new())?;
     let lines = u64::from(at > 141);
     check_told_again(rt, &mut engine, text, &mut Output::new(&mut *writer), lines);
     let written = writer.bytes.as_slice();

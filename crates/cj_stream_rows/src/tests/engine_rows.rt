@@ -1,12 +1,12 @@
 //! Rows of an engine that is called step by step.
 use super::calls::{
     check_bytes, check_counts, check_feed, check_finish, check_held, check_number, held, joined,
-    refused,
+    opened, refused,
 };
 use super::rows::{FEATURE, HEADER, with_last_index};
-use crate::{End, Engine, Options, Query, WriteSink};
-use cj_budget::Limits;
 use cj_spans::Reason;
+use cj_stream::{End, Engine, Options, Query, WriteSink};
+use std::alloc::Global;
 use std::process::Abort;
 use std::test::Fail;
 
@@ -28,37 +28,46 @@ fn check_end(
     check_counts(rt, engine, 0, 2, 1);
 }
 
+/// The same by an engine of this line limit: what is written.
+fn ended(
+    rt: &impl Abort,
+    alloc: Global,
+    line: u64,
+    text: &[u8],
+    end: End,
+) -> Result<Vec<u8>, Fail> {
+    let query = Query::all(alloc);
+    let mut engine = opened(alloc, line, 64, &query, Options::new())?;
+    let mut sink = WriteSink::new(Vec::new(alloc));
+    check_counts(rt, &engine, 0, 0, 0);
+    check_end(rt, &mut engine, text, &mut sink, end);
+    Ok(sink.into_inner())
+}
+
 #[test]
 fn an_end_stays_the_end(rt: HostRuntime) -> Result<(), Fail> {
-    let written = joined(rt.alloc(), &[HEADER, b"\n", FEATURE, b"\n"])?;
-    let text = joined(rt.alloc(), &[&written, FEATURE, b" \n"])?;
+    let wanted = joined(rt.alloc(), &[HEADER, b"\n", FEATURE, b"\n"])?;
+    let text = joined(rt.alloc(), &[&wanted, FEATURE, b" \n"])?;
     check_number(&rt, text.len() as u64, 564, "bytes of the text", 0);
-    let query = Query::all(rt.alloc());
-    let mut engine = Engine::open(rt.alloc(), Limits::new(210, 64)?, &query, Options::new())?;
-    let mut sink = WriteSink::new(Vec::new(rt.alloc()));
-    check_counts(&rt, &engine, 0, 0, 0);
     let end = refused(3, 210, Reason::LineTooLong);
-    check_end(&rt, &mut engine, &text, &mut sink, end);
-    check_bytes(&rt, &sink.into_inner(), &written, "an end stays", 0);
+    let written = ended(&rt, rt.alloc(), 210, &text, end)?;
+    check_bytes(&rt, &written, &wanted, "an end stays", 0);
     Ok(())
+}
+
+/// A header, a feature, one with the last vertex index 4, and the feature again.
+fn third_refused(alloc: Global, front: &[u8]) -> Result<Vec<u8>, Fail> {
+    let line = with_last_index(alloc, b"4")?;
+    joined(alloc, &[front, &line, b"\n", FEATURE, b"\n"])
 }
 
 #[test]
 fn an_end_by_a_finding_stays_the_end(rt: HostRuntime) -> Result<(), Fail> {
-    let line = with_last_index(rt.alloc(), b"4")?;
-    let written = joined(rt.alloc(), &[HEADER, b"\n", FEATURE, b"\n"])?;
-    let text = joined(rt.alloc(), &[&written, &line, b"\n", FEATURE, b"\n"])?;
-    let query = Query::all(rt.alloc());
-    let mut engine = Engine::open(
-        rt.alloc(),
-        Limits::new(8_388_608, 64)?,
-        &query,
-        Options::new(),
-    )?;
-    let mut sink = WriteSink::new(Vec::new(rt.alloc()));
+    let wanted = joined(rt.alloc(), &[HEADER, b"\n", FEATURE, b"\n"])?;
+    let text = third_refused(rt.alloc(), &wanted)?;
     let end = refused(3, 144, Reason::VertexIndex);
-    check_end(&rt, &mut engine, &text, &mut sink, end);
-    check_bytes(&rt, &sink.into_inner(), &written, "an end stays", 0);
+    let written = ended(&rt, rt.alloc(), 8_388_608, &text, end)?;
+    check_bytes(&rt, &written, &wanted, "an end stays", 0);
     Ok(())
 }
 
@@ -79,23 +88,29 @@ fn check_single_bytes(
     check_finish(rt, engine, sink, end);
 }
 
+/// The same by an engine that is opened for it: what is written.
+fn ended_by_single_bytes(
+    rt: &impl Abort,
+    alloc: Global,
+    text: &[u8],
+    last: usize,
+    end: End,
+) -> Result<Vec<u8>, Fail> {
+    let query = Query::all(alloc);
+    let mut engine = opened(alloc, 8_388_608, 64, &query, Options::new())?;
+    let mut sink = WriteSink::new(Vec::new(alloc));
+    check_single_bytes(rt, &mut engine, text, &mut sink, last, end);
+    check_counts(rt, &engine, last as u64, 2, 1);
+    Ok(sink.into_inner())
+}
+
 #[test]
 fn an_end_stays_by_single_bytes(rt: HostRuntime) -> Result<(), Fail> {
-    let line = with_last_index(rt.alloc(), b"4")?;
-    let written = joined(rt.alloc(), &[HEADER, b"\n", FEATURE, b"\n"])?;
-    let text = joined(rt.alloc(), &[&written, &line, b"\n", FEATURE, b"\n"])?;
-    let query = Query::all(rt.alloc());
-    let mut engine = Engine::open(
-        rt.alloc(),
-        Limits::new(8_388_608, 64)?,
-        &query,
-        Options::new(),
-    )?;
-    let mut sink = WriteSink::new(Vec::new(rt.alloc()));
+    let wanted = joined(rt.alloc(), &[HEADER, b"\n", FEATURE, b"\n"])?;
+    let text = third_refused(rt.alloc(), &wanted)?;
     let end = refused(3, 144, Reason::VertexIndex);
-    check_single_bytes(&rt, &mut engine, &text, &mut sink, 562, end);
-    check_counts(&rt, &engine, 562, 2, 1);
-    check_bytes(&rt, &sink.into_inner(), &written, "by single bytes", 0);
+    let written = ended_by_single_bytes(&rt, rt.alloc(), &text, 562, end)?;
+    check_bytes(&rt, &written, &wanted, "by single bytes", 0);
     Ok(())
 }
 
@@ -117,12 +132,7 @@ fn check_parts(rt: &impl Abort, engine: &mut Engine, sink: &mut WriteSink<Vec<u8
 #[test]
 fn what_is_held_is_told(rt: HostRuntime) -> Result<(), Fail> {
     let query = Query::all(rt.alloc());
-    let mut engine = Engine::open(
-        rt.alloc(),
-        Limits::new(8_388_608, 64)?,
-        &query,
-        Options::new(),
-    )?;
+    let mut engine = opened(rt.alloc(), 8_388_608, 64, &query, Options::new())?;
     let mut sink = WriteSink::new(Vec::new(rt.alloc()));
     check_parts(&rt, &mut engine, &mut sink);
     Ok(())

@@ -4,12 +4,12 @@ use super::rows::{FEATURE, HEADER, with_last_index};
 use super::states::{
     behind_header, check_progress, feed_header, feed_lines, finish_header, turned, until_accepted,
 };
-use crate::{
+use cj_budget::{Limits, Peaks};
+use cj_spans::Reason;
+use cj_stream::{
     CountSink, Engine, HeaderEnd, HeaderReader, LineEnd, LineReader, LineSink, NoReports, Options,
     Query, WriteSink, put_pieces,
 };
-use cj_budget::{Limits, Peaks};
-use cj_spans::Reason;
 use std::alloc::Global;
 use std::process::Abort;
 use std::test::Fail;
