@@ -1,32 +1,31 @@
 -- The ids of a query: one is found in runs that are in order.
-use Rattle.std.proofs.Common.{◌≡◌, ℕ, suc, zero, ◌+◌, ◌-◌, ◌<◌, ◌≤◌, Bool, true, false, List, [], ◌∷◌, ◌++◌, length, get_or, map, take, drop, sum, Option, Some, None, Result, Ok, Err, is_ok, String, string_bytes, option_map, unwrap_or, refl, sym, ap, ◌∙◌, subst, inl, inr, arith}
+use Rattle.std.proofs.Common.{◌≡◌, ℕ, suc, zero, ◌+◌, ◌-◌, ◌<◌, ◌≤◌, Bool, true, false, List, [], ◌∷◌, ◌++◌, length, get_or, map, take, drop, sum, Option, Some, None, Result, Ok, Err, is_ok, slice_range, refl, sym, ap, ◌∙◌, subst, inl, inr, arith}
 use Rattle.std.specs.Cmp.{IsTotalOrder, tied_itself}
 use Rattle.std.specs.Cmp.Lexicographic.{bytes_decides, nat_list_cmp_total, options_total, texts_ties}
-use Rattle.std.specs.List.{list_any, All, slice_get}
+use Rattle.std.specs.List.{list_any, All}
 use Rattle.std.specs.List.Sorted.{IsPermutation, IsSortedBy, IsNonDecreasingBy, IsSearchInRange, IsBinarySearchResult}
 use Rattle.std.specs.Ordering.{nat_cmp, ordering_then, ordering_reverse, is_lt, is_eq}
-use Rattle.std.specs.Str.{chars}
+use Rattle.std.specs.Str.{chars, IsCharBoundary, IsUtf8}
 use Rattle.std.specs.declared.cmp.Ordering.{Ordering}
 use Rattle.std.specs.declared.cmp.Ordering.TheVariants.{Less, Equal, Greater}
 use Rattle.std.proofs.lemmas.Bool.{cases_lt}
 use Rattle.std.proofs.lemmas.Bool.Decides.{nat_tests}
 use Rattle.std.proofs.lemmas.Cmp.{nat_cmp_total, on_total, then_total}
 use Rattle.std.proofs.lemmas.List.{get_or_default, get_or-take, get_or-drop, get_or-map, get_or_append_left, length-map, length-append, length-drop, length-take, length-take-le, take-append-le, take-take, take_all, drop_all, drop_at, append-nil, drop-append-le, take-append-drop, drop-take, take-map, map-append}
-use Rattle.std.proofs.Math.Seq.{get_or-append_seam}
 use borrow.Rule.Slice.PartMut.{put_mid}
-use Rattle.std.proofs.lemmas.Option.{slice_get-get_or}
+use Rattle.std.proofs.lemmas.Str.{IsCharBoundary-at_seam, IsCharBoundary-end}
 use Rattle.std.proofs.lemmas.List.Elements.{All-append, All-cons, All-nil}
 use Rattle.std.proofs.lemmas.List.Folds.{list_any_at, list_any_none, list_any-append}
 use Rattle.std.specs.Prelude.{◌||◌}
 use Rattle.std.proofs.lemmas.List.Sorted.{IsPermutation-append, IsPermutation-map, IsPermutation-refl, IsPermutation-trans, All-permutation, length_permutation, searchable_from_sorted, IsNonDecreasingBy-from_all_adjacent}
-use Rattle.std.proofs.lemmas.List.Sums.{sum_by-cons, sum_by-take-le}
+use Rattle.std.proofs.lemmas.List.Sums.{sum_by-cons, sum_by-append, sum_by-take-le}
 use Rattle.cj_spans.specs.Tail.{tail_of}
 use Rattle.cj_spans.specs.Order.{compare, compare_texts}
 use Rattle.cj_spans.specs.Parts.{text_of, are_same_texts}
 use Rattle.cj_spans.specs.Tree.{Tree}
 use Rattle.cj_stream.specs.Criteria.{is_one_of}
 use Rattle.cj_stream.specs.declared.query.ids.Entry.{Entry}
-use Rattle.cj_stream.specs.Ids.{Key, key_of, compare_keys, id_at, key_at, keys_at, keys_of, Ascend, AreRuns, AreIndexed, HasAllOf}
+use Rattle.cj_stream.specs.Ids.{Key, key_of, compare_keys, pieces, may_cut, piece, key_at, keys_at, keys_of, Ascend, AreRuns, IsCut, AreIndexed, HasAllOf}
 
 -- keys have one order
 pub keys_total : IsTotalOrder compare_keys
@@ -63,11 +62,20 @@ same_key s (Some t) =
     ∙ sym (texts_ties t s)
 
 -- the key of a tree's text is among those of the ids where the tree is one of them
-pub has_key : {A : Type 0} (ids : List (String A)) (t : Tree)
-    → list_any (λ key. is_eq (compare_keys key (key_of (text_of t)))) (keys_of ids) ≡ is_one_of (map string_bytes ids) t
+pub has_key : (ids : List (List ℕ)) (t : Tree)
+    → list_any (λ key. is_eq (compare_keys key (key_of (text_of t)))) (keys_of ids) ≡ is_one_of ids t
 has_key [] t = refl
-has_key (id ∷ ids) t = ap (λ b. b || list_any (λ key. is_eq (compare_keys key (key_of (text_of t)))) (keys_of ids)) (same_key (chars (string_bytes id)) (text_of t))
-    ∙ ap (λ b. are_same_texts (text_of t) (Some (chars (string_bytes id))) || b) (has_key ids t)
+has_key (id ∷ ids) t = ap (λ b. b || list_any (λ key. is_eq (compare_keys key (key_of (text_of t)))) (keys_of ids)) (same_key (chars id) (text_of t))
+    ∙ ap (λ b. are_same_texts (text_of t) (Some (chars id)) || b) (has_key ids t)
+
+-- where the numbers are equal, a key is the same where the text is
+pub same_beside : (n : ℕ) (s : List ℕ) (o : Option (List ℕ)) → are_same_texts o (Some s) ≡ is_eq (compare_keys (record { number = n; text = Some s }) (record { number = n; text = o }))
+same_beside n s None = ap (λ r. is_eq (ordering_then r Greater)) (sym (tied_itself nat_cmp_total n))
+same_beside n s (Some t) =
+    texts_ties t s
+    ∙ ap is_eq (nat_list_cmp_total.antisymm t s)
+    ∙ reversed (compare s t)
+    ∙ ap (λ r. is_eq (ordering_then r (compare s t))) (sym (tied_itself nat_cmp_total n))
 
 -- a text beside a key is compared by the turned answer, where the numbers are equal
 pub compare_turned : (n m : ℕ) (s : List ℕ) (o : Option (List ℕ)) → nat_cmp n m ≡ Equal
@@ -146,47 +154,85 @@ runs_back keys more (n ∷ ns) runs up = (
 
 -- ---- one id more
 
-module _ {A : Type 0} (ids : List (String A)) (id : String A) where
-  -- places that were within the ids tell the same ids
-  same_keys : (entries : List Entry) → All (λ (e : Entry). e.place < length ids) entries → keys_at (ids ++ id ∷ []) entries ≡ keys_at ids entries
+-- where a text may be cut, it may be where another follows it
+seam_kept : (xs ys : List ℕ) (i : ℕ) → IsUtf8 ys → IsCharBoundary xs i → IsCharBoundary (xs ++ ys) i
+seam_kept xs ys i utf8 seam = elim (cases_lt i (length xs)) [
+  | inl below ↦ (omega (arith, below, length-append xs ys), λ l a. let same = get_or_append_left xs ys 0 i below in omega (arith, seam.1 below (omega (arith, a, same)), same))
+  | inr above ↦ subst (IsCharBoundary (xs ++ ys)) (omega (arith, above, seam.0)) (IsCharBoundary-at_seam (xs ++ ys) xs ys refl utf8)
+]
+
+cuts : (bytes : List ℕ) (i : ℕ) → IsCharBoundary bytes i → may_cut bytes i ≡ true
+cuts bytes i seam = grind (arith, nat_tests, seam)
+
+piece_is : (bytes : List ℕ) (start end : ℕ) → start ≤ end → IsCharBoundary bytes start → IsCharBoundary bytes end → piece bytes start end ≡ slice_range bytes start end
+piece_is bytes start end up first last = grind (arith, nat_tests, up, cuts bytes start first, cuts bytes end last)
+
+-- the ids and one more
+pub pieces_more : (bytes id : List ℕ) (ns : List ℕ) → sum ns ≡ length bytes → pieces (bytes ++ id) (ns ++ length id ∷ []) ≡ pieces bytes ns ++ id ∷ []
+pieces_more [] id [] h = ap (λ t. t ∷ []) (take_all (length id) id (omega arith))
+pieces_more (b ∷ bytes) id [] h = absurd (omega (arith, h))
+pieces_more bytes id (n ∷ ns) h =
+    let more : sum (n ∷ ns) ≡ n + sum ns = sum_by-cons (λ x. x) n ns in
+    let low : n ≤ length bytes = omega (arith, h, more) in
+    let rest : sum ns ≡ length (drop n bytes) = omega (arith, h, more, length-drop n bytes) in
+    ap (λ t. t ∷ pieces (drop n (bytes ++ id)) (ns ++ length id ∷ [])) (take-append-le n bytes id low)
+    ∙ ap (λ r. take n bytes ∷ pieces r (ns ++ length id ∷ [])) (drop-append-le n bytes id low)
+    ∙ ap (λ ps. take n bytes ∷ ps) (pieces_more (drop n bytes) id ns rest)
+
+module _ (bytes id : List ℕ) (utf8 : IsUtf8 id) where
+  -- entries of the ids before tell the same ids
+  same_keys : (entries : List Entry) → All (IsCut bytes) entries → keys_at (bytes ++ id) entries ≡ keys_at bytes entries
   same_keys [] within = refl
   same_keys (e ∷ entries) within =
-      let here : e.place < length ids = within 0 e (omega arith) in
+      let here : IsCut bytes e = within 0 e (omega arith) in
       let rest = same_keys entries (λ k d h. within (suc k) d (omega arith)) in
-      let same : key_at (ids ++ id ∷ []) e ≡ key_at ids e = ap (λ s. record { number = e.number; text = Some (chars s) }) (kept e.place here) in
-      ap (λ k. k ∷ keys_at (ids ++ id ∷ []) entries) same ∙ ap (λ ks. key_at ids e ∷ ks) rest
+      let same : key_at (bytes ++ id) e ≡ key_at bytes e = ap (λ s. record { number = e.number; text = Some (chars s) }) (kept e here) in
+      ap (λ k. k ∷ keys_at (bytes ++ id) entries) same ∙ ap (λ ks. key_at bytes e ∷ ks) rest
     where
-      kept : (place : ℕ) → place < length ids → id_at (ids ++ id ∷ []) place ≡ id_at ids place
-      kept place h =
-          let more : slice_get (ids ++ id ∷ []) place ≡ Some (get_or (ids ++ id ∷ []) place id) = slice_get-get_or (ids ++ id ∷ []) place id (omega (arith, h, length-append ids (id ∷ []))) in
-          ap (λ o. unwrap_or (option_map string_bytes o) []) (more ∙ ap Some (get_or_append_left ids (id ∷ []) id place h) ∙ sym (slice_get-get_or ids place id h))
+      kept : (e : Entry) → IsCut bytes e → piece (bytes ++ id) e.start e.end ≡ piece bytes e.start e.end
+      kept e cut =
+          let low : e.start ≤ length bytes = cut.1.0 in
+          let short : e.end - e.start ≤ length (drop e.start bytes) = omega (arith, cut.2.0, length-drop e.start bytes) in
+          piece_is (bytes ++ id) e.start e.end cut.0 (seam_kept bytes id e.start utf8 cut.1) (seam_kept bytes id e.end utf8 cut.2)
+          ∙ ap (take (e.end - e.start)) (drop-append-le e.start bytes id low) ∙ take-append-le (e.end - e.start) (drop e.start bytes) id short
+          ∙ sym (piece_is bytes e.start e.end cut.0 cut.1 cut.2)
 
-  -- the key of the new id's entry
-  new_key : (e : Entry) → e.number ≡ tail_of (Some (chars (string_bytes id))) → e.place ≡ length ids → key_at (ids ++ id ∷ []) e ≡ key_of (Some (chars (string_bytes id)))
-  new_key e n p =
-      let last : slice_get (ids ++ id ∷ []) (length ids) ≡ Some id =
-      slice_get-get_or (ids ++ id ∷ []) (length ids) id (omega (arith, length-append ids (id ∷ []))) ∙ ap Some (get_or-append_seam ids id [] id) in
-      let told : id_at (ids ++ id ∷ []) e.place ≡ string_bytes id =
-      ap (λ k. id_at (ids ++ id ∷ []) k) p ∙ ap (λ o. unwrap_or (option_map string_bytes o) []) last in
-      let numbered : key_at (ids ++ id ∷ []) e ≡ record { number = tail_of (Some (chars (string_bytes id))); text = Some (chars (id_at (ids ++ id ∷ []) e.place)) } =
-      ap (λ m. record { number = m; text = Some (chars (id_at (ids ++ id ∷ []) e.place)) }) n in
-      numbered ∙ ap (λ s. record { number = tail_of (Some (chars (string_bytes id))); text = Some (chars s) }) told
+  -- the new id's entry is cut out of it
+  new_cut : (e : Entry) → e.start ≡ length bytes → e.end ≡ length (bytes ++ id) → IsCut (bytes ++ id) e
+  new_cut e start end = (
+    omega (arith, start, end, length-append bytes id),
+    subst (IsCharBoundary (bytes ++ id)) (sym start) (IsCharBoundary-at_seam (bytes ++ id) bytes id refl utf8),
+    subst (IsCharBoundary (bytes ++ id)) (sym end) (IsCharBoundary-end (bytes ++ id)),
+  )
+
+  -- and has its key
+  new_key : (e : Entry) → e.number ≡ tail_of (Some (chars id)) → e.start ≡ length bytes → e.end ≡ length (bytes ++ id) → key_at (bytes ++ id) e ≡ key_of (Some (chars id))
+  new_key e n start end =
+      let cut = new_cut e start end in
+      let told : piece (bytes ++ id) e.start e.end ≡ id =
+      piece_is (bytes ++ id) e.start e.end cut.0 cut.1 cut.2
+      ∙ ap (take (e.end - e.start)) (drop_at bytes id e.start (sym start))
+      ∙ take_all (e.end - e.start) id (omega (arith, start, end, length-append bytes id)) in
+      let numbered : key_at (bytes ++ id) e ≡ record { number = tail_of (Some (chars id)); text = Some (chars (piece (bytes ++ id) e.start e.end)) } =
+      ap (λ m. record { number = m; text = Some (chars (piece (bytes ++ id) e.start e.end)) }) n in
+      numbered ∙ ap (λ s. record { number = tail_of (Some (chars id)); text = Some (chars s) }) told
 
   -- the entries of one id more, sorted from a place on that joins the runs that were taken off
-  pub indexed_more : (entries sorted : List Entry) (runs left : List ℕ) (e : Entry) (count start : ℕ) → AreIndexed ids entries runs
-      → e.number ≡ tail_of (Some (chars (string_bytes id))) → e.place ≡ length ids
+  pub indexed_more : (lengths : List ℕ) (entries sorted : List Entry) (runs left : List ℕ) (e : Entry) (count start : ℕ) → AreIndexed bytes lengths entries runs
+      → e.number ≡ tail_of (Some (chars id)) → e.start ≡ length bytes → e.end ≡ length (bytes ++ id)
       → left ≡ take (length left) runs → sum left + count ≡ sum runs + 1 → start + count ≡ length entries + 1
       → take start sorted ≡ take start (entries ++ e ∷ []) → IsPermutation (entries ++ e ∷ []) sorted
-      → Ascend (keys_at (ids ++ id ∷ []) (drop start sorted))
-      → AreIndexed (ids ++ id ∷ []) sorted (left ++ count ∷ [])
-  indexed_more entries sorted runs left e count start old number place front counts starts kept moved up =
-      let more : List (String A) = ids ++ id ∷ [] in
-      let keys : List Key = keys_at ids entries in
-      let key : Key = key_of (Some (chars (string_bytes id))) in
+      → Ascend (keys_at (bytes ++ id) (drop start sorted))
+      → AreIndexed (bytes ++ id) (lengths ++ length id ∷ []) sorted (left ++ count ∷ [])
+  indexed_more lengths entries sorted runs left e count start old number begins ends front counts starts kept moved up =
+      let more : List ℕ = bytes ++ id in
+      let keys : List Key = keys_at bytes entries in
+      let key : Key = key_of (Some (chars id)) in
+      let ids : List (List ℕ) = pieces bytes lengths in
       let held : sum runs ≡ length keys = runs_sum keys runs old.ordered in
       let few : sum left ≤ sum runs = subst (λ ns. sum ns ≤ sum runs) (sym front) (sum_by-take-le (λ x. x) runs (length left)) in
-      let first : sum left ≡ start = omega (arith, counts, starts, held, length-map entries (key_at ids)) in
-      let low : start ≤ length entries = omega (arith, first, few, held, length-map entries (key_at ids)) in
+      let first : sum left ≡ start = omega (arith, counts, starts, held, length-map entries (key_at bytes)) in
+      let low : start ≤ length entries = omega (arith, first, few, held, length-map entries (key_at bytes)) in
       let front_runs : AreRuns (take (sum left) keys) left = subst (λ ns. AreRuns (take (sum ns) keys) ns) (sym front) (runs_front keys runs (length left) old.ordered) in
       let same : keys_at more (take start sorted) ≡ take start keys =
       ap (keys_at more) (kept ∙ take-append-le start entries (e ∷ []) low) ∙ sym (take-map (key_at more) start entries) ∙ ap (take start) (same_keys entries old.within) in
@@ -197,31 +243,34 @@ module _ {A : Type 0} (ids : List (String A)) (id : String A) where
       let whole : keys_at more (take start sorted) ++ keys_at more (drop start sorted) ≡ keys_at more sorted =
       sym (map-append (key_at more) (take start sorted) (drop start sorted)) ∙ ap (keys_at more) (take-append-drop start sorted) in
       let ended : keys_at more (entries ++ e ∷ []) ≡ keys ++ key ∷ [] =
-      map-append (key_at more) entries (e ∷ []) ∙ ap (λ ks. ks ++ key_at more e ∷ []) (same_keys entries old.within) ∙ ap (λ k. keys ++ k ∷ []) (new_key e number place) in
-      let each : IsPermutation (keys_of more) (keys ++ key ∷ []) =
-      subst (λ ks. IsPermutation ks (keys ++ key ∷ [])) (sym (map-append (λ i. key_of (Some (chars (string_bytes i)))) ids (id ∷ [])))
+      map-append (key_at more) entries (e ∷ []) ∙ ap (λ ks. ks ++ key_at more e ∷ []) (same_keys entries old.within) ∙ ap (λ k. keys ++ k ∷ []) (new_key e number begins ends) in
+      let added : keys_of (pieces more (lengths ++ length id ∷ [])) ≡ keys_of ids ++ key ∷ [] =
+      ap keys_of (pieces_more bytes id lengths old.held) ∙ map-append (λ i. key_of (Some (chars i))) ids (id ∷ []) in
+      let each : IsPermutation (keys_of (pieces more (lengths ++ length id ∷ []))) (keys ++ key ∷ []) =
+      subst (λ ks. IsPermutation ks (keys ++ key ∷ [])) (sym added)
       (IsPermutation-append (keys_of ids) keys (key ∷ []) (key ∷ []) old.each (IsPermutation-refl (key ∷ []))) in
-      let P : Entry → Type 0 = λ entry. entry.place < length more in
       record {
-        within = All-permutation P (entries ++ e ∷ []) sorted moved
-            (All-append P entries (e ∷ []) (λ k d h. omega (arith, old.within k d h, length-append ids (id ∷ [])))
-            (All-cons P e [] (omega (arith, place, length-append ids (id ∷ []))) (All-nil P)));
-        each = IsPermutation-trans (keys_of more) (keys_at more (entries ++ e ∷ [])) (keys_at more sorted)
-            (subst (IsPermutation (keys_of more)) (sym ended) each) (IsPermutation-map (key_at more) (entries ++ e ∷ []) sorted moved);
+        held = sum_by-append (λ x. x) lengths (length id ∷ []) ∙ omega (arith, old.held, length-append bytes id);
+        within = All-permutation (IsCut more) (entries ++ e ∷ []) sorted moved
+            (All-append (IsCut more) entries (e ∷ []) (λ k d h. let cut = old.within k d h in (cut.0, seam_kept bytes id (get_or entries k d).start utf8 cut.1, seam_kept bytes id (get_or entries k d).end utf8 cut.2))
+            (All-cons (IsCut more) e [] (new_cut e begins ends) (All-nil (IsCut more))));
+        each = IsPermutation-trans (keys_of (pieces more (lengths ++ length id ∷ []))) (keys_at more (entries ++ e ∷ [])) (keys_at more sorted)
+            (subst (IsPermutation (keys_of (pieces more (lengths ++ length id ∷ [])))) (sym ended) each) (IsPermutation-map (key_at more) (entries ++ e ∷ []) sorted moved);
         ordered = subst (λ ks. AreRuns ks (left ++ count ∷ [])) whole
             (subst (λ n. AreRuns (keys_at more (take start sorted) ++ keys_at more (drop start sorted)) (left ++ n ∷ [])) back
             (runs_back (keys_at more (take start sorted)) (keys_at more (drop start sorted)) left fronts up));
       }
 
 -- all entries in one run
-pub indexed_whole : {A : Type 0} (ids : List (String A)) (entries sorted : List Entry) (runs : List ℕ) (count : ℕ) → AreIndexed ids entries runs → IsPermutation entries sorted → Ascend (keys_at ids sorted) → count ≡ length sorted
-    → AreIndexed ids sorted (count ∷ [])
-indexed_whole ids entries sorted runs count old moved up all =
-    let keys = keys_at ids sorted in
-    let long : length keys ≡ length sorted = length-map sorted (key_at ids) in
+pub indexed_whole : (bytes lengths : List ℕ) (entries sorted : List Entry) (runs : List ℕ) (count : ℕ) → AreIndexed bytes lengths entries runs → IsPermutation entries sorted → Ascend (keys_at bytes sorted) → count ≡ length sorted
+    → AreIndexed bytes lengths sorted (count ∷ [])
+indexed_whole bytes lengths entries sorted runs count old moved up all =
+    let keys = keys_at bytes sorted in
+    let long : length keys ≡ length sorted = length-map sorted (key_at bytes) in
     record {
-      within = All-permutation (λ (entry : Entry). entry.place < length ids) entries sorted moved old.within;
-      each = IsPermutation-trans (keys_of ids) (keys_at ids entries) keys old.each (IsPermutation-map (key_at ids) entries sorted moved);
+      held = old.held;
+      within = All-permutation (IsCut bytes) entries sorted moved old.within;
+      each = IsPermutation-trans (keys_of (pieces bytes lengths)) (keys_at bytes entries) keys old.each (IsPermutation-map (key_at bytes) entries sorted moved);
       ordered = (omega arith, subst Ascend (sym (take_all count keys (omega arith))) up, drop_all count keys (omega arith));
     }
 
@@ -230,8 +279,8 @@ pub first_run : (keys : List Key) (runs left : List ℕ) (n : ℕ) → runs ≡ 
 first_run keys runs left n e ordered = (subst (AreRuns keys) e ordered).1
 
 -- there are as many keys in runs as ids
-pub runs_held : {A : Type 0} (ids : List (String A)) (entries : List Entry) (runs : List ℕ) → AreIndexed ids entries runs → sum runs ≡ length entries
-runs_held ids entries runs old = runs_sum (keys_at ids entries) runs old.ordered ∙ length-map entries (key_at ids)
+pub runs_held : (bytes lengths : List ℕ) (entries : List Entry) (runs : List ℕ) → AreIndexed bytes lengths entries runs → sum runs ≡ length entries
+runs_held bytes lengths entries runs old = runs_sum (keys_at bytes entries) runs old.ordered ∙ length-map entries (key_at bytes)
 
 -- what stands behind a place once it was written anew
 pub drop_put : {X : Type 0} (start : ℕ) (xs ys : List X) → start ≤ length xs → drop start (put_mid start (length xs - start) xs ys) ≡ ys
@@ -294,8 +343,8 @@ part_has number x xs start stop up ordered within before after test only =
     sym (whole ∙ ap (λ b. b || list_any test rest) front ∙ halves ∙ ap (λ b. list_any test part || b) back ∙ no_more (list_any test part))
 
 -- a key is among those of a part where it is among all
-pub part_keys : {A : Type 0} (ids : List (String A)) (q : Key) (part whole : List Entry) → HasAllOf q.number part whole
-    → list_any (λ key. is_eq (compare_keys key q)) (keys_at ids part) ≡ list_any (λ key. is_eq (compare_keys key q)) (keys_at ids whole)
-part_keys ids q part whole has =
+pub part_keys : (bytes : List ℕ) (q : Key) (part whole : List Entry) → HasAllOf q.number part whole
+    → list_any (λ key. is_eq (compare_keys key q)) (keys_at bytes part) ≡ list_any (λ key. is_eq (compare_keys key q)) (keys_at bytes whole)
+part_keys bytes q part whole has =
     let test : Key → Bool = λ key. is_eq (compare_keys key q) in
-    list_any_map (key_at ids) test part ∙ has (λ e. test (key_at ids e)) (λ e h. same_number (key_at ids e) q h) ∙ sym (list_any_map (key_at ids) test whole)
+    list_any_map (key_at bytes) test part ∙ has (λ e. test (key_at bytes e)) (λ e h. same_number (key_at bytes e) q h) ∙ sym (list_any_map (key_at bytes) test whole)

@@ -1,9 +1,9 @@
 -- How the ids of a query are kept, so that one is found among many.
-use Rattle.std.specs.Prelude.{◌≡◌, ℕ, Bool, true, ◌<◌, ◌≤◌, List, [], ◌∷◌, length, map, take, drop, All, Option, Some, option_map, unwrap_or, slice_get, string_bytes, String}
+use Rattle.std.specs.Prelude.{◌≡◌, ℕ, Bool, true, not, cond, ◌&&◌, ◌||◌, nat_eq, nat_lt, ◌≤◌, List, [], ◌∷◌, length, map, take, drop, sum, All, Option, Some, slice_index, slice_range}
 use Rattle.std.specs.List.{list_any}
 use Rattle.std.specs.List.Sorted.{IsPermutation, IsSortedBy}
 use Rattle.std.specs.Ordering.{nat_cmp, ordering_then, is_lt}
-use Rattle.std.specs.Str.{chars}
+use Rattle.std.specs.Str.{chars, IsCharBoundary}
 use Rattle.std.specs.declared.cmp.Ordering.{Ordering}
 use Rattle.cj_spans.specs.Tail.{tail_of}
 use Rattle.cj_spans.specs.Order.{compare_texts}
@@ -22,20 +22,29 @@ key_of text = record { number = tail_of text; text = text }
 abbrev pub compare_keys : Key → Key → Ordering
 compare_keys a b = ordering_then (nat_cmp a.number b.number) (compare_texts a.text b.text)
 
--- the id at a place; the empty one where there is none
-abbrev pub id_at : {A : Type 0} → List (String A) → ℕ → List ℕ
-id_at ids place = unwrap_or (option_map string_bytes (slice_get ids place)) []
+-- the pieces of some bytes that have these lengths, one after another
+abbrev pub pieces : List ℕ → List ℕ → List (List ℕ)
+pieces bytes [] = []
+pieces bytes (n ∷ ns) = take n bytes ∷ pieces (drop n bytes) ns
 
--- the key of an entry beside the ids that it tells the place of
-abbrev pub key_at : {A : Type 0} → List (String A) → Entry → Key
-key_at ids entry = record { number = entry.number; text = Some (chars (id_at ids entry.place)) }
+-- whether the bytes of a text may be cut at a place: a character begins there, or they end
+abbrev pub may_cut : List ℕ → ℕ → Bool
+may_cut bytes place = cond (nat_lt place (length bytes)) (nat_lt (slice_index bytes place) 128 || nat_lt 191 (slice_index bytes place)) (nat_eq place (length bytes))
 
-abbrev pub keys_at : {A : Type 0} → List (String A) → List Entry → List Key
-keys_at ids entries = map (key_at ids) entries
+-- the piece of a text from one place to another; the empty one where it may not be cut there
+abbrev pub piece : List ℕ → ℕ → ℕ → List ℕ
+piece bytes start end = cond (not (nat_lt end start) && (may_cut bytes start && may_cut bytes end)) (slice_range bytes start end) []
+
+-- the key of an entry beside the bytes of all ids, of which it tells where its own begins and ends
+abbrev pub key_at : List ℕ → Entry → Key
+key_at bytes entry = record { number = entry.number; text = Some (chars (piece bytes entry.start entry.end)) }
+
+abbrev pub keys_at : List ℕ → List Entry → List Key
+keys_at bytes entries = map (key_at bytes) entries
 
 -- the keys of ids
-abbrev pub keys_of : {A : Type 0} → List (String A) → List Key
-keys_of ids = map (λ id. key_of (Some (chars (string_bytes id)))) ids
+abbrev pub keys_of : List (List ℕ) → List Key
+keys_of ids = map (λ id. key_of (Some (chars id))) ids
 
 -- keys in order
 abbrev pub Ascend : List Key → Type 0
@@ -51,8 +60,13 @@ abbrev pub AreRuns : List Key → List ℕ → Type 0
 AreRuns keys [] = keys ≡ []
 AreRuns keys (n ∷ ns) = (n ≤ length keys) × Ascend (take n keys) × AreRuns (drop n keys) ns
 
--- each id has its entry, and the entries stand in runs of these lengths
-pub record AreIndexed {A : Type 0} (ids : List (String A)) (entries : List Entry) (runs : List ℕ) : Type 0 where
-  pub within : All (λ (entry : Entry). entry.place < length ids) entries
-  pub each : IsPermutation (keys_of ids) (keys_at ids entries)
-  pub ordered : AreRuns (keys_at ids entries) runs
+-- a text may be cut where the id of an entry begins and where it ends
+abbrev pub IsCut : List ℕ → Entry → Type 0
+IsCut bytes entry = (entry.start ≤ entry.end) × IsCharBoundary bytes entry.start × IsCharBoundary bytes entry.end
+
+-- ids of these lengths stand one after another, each has its entry, and the entries stand in runs of these lengths
+pub record AreIndexed (bytes : List ℕ) (lengths : List ℕ) (entries : List Entry) (runs : List ℕ) : Type 0 where
+  pub held : sum lengths ≡ length bytes
+  pub within : All (IsCut bytes) entries
+  pub each : IsPermutation (keys_of (pieces bytes lengths)) (keys_at bytes entries)
+  pub ordered : AreRuns (keys_at bytes entries) runs

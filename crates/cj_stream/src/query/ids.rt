@@ -1,19 +1,20 @@
 //! The ids of a query, kept so that one is found among many.
 //!
-//! Beside the ids as they were added stand their entries, in runs of which each is in order. A new entry is a run of its own, to
+//! They stand in one text, one after another as they were added, and beside it their entries, in runs of which each is in order. A new entry is a run of its own, to
 //! which those before it are joined that are at most [`STEP`] times as long as what stands behind them, and what is joined is
 //! sorted. So each run is more than so many times as long as the next one: there are few, one is looked up in each by a binary
 //! search, and to add an id takes some sorts of short runs, and a sort of long ones seldom.
 //!
 //! Entries are ordered by the ends of their texts, eight code points as a number, and by the texts where these are the same.
-//! Numbers stand side by side, so that a text is gone to for about one id of all, also where ids begin alike. Where ids end alike
-//! too each step of a search compares texts, and there are no more steps.
+//! Numbers stand side by side, so that a text is gone to for about one id of all, also where ids begin alike, and an entry tells
+//! where it is, so that memory is waited for once. Where ids end alike too each step of a search compares texts, and there are no
+//! more steps.
 //!
 //! A long run has heads once all entries were put in it: the number of each [`PART`]th one. They pick some entries that stand side
 //! by side, which are gone over one after another: that waits for memory about once, and a search by halves of the run some
 //! times. Heads are a hint. What they pick is taken where its first and its last entry show that no other one has the number, and
 //! else the run is searched as a whole; so nothing has to be known of them.
-ghost use Rattle.std.specs.Prelude.{◌≡◌, ℕ, ◌+◌, ◌-◌, ◌<◌, ◌≤◌, ◌^◌, [], ◌∷◌, ◌++◌, length, map, take, drop, sum, vec_items, vec_len, vec_capacity, string_bytes, OnOk, OnErr, IfSome, Some};
+ghost use Rattle.std.specs.Prelude.{◌≡◌, ◌+◌, ◌-◌, ◌<◌, ◌≤◌, ◌^◌, [], ◌∷◌, ◌++◌, length, take, drop, sum, vec_items, vec_len, vec_capacity, string_bytes, string_len, string_capacity, OnOk, OnErr, IfSome};
 ghost use Rattle.std.specs.List.{list_any};
 ghost use Rattle.std.specs.List.Sorted.{IsNonDecreasingBy, IsPermutation};
 ghost use Rattle.std.specs.Ordering.{is_eq};
@@ -21,10 +22,9 @@ ghost use Rattle.cj_spans.specs.Parts.{text_of};
 ghost use Rattle.cj_spans.specs.View.{tree};
 ghost use Rattle.cj_stream.specs.Adding.{with_text};
 ghost use Rattle.cj_stream.specs.Criteria.{is_one_of as is_one};
-ghost use Rattle.cj_stream.specs.Ids.{key_of, compare_keys, id_at, key_at, keys_at, Ascend, AreRuns, AreIndexed, HasAllOf};
+ghost use Rattle.cj_stream.specs.Ids.{key_of, compare_keys, pieces, piece, key_at, keys_at, Ascend, AreRuns, AreIndexed, HasAllOf};
 ghost use Rattle.cj_stream.specs.Sink.{HasRisen, counted};
 
-use crate::query::texts::own_text;
 use cj_budget::{NoMemory, Refusals};
 use cj_spans::{Node, compare_strings, tail_of_string};
 use std::alloc::Global;
@@ -40,75 +40,85 @@ const PART: usize = 32;
 /// How many entries a run has, at least, so that it has heads.
 const LONG: usize = 64;
 
-/// The end of an id as a number, and its place among the ids.
+/// The end of an id as a number, and where the id stands in the text.
 #[derive(Clone, Copy)]
 struct Entry {
     number: u64,
-    place: usize,
+    start: usize,
+    end: usize,
 }
 
-/// Ids in the order in which they were added.
+/// Ids in the order in which they were added: one text of them all, and the length of each.
 #[derive(Drop)]
 pub struct Ids {
-    texts: Vec<String>,
+    text: String,
+    lengths: Vec<usize>,
     entries: Vec<Entry>,
     runs: Vec<usize>,
     heads: Vec<u64>,
 }
 
 impl Model for Ids {
-    ghost use Rattle.std.specs.Prelude.{ℕ, List, map, string_bytes, vec_items};
+    ghost use Rattle.std.specs.Prelude.{ℕ, List, string_bytes, vec_items};
 
     ghost Value = { List (List ℕ) };
 
-    ghost use Rattle.cj_stream.specs.Ids.{AreIndexed};
+    ghost use Rattle.cj_stream.specs.Ids.{pieces, AreIndexed};
 
-    ghost view = { λ a. map string_bytes (vec_items a.texts) };
+    ghost view = { λ a. pieces (string_bytes a.text) (vec_items a.lengths) };
 
-    ghost invariant = { λ a. AreIndexed (vec_items a.texts) (vec_items a.entries) (vec_items a.runs) };
+    ghost invariant = { λ a. AreIndexed (string_bytes a.text) (vec_items a.lengths) (vec_items a.entries) (vec_items a.runs) };
 }
 
-/// The id at a place; the empty one where there is none.
-fn text_at(texts: &[String], place: usize) -> &str
-    ensures { result.now ≡ id_at texts.now place }
+/// The id of an entry; the empty one where the text may not be cut there.
+fn text_at(text: &str, entry: Entry) -> &str
+    ensures { result.now ≡ piece text.now entry.start entry.end }
 {
-    match texts.get(place) {
-        Some(text) => text.as_str(),
-        None => "",
+    let Entry { start, end, .. } = entry;
+    if start <= end && text.is_char_boundary(start) && text.is_char_boundary(end) {
+        &text[start..end]
+    } else {
+        ""
     }
 }
 
 /// How two entries are ordered.
-fn compare_entries(texts: &[String], first: Entry, second: Entry) -> Ordering
-    ensures { result ≡ compare_keys (key_at texts.now first) (key_at texts.now second) }
+fn compare_entries(text: &str, first: Entry, second: Entry) -> Ordering
+    ensures { result ≡ compare_keys (key_at text.now first) (key_at text.now second) }
 {
     match first.number.cmp(&second.number) {
-        Ordering::Equal => {
-            compare_strings(text_at(texts, first.place), text_at(texts, second.place))
-        }
+        Ordering::Equal => compare_strings(text_at(text, first), text_at(text, second)),
         order => order,
     }
 }
 
 /// How an entry is ordered beside a node, whose text has this number.
-fn compare_with_node(texts: &[String], entry: Entry, number: u64, node: Node) -> Ordering
+fn compare_with_node(text: &str, entry: Entry, number: u64, node: Node) -> Ordering
     ensures { result
-        ≡ compare_keys (key_at texts.now entry) (record { number = number; text = text_of (tree node.entry) }) }
+        ≡ compare_keys (key_at text.now entry) (record { number = number; text = text_of (tree node.entry) }) }
 {
     match entry.number.cmp(&number) {
-        Ordering::Equal => node.compare_with(text_at(texts, entry.place)).reverse(),
+        Ordering::Equal => node.compare_with(text_at(text, entry)).reverse(),
         order => order,
     }
 }
 
+/// Whether a node, whose text has this number, has the text of an entry.
+fn is_of(text: &str, entry: Entry, number: u64, node: Node) -> bool
+    ensures { result
+        ≡ is_eq (compare_keys (key_at text.now entry) (record { number = number; text = text_of (tree node.entry) })) }
+{
+    entry.number == number && node.text_is(text_at(text, entry))
+}
+
 /// Sorts the entries from a place on.
-fn sort_from(texts: &[String], entries: &mut [Entry], start: usize)
+fn sort_from(text: &str, entries: &mut [Entry], start: usize)
     requires { start ≤ length entries.old }
     ensures kept { take start entries.new ≡ take start entries.old }
     ensures moved { IsPermutation entries.old entries.new }
-    ensures ascends { Ascend (keys_at texts.now (drop start entries.new)) }
+    ensures ascends { Ascend (keys_at text.now (drop start entries.new)) }
 {
-    entries[start..].sort_unstable_by(|first, second| compare_entries(texts, *first, *second));
+    entries[start..].sort_unstable_by(|first, second| compare_entries(text, *first, *second));
 }
 
 /// Puts a value at the end of a list that has room for it.
@@ -148,58 +158,81 @@ fn head_count(entries: usize) -> usize {
     }
 }
 
-/// Makes room for one id more. A refusal changes no list.
-fn make_room(
-    texts: &mut Vec<String>,
+/// Makes room for so many bytes more of the text, and for their length. A refusal changes neither.
+fn make_text_room(
+    text: &mut String,
+    lengths: &mut Vec<usize>,
+    more: usize,
+    refusals: &mut Refusals,
+) -> Result<(), NoMemory>
+    ensures text { string_bytes text.new ≡ string_bytes text.old }
+    ensures lengths { vec_items lengths.new ≡ vec_items lengths.old }
+    ensures room { OnOk result ((string_len text.new + more ≤ string_capacity text.new) × (vec_len lengths.new < vec_capacity lengths.new)) }
+    ensures cause { OnErr result (HasRisen refusals.old refusals.new) }
+    ensures count { refusals.new ≡ counted refusals.old result }
+{
+    refusals.note(text.reserve(more))?;
+    refusals.note(lengths.reserve(1))
+}
+
+/// Makes room for one entry more. A refusal changes no list.
+fn make_entry_room(
     entries: &mut Vec<Entry>,
     runs: &mut Vec<usize>,
     heads: &mut Vec<u64>,
     refusals: &mut Refusals,
 ) -> Result<(), NoMemory>
-    ensures texts { vec_items texts.new ≡ vec_items texts.old }
     ensures entries { vec_items entries.new ≡ vec_items entries.old }
     ensures runs { vec_items runs.new ≡ vec_items runs.old }
-    ensures room { OnOk result ((vec_len texts.new < vec_capacity texts.new)
-        × (vec_len entries.new < vec_capacity entries.new) × (vec_len runs.new < vec_capacity runs.new)) }
+    ensures room { OnOk result ((vec_len entries.new < vec_capacity entries.new) × (vec_len runs.new < vec_capacity runs.new)) }
     ensures cause { OnErr result (HasRisen refusals.old refusals.new) }
     ensures count { refusals.new ≡ counted refusals.old result }
 {
-    refusals.note(texts.reserve(1))?;
     refusals.note(entries.reserve(1))?;
     refusals.note(runs.reserve(1))?;
     refusals.note(heads.reserve(head_count(entries.len())))
 }
 
 /// Adds an id at the end, where there is room for it, and puts its entry in order.
-fn add_entry(texts: &mut Vec<String>, entries: &mut Vec<Entry>, runs: &mut Vec<usize>, text: String)
-    requires indexed { AreIndexed (vec_items texts.old) (vec_items entries.old) (vec_items runs.old) }
-    requires text_room { vec_len texts.old < vec_capacity texts.old }
+fn add_entry(
+    text: &mut String,
+    lengths: &mut Vec<usize>,
+    entries: &mut Vec<Entry>,
+    runs: &mut Vec<usize>,
+    id: &str,
+)
+    requires indexed { AreIndexed (string_bytes text.old) (vec_items lengths.old) (vec_items entries.old) (vec_items runs.old) }
+    requires text_room { string_len text.old + length id.now ≤ string_capacity text.old }
+    requires length_room { vec_len lengths.old < vec_capacity lengths.old }
     requires entry_room { vec_len entries.old < vec_capacity entries.old }
     requires run_room { vec_len runs.old < vec_capacity runs.old }
-    ensures texts { vec_items texts.new ≡ vec_items texts.old ++ text ∷ [] }
-    ensures indexed { AreIndexed (vec_items texts.new) (vec_items entries.new) (vec_items runs.new) }
+    ensures added { pieces (string_bytes text.new) (vec_items lengths.new) ≡ pieces (string_bytes text.old) (vec_items lengths.old) ++ id.now ∷ [] }
+    ensures indexed { AreIndexed (string_bytes text.new) (vec_items lengths.new) (vec_items entries.new) (vec_items runs.new) }
 {
+    let begin = text.len();
+    let _never_fails = text.push_str(id);
     let entry = Entry {
-        number: tail_of_string(text.as_str()),
-        place: texts.len(),
+        number: tail_of_string(id),
+        start: begin,
+        end: text.len(),
     };
     let count = join_last(runs);
-    put(texts, text);
+    put(lengths, id.len());
     put(entries, entry);
     put(runs, count);
     let start = entries.len() - count;
-    sort_from(texts.as_slice(), entries.as_mut_slice(), start);
+    sort_from(text.as_str(), entries.as_mut_slice(), start);
 }
 
 /// Puts all entries in one run.
-fn join_all(texts: &[String], entries: &mut [Entry], runs: &mut Vec<usize>)
-    requires { AreIndexed texts.now entries.old (vec_items runs.old) }
-    ensures { AreIndexed texts.now entries.new (vec_items runs.new) }
+fn join_all(text: &str, lengths: &[usize], entries: &mut [Entry], runs: &mut Vec<usize>)
+    requires { AreIndexed text.now lengths.now entries.old (vec_items runs.old) }
+    ensures { AreIndexed text.now lengths.now entries.new (vec_items runs.new) }
 {
     if runs.is_empty() {
         return;
     }
-    sort_from(texts, entries, 0);
+    sort_from(text, entries, 0);
     runs.clear();
     put(runs, entries.len());
 }
@@ -233,6 +266,27 @@ fn part_between(run: &[Entry], start: usize, end: usize, number: u64) -> Option<
     Some(&run[start..end])
 }
 
+/// How many heads are less than a number, if they do not fall. What is left of them is quartered, by as many steps whatever they
+/// are and with no test that decides what is done next, so that the machine has nothing to guess.
+fn heads_before(heads: &[u64], number: u64) -> usize {
+    let mut before = 0usize;
+    let mut rest = heads;
+    while rest.len() >= 4 {
+        let quarter = rest.len() / 4;
+        let less = usize::from(rest[quarter] < number)
+            + usize::from(rest[quarter * 2] < number)
+            + usize::from(rest[quarter * 3] < number);
+        let start = quarter.wrapping_mul(less);
+        let end = start.wrapping_add(rest.len() - quarter * 3);
+        let Some(part) = rest.get(start..end) else {
+            break;
+        };
+        before = before.wrapping_add(start);
+        rest = part;
+    }
+    before.wrapping_add(rest.iter().filter(|head| **head < number).count())
+}
+
 /// The entries of a run among which those of this number are, as its heads tell; None where they do not.
 fn part_of<'a>(heads: &[u64], run: &'a [Entry], number: u64) -> Option<&'a [Entry]>
     requires { IsNonDecreasingBy (λ (entry : Entry). entry.number) run.now }
@@ -241,20 +295,20 @@ fn part_of<'a>(heads: &[u64], run: &'a [Entry], number: u64) -> Option<&'a [Entr
     if heads.is_empty() {
         return None;
     }
-    let place = heads.partition_point(|head| *head < number);
+    let place = heads_before(heads, number);
     let start = place.saturating_sub(1).saturating_mul(PART);
-    let end = place.saturating_mul(PART).saturating_add(1);
+    let end = place.saturating_mul(PART).saturating_add(2);
     part_between(run, start, end, number)
 }
 
 /// Whether a node has the text of one of these entries.
-fn is_among(texts: &[String], entries: &[Entry], number: u64, node: Node) -> bool
+fn is_among(text: &str, entries: &[Entry], number: u64, node: Node) -> bool
     ensures { result ≡ list_any
         (λ key. is_eq (compare_keys key (record { number = number; text = text_of (tree node.entry) })))
-        (keys_at texts.now entries.now) }
+        (keys_at text.now entries.now) }
 {
     for entry in entries {
-        if entry.number == number && compare_with_node(texts, *entry, number, node).is_eq() {
+        if is_of(text, *entry, number, node) {
             return true;
         }
     }
@@ -262,47 +316,41 @@ fn is_among(texts: &[String], entries: &[Entry], number: u64, node: Node) -> boo
 }
 
 /// Whether a node has the text of an entry of a run.
-fn is_in_run(texts: &[String], run: &[Entry], number: u64, node: Node) -> bool
-    requires { Ascend (keys_at texts.now run.now) }
+fn is_in_run(text: &str, run: &[Entry], number: u64, node: Node) -> bool
+    requires { Ascend (keys_at text.now run.now) }
     ensures { result ≡ list_any
         (λ key. is_eq (compare_keys key (record { number = number; text = text_of (tree node.entry) })))
-        (keys_at texts.now run.now) }
+        (keys_at text.now run.now) }
 {
-    run.binary_search_by(|entry| compare_with_node(texts, *entry, number, node))
+    run.binary_search_by(|entry| compare_with_node(text, *entry, number, node))
         .is_ok()
 }
 
 /// Whether a node has the text of an entry of a run that may have heads.
-fn is_in_run_of(texts: &[String], heads: &[u64], run: &[Entry], number: u64, node: Node) -> bool
-    requires { Ascend (keys_at texts.now run.now) }
+fn is_in_run_of(text: &str, heads: &[u64], run: &[Entry], number: u64, node: Node) -> bool
+    requires { Ascend (keys_at text.now run.now) }
     ensures { result ≡ list_any
         (λ key. is_eq (compare_keys key (record { number = number; text = text_of (tree node.entry) })))
-        (keys_at texts.now run.now) }
+        (keys_at text.now run.now) }
 {
     match part_of(heads, run, number) {
-        Some(part) => is_among(texts, part, number, node),
-        None => is_in_run(texts, run, number, node),
+        Some(part) => is_among(text, part, number, node),
+        None => is_in_run(text, run, number, node),
     }
 }
 
 /// Whether a node has the text of an entry of some run, of which the first may have heads.
-fn is_in_runs(
-    texts: &[String],
-    heads: &[u64],
-    entries: &[Entry],
-    runs: &[usize],
-    node: Node,
-) -> bool
-    requires { AreRuns (keys_at texts.now entries.now) runs.now }
+fn is_in_runs(text: &str, heads: &[u64], entries: &[Entry], runs: &[usize], node: Node) -> bool
+    requires { AreRuns (keys_at text.now entries.now) runs.now }
     ensures { result ≡ list_any (λ key. is_eq (compare_keys key (key_of (text_of (tree node.entry)))))
-        (keys_at texts.now entries.now) }
+        (keys_at text.now entries.now) }
 {
     let number = node.text_tail();
     let mut rest = entries;
     let mut heads = heads;
     for length in runs {
         let (run, others) = rest.split_at(*length);
-        if is_in_run_of(texts, heads, run, number, node) {
+        if is_in_run_of(text, heads, run, number, node) {
             return true;
         }
         rest = others;
@@ -317,7 +365,8 @@ impl Ids {
         ensures { result ≡ [] }
     {
         Ids {
-            texts: Vec::new(alloc),
+            text: String::new(alloc),
+            lengths: Vec::new(alloc),
             entries: Vec::new(alloc),
             runs: Vec::new(alloc),
             heads: Vec::new(alloc),
@@ -325,20 +374,21 @@ impl Ids {
     }
 
     /// Adds an id at the end. A refusal changes nothing here.
-    fn push(&mut self, text: String, refusals: &mut Refusals) -> Result<(), NoMemory>
-        ensures ok { OnOk result (self.new ≡ self.old ++ string_bytes text ∷ []) }
+    fn push(&mut self, id: &str, refusals: &mut Refusals) -> Result<(), NoMemory>
+        ensures ok { OnOk result (self.new ≡ self.old ++ id.now ∷ []) }
         ensures err { OnErr result (self.new ≡ self.old) }
         ensures cause { OnErr result (HasRisen refusals.old refusals.new) }
         ensures count { refusals.new ≡ counted refusals.old result }
     {
-        make_room(
-            &mut self.texts,
+        make_text_room(&mut self.text, &mut self.lengths, id.len(), refusals)?;
+        make_entry_room(&mut self.entries, &mut self.runs, &mut self.heads, refusals)?;
+        add_entry(
+            &mut self.text,
+            &mut self.lengths,
             &mut self.entries,
             &mut self.runs,
-            &mut self.heads,
-            refusals,
-        )?;
-        add_entry(&mut self.texts, &mut self.entries, &mut self.runs, text);
+            id,
+        );
         Ok(())
     }
 
@@ -348,7 +398,8 @@ impl Ids {
         ensures { self.new ≡ self.old }
     {
         join_all(
-            self.texts.as_slice(),
+            self.text.as_str(),
+            self.lengths.as_slice(),
             self.entries.as_mut_slice(),
             &mut self.runs,
         );
@@ -360,7 +411,7 @@ impl Ids {
         ensures { result ≡ is_one self.now (tree node.entry) }
     {
         is_in_runs(
-            self.texts.as_slice(),
+            self.text.as_str(),
             self.heads.as_slice(),
             self.entries.as_slice(),
             self.runs.as_slice(),
@@ -381,7 +432,6 @@ pub fn add_id(
     ensures cause { OnErr result (HasRisen refusals.old refusals.new) }
     ensures count { refusals.new ≡ counted refusals.old result }
 {
-    let text = own_text(alloc, text, refusals)?;
     match part {
         Some(ids) => ids.push(text, refusals),
         None => {

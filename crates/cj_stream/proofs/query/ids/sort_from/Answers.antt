@@ -12,6 +12,6 @@ returns-clause-moved c =
 
 pub returns-clause-ascends : goal.returns-clause-ascends
 returns-clause-ascends c =
-    let texts = c.args.texts.now in
-    let sorted = c.sort_unstable_by.ensures.sorted (λ a b. is_lt (compare_keys (key_at texts a) (key_at texts b))) (ranks_by keys_total (key_at texts)) (always_returns_same _ _ _ (λ a r g h. search rules)) in
-    subst (λ es. Ascend (keys_at texts es)) (sym (drop_put c.args.start c.args.entries.now c.sort_unstable_by.new.self c.requires)) (keys_ascend (key_at texts) c.sort_unstable_by.new.self sorted)
+    let text = c.args.text.now in
+    let sorted = c.sort_unstable_by.ensures.sorted (λ a b. is_lt (compare_keys (key_at text a) (key_at text b))) (ranks_by keys_total (key_at text)) (always_returns_same _ _ _ (λ a r g h. search rules)) in
+    subst (λ es. Ascend (keys_at text es)) (sym (drop_put c.args.start c.args.entries.now c.sort_unstable_by.new.self c.requires)) (keys_ascend (key_at text) c.sort_unstable_by.new.self sorted)

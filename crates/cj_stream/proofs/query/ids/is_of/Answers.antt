@@ -1,0 +1,16 @@
+use Rattle.std.proofs.Common.{◌≡◌, Some, ◌∙◌, ap}
+use Rattle.std.specs.Ordering.{is_eq}
+use Rattle.std.specs.Str.{chars}
+use Rattle.cj_spans.specs.Parts.{text_of, are_same_texts}
+use Rattle.cj_spans.specs.View.{tree}
+use Rattle.cj_stream.specs.Ids.{compare_keys, key_at, piece}
+use Rattle.cj_stream.proofs.IdLemmas.{same_beside}
+use Rattle.cj_stream.proofs.query.ids.is_of.Goals as goal
+
+pub returns-then-entry-number : goal.returns-then-entry-number
+returns-then-entry-number c =
+    let text = text_of (tree c.args.node) in
+    let numbers : c.args.entry.number ≡ c.args.number = cc in
+    c.text_is.ensures.test ∙ ap (λ s. are_same_texts text (Some (chars s))) c.text_at.ensures
+    ∙ same_beside c.args.entry.number (chars (piece c.args.text.now c.args.entry.start c.args.entry.end)) text
+    ∙ ap (λ n. is_eq (compare_keys (key_at c.args.text.now c.args.entry) (record { number = n; text = text }))) numbers
