@@ -154,6 +154,22 @@ def _load() -> Library:
     return Library(calls)
 
 
+# What `mallopt` sets in glibc (malloc.h): from how many bytes on the system is asked for memory of its own, and from how many
+# that are free it is given some back.
+_TRIM_THRESHOLD, _MMAP_THRESHOLD = -1, -3
+
+
+def keep_room() -> None:
+    """Has the C library keep the memory of a call for the next one, where it can be told so. Else each call asks the system anew,
+    and waits until it has cleared it. It holds for the whole process, so it is for one that does nothing else."""
+    try:
+        setting = ctypes.CDLL(None).mallopt
+    except (OSError, AttributeError, TypeError):
+        return
+    for threshold in (_MMAP_THRESHOLD, _TRIM_THRESHOLD):
+        setting(threshold, 1 << 30)
+
+
 def library() -> Library:
     """The library, loaded at the first call."""
     global _loaded

@@ -10,7 +10,7 @@ from dataclasses import asdict
 from typing import Any, Callable, Iterator, List, Optional, Sequence
 
 from . import __version__
-from ._library import USUAL_DEPTH, USUAL_LINE
+from ._library import USUAL_DEPTH, USUAL_LINE, keep_room
 from .faults import CityseqError, MemoryFault, RequestError, WriteFault
 from .parts import PART
 from .progress import Bar
@@ -239,6 +239,7 @@ def _run(options: argparse.Namespace) -> int:
         raise RequestError("a part has one byte or more")
     if options.command == "filter" and options.output_dir is not None:
         _make_folder(options.output_dir)
+    keep_room()
     sizes = [size_of(file) for file in options.files]
     with Bar(None if None in sizes else sum(filter(None, sizes)), options.progress) as bar:
         printer = Printer(options, bar)

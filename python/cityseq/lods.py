@@ -51,7 +51,7 @@ def texts_of(spellings: Dict[bytes, int]) -> Tuple[List[str], FrozenSet[str]]:
 
 def _features_with(texts: List[str], work: Work, header: bytes, part: Text) -> int:
     """How many features have one of these LoDs, and are wanted."""
-    request = replace(work, lods=lines_of(texts)).request()
+    request = replace(work, lods=lines_of(texts)).request(header, part)
     return int(library().tally(header, part, request, 0)[2].features)
 
 

@@ -128,7 +128,7 @@ class Answer:
             self.end = answer.end.moved(before)
             tell(self.end)
         self.status, self.fault = answer.status, answer.fault
-        self.lines += answer.lines - header
+        self.lines += max(answer.lines - header, 0)  # of a part that found no memory no line is told
         self.kept += answer.kept
         self.refused += answer.refused
         self.peaks = (max(self.peaks[0], answer.peaks[0]), max(self.peaks[1], answer.peaks[1]), max(self.peaks[2], answer.peaks[2]))
@@ -139,7 +139,7 @@ class Answer:
 
 def _call(work: Work, header: bytes, part: Text, room: int) -> Tuple[RawAnswer, RawReports, Text, Optional[Tally]]:
     """The call of the library that the work asks for."""
-    request = work.request()
+    request = work.request(header, part)
     if work.kind == "filter":
         answer, reports, output = library().filter(header, part, request, room)
         return answer, reports, output, None

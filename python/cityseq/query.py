@@ -5,7 +5,7 @@ from dataclasses import dataclass
 from decimal import Decimal
 from typing import Iterable, Optional, Union
 
-from ._library import BAD_REQUEST, DEPTH_LIMITS, FAULTS, LINE_LIMITS, TYPES, USUAL_DEPTH, USUAL_LINE, RawRequest, library
+from ._library import BAD_REQUEST, DEPTH_LIMITS, FAULTS, LINE_LIMITS, TYPES, USUAL_DEPTH, USUAL_LINE, RawRequest, Text, library
 from .faults import RequestError
 
 Texts = Union[str, Iterable[str]]
@@ -64,10 +64,11 @@ class Work:
     box: Optional[bytes] = None
     exact_lods: bool = False
 
-    def request(self) -> RawRequest:
-        """The same, as the library takes it."""
+    def request(self, header: bytes, part: Text) -> RawRequest:
+        """The same, as the library takes it with a header and a part: room is asked for no longer lines than these can have."""
+        longest = max(len(header), len(part), LINE_LIMITS[0])
         request = RawRequest(
-            line_limit=self.line_limit, depth_limit=self.depth,
+            line_limit=min(self.line_limit, longest), depth_limit=self.depth,
             keep_going=self.keep_going, tree=self.tree, exclude=self.exclude)
         for name in ("ids", "types", "lods", "box"):
             text = getattr(self, name)
@@ -87,7 +88,7 @@ def asked(
         kind, _limit(line_limit, *LINE_LIMITS, "line limit"), _limit(depth, *DEPTH_LIMITS, "depth"),
         bool(keep_going), bool(tree), bool(exclude),
         _asked_lines(ids, "ids"), _asked_lines(types, "types"), _asked_lines(lods, "LoDs"), _box_of(box), bool(exact_lods))
-    answer = library().check(b"", b"", work.request(), 0)[0]
+    answer = library().check(b"", b"", work.request(b"", b""), 0)[0]
     if answer.status == BAD_REQUEST:
         raise RequestError(FAULTS.get(answer.code, f"bad request {answer.code}") + _which(work, answer.code))
     return work

@@ -1,7 +1,10 @@
 """The law of parts: what comes of a stream does not depend on where it is cut, nor on how many threads judge its parts."""
 import io
 import os
+import platform
 import random
+import subprocess
+import sys
 import unittest
 from concurrent.futures import ThreadPoolExecutor
 
@@ -10,6 +13,7 @@ from .support import HEADER, PLAIN, in_one, numbered
 
 import cityseq
 from cityseq.parts import Cutter, read_header
+from cityseq.query import asked
 from cityseq.sources import Reader
 
 
@@ -26,6 +30,39 @@ def filtered(text, **options):
     output = io.BytesIO()
     result = cityseq.filter(text, output, **options)
     return output.getvalue(), result
+
+
+# Prints how many pages the system had to find for the last ten of some calls, each with a line of 100,000 numbers.
+CALLS = """
+import resource
+from cityseq._library import keep_room
+from cityseq.parts import judge
+from cityseq.query import asked
+line = b'{"type":"CityJSONFeature","id":"b","CityObjects":{"b":{"type":"Building","attributes":{"a":[%s0]}}},"vertices":[]}'
+part, header, work = bytearray(line % (b"0," * 100_000)), HEADER, asked("check")
+keep_room()
+for count in 3, 10:
+    begun = resource.getrusage(resource.RUSAGE_SELF).ru_minflt
+    for _ in range(count):
+        assert judge(work, "one", header, part, True).kept == 1
+print(resource.getrusage(resource.RUSAGE_SELF).ru_minflt - begun)
+"""
+
+
+class Room(unittest.TestCase):
+    """The memory that a call asks for."""
+
+    def test_no_more_than_its_lines_need(self):
+        work = asked("check", line_limit=1_000)
+        for header, part, limit in ((b"", b"", 1), (b"h" * 9, b"p" * 7, 9), (b"h", b"p" * 999, 999), (b"h", b"p" * 1_001, 1_000)):
+            self.assertEqual(work.request(header, part).line_limit, limit)
+
+    @unittest.skipUnless(platform.libc_ver()[0] == "glibc", "the C library is another one")
+    def test_it_is_kept_for_the_next_call(self):
+        script = CALLS.replace("HEADER", repr(HEADER))
+        ran = subprocess.run([sys.executable, "-c", script], stdout=subprocess.PIPE, timeout=60, check=True,
+                             env={**os.environ, "PYTHONPATH": os.path.join(support.ROOT, "python")})
+        self.assertLess(int(ran.stdout), 300)  # of some 3,500 that they touch
 
 
 class Cuts(unittest.TestCase):

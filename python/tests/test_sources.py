@@ -123,20 +123,19 @@ class Sources(InFolder):
         self.assertEqual(ran.stdout.decode().splitlines(), [
             "(2, 8388608, 2) 1", "(1, 8388608, 2) 0", "(2, 8388608, 2) 2", "(1, 8388608, 2) 0", "1048577 1048577", "True"])
 
-
     def test_memory_that_is_refused(self):
         script = """if True:
             import io, resource, cityseq
-            resource.setrlimit(resource.RLIMIT_AS, (1 << 31, 1 << 31))
+            resource.setrlimit(resource.RLIMIT_AS, (1 << 30, 1 << 30))
             for jobs in (1, 3):
                 try:
-                    cityseq.filter(%r, io.BytesIO(), line_limit=1 << 30, jobs=jobs, part_size=100)
+                    cityseq.filter(%r + b" " * (80 << 20), io.BytesIO(), line_limit=1 << 30, jobs=jobs)
                 except cityseq.MemoryFault as fault:
                     print(fault, fault.status, fault.result.lines)
             print(cityseq.check(%r).status)"""
         ran = subprocess.run([sys.executable, "-c", script % (GOOD, GOOD)], stdout=subprocess.PIPE, timeout=60,
                              env={**os.environ, "PYTHONPATH": os.path.join(support.ROOT, "python")})
-        self.assertEqual(ran.stdout.decode(), "out of memory 5 0\nout of memory 5 0\n0\n")
+        self.assertEqual(ran.stdout.decode(), "out of memory 5 3\nout of memory 5 3\n0\n")
 
 
 class Requests(unittest.TestCase):
