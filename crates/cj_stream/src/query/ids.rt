@@ -1,9 +1,9 @@
 //! The ids of a query, kept so that one is found among many.
 //!
-//! They stand in one text, one after another as they were added, and beside it their entries, in runs of which each is in order. A new entry is a run of its own, to
-//! which those before it are joined that are at most [`STEP`] times as long as what stands behind them, and what is joined is
-//! sorted. So each run is more than so many times as long as the next one: there are few, one is looked up in each by a binary
-//! search, and to add an id takes some sorts of short runs, and a sort of long ones seldom.
+//! They stand in one text, one after another as they were added. Beside it stand their entries, in runs of which each is in order.
+//! A new entry is a run of its own, to which those before it are joined that are at most [`STEP`] times as long as what stands
+//! behind them, and what is joined is sorted. So each run is more than so many times as long as the next one: there are few, one is
+//! looked up in each by a binary search, and to add an id takes some sorts of short runs, and a sort of long ones seldom.
 //!
 //! Entries are ordered by the ends of their texts, eight code points as a number, and by the texts where these are the same.
 //! Numbers stand side by side, so that a text is gone to for about one id of all, also where ids begin alike, and an entry tells
