@@ -126,7 +126,7 @@ class Sources(InFolder):
     def test_memory_that_is_refused(self):
         script = """if True:
             import io, resource, cityseq
-            resource.setrlimit(resource.RLIMIT_AS, (1 << 30, 1 << 30))
+            resource.setrlimit(resource.RLIMIT_AS, (1_200 << 20, 1_200 << 20))
             for jobs in (1, 3):
                 try:
                     cityseq.filter(%r + b" " * (80 << 20), io.BytesIO(), line_limit=1 << 30, jobs=jobs)
