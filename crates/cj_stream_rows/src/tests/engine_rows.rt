@@ -3,7 +3,8 @@ use super::calls::{
     check_bytes, check_counts, check_feed, check_finish, check_held, check_number, held, joined,
     opened, refused,
 };
-use super::rows::{FEATURE, HEADER, with_last_index};
+use super::rows::{FEATURE, HEADER};
+use super::turns::third_refused;
 use cj_spans::Reason;
 use cj_stream::{End, Engine, Options, Query, WriteSink};
 use std::alloc::Global;
@@ -55,16 +56,10 @@ fn an_end_stays_the_end(rt: HostRuntime) -> Result<(), Fail> {
     Ok(())
 }
 
-/// A header, a feature, one with the last vertex index 4, and the feature again.
-fn third_refused(alloc: Global, front: &[u8]) -> Result<Vec<u8>, Fail> {
-    let line = with_last_index(alloc, b"4")?;
-    joined(alloc, &[front, &line, b"\n", FEATURE, b"\n"])
-}
-
 #[test]
 fn an_end_by_a_finding_stays_the_end(rt: HostRuntime) -> Result<(), Fail> {
     let wanted = joined(rt.alloc(), &[HEADER, b"\n", FEATURE, b"\n"])?;
-    let text = third_refused(rt.alloc(), &wanted)?;
+    let text = third_refused(rt.alloc())?;
     let end = refused(3, 144, Reason::VertexIndex);
     let written = ended(&rt, rt.alloc(), 8_388_608, &text, end)?;
     check_bytes(&rt, &written, &wanted, "an end stays", 0);
@@ -107,7 +102,7 @@ fn ended_by_single_bytes(
 #[test]
 fn an_end_stays_by_single_bytes(rt: HostRuntime) -> Result<(), Fail> {
     let wanted = joined(rt.alloc(), &[HEADER, b"\n", FEATURE, b"\n"])?;
-    let text = third_refused(rt.alloc(), &wanted)?;
+    let text = third_refused(rt.alloc())?;
     let end = refused(3, 144, Reason::VertexIndex);
     let written = ended_by_single_bytes(&rt, rt.alloc(), &text, 562, end)?;
     check_bytes(&rt, &written, &wanted, "by single bytes", 0);

@@ -22,7 +22,7 @@ const THIRD: LineEnd = LineEnd::Refused {
 };
 
 /// A header, a feature, one with the last vertex index 4, and the feature again: what ends it is the LF at byte 562.
-fn third_refused(alloc: Global) -> Result<Vec<u8>, Fail> {
+pub fn third_refused(alloc: Global) -> Result<Vec<u8>, Fail> {
     let line = with_last_index(alloc, b"4")?;
     joined(
         alloc,
