@@ -5,10 +5,11 @@ use cj_budget::{Limits, Peaks};
 use cj_spans::Reason;
 use cj_stream::{
     CountReports, End, Engine, LineSink, NoReports, Options, Outcome, Output, Query, ReportSink,
-    WriteSink, run,
+    WriteSink, headline, run,
 };
 use memchr::memchr;
 use std::alloc::Global;
+use std::io::Read;
 use std::process::Abort;
 use std::test::Fail;
 
@@ -67,19 +68,55 @@ pub fn joined(alloc: Global, parts: &[&[u8]]) -> Result<Vec<u8>, Fail> {
     Ok(parts.concat(alloc)?)
 }
 
-/// Runs over what a reader gives: the outcome, and what was written.
-pub fn copied(alloc: Global, reader: &mut SlowReader, limits: Limits) -> (Outcome, Vec<u8>) {
-    let mut sink = WriteSink::new(Vec::new(alloc));
-    let outcome = run(
+/// How a stream is read.
+#[derive(Clone, Copy)]
+pub struct Reading<'q> {
+    pub limits: Limits,
+    pub query: &'q Query,
+    pub options: Options,
+}
+
+impl<'q> Reading<'q> {
+    /// Without options.
+    pub fn usual(limits: Limits, query: &'q Query) -> Reading<'q> {
+        Reading {
+            limits,
+            query,
+            options: Options::new(),
+        }
+    }
+}
+
+/// Runs. A test that runs itself has all that the contract says to carry.
+pub fn ran<R: Read, S: LineSink, N: ReportSink>(
+    alloc: Global,
+    reader: &mut R,
+    sink: &mut S,
+    reports: &mut N,
+    reading: &Reading,
+) -> Outcome {
+    run(
         alloc,
         reader,
-        &mut sink,
-        &mut NoReports,
-        limits,
-        &Query::all(alloc),
-        Options::new(),
-    );
+        sink,
+        reports,
+        reading.limits,
+        reading.query,
+        reading.options,
+    )
+}
+
+/// Runs over what a reader gives: the outcome, and what was written.
+pub fn written_by<R: Read>(alloc: Global, reader: &mut R, reading: &Reading) -> (Outcome, Vec<u8>) {
+    let mut sink = WriteSink::new(Vec::new(alloc));
+    let outcome = ran(alloc, reader, &mut sink, &mut NoReports, reading);
     (outcome, sink.into_inner())
+}
+
+/// The same by a query that asks for nothing.
+pub fn copied(alloc: Global, reader: &mut SlowReader, limits: Limits) -> (Outcome, Vec<u8>) {
+    let query = Query::all(alloc);
+    written_by(alloc, reader, &Reading::usual(limits, &query))
 }
 
 /// Runs from a reader to a writer that is lent.
@@ -89,16 +126,52 @@ pub fn copied_to(
     writer: &mut SlowWriter,
     limits: Limits,
 ) -> Outcome {
+    let query = Query::all(alloc);
+    let reading = Reading::usual(limits, &query);
     let mut out = Output::new(writer);
-    run(
-        alloc,
-        reader,
-        &mut out,
-        &mut NoReports,
-        limits,
-        &Query::all(alloc),
-        Options::new(),
-    )
+    ran(alloc, reader, &mut out, &mut NoReports, &reading)
+}
+
+/// Runs over a text to a sink, by reads of `step` bytes.
+pub fn ran_to<S: LineSink>(
+    alloc: Global,
+    text: &[u8],
+    step: usize,
+    sink: &mut S,
+) -> Result<Outcome, Fail> {
+    let query = Query::all(alloc);
+    let reading = Reading::usual(Limits::new(8_388_608, 64)?, &query);
+    let mut reader = SlowReader::new(text, step);
+    Ok(ran(alloc, &mut reader, sink, &mut NoReports, &reading))
+}
+
+/// What an engine tells of a stream that has ended so.
+fn told(engine: &Engine, peaks: Peaks, ended: End) -> Outcome {
+    Outcome {
+        lines: engine.lines(),
+        kept: engine.kept(),
+        refused: engine.refused(),
+        peaks,
+        ended,
+    }
+}
+
+/// Gives a text to an engine, cut in two at this place.
+pub fn given<N: ReportSink>(
+    rt: &impl Abort,
+    alloc: Global,
+    text: &[u8],
+    at: usize,
+    sink: &mut WriteSink<Vec<u8>>,
+    reports: &mut N,
+    reading: &Reading,
+) -> Result<Outcome, Fail> {
+    assert!(rt; at <= text.len());
+    assert!(rt; text.len() <= 100_000);
+    let pieces = [&text[..at], &text[at..]];
+    let mut engine = Engine::open(alloc, reading.limits, reading.query, reading.options)?;
+    let copied = headline(&mut engine, &pieces, sink, reports);
+    Ok(told(&engine, copied.peaks, copied.ended))
 }
 
 /// An engine within these limits. A test that opens one itself has all that its contract says to carry.

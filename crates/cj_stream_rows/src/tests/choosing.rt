@@ -3,16 +3,17 @@
 //!
 //! The rows with a whole outcome are tried whole, by single bytes, and cut in two at every place.
 use super::calls::{
-    check_bytes, check_ended, check_number, check_outcome, held, joined, outcome, refused,
+    Reading, check_bytes, check_ended, check_number, check_outcome, given, held, joined, outcome,
+    ran, refused,
 };
 use super::devices::SlowReader;
-use super::going::{complete, told};
+use super::going::complete;
 use super::queries::{ALL, Parts, SEVERAL, by_box, by_ids, by_lods, by_types, query_of};
 use super::reports::{NoteReports, check_notes, going};
 use super::rows::{FEATURE, HEADER, SMALL};
 use cj_budget::Limits;
 use cj_spans::Reason;
-use cj_stream::{End, Engine, Options, Outcome, Query, WriteSink, headline, run};
+use cj_stream::{End, Options, Outcome, Query, WriteSink};
 use std::alloc::Global;
 use std::process::Abort;
 use std::test::Fail;
@@ -47,16 +48,12 @@ pub fn came_of(
     let mut reader = SlowReader::new(text, step);
     let mut sink = WriteSink::new(Vec::new(alloc));
     let mut reports = NoteReports::new(alloc);
-    let limits = Limits::new(1_000, 64)?;
-    let outcome = run(
-        alloc,
-        &mut reader,
-        &mut sink,
-        &mut reports,
-        limits,
+    let reading = Reading {
+        limits: Limits::new(1_000, 64)?,
         query,
         options,
-    );
+    };
+    let outcome = ran(alloc, &mut reader, &mut sink, &mut reports, &reading);
     let written = sink.into_inner();
     Ok(Came {
         outcome,
@@ -74,14 +71,14 @@ fn came_of_cut(
     query: &Query,
     options: Options,
 ) -> Result<Came, Fail> {
-    assert!(rt; at <= text.len());
-    assert!(rt; text.len() <= 100_000);
     let mut sink = WriteSink::new(Vec::new(alloc));
     let mut reports = NoteReports::new(alloc);
-    let pieces = [&text[..at], &text[at..]];
-    let mut engine = Engine::open(alloc, Limits::new(1_000, 64)?, query, options)?;
-    let copied = headline(&mut engine, &pieces, &mut sink, &mut reports);
-    let outcome = told(&engine, copied.ended);
+    let reading = Reading {
+        limits: Limits::new(1_000, 64)?,
+        query,
+        options,
+    };
+    let outcome = given(rt, alloc, text, at, &mut sink, &mut reports, &reading)?;
     let written = sink.into_inner();
     Ok(Came {
         outcome,
@@ -367,17 +364,28 @@ pub const ROAD: &[u8] =
 /// The usual feature, a road away from it, the small one without vertices, and one of several city objects.
 const FEATURES: [&[u8]; 4] = [FEATURE, ROAD, SMALL, SEVERAL];
 
-/// The header, and those of the features for which this is told; and how many these are.
-fn side_of(alloc: Global, holds: [bool; 4], side: bool) -> Result<(Vec<u8>, u64), Fail> {
-    let mut text = joined(alloc, &[HEADER, b"\n"])?;
+/// Adds those of the features for which this is told, each with its LF: how many these are.
+fn add_side(
+    text: &mut Vec<u8>,
+    features: &[&[u8]],
+    holds: &[bool],
+    side: bool,
+) -> Result<u64, Fail> {
     let mut count = 0_u64;
-    for (feature, told) in FEATURES.iter().zip(holds.iter()) {
+    for (feature, told) in features.iter().zip(holds.iter()) {
         if *told == side {
             text.extend_from_slice(feature)?;
             text.push(b'\n')?;
             count = count.saturating_add(1);
         }
     }
+    Ok(count)
+}
+
+/// The header, and those of the features for which this is told; and how many these are.
+fn side_of(alloc: Global, holds: [bool; 4], side: bool) -> Result<(Vec<u8>, u64), Fail> {
+    let mut text = joined(alloc, &[HEADER, b"\n"])?;
+    let count = add_side(&mut text, &FEATURES, &holds, side)?;
     Ok((text, count))
 }
 

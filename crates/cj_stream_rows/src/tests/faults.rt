@@ -1,19 +1,25 @@
 //! Devices that fail: what is written is a prefix of the output, and the end says why.
 use super::calls::{
-    check_bytes, check_counts, check_ended, check_feed, check_finish, check_held, check_number,
-    copied, copied_to, joined, opened, refused,
+    Reading, check_bytes, check_counts, check_ended, check_feed, check_finish, check_held,
+    check_number, copied, copied_to, joined, opened, ran, ran_to, refused,
 };
 use super::devices::{SlowReader, SlowWriter};
 use super::rows::{FEATURE, HEADER, with_last_index};
 use cj_budget::Limits;
 use cj_spans::Reason;
-use cj_stream::{
-    End, Engine, LineSink, NoReports, Options, Outcome, Output, Query, WriteSink, run,
-};
+use cj_stream::{End, Engine, LineSink, NoReports, Options, Outcome, Output, Query, WriteSink};
 use std::alloc::Global;
 use std::io::ErrorKind;
 use std::process::Abort;
 use std::test::Fail;
+
+/// Runs over a text that is its own reader, to a sink.
+fn ran_from_slice<S: LineSink>(alloc: Global, text: &[u8], sink: &mut S) -> Outcome {
+    let query = Query::all(alloc);
+    let reading = Reading::usual(Limits::usual(), &query);
+    let mut reader = text;
+    ran(alloc, &mut reader, sink, &mut NoReports, &reading)
+}
 
 #[test]
 fn a_writer_that_takes_five_bytes_and_fails(rt: HostRuntime) -> Result<(), Fail> {
@@ -21,17 +27,7 @@ fn a_writer_that_takes_five_bytes_and_fails(rt: HostRuntime) -> Result<(), Fail>
     let mut writer = SlowWriter::new(Vec::new(rt.alloc()), 5);
     writer.fails_at = 2;
     let mut sink = WriteSink::new(writer);
-    let limits = Limits::new(8_388_608, 64)?;
-    let query = Query::all(rt.alloc());
-    let outcome = run(
-        rt.alloc(),
-        &mut text.as_slice(),
-        &mut sink,
-        &mut NoReports,
-        limits,
-        &query,
-        Options::new(),
-    );
+    let outcome = ran_from_slice(rt.alloc(), &text, &mut sink);
     check_ended(&rt, outcome.ended, End::WriteFault, "five bytes", 0);
     check_number(&rt, outcome.lines, 0, "lines", 0);
     check_bytes(&rt, &sink.into_inner().bytes, b"{\"typ", "five bytes", 0);
@@ -104,21 +100,6 @@ fn a_writer_that_takes_one_byte_and_one_that_takes_none(rt: HostRuntime) -> Resu
     check_step(&rt, rt.alloc(), &text, 0, End::WriteFault, b"")
 }
 
-/// Runs over a reader up to a fault: the outcome, and what was written.
-fn run_over(alloc: Global, reader: &mut SlowReader, limits: Limits) -> (Outcome, Vec<u8>) {
-    let mut sink = WriteSink::new(Vec::new(alloc));
-    let outcome = run(
-        alloc,
-        reader,
-        &mut sink,
-        &mut NoReports,
-        limits,
-        &Query::all(alloc),
-        Options::new(),
-    );
-    (outcome, sink.into_inner())
-}
-
 /// Runs over a reader that gives a byte a read, up to the read that fails.
 fn check_failing_read(
     rt: &impl Abort,
@@ -130,7 +111,7 @@ fn check_failing_read(
     let mut reader = SlowReader::new(text, 1);
     reader.fails_at = fails_at;
     reader.fault = fault;
-    let (outcome, written) = run_over(alloc, &mut reader, Limits::new(8_388_608, 64)?);
+    let (outcome, written) = copied(alloc, &mut reader, Limits::new(8_388_608, 64)?);
     let (lines, front) = match fails_at {
         0..=141 => (0, 0),
         142..=352 => (1, 141),
@@ -170,21 +151,7 @@ fn a_reader_that_fails_in_the_second_line(rt: HostRuntime) -> Result<(), Fail> {
 
 /// Runs over a stream to a sink whose writer may fail.
 fn run_to<S: LineSink>(alloc: Global, text: &[u8], sink: &mut S) -> Result<End, Fail> {
-    let limits = Limits::new(8_388_608, 64)?;
-    let query = Query::all(alloc);
-    let mut reader = SlowReader::new(text, 1_000);
-    Ok(
-        run(
-            alloc,
-            &mut reader,
-            sink,
-            &mut NoReports,
-            limits,
-            &query,
-            Options::new(),
-        )
-        .ended,
-    )
+    Ok(ran_to(alloc, text, 1_000, sink)?.ended)
 }
 
 fn check_fault_stays<S: LineSink>(rt: &impl Abort, engine: &mut Engine, sink: &mut S) {

@@ -1,15 +1,15 @@
 //! Streams whose refused lines reading goes on after: each whole, by single bytes, and cut in two at every place, given to a run,
 //! to an engine and to a reader of lines.
-use super::calls::{check_bytes, check_ended, check_outcome, held, joined, outcome, refused};
+use super::calls::{
+    Reading, check_bytes, check_outcome, given, held, joined, outcome, ran, refused,
+};
 use super::devices::SlowReader;
-use super::line_pieces::give_header;
+use super::line_pieces::given_behind;
 use super::reports::{NoteReports, check_notes, going};
 use super::rows::{FEATURE, HEADER, SMALL, attributed, with_last_index};
 use cj_budget::{Limits, Peaks};
 use cj_spans::Reason;
-use cj_stream::{
-    End, Engine, HeaderReader, Outcome, Query, WriteSink, headline, headline_of_lines, run,
-};
+use cj_stream::{End, Outcome, Query, WriteSink};
 use std::alloc::Global;
 use std::process::Abort;
 use std::test::Fail;
@@ -50,49 +50,34 @@ fn check_came(
     check_bytes(rt, written, row.written, row.name, at);
 }
 
+/// Going on after a refused line.
+fn going_within(limits: Limits, query: &Query) -> Reading<'_> {
+    Reading {
+        limits,
+        query,
+        options: going(),
+    }
+}
+
 /// Runs over a reader that gives `step` bytes a read.
 fn check_run(rt: &impl Abort, alloc: Global, row: &Row, step: usize) -> Result<(), Fail> {
-    let limits = Limits::new(row.line_limit, 64)?;
     let mut reader = SlowReader::new(row.text, step);
     let mut sink = WriteSink::new(Vec::new(alloc));
     let mut reports = NoteReports::new(alloc);
     let query = Query::all(alloc);
-    let got = run(
-        alloc,
-        &mut reader,
-        &mut sink,
-        &mut reports,
-        limits,
-        &query,
-        going(),
-    );
+    let reading = going_within(Limits::new(row.line_limit, 64)?, &query);
+    let got = ran(alloc, &mut reader, &mut sink, &mut reports, &reading);
     check_came(rt, row, got, &sink.into_inner(), &reports, step as u64);
     Ok(())
 }
 
-/// What an engine tells of a stream that has ended so.
-pub fn told(engine: &Engine, ended: End) -> Outcome {
-    Outcome {
-        lines: engine.lines(),
-        kept: engine.kept(),
-        refused: engine.refused(),
-        peaks: engine.peaks(),
-        ended,
-    }
-}
-
 /// Gives the stream to an engine, cut in two at this place.
 fn check_cut(rt: &impl Abort, alloc: Global, row: &Row, at: usize) -> Result<(), Fail> {
-    assert!(rt; at <= row.text.len());
-    assert!(rt; row.text.len() <= 100_000);
-    let limits = Limits::new(row.line_limit, 64)?;
     let query = Query::all(alloc);
     let mut sink = WriteSink::new(Vec::new(alloc));
     let mut reports = NoteReports::new(alloc);
-    let pieces = [&row.text[..at], &row.text[at..]];
-    let mut engine = Engine::open(alloc, limits, &query, going())?;
-    let copied = headline(&mut engine, &pieces, &mut sink, &mut reports);
-    let got = told(&engine, copied.ended);
+    let reading = going_within(Limits::new(row.line_limit, 64)?, &query);
+    let got = given(rt, alloc, row.text, at, &mut sink, &mut reports, &reading)?;
     check_came(rt, row, got, &sink.into_inner(), &reports, at as u64);
     Ok(())
 }
@@ -328,6 +313,19 @@ fn lines_that_are_no_json(rt: HostRuntime) -> Result<(), Fail> {
 
 // ---- whatever is asked for
 
+/// Runs over a stream, asking for the small feature.
+fn check_asked(rt: &impl Abort, alloc: Global, row: &Row) -> Result<(), Fail> {
+    let mut query = Query::all(alloc);
+    query.add_id("b")?;
+    let reading = going_within(Limits::new(row.line_limit, 64)?, &query);
+    let mut reader = SlowReader::new(row.text, 50);
+    let mut sink = WriteSink::new(Vec::new(alloc));
+    let mut reports = NoteReports::new(alloc);
+    let got = ran(alloc, &mut reader, &mut sink, &mut reports, &reading);
+    check_came(rt, row, got, &sink.into_inner(), &reports, 50);
+    Ok(())
+}
+
 /// A line that is refused is reported, whatever the query asks for, and a feature that is not asked for is not.
 #[test]
 fn refused_lines_of_any_query(rt: HostRuntime) -> Result<(), Fail> {
@@ -336,23 +334,15 @@ fn refused_lines_of_any_query(rt: HostRuntime) -> Result<(), Fail> {
         &[HEADER, b"\n{}\n", FEATURE, b"\n", SMALL, b"\n3\n"],
     )?;
     let written = joined(rt.alloc(), &[HEADER, b"\n", SMALL, b"\n"])?;
-    let mut query = Query::all(rt.alloc());
-    query.add_id("b")?;
-    let mut sink = WriteSink::new(Vec::new(rt.alloc()));
-    let mut reports = NoteReports::new(rt.alloc());
-    let got = run(
-        rt.alloc(),
-        &mut SlowReader::new(&text, 50),
-        &mut sink,
-        &mut reports,
-        Limits::new(1_000, 64)?,
-        &query,
-        going(),
-    );
-    check_notes(&rt, &reports, "2 0 10\n5 0 12\n", "asked", 0);
-    check_outcome(&rt, got, complete(5, 1, 2, held(350, 65, 8)), "asked", 0);
-    check_bytes(&rt, &sink.into_inner(), &written, "asked", 0);
-    Ok(())
+    let row = Row {
+        name: "asked for",
+        text: &text,
+        line_limit: 1_000,
+        written: &written,
+        reports: "2 0 10\n5 0 12\n",
+        outcome: complete(5, 1, 2, held(350, 65, 8)),
+    };
+    check_asked(&rt, rt.alloc(), &row)
 }
 
 // ---- behind a header
@@ -363,29 +353,14 @@ fn check_lines(
     alloc: Global,
     rest: &[u8],
     at: usize,
-    written: &[u8],
+    row: &Row,
 ) -> Result<(), Fail> {
-    assert!(rt; at <= rest.len() && rest.len() <= 1_000);
     let query = Query::all(alloc);
     let mut sink = WriteSink::new(Vec::new(alloc));
     let mut reports = NoteReports::new(alloc);
-    let mut header = HeaderReader::open(alloc, Limits::new(210, 64)?, &query, going())?;
-    give_header(rt, &mut header, &mut sink);
-    assert!(rt; header.accepted());
-    let mut lines = header.into_lines();
-    assert!(rt; lines.taken() == 141);
-    let pieces = [&rest[..at], &rest[at..]];
-    let copied = headline_of_lines(&mut lines, &pieces, &mut sink, &mut reports);
-    check_ended(
-        rt,
-        End::from(copied.ended),
-        End::Complete,
-        "lines",
-        at as u64,
-    );
-    check_notes(rt, &reports, "2 210 2\n4 144 25\n", "lines", at as u64);
-    assert_eq!(rt; (lines.lines(), lines.refused()), (4, 2));
-    check_bytes(rt, &sink.into_inner(), written, "lines", at as u64);
+    let reading = going_within(Limits::new(row.line_limit, 64)?, &query);
+    let got = given_behind(rt, alloc, rest, at, &mut sink, &mut reports, &reading)?;
+    check_came(rt, row, got, &sink.into_inner(), &reports, at as u64);
     Ok(())
 }
 
@@ -393,9 +368,18 @@ fn check_lines(
 fn refused_lines_behind_a_header(rt: HostRuntime) -> Result<(), Fail> {
     let bad = with_last_index(rt.alloc(), b"4")?;
     let rest = joined(rt.alloc(), &[FEATURE, b" \n", FEATURE, b"\n", &bad])?;
+    let text = joined(rt.alloc(), &[HEADER, b"\n", &rest])?;
     let written = joined(rt.alloc(), &[HEADER, b"\n", FEATURE, b"\n"])?;
+    let row = Row {
+        name: "behind a header",
+        text: &text,
+        line_limit: 210,
+        written: &written,
+        reports: "2 210 2\n4 144 25\n",
+        outcome: complete(4, 1, 2, held(350, 65, 8)),
+    };
     for at in 0..=rest.len() {
-        check_lines(&rt, rt.alloc(), &rest, at, &written)?;
+        check_lines(&rt, rt.alloc(), &rest, at, &row)?;
     }
     Ok(())
 }

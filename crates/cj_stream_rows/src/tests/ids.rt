@@ -1,9 +1,9 @@
 //! Queries of many ids: each that was added is found, and no other.
-use super::calls::{check_ended, check_number, joined};
+use super::calls::{Reading, check_ended, check_number, joined, ran};
 use super::devices::SlowReader;
 use super::rows::HEADER;
 use cj_budget::Limits;
-use cj_stream::{CountSink, End, NoReports, Options, Query, run};
+use cj_stream::{CountSink, End, NoReports, Query};
 use std::alloc::Global;
 use std::process::Abort;
 use std::test::Fail;
@@ -84,16 +84,8 @@ fn check_kept(
         headers: 0,
         features: 0,
     };
-    let limits = Limits::new(8_388_608, 64)?;
-    let outcome = run(
-        alloc,
-        &mut reader,
-        &mut sink,
-        &mut NoReports,
-        limits,
-        query,
-        Options::new(),
-    );
+    let reading = Reading::usual(Limits::new(8_388_608, 64)?, query);
+    let outcome = ran(alloc, &mut reader, &mut sink, &mut NoReports, &reading);
     check_ended(rt, outcome.ended, End::Complete, row, kept);
     check_number(rt, sink.features, kept, row, kept);
     Ok(())

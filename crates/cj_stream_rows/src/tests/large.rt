@@ -1,12 +1,13 @@
 //! Lists filled far, and queries of many and of long texts.
 use super::calls::{
-    check_bytes, check_ended, check_number, check_outcome, copied, held, joined, outcome, refused,
+    Reading, check_bytes, check_ended, check_number, check_outcome, copied, held, joined, outcome,
+    refused, written_by,
 };
 use super::devices::SlowReader;
 use super::rows::{FEATURE, HEADER};
 use cj_budget::Limits;
 use cj_spans::Reason;
-use cj_stream::{End, NoReports, Options, Outcome, Query, WriteSink, run};
+use cj_stream::{End, Outcome, Query};
 use std::alloc::Global;
 use std::process::Abort;
 use std::test::Fail;
@@ -82,17 +83,8 @@ fn check_keeps(
 ) -> Result<(), Fail> {
     let text = joined(alloc, &[HEADER, b"\n", feature, b"\n"])?;
     let mut reader = SlowReader::new(&text, 8_192);
-    let mut sink = WriteSink::new(Vec::new(alloc));
-    let limits = Limits::new(8_388_608, 64)?;
-    let outcome = run(
-        alloc,
-        &mut reader,
-        &mut sink,
-        &mut NoReports,
-        limits,
-        query,
-        Options::new(),
-    );
+    let reading = Reading::usual(Limits::new(8_388_608, 64)?, query);
+    let (outcome, _) = written_by(alloc, &mut reader, &reading);
     check_ended(rt, outcome.ended, End::Complete, row, 0);
     check_number(rt, outcome.kept, keeps.into(), row, 1);
     Ok(())

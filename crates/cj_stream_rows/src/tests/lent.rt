@@ -1,12 +1,8 @@
 //! What a sink is lent: the header, and each feature by itself, with what their lines hold.
-use super::calls::{check_bytes, check_outcome, held, joined, outcome};
-use super::devices::SlowReader;
+use super::calls::{check_bytes, check_outcome, held, joined, outcome, ran_to};
 use super::rows::{FEATURE, HEADER};
-use cj_budget::Limits;
 use cj_feature::{Feature, Header};
-use cj_stream::{
-    CountSink, End, IgnoreSink, LineSink, NoReports, Options, Outcome, Query, WriteFault, run,
-};
+use cj_stream::{CountSink, End, IgnoreSink, LineSink, WriteFault};
 use std::alloc::{AllocError, Global};
 use std::process::Abort;
 use std::test::Fail;
@@ -108,27 +104,6 @@ impl LineSink for NoteSink {
     }
 }
 
-/// Runs over a stream to a sink, by reads of `step` bytes.
-fn run_by<S: LineSink>(
-    alloc: Global,
-    text: &[u8],
-    step: usize,
-    sink: &mut S,
-) -> Result<Outcome, Fail> {
-    let limits = Limits::new(8_388_608, 64)?;
-    let query = Query::all(alloc);
-    let mut reader = SlowReader::new(text, step);
-    Ok(run(
-        alloc,
-        &mut reader,
-        sink,
-        &mut NoReports,
-        limits,
-        &query,
-        Options::new(),
-    ))
-}
-
 fn check_notes(
     rt: &impl Abort,
     alloc: Global,
@@ -141,7 +116,7 @@ fn check_notes(
         notes: String::new(alloc),
         lost: false,
     };
-    let _ = run_by(alloc, text, step, &mut sink)?;
+    let _ = ran_to(alloc, text, step, &mut sink)?;
     assert!(rt; !sink.lost);
     check_bytes(
         rt,
@@ -177,7 +152,7 @@ fn a_sink_counts_headers_and_features(rt: HostRuntime) -> Result<(), Fail> {
         headers: 0,
         features: 0,
     };
-    let told = run_by(rt.alloc(), &text, 100, &mut sink)?;
+    let told = ran_to(rt.alloc(), &text, 100, &mut sink)?;
     let wanted = outcome(4, 2, held(350, 65, 8), End::Complete);
     check_outcome(&rt, told, wanted, "counts", 0);
     assert_eq!(&rt;
@@ -193,7 +168,7 @@ fn a_sink_counts_headers_and_features(rt: HostRuntime) -> Result<(), Fail> {
 #[test]
 fn a_sink_ignores_what_it_is_lent(rt: HostRuntime) -> Result<(), Fail> {
     let text = joined(rt.alloc(), &[HEADER, b"\n", FEATURE])?;
-    let told = run_by(rt.alloc(), &text, 100, &mut IgnoreSink)?;
+    let told = ran_to(rt.alloc(), &text, 100, &mut IgnoreSink)?;
     let wanted = outcome(2, 1, held(350, 65, 8), End::Complete);
     check_outcome(&rt, told, wanted, "ignored", 0);
     Ok(())

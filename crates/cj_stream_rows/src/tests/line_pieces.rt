@@ -1,9 +1,13 @@
 //! What comes behind a header, in pieces given to its reader of lines.
-use super::calls::{check_bytes, check_ended, held, joined, refused};
+use super::calls::{Reading, check_bytes, check_outcome, held, joined, outcome, refused};
 use super::rows::{FEATURE, HEADER, with_last_index};
+use super::states::{check_progress, feed_header, header_opened};
 use cj_budget::{Limits, Peaks};
 use cj_spans::Reason;
-use cj_stream::{End, HeaderReader, NoReports, Options, Query, WriteSink, headline_of_lines};
+use cj_stream::{
+    End, HeaderReader, LineReader, NoReports, Outcome, Query, ReportSink, WriteSink,
+    headline_of_lines,
+};
 use std::alloc::Global;
 use std::process::Abort;
 use std::test::Fail;
@@ -12,16 +16,52 @@ use std::test::Fail;
 #[derive(Clone, Copy)]
 struct Behind<'a> {
     written: &'a [u8],
-    peaks: Peaks,
-    ended: End,
+    outcome: Outcome,
 }
 
-/// Gives a header and its LF to its reader.
-pub fn give_header(rt: &impl Abort, header: &mut HeaderReader, sink: &mut WriteSink<Vec<u8>>) {
-    assert!(rt; !header.accepted() && header.taken() == 0);
-    assert!(rt; header.feed(HEADER, sink).is_ok());
-    assert!(rt; !header.accepted() && header.taken() == 140);
-    assert!(rt; header.feed(b"\n", sink).is_ok());
+/// What a reader of lines tells of a stream that has ended so.
+fn told(lines: &LineReader, peaks: Peaks, ended: End) -> Outcome {
+    Outcome {
+        lines: lines.lines(),
+        kept: lines.kept(),
+        refused: lines.refused(),
+        peaks,
+        ended,
+    }
+}
+
+/// Gives what comes behind an accepted header to its reader of lines, cut in two at this place.
+fn given_lines<N: ReportSink>(
+    rt: &impl Abort,
+    header: HeaderReader,
+    rest: &[u8],
+    at: usize,
+    sink: &mut WriteSink<Vec<u8>>,
+    reports: &mut N,
+) -> Outcome {
+    assert!(rt; header.accepted() && header.taken() == 141);
+    assert!(rt; at <= rest.len() && rest.len() <= 1_000);
+    let mut lines = header.into_lines();
+    assert!(rt; lines.taken() == 141);
+    let pieces = [&rest[..at], &rest[at..]];
+    let copied = headline_of_lines(&mut lines, &pieces, sink, reports);
+    told(&lines, copied.peaks, End::from(copied.ended))
+}
+
+/// Gives a header and its LF to its reader, and what comes behind it, cut in two at this place, to the reader of its lines.
+pub fn given_behind<N: ReportSink>(
+    rt: &impl Abort,
+    alloc: Global,
+    rest: &[u8],
+    at: usize,
+    sink: &mut WriteSink<Vec<u8>>,
+    reports: &mut N,
+    reading: &Reading,
+) -> Result<Outcome, Fail> {
+    let mut header = header_opened(alloc, reading)?;
+    check_progress(rt, feed_header(rt, &mut header, HEADER, sink), 140, false);
+    check_progress(rt, feed_header(rt, &mut header, b"\n", sink), 1, true);
+    Ok(given_lines(rt, header, rest, at, sink, reports))
 }
 
 /// Copies what comes behind the header, cut in two at this place.
@@ -32,28 +72,11 @@ fn check_cut(
     at: usize,
     wanted: &Behind,
 ) -> Result<(), Fail> {
-    assert!(rt; at <= rest.len() && rest.len() <= 1_000);
     let query = Query::all(alloc);
     let mut sink = WriteSink::new(Vec::new(alloc));
-    let mut header = HeaderReader::open(alloc, Limits::usual(), &query, Options::new())?;
-    give_header(rt, &mut header, &mut sink);
-    assert!(rt; header.accepted());
-    let mut lines = header.into_lines();
-    assert!(rt; lines.taken() == 141);
-    let copied = headline_of_lines(
-        &mut lines,
-        &[&rest[..at], &rest[at..]],
-        &mut sink,
-        &mut NoReports,
-    );
-    check_ended(
-        rt,
-        End::from(copied.ended),
-        wanted.ended,
-        "behind",
-        at as u64,
-    );
-    assert_eq!(rt; copied.peaks, wanted.peaks);
+    let reading = Reading::usual(Limits::usual(), &query);
+    let told = given_behind(rt, alloc, rest, at, &mut sink, &mut NoReports, &reading)?;
+    check_outcome(rt, told, wanted.outcome, "behind", at as u64);
     check_bytes(rt, &sink.into_inner(), wanted.written, "behind", at as u64);
     Ok(())
 }
@@ -72,8 +95,7 @@ fn a_feature_behind_a_header(rt: HostRuntime) -> Result<(), Fail> {
     let written = joined(rt.alloc(), &[HEADER, b"\n", FEATURE, b"\n"])?;
     let wanted = Behind {
         written: &written,
-        peaks: held(350, 65, 8),
-        ended: End::Complete,
+        outcome: outcome(2, 1, held(350, 65, 8), End::Complete),
     };
     check_cuts(&rt, rt.alloc(), &rest, &wanted)
 }
@@ -85,8 +107,7 @@ fn a_refused_line_behind_a_header(rt: HostRuntime) -> Result<(), Fail> {
     let written = joined(rt.alloc(), &[HEADER, b"\n", FEATURE, b"\n"])?;
     let wanted = Behind {
         written: &written,
-        peaks: held(350, 65, 8),
-        ended: refused(3, 144, Reason::VertexIndex),
+        outcome: outcome(2, 1, held(350, 65, 8), refused(3, 144, Reason::VertexIndex)),
     };
     check_cuts(&rt, rt.alloc(), &rest, &wanted)
 }

@@ -73,18 +73,29 @@ fn cases() -> [Case<'static>; 4] {
     ]
 }
 
-/// What is written where these features satisfy the query, and how many features that are.
-fn kept_of(alloc: Global, holds: [bool; 5], case: &Case) -> Result<(Vec<u8>, u64), Fail> {
-    let mut text = joined(alloc, &[HEADER, b"\n"])?;
+/// Adds those of the features that are valid and on the case's side, each with its LF: how many these are.
+fn add_kept(
+    text: &mut Vec<u8>,
+    features: &[&[u8]],
+    holds: &[bool],
+    case: &Case,
+) -> Result<u64, Fail> {
     let mut count = 0_u64;
     let told = holds.iter().zip(case.valid.iter());
-    for (feature, (holds, valid)) in FEATURES.iter().zip(told) {
+    for (feature, (holds, valid)) in features.iter().zip(told) {
         if *valid && *holds == case.side {
             text.extend_from_slice(feature)?;
             text.push(b'\n')?;
             count = count.saturating_add(1);
         }
     }
+    Ok(count)
+}
+
+/// What is written where these features satisfy the query, and how many features that are.
+fn kept_of(alloc: Global, holds: [bool; 5], case: &Case) -> Result<(Vec<u8>, u64), Fail> {
+    let mut text = joined(alloc, &[HEADER, b"\n"])?;
+    let count = add_kept(&mut text, &FEATURES, &holds, case)?;
     Ok((text, count))
 }
 

@@ -1,13 +1,13 @@
 //! Streams that are read in parts: how runs over a header with some of the lines behind it went together, and what is reported
 //! of them.
-use super::calls::{check_outcome, held, joined, outcome, refused};
+use super::calls::{Reading, check_outcome, held, joined, outcome, ran, refused};
 use super::devices::SlowReader;
 use super::going::complete;
 use super::reports::{NoteReports, check_notes, going};
 use super::rows::{FEATURE, HEADER, SMALL, with_last_index};
 use cj_budget::Limits;
 use cj_spans::Reason;
-use cj_stream::{IgnoreSink, Options, Outcome, Query, run};
+use cj_stream::{IgnoreSink, Options, Outcome, Query};
 use std::alloc::Global;
 use std::process::Abort;
 use std::test::Fail;
@@ -33,15 +33,12 @@ fn over(
     let text = joined(alloc, &[parts.header, b"\n", behind])?;
     let mut reader = SlowReader::new(&text, 100);
     let mut reports = NoteReports::new(alloc);
-    let outcome = run(
-        alloc,
-        &mut reader,
-        &mut IgnoreSink,
-        &mut reports,
-        Limits::new(1_000, 64)?,
-        &Query::all(alloc),
-        parts.options,
-    );
+    let reading = Reading {
+        limits: Limits::new(1_000, 64)?,
+        query: &Query::all(alloc),
+        options: parts.options,
+    };
+    let outcome = ran(alloc, &mut reader, &mut IgnoreSink, &mut reports, &reading);
     check_notes(rt, &reports, notes, parts.name, behind.len() as u64);
     Ok(outcome)
 }

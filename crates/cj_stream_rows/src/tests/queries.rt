@@ -1,10 +1,10 @@
 //! Rows of queries: which features are kept of a stream.
-use super::calls::{check_bytes, check_ended, check_number, joined, refused};
+use super::calls::{Reading, check_bytes, check_ended, check_number, joined, refused, written_by};
 use super::devices::SlowReader;
 use super::rows::{FEATURE, HEADER};
 use cj_budget::Limits;
 use cj_spans::Reason;
-use cj_stream::{End, NoReports, Options, Outcome, Query, QueryFault, WriteSink, run};
+use cj_stream::{End, Outcome, Query, QueryFault};
 use std::alloc::Global;
 use std::process::Abort;
 use std::test::Fail;
@@ -100,17 +100,7 @@ pub fn query_of(alloc: Global, parts: &Parts) -> Result<Query, QueryFault> {
 /// Runs over a text: the outcome, and what was written.
 fn kept_of(alloc: Global, text: &[u8], limits: Limits, query: &Query) -> (Outcome, Vec<u8>) {
     let mut reader = SlowReader::new(text, 8_192);
-    let mut sink = WriteSink::new(Vec::new(alloc));
-    let outcome = run(
-        alloc,
-        &mut reader,
-        &mut sink,
-        &mut NoReports,
-        limits,
-        query,
-        Options::new(),
-    );
-    (outcome, sink.into_inner())
+    written_by(alloc, &mut reader, &Reading::usual(limits, query))
 }
 
 /// A header and a feature beside it.

@@ -1,8 +1,8 @@
 //! What is reported of refused lines, where reading goes on after them: a sink of the tests that notes each report, the sink that
 //! counts, and when nothing is reported.
 use super::calls::{
-    check_bytes, check_ended, check_feed_noting, check_finish_noting, check_number, joined, opened,
-    refused,
+    Reading, check_bytes, check_ended, check_feed_noting, check_finish_noting, check_number,
+    joined, opened, ran, refused,
 };
 use super::devices::{SlowReader, SlowWriter};
 use super::rows::{FEATURE, HEADER, with_last_index};
@@ -10,7 +10,7 @@ use cj_budget::Limits;
 use cj_spans::Reason;
 use cj_stream::{
     CountReports, End, Engine, LineSink, NoReports, Options, Outcome, Output, Query, Report,
-    ReportSink, WriteSink, run, run_within,
+    ReportSink, WriteSink, run_within,
 };
 use std::alloc::{AllocError, Global};
 use std::process::Abort;
@@ -74,17 +74,12 @@ fn counted(alloc: Global, text: &[u8], from: u64) -> Result<(Outcome, u64), Fail
     let mut reports = CountReports { reports: from };
     let mut sink = WriteSink::new(Vec::new(alloc));
     let mut reader = SlowReader::new(text, 100);
-    let limits = Limits::new(1_000, 64)?;
-    let query = Query::all(alloc);
-    let outcome = run(
-        alloc,
-        &mut reader,
-        &mut sink,
-        &mut reports,
-        limits,
-        &query,
-        going(),
-    );
+    let reading = Reading {
+        limits: Limits::new(1_000, 64)?,
+        query: &Query::all(alloc),
+        options: going(),
+    };
+    let outcome = ran(alloc, &mut reader, &mut sink, &mut reports, &reading);
     Ok((outcome, reports.reports))
 }
 
@@ -142,15 +137,12 @@ fn check_read_fault(rt: &impl Abort, alloc: Global, line: &[u8]) -> Result<(), F
     reader.fails_at = 2;
     let mut sink = WriteSink::new(Vec::new(alloc));
     let mut reports = NoteReports::new(alloc);
-    let outcome = run(
-        alloc,
-        &mut reader,
-        &mut sink,
-        &mut reports,
-        Limits::new(210, 64)?,
-        &Query::all(alloc),
-        going(),
-    );
+    let reading = Reading {
+        limits: Limits::new(210, 64)?,
+        query: &Query::all(alloc),
+        options: going(),
+    };
+    let outcome = ran(alloc, &mut reader, &mut sink, &mut reports, &reading);
     check_unreported(rt, outcome, &reports, End::ReadFault, "read fault");
     Ok(())
 }

@@ -1,14 +1,12 @@
 //! Worked rows: inputs, what is written of them, and how they end.
 use super::calls::{
-    check_bytes, check_ended, check_number, check_outcome, copied, held, joined, outcome, refused,
+    Reading, check_bytes, check_ended, check_number, check_outcome, copied, given, held, joined,
+    outcome, refused,
 };
 use super::devices::SlowReader;
 use cj_budget::{Limits, Peaks};
 use cj_spans::Reason;
-use cj_stream::{
-    CountReports, End, Engine, NoReports, Options, Outcome, Query, WriteSink, headline, laws,
-    row_laws,
-};
+use cj_stream::{CountReports, End, NoReports, Outcome, Query, WriteSink, laws, row_laws};
 use std::alloc::Global;
 use std::process::Abort;
 use std::test::Fail;
@@ -60,35 +58,43 @@ fn check_cut(
     at: usize,
     limits: Limits,
     wanted: &Wanted,
-) {
-    assert!(rt; at <= text.len());
-    assert!(rt; text.len() <= 1_000);
+) -> Result<(), Fail> {
     let query = Query::all(alloc);
     let mut sink = WriteSink::new(Vec::new(alloc));
     let mut reports = CountReports { reports: 0 };
-    let pieces = [&text[..at], &text[at..]];
-    let Ok(mut engine) = Engine::open(alloc, limits, &query, Options::new()) else {
-        panic!(rt; "no memory to open");
-    };
-    let copied = headline(&mut engine, &pieces, &mut sink, &mut reports);
+    let reading = Reading::usual(limits, &query);
+    let told = given(rt, alloc, text, at, &mut sink, &mut reports, &reading)?;
     check_number(rt, reports.reports, 0, wanted.name, at as u64);
-    let told = outcome(engine.lines(), engine.kept(), copied.peaks, copied.ended);
     check_outcome(rt, told, wanted.outcome, wanted.name, at as u64);
     let written = sink.into_inner();
     check_bytes(rt, &written, wanted.written, wanted.name, at as u64);
+    Ok(())
 }
 
 /// Copies the stream cut in two at each place.
-fn check_cuts(rt: &impl Abort, alloc: Global, text: &[u8], limits: Limits, wanted: &Wanted) {
+fn check_cuts(
+    rt: &impl Abort,
+    alloc: Global,
+    text: &[u8],
+    limits: Limits,
+    wanted: &Wanted,
+) -> Result<(), Fail> {
     for at in 0..text.len() {
-        check_cut(rt, alloc, text, at, limits, wanted);
+        check_cut(rt, alloc, text, at, limits, wanted)?;
     }
+    Ok(())
 }
 
-fn check_every_cut(rt: &impl Abort, alloc: Global, text: &[u8], limits: Limits, wanted: &Wanted) {
+fn check_every_cut(
+    rt: &impl Abort,
+    alloc: Global,
+    text: &[u8],
+    limits: Limits,
+    wanted: &Wanted,
+) -> Result<(), Fail> {
     check_run(rt, alloc, text, 8_192, limits, wanted);
     check_run(rt, alloc, text, 1, limits, wanted);
-    check_cuts(rt, alloc, text, limits, wanted);
+    check_cuts(rt, alloc, text, limits, wanted)
 }
 
 #[test]
@@ -99,7 +105,7 @@ fn no_line_at_all(rt: HostRuntime) -> Result<(), Fail> {
         written: b"",
         outcome: outcome(0, 0, held(0, 0, 0), refused(1, 0, Reason::NoHeader)),
     };
-    check_every_cut(&rt, rt.alloc(), b"", limits, &wanted);
+    check_every_cut(&rt, rt.alloc(), b"", limits, &wanted)?;
     laws::lines_are_the_lines(b"");
     laws::good_lines_are_the_longest(b"");
     laws::good_lines_are_all_or_none();
@@ -128,8 +134,7 @@ fn a_header_and_a_feature(rt: HostRuntime) -> Result<(), Fail> {
         written: &text,
         outcome: outcome(2, 1, held(350, 65, 8), End::Complete),
     };
-    check_every_cut(&rt, rt.alloc(), &text, limits, &wanted);
-    Ok(())
+    check_every_cut(&rt, rt.alloc(), &text, limits, &wanted)
 }
 
 #[test]
@@ -142,8 +147,7 @@ fn a_blank_line_and_no_last_lf(rt: HostRuntime) -> Result<(), Fail> {
         written: &written,
         outcome: outcome(3, 1, held(351, 65, 8), End::Complete),
     };
-    check_every_cut(&rt, rt.alloc(), &text, limits, &wanted);
-    Ok(())
+    check_every_cut(&rt, rt.alloc(), &text, limits, &wanted)
 }
 
 #[test]
@@ -157,11 +161,10 @@ fn a_line_one_byte_too_long(rt: HostRuntime) -> Result<(), Fail> {
     };
     let with_lf = joined(rt.alloc(), &[&written, FEATURE, b" \n"])?;
     check_run(&rt, rt.alloc(), &with_lf, 1, limits, &wanted);
-    check_cuts(&rt, rt.alloc(), &with_lf, limits, &wanted);
+    check_cuts(&rt, rt.alloc(), &with_lf, limits, &wanted)?;
     let without = joined(rt.alloc(), &[&written, FEATURE, b" "])?;
     check_run(&rt, rt.alloc(), &without, 1, limits, &wanted);
-    check_cuts(&rt, rt.alloc(), &without, limits, &wanted);
-    Ok(())
+    check_cuts(&rt, rt.alloc(), &without, limits, &wanted)
 }
 
 #[test]
@@ -174,8 +177,7 @@ fn the_greatest_of_later_lines_counts(rt: HostRuntime) -> Result<(), Fail> {
         written: &text,
         outcome: outcome(3, 2, held(350, 65, 8), End::Complete),
     };
-    check_every_cut(&rt, rt.alloc(), &text, limits, &wanted);
-    Ok(())
+    check_every_cut(&rt, rt.alloc(), &text, limits, &wanted)
 }
 
 #[test]
@@ -186,8 +188,7 @@ fn a_header_alone_without_lf(rt: HostRuntime) -> Result<(), Fail> {
         written: HEADER,
         outcome: outcome(1, 0, held(140, 21, 3), End::Complete),
     };
-    check_every_cut(&rt, rt.alloc(), HEADER, limits, &wanted);
-    Ok(())
+    check_every_cut(&rt, rt.alloc(), HEADER, limits, &wanted)
 }
 
 /// How a line after the header is refused, and what was held at most of both.
@@ -359,8 +360,7 @@ fn a_character_of_three_bytes(rt: HostRuntime) -> Result<(), Fail> {
         written: &text,
         outcome: outcome(2, 1, held(375, 69, 8), End::Complete),
     };
-    check_every_cut(&rt, rt.alloc(), &text, limits, &whole);
-    Ok(())
+    check_every_cut(&rt, rt.alloc(), &text, limits, &whole)
 }
 
 /// Runs over a header and a line whose character at byte 170 is cut short.
@@ -378,8 +378,7 @@ fn check_cut_character(
         written: &header,
         outcome: outcome(1, 0, held(bytes, 21, 3), refused(2, 170, Reason::NotUtf8)),
     };
-    check_every_cut(rt, alloc, &text, limits, &cut);
-    Ok(())
+    check_every_cut(rt, alloc, &text, limits, &cut)
 }
 
 #[test]
@@ -407,8 +406,7 @@ fn nothing_is_judged_after_a_refused_line(rt: HostRuntime) -> Result<(), Fail> {
         written: &written,
         outcome: outcome(2, 1, held(350, 65, 8), refused(3, 144, Reason::VertexIndex)),
     };
-    check_every_cut(&rt, rt.alloc(), &text, limits, &wanted);
-    Ok(())
+    check_every_cut(&rt, rt.alloc(), &text, limits, &wanted)
 }
 
 /// A line that is refused for what it says is none of the output, also where it has no LF.
@@ -425,7 +423,7 @@ fn check_refused_first(
         outcome: outcome(0, 0, peaks, ended),
     };
     let limits = Limits::new(8_388_608, 64)?;
-    check_every_cut(rt, alloc, text, limits, &wanted);
+    check_every_cut(rt, alloc, text, limits, &wanted)?;
     let ended = joined(alloc, &[text, b"\n", HEADER, b"\n"])?;
     check_run(rt, alloc, &ended, 8_192, limits, &wanted);
     Ok(())
@@ -454,6 +452,5 @@ fn a_header_as_later_line(rt: HostRuntime) -> Result<(), Fail> {
         written: &written,
         outcome: outcome(1, 0, held(280, 42, 3), refused(2, 0, Reason::MissingMember)),
     };
-    check_every_cut(&rt, rt.alloc(), &text, limits, &wanted);
-    Ok(())
+    check_every_cut(&rt, rt.alloc(), &text, limits, &wanted)
 }

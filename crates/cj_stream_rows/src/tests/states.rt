@@ -1,7 +1,7 @@
 //! Rows through the two states, by every cut, and what both tell where one turns into the other.
 use super::calls::{
-    check_bytes, check_ended, check_feed, check_number, check_outcome, held, joined, opened,
-    outcome, refused,
+    Reading, check_bytes, check_ended, check_feed, check_number, check_outcome, held, joined,
+    opened, outcome, refused,
 };
 use super::rows::{FEATURE, HEADER, SMALL, Wanted, with_last_index};
 use cj_budget::Limits;
@@ -13,6 +13,17 @@ use cj_stream::{
 use std::alloc::Global;
 use std::process::Abort;
 use std::test::Fail;
+
+/// The reader of a header. A test that opens one itself has all that its contract says to carry.
+pub fn header_opened<'q>(alloc: Global, reading: &Reading<'q>) -> Result<HeaderReader<'q>, Fail> {
+    let (limits, query, options) = (reading.limits, reading.query, reading.options);
+    Ok(HeaderReader::open(alloc, limits, query, options)?)
+}
+
+/// One within the usual limits, without options.
+pub fn usual_header(alloc: Global, query: &Query) -> Result<HeaderReader<'_>, Fail> {
+    header_opened(alloc, &Reading::usual(Limits::usual(), query))
+}
 
 /// Gives a piece to the reader of a header.
 pub fn feed_header<S: LineSink>(
@@ -138,7 +149,7 @@ fn check_pieces(
 ) -> Result<(), Fail> {
     let query = Query::all(alloc);
     let mut sink = WriteSink::new(Vec::new(alloc));
-    let header = HeaderReader::open(alloc, limits, &query, Options::new())?;
+    let header = header_opened(alloc, &Reading::usual(limits, &query))?;
     let told = by_states(rt, header, pieces, &mut sink);
     check_outcome(rt, told, wanted.outcome, wanted.name, at);
     check_bytes(rt, &sink.into_inner(), wanted.written, wanted.name, at);
@@ -226,7 +237,8 @@ fn a_line_too_long_by_states(rt: HostRuntime) -> Result<(), Fail> {
     let text = joined(rt.alloc(), &[&written, FEATURE, b" \n"])?;
     let query = Query::all(rt.alloc());
     let mut sink = WriteSink::new(Vec::new(rt.alloc()));
-    let header = HeaderReader::open(rt.alloc(), Limits::new(210, 64)?, &query, Options::new())?;
+    let limits = Limits::new(210, 64)?;
+    let header = header_opened(rt.alloc(), &Reading::usual(limits, &query))?;
     let told = by_states(&rt, header, &[&text], &mut sink);
     check_ended(
         &rt,
@@ -253,7 +265,7 @@ pub fn check_progress(
 fn a_piece_that_begins_with_lf(rt: HostRuntime) -> Result<(), Fail> {
     let query = Query::all(rt.alloc());
     let mut sink = WriteSink::new(Vec::new(rt.alloc()));
-    let mut header = HeaderReader::open(rt.alloc(), Limits::usual(), &query, Options::new())?;
+    let mut header = usual_header(rt.alloc(), &query)?;
     check_progress(
         &rt,
         feed_header(&rt, &mut header, HEADER, &mut sink),
@@ -282,7 +294,7 @@ fn check_rest_by_states(
 ) -> Result<(), Fail> {
     let query = Query::all(alloc);
     let mut sink = WriteSink::new(Vec::new(alloc));
-    let mut header = HeaderReader::open(alloc, Limits::usual(), &query, Options::new())?;
+    let mut header = usual_header(alloc, &query)?;
     check_progress(rt, feed_header(rt, &mut header, text, &mut sink), 141, true);
     let mut lines = turned(rt, header);
     let end = to_the_end(rt, &mut lines, &[b"{}\n"], &mut sink);

@@ -1,13 +1,13 @@
 //! Streams of many lines that look random, each beside the plain program: with and without going on after refused lines, by single
 //! bytes, by reads of lengths that look random, and cut in two.
-use super::calls::{check_bound, check_bytes, check_outcome};
+use super::calls::{Reading, check_bound, check_bytes, check_outcome, ran};
 use super::devices::{CutReader, SlowReader};
 use super::plain::{Known, Plain, Verdict, Way, plainly};
 use super::reports::{NoteReports, check_notes};
 use super::rows::{FEATURE, HEADER, SMALL};
 use cj_budget::{Limits, Peaks};
 use cj_spans::Reason;
-use cj_stream::{End, Options, Outcome, Query, WriteSink, run};
+use cj_stream::{End, Options, Outcome, Query, WriteSink};
 use std::alloc::Global;
 use std::io::{Read, Result as IoResult};
 use std::process::Abort;
@@ -257,18 +257,14 @@ fn check_read<R: Read>(
 ) -> Result<(), Fail> {
     let limits = Limits::new(case.way.line_limit as u64, 8)?;
     let query = query_of(alloc, case.way)?;
-    let options = Options::new().keep_going(case.way.keeps_going);
+    let reading = Reading {
+        limits,
+        query: &query,
+        options: Options::new().keep_going(case.way.keeps_going),
+    };
     let mut sink = WriteSink::new(Vec::new(alloc));
     let mut reports = NoteReports::new(alloc);
-    let got = run(
-        alloc,
-        reader,
-        &mut sink,
-        &mut reports,
-        limits,
-        &query,
-        options,
-    );
+    let got = ran(alloc, reader, &mut sink, &mut reports, &reading);
     check_bound(rt, case.text, limits, got.peaks);
     check_came(rt, case, got, &reports, &sink.into_inner(), at);
     Ok(())

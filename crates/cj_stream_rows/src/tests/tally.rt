@@ -1,12 +1,9 @@
 //! What is tallied of a stream.
-use super::calls::{check_bytes, joined};
-use super::devices::SlowReader;
+use super::calls::{check_bytes, joined, ran_to};
 use super::rows::FEATURE;
 use cj_budget::Limits;
 use cj_feature::{Feature, Header};
-use cj_stream::{
-    Engine, LineSink, NoReports, Options, Query, TallySink, WriteFault, put_pieces, run,
-};
+use cj_stream::{Engine, LineSink, NoReports, Options, Query, TallySink, WriteFault, put_pieces};
 use std::alloc::{AllocError, Global};
 use std::process::Abort;
 use std::test::Fail;
@@ -144,16 +141,21 @@ impl LineSink for TypesSink {
     }
 }
 
-/// Tallies the stream cut in two at this place.
-fn check_cut(rt: &impl Abort, alloc: Global, text: &[u8], at: usize) -> Result<(), Fail> {
+/// The tally of a stream cut in two at this place.
+fn tally_of_cut(rt: &impl Abort, alloc: Global, text: &[u8], at: usize) -> Result<TallySink, Fail> {
     assert!(rt; at <= text.len());
     assert!(rt; text.len() <= 10_000);
-    let limits = Limits::new(8_388_608, 64)?;
     let query = Query::all(alloc);
     let pieces = [&text[..at], &text[at..]];
-    let mut engine = Engine::open(alloc, limits, &query, Options::new())?;
+    let mut engine = Engine::open(alloc, Limits::usual(), &query, Options::new())?;
     let mut tally = TallySink::new();
     let _ = put_pieces(&mut engine, &pieces, &mut tally, &mut NoReports);
+    Ok(tally)
+}
+
+/// Tallies the stream cut in two at this place.
+fn check_cut(rt: &impl Abort, alloc: Global, text: &[u8], at: usize) -> Result<(), Fail> {
+    let tally = tally_of_cut(rt, alloc, text, at)?;
     let told = report(alloc, &tally)?;
     check_bytes(rt, told.as_bytes(), TALLY.as_bytes(), "pieces", at as u64);
     Ok(())
@@ -162,19 +164,8 @@ fn check_cut(rt: &impl Abort, alloc: Global, text: &[u8], at: usize) -> Result<(
 #[test]
 fn a_stream_is_tallied(rt: HostRuntime) -> Result<(), Fail> {
     let text = sample(rt.alloc())?;
-    let limits = Limits::new(8_388_608, 64)?;
-    let query = Query::all(rt.alloc());
-    let mut reader = SlowReader::new(&text, 100);
     let mut tally = TallySink::new();
-    let _ = run(
-        rt.alloc(),
-        &mut reader,
-        &mut tally,
-        &mut NoReports,
-        limits,
-        &query,
-        Options::new(),
-    );
+    let _ = ran_to(rt.alloc(), &text, 100, &mut tally)?;
     let told = report(rt.alloc(), &tally)?;
     check_bytes(&rt, told.as_bytes(), TALLY.as_bytes(), "stream", 0);
     Ok(())
@@ -183,19 +174,8 @@ fn a_stream_is_tallied(rt: HostRuntime) -> Result<(), Fail> {
 /// The tally of the header of the sample and of one feature.
 fn tally_of(alloc: Global, feature: &[u8]) -> Result<TallySink, Fail> {
     let text = joined(alloc, &[TEMPLATES.as_bytes(), b"\n", feature, b"\n"])?;
-    let limits = Limits::new(8_388_608, 64)?;
-    let query = Query::all(alloc);
-    let mut reader = SlowReader::new(&text, 100);
     let mut tally = TallySink::new();
-    let _ = run(
-        alloc,
-        &mut reader,
-        &mut tally,
-        &mut NoReports,
-        limits,
-        &query,
-        Options::new(),
-    );
+    let _ = ran_to(alloc, &text, 100, &mut tally)?;
     Ok(tally)
 }
 
@@ -224,24 +204,13 @@ fn nothing_is_tallied(rt: HostRuntime) -> Result<(), Fail> {
 #[test]
 fn city_objects_are_tallied_by_type(rt: HostRuntime) -> Result<(), Fail> {
     let text = sample(rt.alloc())?;
-    let limits = Limits::new(8_388_608, 64)?;
-    let query = Query::all(rt.alloc());
-    let mut reader = SlowReader::new(&text, 100);
     let mut sink = TypesSink {
         alloc: rt.alloc(),
         tally: TallySink::new(),
         notes: String::new(rt.alloc()),
         lost: false,
     };
-    let _ = run(
-        rt.alloc(),
-        &mut reader,
-        &mut sink,
-        &mut NoReports,
-        limits,
-        &query,
-        Options::new(),
-    );
+    let _ = ran_to(rt.alloc(), &text, 100, &mut sink)?;
     assert!(&rt; !sink.lost);
     check_bytes(&rt, sink.notes.as_bytes(), TYPES.as_bytes(), "types", 0);
     Ok(())

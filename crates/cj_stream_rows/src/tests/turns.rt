@@ -3,6 +3,7 @@ use super::calls::{check_bytes, check_number, held, joined};
 use super::rows::{FEATURE, HEADER, with_last_index};
 use super::states::{
     behind_header, check_progress, feed_header, feed_lines, finish_header, turned, until_accepted,
+    usual_header,
 };
 use cj_budget::{Limits, Peaks};
 use cj_spans::Reason;
@@ -136,7 +137,7 @@ fn both_states_tell_what_they_hold(rt: HostRuntime) -> Result<(), Fail> {
         headers: 0,
         features: 0,
     };
-    let mut header = HeaderReader::open(rt.alloc(), Limits::usual(), &query, Options::new())?;
+    let mut header = usual_header(rt.alloc(), &query)?;
     take_header(&rt, &mut header, &mut sink);
     let mut lines = turned(&rt, header);
     take_feature(&rt, &mut lines, &mut sink);
@@ -150,7 +151,7 @@ fn a_piece_that_ends_with_lf(rt: HostRuntime) -> Result<(), Fail> {
     let query = Query::all(rt.alloc());
     let piece = joined(rt.alloc(), &[HEADER, b"\n"])?;
     let mut sink = WriteSink::new(Vec::new(rt.alloc()));
-    let mut header = HeaderReader::open(rt.alloc(), Limits::usual(), &query, Options::new())?;
+    let mut header = usual_header(rt.alloc(), &query)?;
     check_progress(
         &rt,
         feed_header(&rt, &mut header, &piece, &mut sink),
@@ -182,7 +183,7 @@ fn take_header_alone<S: LineSink>(rt: &impl Abort, header: &mut HeaderReader, si
 fn a_header_without_lf_stays_the_end(rt: HostRuntime) -> Result<(), Fail> {
     let query = Query::all(rt.alloc());
     let mut sink = WriteSink::new(Vec::new(rt.alloc()));
-    let mut header = HeaderReader::open(rt.alloc(), Limits::usual(), &query, Options::new())?;
+    let mut header = usual_header(rt.alloc(), &query)?;
     take_header_alone(&rt, &mut header, &mut sink);
     check_bytes(&rt, &sink.into_inner(), HEADER, "a header alone", 0);
     Ok(())
@@ -211,7 +212,7 @@ fn an_end_of_a_header_stays_the_end(rt: HostRuntime) -> Result<(), Fail> {
     let query = Query::all(rt.alloc());
     let text = joined(rt.alloc(), &[FEATURE, b"\n", FEATURE, b"\n"])?;
     let mut sink = WriteSink::new(Vec::new(rt.alloc()));
-    let mut header = HeaderReader::open(rt.alloc(), Limits::usual(), &query, Options::new())?;
+    let mut header = usual_header(rt.alloc(), &query)?;
     let end = HeaderEnd::Refused {
         line: 1,
         place: 0,
@@ -246,7 +247,7 @@ fn an_end_of_lines_stays_the_end(rt: HostRuntime) -> Result<(), Fail> {
     assert_eq!(rt; text.len(), 774);
     let query = Query::all(rt.alloc());
     let mut sink = WriteSink::new(Vec::new(rt.alloc()));
-    let mut header = HeaderReader::open(rt.alloc(), Limits::usual(), &query, Options::new())?;
+    let mut header = usual_header(rt.alloc(), &query)?;
     check_progress(
         &rt,
         feed_header(&rt, &mut header, &text, &mut sink),
@@ -291,7 +292,7 @@ fn an_end_of_lines_stays_by_single_bytes(rt: HostRuntime) -> Result<(), Fail> {
     assert_eq!(rt; text.len(), 774);
     let query = Query::all(rt.alloc());
     let mut sink = WriteSink::new(Vec::new(rt.alloc()));
-    let mut header = HeaderReader::open(rt.alloc(), Limits::usual(), &query, Options::new())?;
+    let mut header = usual_header(rt.alloc(), &query)?;
     take_header_by_bytes(&rt, &mut header, &mut sink);
     let mut lines = turned(&rt, header);
     take_lines_by_bytes(&rt, &mut lines, &text[141..], &mut sink, 562 - 141, THIRD);
@@ -307,7 +308,7 @@ fn taken_by_states(rt: &impl Abort, alloc: Global, pieces: &[&[u8]]) -> Result<u
         headers: 0,
         features: 0,
     };
-    let mut header = HeaderReader::open(alloc, Limits::usual(), &query, Options::new())?;
+    let mut header = usual_header(alloc, &query)?;
     match until_accepted(rt, &mut header, pieces, &mut sink) {
         Ok(Some((at, used))) => {
             let mut lines = turned(rt, header);

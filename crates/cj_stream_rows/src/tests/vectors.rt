@@ -1,12 +1,12 @@
 //! The vectors of the folder `vectors/`, each whole, by single bytes, and cut in two at every place: two families, a feature cut
 //! short and one with a byte that is no UTF-8, at each place, and all others, which `table` has.
-use super::calls::{check_bound, check_bytes, check_ended, check_outcome};
+use super::calls::{
+    Reading, check_bound, check_bytes, check_ended, check_outcome, ran, written_by,
+};
 use super::devices::{CutReader, SlowReader};
 use super::rows::{FEATURE, HEADER};
 use cj_budget::Limits;
-use cj_stream::{
-    End, IgnoreSink, NoReports, Options, Outcome, Query, Report, ReportSink, WriteSink, run,
-};
+use cj_stream::{End, IgnoreSink, Options, Outcome, Query, Report, ReportSink};
 use std::alloc::{AllocError, Global};
 use std::io::Read;
 use std::process::Abort;
@@ -17,9 +17,7 @@ use std::test::Fail;
 struct Vector<'a> {
     name: &'a str,
     text: &'a [u8],
-    limits: Limits,
-    query: &'a Query,
-    options: Options,
+    reading: Reading<'a>,
     written: &'a [u8],
     /// What is told of the outcome.
     told: &'a str,
@@ -58,18 +56,9 @@ fn run_over<R: Read>(
     reader: &mut R,
     at: u64,
 ) -> Outcome {
-    let mut sink = WriteSink::new(Vec::new(alloc));
-    let outcome = run(
-        alloc,
-        reader,
-        &mut sink,
-        &mut NoReports,
-        vector.limits,
-        vector.query,
-        vector.options,
-    );
-    check_bound(rt, vector.text, vector.limits, outcome.peaks);
-    check_bytes(rt, &sink.into_inner(), vector.written, vector.name, at);
+    let (outcome, written) = written_by(alloc, reader, &vector.reading);
+    check_bound(rt, vector.text, vector.reading.limits, outcome.peaks);
+    check_bytes(rt, &written, vector.written, vector.name, at);
     outcome
 }
 
@@ -131,16 +120,12 @@ fn check_going(rt: &impl Abort, alloc: Global, vector: &Vector, ended: End) {
     let (wanted, report) = going_on(ended);
     let mut reader = SlowReader::new(vector.text, 7);
     let mut reports = FirstReport { report: None };
-    let outcome = run(
-        alloc,
-        &mut reader,
-        &mut IgnoreSink,
-        &mut reports,
-        vector.limits,
-        vector.query,
-        vector.options.keep_going(true),
-    );
-    check_bound(rt, vector.text, vector.limits, outcome.peaks);
+    let reading = Reading {
+        options: vector.reading.options.keep_going(true),
+        ..vector.reading
+    };
+    let outcome = ran(alloc, &mut reader, &mut IgnoreSink, &mut reports, &reading);
+    check_bound(rt, vector.text, reading.limits, outcome.peaks);
     check_ended(rt, outcome.ended, wanted, vector.name, SINGLE_BYTES);
     assert_eq!(rt; reports.report, report, "{}", vector.name);
 }
@@ -171,12 +156,11 @@ fn check_second(
     let text = [HEADER, b"\n", line, b"\n"].concat(alloc)?;
     let written = [HEADER, b"\n"].concat(alloc)?;
     let told = format!(in alloc; "line 2, byte {place}: {reason}|1|0|-")?;
+    let query = Query::all(alloc);
     let vector = Vector {
         name: reason,
         text: &text,
-        limits: Limits::new(1_000, 64)?,
-        query: &Query::all(alloc),
-        options: Options::new(),
+        reading: Reading::usual(Limits::new(1_000, 64)?, &query),
         written: &written,
         told: &told,
     };
@@ -300,9 +284,11 @@ fn check_row(rt: &impl Abort, alloc: Global, row: &str) -> Result<(), Fail> {
     let vector = Vector {
         name,
         text: &text,
-        limits: limits_of(line, depth)?,
-        query: &query,
-        options: options_of(asked),
+        reading: Reading {
+            limits: limits_of(line, depth)?,
+            query: &query,
+            options: options_of(asked),
+        },
         written: &kept,
         told,
     };
