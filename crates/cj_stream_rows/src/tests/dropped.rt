@@ -1,128 +1,126 @@
-//! Lines that are too long, step by step: what is held and told while their bytes come, and when they are reported.
-use super::calls::{
-    check_bytes, check_feed_noting, check_finish_noting, check_held, check_number, held, joined,
-    opened,
-};
-use super::reports::{NoteReports, check_notes, going};
+//! Lines that are too long, step by step: what is held and told while their bytes come, and when they are reported. The line limit
+//! is 210 throughout.
+use super::calls::{check_bytes, held, joined};
+use super::reports::going;
 use super::rows::{FEATURE, HEADER, with_last_index};
-use cj_budget::Peaks;
-use cj_stream::{End, Engine, Query, WriteSink};
+use super::steps::{Opening, Step, written_by_steps};
+use cj_stream::End;
 use std::alloc::Global;
 use std::process::Abort;
 use std::test::Fail;
 
-/// What an engine has to tell, where its line limit is 210.
-#[derive(Clone, Copy)]
-struct Step<'a> {
-    lines: u64,
-    held: u64,
-    peak: u64,
-    reports: &'a str,
+/// What is held of bytes beside the header's tokens, and was at most, before a second line is dealt with.
+const fn beside_header<'a>(bytes: u64, most: u64) -> Step<'a> {
+    Step::Held(held(bytes, 21, 0), held(most, 21, 3))
 }
 
-/// What is held of bytes, beside the header's tokens.
-const fn beside_header(bytes: u64, depth: u64) -> Peaks {
-    held(bytes, 21, depth)
+/// Nothing is reported yet.
+const fn silent<'a>() -> Step<'a> {
+    Step::Reported(0, "")
 }
 
-/// Compares what an engine tells after a piece.
-fn check_told(rt: &impl Abort, engine: &Engine, reports: &NoteReports, wanted: &Step) {
-    check_held(
-        rt,
-        engine,
-        beside_header(wanted.held, 0),
-        beside_header(wanted.peak, 3),
-    );
-    check_notes(rt, reports, wanted.reports, "step", wanted.peak);
-    check_number(rt, engine.lines(), wanted.lines, "lines", wanted.peak);
-    let refused = wanted.lines.saturating_sub(1);
-    check_number(rt, engine.refused(), refused, "refused", wanted.peak);
+/// The second line was reported, and no other.
+const fn reported<'a>() -> Step<'a> {
+    Step::Reported(1, "2 210 2\n")
 }
 
-/// Gives a piece to an engine.
-fn check_step(
-    rt: &impl Abort,
-    engine: &mut Engine,
-    piece: &[u8],
-    sink: &mut WriteSink<Vec<u8>>,
-    reports: &mut NoteReports,
-    wanted: &Step,
-) {
-    check_feed_noting(rt, engine, piece, sink, reports, Ok(()));
-    check_told(rt, engine, reports, wanted);
+/// The header, and then a line of 210 bytes and five more: it is held until a byte comes that does not fit, and nothing of it
+/// after that.
+fn long_line() -> [Step<'static>; 15] {
+    [
+        Step::Feed(HEADER, Ok(())),
+        Step::Feed(b"\n", Ok(())),
+        beside_header(140, 140),
+        Step::Feed(FEATURE, Ok(())),
+        beside_header(350, 350),
+        Step::Feed(b"", Ok(())),
+        beside_header(350, 350),
+        Step::Feed(b" ", Ok(())),
+        beside_header(140, 350),
+        silent(),
+        Step::Feed(b"", Ok(())),
+        Step::Feed(b"    ", Ok(())),
+        beside_header(140, 350),
+        silent(),
+        Step::Counts(356, 1, 0),
+    ]
 }
 
-/// Before anything is reported.
-const fn silent(held: u64, peak: u64) -> Step<'static> {
-    Step {
-        lines: 1,
-        held,
-        peak,
-        reports: "",
+/// Gives the line that is too long, and takes these steps behind it: what is written.
+fn behind_long_line(rt: &impl Abort, alloc: Global, more: &[Step]) -> Result<Vec<u8>, Fail> {
+    let mut steps = Vec::new(alloc);
+    for step in long_line().iter().chain(more) {
+        steps.push(*step)?;
     }
+    written_within(rt, alloc, 64, &steps)
 }
 
-/// After the second line was reported.
-const REPORTED: Step<'static> = Step {
-    lines: 2,
-    held: 140,
-    peak: 350,
-    reports: "2 210 2\n",
-};
-
-/// Gives the header, and then a line of 210 bytes and five more: it is held until a byte comes that does not fit, and nothing
-/// of it after that.
-fn give_long_line(
+/// Takes steps of an engine that goes on, within this depth: what is written.
+fn written_within(
     rt: &impl Abort,
-    engine: &mut Engine,
-    sink: &mut WriteSink<Vec<u8>>,
-    reports: &mut NoteReports,
-) {
-    check_feed_noting(rt, engine, HEADER, sink, reports, Ok(()));
-    check_step(rt, engine, b"\n", sink, reports, &silent(140, 140));
-    check_step(rt, engine, FEATURE, sink, reports, &silent(350, 350));
-    check_step(rt, engine, b"", sink, reports, &silent(350, 350));
-    check_step(rt, engine, b" ", sink, reports, &silent(140, 350));
-    check_step(rt, engine, b"", sink, reports, &silent(140, 350));
-    check_step(rt, engine, b"    ", sink, reports, &silent(140, 350));
-}
-
-/// Gives the line that is too long, and an end, with or without an LF before it.
-fn check_long_line(rt: &impl Abort, alloc: Global, has_lf: bool) -> Result<(), Fail> {
-    let query = Query::all(alloc);
-    let mut engine = opened(alloc, 210, 64, &query, going())?;
-    let mut sink = WriteSink::new(Vec::new(alloc));
-    let mut reports = NoteReports::new(alloc);
-    give_long_line(rt, &mut engine, &mut sink, &mut reports);
-    if has_lf {
-        check_step(rt, &mut engine, b"\n", &mut sink, &mut reports, &REPORTED);
-    }
-    check_finish_noting(rt, &mut engine, &mut sink, &mut reports, End::Complete);
-    check_told(rt, &engine, &reports, &REPORTED);
-    Ok(())
+    alloc: Global,
+    depth: u64,
+    steps: &[Step],
+) -> Result<Vec<u8>, Fail> {
+    let opening = Opening {
+        line: 210,
+        depth,
+        options: going(),
+    };
+    written_by_steps(rt, alloc, &opening, steps)
 }
 
 #[test]
 fn a_line_too_long_by_steps(rt: HostRuntime) -> Result<(), Fail> {
-    check_long_line(&rt, rt.alloc(), true)
+    let steps = [
+        Step::Feed(b"\n", Ok(())),
+        beside_header(140, 350),
+        reported(),
+        Step::Counts(357, 2, 0),
+        Step::Finish(End::Complete),
+        beside_header(140, 350),
+        reported(),
+    ];
+    let written = behind_long_line(&rt, rt.alloc(), &steps)?;
+    let wanted = joined(rt.alloc(), &[HEADER, b"\n"])?;
+    check_bytes(&rt, &written, &wanted, "too long", 0);
+    Ok(())
 }
 
 /// Its end is that of the stream: it is reported by then.
 #[test]
 fn a_last_line_too_long_by_steps(rt: HostRuntime) -> Result<(), Fail> {
-    check_long_line(&rt, rt.alloc(), false)
+    let steps = [
+        Step::Finish(End::Complete),
+        beside_header(140, 350),
+        reported(),
+        Step::Counts(356, 2, 0),
+    ];
+    let written = behind_long_line(&rt, rt.alloc(), &steps)?;
+    let wanted = joined(rt.alloc(), &[HEADER, b"\n"])?;
+    check_bytes(&rt, &written, &wanted, "too long at last", 0);
+    Ok(())
 }
 
 /// Gives the header with the front of a line, the rest of it, which is too long, and its LF.
-fn check_cut_line(rt: &impl Abort, alloc: Global, header: &[u8], long: &[u8]) -> Result<(), Fail> {
-    let query = Query::all(alloc);
-    let mut engine = opened(alloc, 210, 64, &query, going())?;
-    let mut sink = WriteSink::new(Vec::new(alloc));
-    let mut reports = NoteReports::new(alloc);
-    let (sink, reports) = (&mut sink, &mut reports);
-    check_step(rt, &mut engine, header, sink, reports, &silent(240, 240));
-    check_step(rt, &mut engine, long, sink, reports, &silent(140, 350));
-    check_step(rt, &mut engine, b"\n", sink, reports, &REPORTED);
+fn check_cut_line<'a>(
+    rt: &impl Abort,
+    alloc: Global,
+    header: &'a [u8],
+    long: &'a [u8],
+) -> Result<(), Fail> {
+    let steps = [
+        Step::Feed(header, Ok(())),
+        beside_header(240, 240),
+        silent(),
+        Step::Feed(long, Ok(())),
+        beside_header(140, 350),
+        silent(),
+        Step::Feed(b"\n", Ok(())),
+        beside_header(140, 350),
+        reported(),
+    ];
+    let _ = written_within(rt, alloc, 64, &steps)?;
     Ok(())
 }
 
@@ -134,73 +132,50 @@ fn what_fits_counts_whatever_the_cut(rt: HostRuntime) -> Result<(), Fail> {
     check_cut_line(&rt, rt.alloc(), &header, &long)
 }
 
-/// Gives the LF of the line that was dropped with the first 200 bytes of the next one, and its rest.
-fn give_next_line(
+/// Gives the LF of the line that was dropped with the first 200 bytes of the next one, and its rest: what is written.
+fn after_long_line<'a>(
     rt: &impl Abort,
-    engine: &mut Engine,
-    piece: &[u8],
-    sink: &mut WriteSink<Vec<u8>>,
-    reports: &mut NoteReports,
-) {
-    let next = Step {
-        held: 340,
-        ..REPORTED
-    };
-    check_step(rt, engine, piece, sink, reports, &next);
-    check_feed_noting(rt, engine, &FEATURE[200..], sink, reports, Ok(()));
-    check_finish_noting(rt, engine, sink, reports, End::Complete);
-    check_held(rt, engine, held(140, 21, 0), held(350, 65, 8));
-}
-
-/// Gives the line that is too long and the next one: what is written.
-fn after_long_line(rt: &impl Abort, alloc: Global, piece: &[u8]) -> Result<Vec<u8>, Fail> {
-    let query = Query::all(alloc);
-    let mut engine = opened(alloc, 210, 64, &query, going())?;
-    let mut sink = WriteSink::new(Vec::new(alloc));
-    let mut reports = NoteReports::new(alloc);
-    give_long_line(rt, &mut engine, &mut sink, &mut reports);
-    give_next_line(rt, &mut engine, piece, &mut sink, &mut reports);
-    Ok(sink.into_inner())
+    alloc: Global,
+    front: &'a [u8],
+    rest: &'a [u8],
+) -> Result<Vec<u8>, Fail> {
+    let steps = [
+        Step::Feed(front, Ok(())),
+        beside_header(340, 350),
+        reported(),
+        Step::Feed(rest, Ok(())),
+        Step::Finish(End::Complete),
+        Step::Held(held(140, 21, 0), held(350, 65, 8)),
+        reported(),
+    ];
+    behind_long_line(rt, alloc, &steps)
 }
 
 /// After a line that was dropped, the next one is held from its first byte.
 #[test]
 fn the_line_after_one_that_is_dropped(rt: HostRuntime) -> Result<(), Fail> {
-    let piece = joined(rt.alloc(), &[b"\n", &FEATURE[..200]])?;
-    let written = after_long_line(&rt, rt.alloc(), &piece)?;
+    let front = joined(rt.alloc(), &[b"\n", &FEATURE[..200]])?;
+    let written = after_long_line(&rt, rt.alloc(), &front, &FEATURE[200..])?;
     let wanted = joined(rt.alloc(), &[HEADER, b"\n", FEATURE])?;
     check_bytes(&rt, &written, &wanted, "the line after", 0);
     Ok(())
 }
 
 /// Gives a header with a line that is nested too deep, and a line that is refused for its last vertex index.
-fn give_refused_lines(
-    rt: &impl Abort,
-    engine: &mut Engine,
-    deep: &[u8],
-    line: &[u8],
-    sink: &mut WriteSink<Vec<u8>>,
-    reports: &mut NoteReports,
-) {
-    check_feed_noting(rt, engine, deep, sink, reports, Ok(()));
-    check_held(rt, engine, held(140, 21, 0), held(149, 29, 8));
-    check_feed_noting(rt, engine, line, sink, reports, Ok(()));
-    check_held(rt, engine, held(140, 21, 0), held(350, 65, 8));
-    check_notes(rt, reports, "2 8 5\n3 144 25\n", "no longer", 0);
-}
-
-/// Gives both to an engine of depth 8.
-fn check_refused_lines(
+fn check_refused_lines<'a>(
     rt: &impl Abort,
     alloc: Global,
-    deep: &[u8],
-    line: &[u8],
+    deep: &'a [u8],
+    line: &'a [u8],
 ) -> Result<(), Fail> {
-    let query = Query::all(alloc);
-    let mut engine = opened(alloc, 210, 8, &query, going())?;
-    let mut sink = WriteSink::new(Vec::new(alloc));
-    let mut reports = NoteReports::new(alloc);
-    give_refused_lines(rt, &mut engine, deep, line, &mut sink, &mut reports);
+    let steps = [
+        Step::Feed(deep, Ok(())),
+        Step::Held(held(140, 21, 0), held(149, 29, 8)),
+        Step::Feed(line, Ok(())),
+        Step::Held(held(140, 21, 0), held(350, 65, 8)),
+        Step::Reported(2, "2 8 5\n3 144 25\n"),
+    ];
+    let _ = written_within(rt, alloc, 8, &steps)?;
     Ok(())
 }
 

@@ -1,13 +1,14 @@
 //! Devices that fail: what is written is a prefix of the output, and the end says why.
 use super::calls::{
-    Reading, check_bytes, check_counts, check_ended, check_feed, check_finish, check_held,
-    check_number, copied, copied_to, joined, opened, ran, ran_to, refused,
+    Reading, check_bytes, check_ended, check_number, copied, copied_to, joined, ran, ran_to,
+    refused,
 };
 use super::devices::{SlowReader, SlowWriter};
 use super::rows::{FEATURE, HEADER, with_last_index};
+use super::steps::{Opening, Step, check_steps};
 use cj_budget::Limits;
 use cj_spans::Reason;
-use cj_stream::{End, Engine, LineSink, NoReports, Options, Outcome, Output, Query, WriteSink};
+use cj_stream::{End, LineSink, NoReports, Outcome, Output, Query, WriteSink};
 use std::alloc::Global;
 use std::io::ErrorKind;
 use std::process::Abort;
@@ -154,20 +155,22 @@ fn run_to<S: LineSink>(alloc: Global, text: &[u8], sink: &mut S) -> Result<End, 
     Ok(ran_to(alloc, text, 1_000, sink)?.ended)
 }
 
-fn check_fault_stays<S: LineSink>(rt: &impl Abort, engine: &mut Engine, sink: &mut S) {
-    check_feed(rt, engine, HEADER, sink, Ok(()));
-    check_feed(rt, engine, b"\n", sink, Err(End::WriteFault));
-    check_feed(rt, engine, b"\n", sink, Err(End::WriteFault));
-    check_finish(rt, engine, sink, End::WriteFault);
-    check_number(rt, engine.lines(), 0, "lines", 0);
-}
-
 /// Copies a header to a writer that takes nothing.
 fn check_fault_of(rt: &impl Abort, alloc: Global, writer: &mut SlowWriter) -> Result<(), Fail> {
-    let query = Query::all(alloc);
-    let mut engine = opened(alloc, 8_388_608, 64, &query, Options::new())?;
-    check_fault_stays(rt, &mut engine, &mut Output::new(&mut *writer));
-    Ok(())
+    let steps = [
+        Step::Feed(HEADER, Ok(())),
+        Step::Feed(b"\n", Err(End::WriteFault)),
+        Step::Again(b"\n", End::WriteFault),
+        Step::Counts(140, 0, 0),
+        Step::Reported(0, ""),
+    ];
+    check_steps(
+        rt,
+        alloc,
+        &Opening::usual(),
+        &steps,
+        &mut Output::new(writer),
+    )
 }
 
 /// The engine asks the sink once; another run asks it again.
@@ -182,25 +185,8 @@ fn a_write_fault_stays_the_end(rt: HostRuntime) -> Result<(), Fail> {
     Ok(())
 }
 
-/// Feeds a stream to an engine whose sink fails after so many lines: the end is told again, and nothing changes.
-fn check_told_again<S: LineSink>(
-    rt: &impl Abort,
-    engine: &mut Engine,
-    text: &[u8],
-    sink: &mut S,
-    lines: u64,
-) {
-    check_feed(rt, engine, text, sink, Err(End::WriteFault));
-    let held = engine.held();
-    let peaks = engine.peaks();
-    check_feed(rt, engine, text, sink, Err(End::WriteFault));
-    check_finish(rt, engine, sink, End::WriteFault);
-    check_held(rt, engine, held, peaks);
-    check_counts(rt, engine, 0, lines, 0);
-}
-
 /// Feeds a stream, whose header has 141 bytes with its LF, to an engine whose writer takes a byte a write before the one that
-/// fails, or that takes none: the writer is not asked again.
+/// fails, or that takes none: the end is told again, nothing changes, and the writer is not asked again.
 fn check_fault_told_again(
     rt: &impl Abort,
     alloc: Global,
@@ -208,10 +194,19 @@ fn check_fault_told_again(
     writer: &mut SlowWriter,
     at: u64,
 ) -> Result<(), Fail> {
-    let query = Query::all(alloc);
-    let mut engine = opened(alloc, 8_388_608, 64, &query, Options::new())?;
-    let lines = u64::from(at > 141);
-    check_told_again(rt, &mut engine, text, &mut Output::new(&mut *writer), lines);
+    let steps = [
+        Step::Feed(text, Err(End::WriteFault)),
+        Step::Again(text, End::WriteFault),
+        Step::Counts(0, u64::from(at > 141), 0),
+        Step::Reported(0, ""),
+    ];
+    check_steps(
+        rt,
+        alloc,
+        &Opening::usual(),
+        &steps,
+        &mut Output::new(&mut *writer),
+    )?;
     let written = writer.bytes.as_slice();
     assert!(rt; written.len() <= text.len());
     check_number(rt, writer.writes, at, "writes", at);

@@ -1,16 +1,15 @@
 //! What is reported of refused lines, where reading goes on after them: a sink of the tests that notes each report, the sink that
 //! counts, and when nothing is reported.
 use super::calls::{
-    Reading, check_bytes, check_ended, check_feed_noting, check_finish_noting, check_number,
-    joined, opened, ran, refused,
+    Reading, check_bytes, check_ended, check_number, joined, ran, refused, written_by,
 };
 use super::devices::{SlowReader, SlowWriter};
 use super::rows::{FEATURE, HEADER, with_last_index};
+use super::steps::{Opening, Step, check_steps, written_by_steps};
 use cj_budget::Limits;
 use cj_spans::Reason;
 use cj_stream::{
-    CountReports, End, Engine, LineSink, NoReports, Options, Outcome, Output, Query, Report,
-    ReportSink, WriteSink, run_within,
+    CountReports, End, Options, Outcome, Output, Query, Report, ReportSink, WriteSink, run_within,
 };
 use std::alloc::{AllocError, Global};
 use std::process::Abort;
@@ -181,50 +180,31 @@ fn a_begun_line_is_not_reported(rt: HostRuntime) -> Result<(), Fail> {
 
 // ---- after an end
 
-/// Gives refused lines to an engine that has ended: it answers the end, and reports nothing.
-fn check_told_again<S: LineSink>(
-    rt: &impl Abort,
-    engine: &mut Engine,
-    sink: &mut S,
-    reports: &mut NoteReports,
-    end: End,
-) {
-    check_feed_noting(rt, engine, b"{}\n3\n", sink, reports, Err(end));
-    check_finish_noting(rt, engine, sink, reports, end);
-    check_feed_noting(rt, engine, b"\n", sink, reports, Err(end));
-    check_finish_noting(rt, engine, sink, reports, end);
-}
-
-/// Compares what an engine counts.
-fn check_refused(rt: &impl Abort, engine: &Engine, lines: u64, refused: u64) {
-    check_number(rt, engine.lines(), lines, "lines", refused);
-    check_number(rt, engine.refused(), refused, "refused", lines);
+/// Going on, within a line limit of 1,000.
+fn opening() -> Opening {
+    Opening {
+        line: 1_000,
+        depth: 64,
+        options: going(),
+    }
 }
 
 /// Gives a text whose second line is refused, and its third at the end.
-fn check_complete<S: LineSink>(
-    rt: &impl Abort,
-    engine: &mut Engine,
-    text: &[u8],
-    sink: &mut S,
-    reports: &mut NoteReports,
-) {
-    check_feed_noting(rt, engine, text, sink, reports, Ok(()));
-    check_notes(rt, reports, "2 0 10\n", "before the end", 0);
-    check_finish_noting(rt, engine, sink, reports, End::Complete);
-    check_told_again(rt, engine, sink, reports, End::Complete);
-    check_notes(rt, reports, "2 0 10\n3 0 12\n", "after the end", 0);
-    check_refused(rt, engine, 3, 2);
-}
-
 #[test]
 fn nothing_is_reported_after_a_complete_stream(rt: HostRuntime) -> Result<(), Fail> {
-    let text = joined(rt.alloc(), &[HEADER, b"\n{}\n3"])?;
-    let query = Query::all(rt.alloc());
-    let mut engine = opened(rt.alloc(), 1_000, 64, &query, going())?;
-    let mut sink = WriteSink::new(Vec::new(rt.alloc()));
-    let mut reports = NoteReports::new(rt.alloc());
-    check_complete(&rt, &mut engine, &text, &mut sink, &mut reports);
+    let header = joined(rt.alloc(), &[HEADER, b"\n"])?;
+    let text = joined(rt.alloc(), &[&header, b"{}\n3"])?;
+    let steps = [
+        Step::Feed(&text, Ok(())),
+        Step::Reported(1, "2 0 10\n"),
+        Step::Finish(End::Complete),
+        Step::Again(b"{}\n3\n", End::Complete),
+        Step::Again(b"\n", End::Complete),
+        Step::Reported(2, "2 0 10\n3 0 12\n"),
+        Step::Counts(145, 3, 0),
+    ];
+    let written = written_by_steps(&rt, rt.alloc(), &opening(), &steps)?;
+    check_bytes(&rt, &written, &header, "after the end", 0);
     Ok(())
 }
 
@@ -235,16 +215,15 @@ fn check_write_fault(
     text: &[u8],
     writer: &mut SlowWriter,
 ) -> Result<(), Fail> {
-    let query = Query::all(alloc);
-    let mut engine = opened(alloc, 1_000, 64, &query, going())?;
-    let mut sink = Output::new(writer);
-    let mut reports = NoteReports::new(alloc);
     let end = End::WriteFault;
-    check_feed_noting(rt, &mut engine, text, &mut sink, &mut reports, Err(end));
-    check_told_again(rt, &mut engine, &mut sink, &mut reports, end);
-    check_notes(rt, &reports, "2 144 25\n", "a write fault", 0);
-    check_refused(rt, &engine, 3, 1);
-    Ok(())
+    let steps = [
+        Step::Feed(text, Err(end)),
+        Step::Again(b"{}\n3\n", end),
+        Step::Again(b"\n", end),
+        Step::Reported(1, "2 144 25\n"),
+        Step::Counts(0, 3, 0),
+    ];
+    check_steps(rt, alloc, &opening(), &steps, &mut Output::new(writer))
 }
 
 /// What was reported before a write fails stays, and nothing is reported after it.
@@ -270,14 +249,16 @@ fn check_first(
     line: u64,
     end: End,
 ) -> Result<(), Fail> {
-    let query = Query::all(alloc);
-    let mut engine = opened(alloc, line, 64, &query, going())?;
-    let mut sink = WriteSink::new(Vec::new(alloc));
-    let mut reports = NoteReports::new(alloc);
-    check_feed_noting(rt, &mut engine, text, &mut sink, &mut reports, Err(end));
-    check_told_again(rt, &mut engine, &mut sink, &mut reports, end);
-    check_notes(rt, &reports, "", "a first line", line);
-    check_refused(rt, &engine, 0, 0);
+    let steps = [
+        Step::Feed(text, Err(end)),
+        Step::Again(b"{}\n3\n", end),
+        Step::Again(b"\n", end),
+        Step::Reported(0, ""),
+        Step::Counts(0, 0, 0),
+    ];
+    let opening = Opening { line, ..opening() };
+    let written = written_by_steps(rt, alloc, &opening, &steps)?;
+    check_bytes(rt, &written, b"", "a first line", line);
     Ok(())
 }
 
@@ -296,47 +277,48 @@ fn a_refused_first_line_is_not_reported(rt: HostRuntime) -> Result<(), Fail> {
 
 #[test]
 fn a_stream_without_a_line_is_not_reported(rt: HostRuntime) -> Result<(), Fail> {
-    let query = Query::all(rt.alloc());
-    let mut engine = opened(rt.alloc(), 1_000, 64, &query, going())?;
-    let mut sink = WriteSink::new(Vec::new(rt.alloc()));
-    let mut reports = NoteReports::new(rt.alloc());
     let end = refused(1, 0, Reason::NoHeader);
-    check_finish_noting(&rt, &mut engine, &mut sink, &mut reports, end);
-    check_told_again(&rt, &mut engine, &mut sink, &mut reports, end);
-    check_notes(&rt, &reports, "", "no line", 0);
-    Ok(())
-}
-
-/// Gives a text whose second line is refused to an engine that ends there.
-fn check_usual_end(rt: &impl Abort, alloc: Global, text: &[u8]) -> Result<(), Fail> {
-    let query = Query::all(alloc);
-    let mut engine = opened(alloc, 1_000, 64, &query, Options::new())?;
-    let mut sink = WriteSink::new(Vec::new(alloc));
-    let mut reports = NoteReports::new(alloc);
-    let end = refused(2, 0, Reason::MissingMember);
-    check_feed_noting(rt, &mut engine, text, &mut sink, &mut reports, Err(end));
-    check_told_again(rt, &mut engine, &mut sink, &mut reports, end);
-    check_notes(rt, &reports, "", "the usual end", 0);
-    check_number(rt, engine.refused(), 0, "refused", 0);
+    let steps = [
+        Step::Finish(end),
+        Step::Again(b"{}\n3\n", end),
+        Step::Again(b"\n", end),
+        Step::Reported(0, ""),
+        Step::Counts(0, 0, 0),
+    ];
+    let written = written_by_steps(&rt, rt.alloc(), &opening(), &steps)?;
+    check_bytes(&rt, &written, b"", "no line", 0);
     Ok(())
 }
 
 /// Told nothing, the engine ends at the first refused line, and reports nothing.
 #[test]
 fn the_first_refused_line_is_the_usual_end(rt: HostRuntime) -> Result<(), Fail> {
-    let text = joined(rt.alloc(), &[HEADER, b"\n{}\n3\n"])?;
-    check_usual_end(&rt, rt.alloc(), &text)
+    let header = joined(rt.alloc(), &[HEADER, b"\n"])?;
+    let text = joined(rt.alloc(), &[&header, b"{}\n3\n"])?;
+    let end = refused(2, 0, Reason::MissingMember);
+    let steps = [
+        Step::Feed(&text, Err(end)),
+        Step::Again(b"{}\n3\n", end),
+        Step::Again(b"\n", end),
+        Step::Reported(0, ""),
+        Step::Counts(0, 1, 0),
+    ];
+    let written = written_by_steps(&rt, rt.alloc(), &Opening::usual(), &steps)?;
+    check_bytes(&rt, &written, &header, "the usual end", 0);
+    Ok(())
 }
 
-/// Gives a text with two refused lines, and takes no notice of reports: what is written.
+/// Runs over a text with two refused lines, and takes no notice of reports: what is written.
 fn written_unread(rt: &impl Abort, alloc: Global, text: &[u8]) -> Result<Vec<u8>, Fail> {
-    let query = Query::all(alloc);
-    let mut engine = opened(alloc, 1_000, 64, &query, going())?;
-    let mut sink = WriteSink::new(Vec::new(alloc));
-    check_feed_noting(rt, &mut engine, text, &mut sink, &mut NoReports, Ok(()));
-    check_finish_noting(rt, &mut engine, &mut sink, &mut NoReports, End::Complete);
-    check_number(rt, engine.refused(), 2, "refused", 0);
-    Ok(sink.into_inner())
+    let reading = Reading {
+        limits: Limits::new(1_000, 64)?,
+        query: &Query::all(alloc),
+        options: going(),
+    };
+    let (outcome, written) = written_by(alloc, &mut SlowReader::new(text, 100), &reading);
+    check_ended(rt, outcome.ended, End::Complete, "no one reads", 0);
+    check_number(rt, outcome.refused, 2, "refused", 0);
+    Ok(written)
 }
 
 /// A sink that takes no notice of reports changes nothing else.

@@ -1,9 +1,9 @@
 //! Rows through the two states, by every cut, and what both tell where one turns into the other.
 use super::calls::{
-    Reading, check_bytes, check_ended, check_feed, check_number, check_outcome, held, joined,
-    opened, outcome, refused,
+    Reading, check_bytes, check_ended, check_number, check_outcome, held, joined, outcome, refused,
 };
 use super::rows::{FEATURE, HEADER, SMALL, Wanted, with_last_index};
+use super::steps::{Opening, Step, written_by_steps};
 use cj_budget::Limits;
 use cj_spans::Reason;
 use cj_stream::{
@@ -303,13 +303,10 @@ fn check_rest_by_states(
     Ok(())
 }
 
-/// Gives the same to an engine.
+/// Gives the same to an engine, which takes nothing of it.
 fn check_rest(rt: &impl Abort, alloc: Global, text: &[u8], wanted: End) -> Result<(), Fail> {
-    let query = Query::all(alloc);
-    let mut sink = WriteSink::new(Vec::new(alloc));
-    let mut engine = opened(alloc, 8_388_608, 64, &query, Options::new())?;
-    check_feed(rt, &mut engine, text, &mut sink, Err(wanted));
-    check_number(rt, engine.taken(), 0, "taken by the engine", 0);
+    let steps = [Step::Feed(text, Err(wanted)), Step::Counts(0, 1, 0)];
+    let _ = written_by_steps(rt, alloc, &Opening::usual(), &steps)?;
     Ok(())
 }
 
