@@ -1,7 +1,7 @@
 //! Blank lines, and lines that only look blank. A line is blank by spaces, tabs and CR alone, and
 //! any other is refused at the first byte that no JSON text has there, or at its end.
 use super::calls::{held, joined, outcome, refused};
-use super::rows::{FEATURE, HEADER, Wanted, check_place, check_run};
+use super::rows::{FEATURE, FIRST, STREAM, Wanted, check_place, check_run};
 use cj_budget::Limits;
 use cj_spans::Reason;
 use cj_stream::End;
@@ -11,16 +11,14 @@ use std::test::Fail;
 
 /// Runs over a header, a line that is dropped, and a feature.
 fn check_dropped(rt: &impl Abort, alloc: Global, line: &[u8], bytes: u64) -> Result<(), Fail> {
-    let text = joined(alloc, &[HEADER, b"\n", line, b"\n", FEATURE, b"\n"])?;
-    let written = joined(alloc, &[HEADER, b"\n", FEATURE, b"\n"])?;
+    let text = joined(alloc, &[FIRST, line, b"\n", FEATURE, b"\n"])?;
     let wanted = Wanted {
         name: "dropped",
-        written: &written,
+        written: STREAM,
         outcome: outcome(3, 1, held(bytes, 65, 8), End::Complete),
     };
-    let limits = Limits::new(8_388_608, 64)?;
-    check_run(rt, alloc, &text, 8_192, limits, &wanted);
-    check_run(rt, alloc, &text, 1, limits, &wanted);
+    check_run(rt, alloc, &text, 8_192, Limits::usual(), &wanted);
+    check_run(rt, alloc, &text, 1, Limits::usual(), &wanted);
     Ok(())
 }
 
@@ -45,29 +43,26 @@ fn ten_thousand_spaces(rt: HostRuntime) -> Result<(), Fail> {
 
 #[test]
 fn a_blank_last_line_without_lf(rt: HostRuntime) -> Result<(), Fail> {
-    let text = joined(rt.alloc(), &[HEADER, b"\n \t "])?;
-    let written = joined(rt.alloc(), &[HEADER, b"\n"])?;
+    let text = joined(rt.alloc(), &[FIRST, b" \t "])?;
     let wanted = Wanted {
         name: "a blank last line",
-        written: &written,
+        written: FIRST,
         outcome: outcome(2, 0, held(143, 21, 3), End::Complete),
     };
-    let limits = Limits::new(8_388_608, 64)?;
-    check_run(&rt, rt.alloc(), &text, 1, limits, &wanted);
+    check_run(&rt, rt.alloc(), &text, 1, Limits::usual(), &wanted);
     Ok(())
 }
 
 /// A first line is never blank.
 #[test]
-fn a_first_line_of_spaces_and_tabs(rt: HostRuntime) -> Result<(), Fail> {
+fn a_first_line_of_spaces_and_tabs(rt: HostRuntime) {
     let wanted = Wanted {
         name: "a blank first line",
         written: b"",
         outcome: outcome(0, 0, held(4, 0, 0), refused(1, 4, Reason::Syntax)),
     };
-    let limits = Limits::new(8_388_608, 64)?;
-    check_run(&rt, rt.alloc(), b" \t \t\n{}\n", 1, limits, &wanted);
-    Ok(())
+    let text = b" \t \t\n{}\n";
+    check_run(&rt, rt.alloc(), text, 1, Limits::usual(), &wanted);
 }
 
 #[test]

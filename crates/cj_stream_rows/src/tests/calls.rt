@@ -4,8 +4,8 @@ use super::devices::{SlowReader, SlowWriter};
 use cj_budget::{Limits, Peaks};
 use cj_spans::Reason;
 use cj_stream::{
-    CountReports, End, Engine, LineSink, NoReports, Options, Outcome, Output, Query, ReportSink,
-    WriteSink, headline, run,
+    End, Engine, LineSink, NoReports, Options, Outcome, Output, Query, ReportSink, WriteSink,
+    headline, run,
 };
 use memchr::memchr;
 use std::alloc::Global;
@@ -66,6 +66,19 @@ pub const fn outcome(lines: u64, kept: u64, peaks: Peaks, ended: End) -> Outcome
 /// The text, in one.
 pub fn joined(alloc: Global, parts: &[&[u8]]) -> Result<Vec<u8>, Fail> {
     Ok(parts.concat(alloc)?)
+}
+
+/// Compares bytes with those that have these parts.
+pub fn check_joined(
+    rt: &impl Abort,
+    alloc: Global,
+    got: &[u8],
+    wanted: &[&[u8]],
+    row: &str,
+    at: u64,
+) -> Result<(), Fail> {
+    check_bytes(rt, got, &joined(alloc, wanted)?, row, at);
+    Ok(())
 }
 
 /// How a stream is read.
@@ -133,16 +146,11 @@ pub fn copied_to(
 }
 
 /// Runs over a text to a sink, by reads of `step` bytes.
-pub fn ran_to<S: LineSink>(
-    alloc: Global,
-    text: &[u8],
-    step: usize,
-    sink: &mut S,
-) -> Result<Outcome, Fail> {
+pub fn ran_to<S: LineSink>(alloc: Global, text: &[u8], step: usize, sink: &mut S) -> Outcome {
     let query = Query::all(alloc);
-    let reading = Reading::usual(Limits::new(8_388_608, 64)?, &query);
+    let reading = Reading::usual(Limits::usual(), &query);
     let mut reader = SlowReader::new(text, step);
-    Ok(ran(alloc, &mut reader, sink, &mut NoReports, &reading))
+    ran(alloc, &mut reader, sink, &mut NoReports, &reading)
 }
 
 /// What an engine tells of a stream that has ended so.
@@ -187,7 +195,7 @@ pub fn opened<'q>(
 }
 
 /// Gives a piece to an engine, which has to answer so. What it reports goes to a sink of reports.
-pub fn check_feed_noting<S: LineSink, N: ReportSink>(
+pub fn check_feed<S: LineSink, N: ReportSink>(
     rt: &impl Abort,
     engine: &mut Engine,
     piece: &[u8],
@@ -201,7 +209,7 @@ pub fn check_feed_noting<S: LineSink, N: ReportSink>(
 }
 
 /// Ends the stream of an engine, which has to answer so.
-pub fn check_finish_noting<S: LineSink, N: ReportSink>(
+pub fn check_finish<S: LineSink, N: ReportSink>(
     rt: &impl Abort,
     engine: &mut Engine,
     sink: &mut S,
@@ -209,26 +217,6 @@ pub fn check_finish_noting<S: LineSink, N: ReportSink>(
     wanted: End,
 ) {
     assert_eq!(rt; engine.finish(sink, reports), wanted);
-}
-
-/// Gives a piece to an engine, which has to answer so. Nothing is to be reported.
-pub fn check_feed<S: LineSink>(
-    rt: &impl Abort,
-    engine: &mut Engine,
-    piece: &[u8],
-    sink: &mut S,
-    wanted: Result<(), End>,
-) {
-    let mut reports = CountReports { reports: 0 };
-    check_feed_noting(rt, engine, piece, sink, &mut reports, wanted);
-    check_number(rt, reports.reports, 0, "reports", 0);
-}
-
-/// Ends the stream of an engine, which has to answer so. Nothing is to be reported.
-pub fn check_finish<S: LineSink>(rt: &impl Abort, engine: &mut Engine, sink: &mut S, wanted: End) {
-    let mut reports = CountReports { reports: 0 };
-    check_finish_noting(rt, engine, sink, &mut reports, wanted);
-    check_number(rt, reports.reports, 0, "reports", 0);
 }
 
 /// Compares what an engine counts.

@@ -10,7 +10,7 @@ use super::devices::SlowReader;
 use super::going::complete;
 use super::queries::{ALL, Parts, SEVERAL, by_box, by_ids, by_lods, by_types, query_of};
 use super::reports::{NoteReports, check_notes, going};
-use super::rows::{FEATURE, HEADER, SMALL};
+use super::rows::{FEATURE, FIRST, HEADER, SMALL, STREAM};
 use cj_budget::Limits;
 use cj_spans::Reason;
 use cj_stream::{End, Options, Outcome, Query, WriteSink};
@@ -18,13 +18,13 @@ use std::alloc::Global;
 use std::process::Abort;
 use std::test::Fail;
 
-/// A stream, how it is read, and what has to come of it.
+/// A stream, how it is read, and what has to come of it. The stream and what has to be written of it are given in parts.
 #[derive(Clone, Copy)]
 struct Row<'a> {
     name: &'a str,
-    text: &'a [u8],
+    text: &'a [&'a [u8]],
     options: Options,
-    written: &'a [u8],
+    written: &'a [&'a [u8]],
     reports: &'a str,
     outcome: Outcome,
 }
@@ -87,28 +87,37 @@ fn came_of_cut(
     })
 }
 
-/// Compares what came of a stream.
-fn check_came(rt: &impl Abort, row: &Row, came: &Came, at: u64) {
+/// Compares what came of a stream, of which this has to be written.
+fn check_came(rt: &impl Abort, row: &Row, came: &Came, written: &[u8], at: u64) {
     check_notes(rt, &came.reports, row.reports, row.name, at);
     check_outcome(rt, came.outcome, row.outcome, row.name, at);
-    check_bytes(rt, &came.written, row.written, row.name, at);
+    check_bytes(rt, &came.written, written, row.name, at);
 }
 
 /// A stream whole and by single bytes.
-fn check_runs(rt: &impl Abort, alloc: Global, row: &Row, query: &Query) -> Result<(), Fail> {
-    let whole = came_of(alloc, row.text, 8_192, query, row.options)?;
-    check_came(rt, row, &whole, 8_192);
-    let bytes = came_of(alloc, row.text, 1, query, row.options)?;
-    check_came(rt, row, &bytes, 1);
+fn check_runs(
+    rt: &impl Abort,
+    alloc: Global,
+    row: &Row,
+    text: &[u8],
+    written: &[u8],
+    query: &Query,
+) -> Result<(), Fail> {
+    let whole = came_of(alloc, text, 8_192, query, row.options)?;
+    check_came(rt, row, &whole, written, 8_192);
+    let bytes = came_of(alloc, text, 1, query, row.options)?;
+    check_came(rt, row, &bytes, written, 1);
     Ok(())
 }
 
 /// A stream in every way.
 fn check(rt: &impl Abort, alloc: Global, row: &Row, query: &Query) -> Result<(), Fail> {
-    check_runs(rt, alloc, row, query)?;
-    for at in 0..=row.text.len() {
-        let came = came_of_cut(rt, alloc, row.text, at, query, row.options)?;
-        check_came(rt, row, &came, at as u64);
+    let text = joined(alloc, row.text)?;
+    let written = joined(alloc, row.written)?;
+    check_runs(rt, alloc, row, &text, &written, query)?;
+    for at in 0..=text.len() {
+        let came = came_of_cut(rt, alloc, &text, at, query, row.options)?;
+        check_came(rt, row, &came, &written, at as u64);
     }
     Ok(())
 }
@@ -167,13 +176,11 @@ fn check_apart(
     reports: &str,
     outcome: Outcome,
 ) -> Result<(), Fail> {
-    let text = joined(alloc, &[HEADER, b"\n", APART, b"\n", SMALL, b"\n"])?;
-    let written = joined(alloc, written)?;
     let row = Row {
         name: "one apart",
-        text: &text,
+        text: &[FIRST, APART, b"\n", SMALL, b"\n"],
         options,
-        written: &written,
+        written,
         reports,
         outcome,
     };
@@ -182,7 +189,7 @@ fn check_apart(
 
 #[test]
 fn one_apart_is_kept_as_usual(rt: HostRuntime) -> Result<(), Fail> {
-    let written = [HEADER, b"\n", APART, b"\n", SMALL, b"\n"];
+    let written = [FIRST, APART, b"\n", SMALL, b"\n"];
     let all = complete(3, 2, 0, held(253, 38, 3));
     check_apart(&rt, rt.alloc(), Options::new(), &written, "", all)?;
     check_apart(&rt, rt.alloc(), trees().tree(false), &written, "", all)?;
@@ -193,13 +200,13 @@ fn one_apart_is_kept_as_usual(rt: HostRuntime) -> Result<(), Fail> {
 fn one_apart_is_the_end(rt: HostRuntime) -> Result<(), Fail> {
     let end = refused(2, 78, Reason::NotReached);
     let first = outcome(1, 0, held(253, 38, 3), end);
-    check_apart(&rt, rt.alloc(), trees(), &[HEADER, b"\n"], "", first)
+    check_apart(&rt, rt.alloc(), trees(), &[FIRST], "", first)
 }
 
 #[test]
 fn one_apart_is_reported(rt: HostRuntime) -> Result<(), Fail> {
     let options = trees().keep_going(true);
-    let written = [HEADER, b"\n", SMALL, b"\n"];
+    let written = [FIRST, SMALL, b"\n"];
     let good = complete(3, 1, 1, held(253, 38, 3));
     check_apart(&rt, rt.alloc(), options, &written, "2 78 31\n", good)
 }
@@ -209,32 +216,20 @@ fn one_apart_is_reported(rt: HostRuntime) -> Result<(), Fail> {
 fn one_apart_is_reported_where_all_is_left_out(rt: HostRuntime) -> Result<(), Fail> {
     let options = trees().keep_going(true).exclude(true);
     let none = complete(3, 0, 1, held(253, 38, 3));
-    check_apart(
-        &rt,
-        rt.alloc(),
-        options,
-        &[HEADER, b"\n"],
-        "2 78 31\n",
-        none,
-    )?;
+    check_apart(&rt, rt.alloc(), options, &[FIRST], "2 78 31\n", none)?;
     let options = going().exclude(true);
     let none = complete(3, 0, 0, held(253, 38, 3));
-    check_apart(&rt, rt.alloc(), options, &[HEADER, b"\n"], "", none)
+    check_apart(&rt, rt.alloc(), options, &[FIRST], "", none)
 }
 
 /// Nothing is remembered of one line in the next: each is judged by its own marks.
 #[test]
 fn a_chain_between_two_apart(rt: HostRuntime) -> Result<(), Fail> {
-    let lines = [
-        HEADER, b"\n", APART, b"\n", CHAIN, b"\n", APART, b"\n", SMALL,
-    ];
-    let text = joined(rt.alloc(), &lines)?;
-    let written = joined(rt.alloc(), &[HEADER, b"\n", CHAIN, b"\n", SMALL])?;
     let row = Row {
         name: "a chain between two apart",
-        text: &text,
+        text: &[FIRST, APART, b"\n", CHAIN, b"\n", APART, b"\n", SMALL],
         options: trees().keep_going(true),
-        written: &written,
+        written: &[FIRST, CHAIN, b"\n", SMALL],
         reports: "2 78 31\n4 78 31\n",
         outcome: complete(5, 2, 2, held(351, 54, 4)),
     };
@@ -250,14 +245,13 @@ pub fn check_went(rt: &impl Abort, came: &Came, kept: u64, ended: End, written: 
 
 /// A feature with these city objects, which is valid, and refused at this place where each has to be reached.
 fn check_refused(rt: &impl Abort, alloc: Global, objects: &str, place: u64) -> Result<(), Fail> {
-    let header = joined(alloc, &[HEADER, b"\n"])?;
-    let text = joined(alloc, &[&header, FRONT, objects.as_bytes(), BACK, b"\n"])?;
+    let text = joined(alloc, &[FIRST, FRONT, objects.as_bytes(), BACK, b"\n"])?;
     let query = Query::all(alloc);
     let usual = came_of(alloc, &text, 100, &query, Options::new())?;
     check_went(rt, &usual, 1, End::Complete, &text, objects);
     let tree = came_of(alloc, &text, 100, &query, trees())?;
     let end = refused(2, place, Reason::NotReached);
-    check_went(rt, &tree, 0, end, &header, objects);
+    check_went(rt, &tree, 0, end, FIRST, objects);
     Ok(())
 }
 
@@ -295,8 +289,7 @@ fn features_with_one_that_is_not_reached(rt: HostRuntime) -> Result<(), Fail> {
 
 /// A feature with these city objects, which is kept in either way.
 fn check_kept(rt: &impl Abort, alloc: Global, objects: &str) -> Result<(), Fail> {
-    let header = joined(alloc, &[HEADER, b"\n"])?;
-    let text = joined(alloc, &[&header, FRONT, objects.as_bytes(), BACK, b"\n"])?;
+    let text = joined(alloc, &[FIRST, FRONT, objects.as_bytes(), BACK, b"\n"])?;
     let query = Query::all(alloc);
     let usual = came_of(alloc, &text, 100, &query, Options::new())?;
     check_went(rt, &usual, 1, End::Complete, &text, objects);
@@ -327,10 +320,9 @@ fn check_fault(
     place: u64,
     reason: Reason,
 ) -> Result<(), Fail> {
-    let header = joined(alloc, &[HEADER, b"\n"])?;
-    let text = joined(alloc, &[&header, FRONT, objects.as_bytes(), BACK])?;
+    let text = joined(alloc, &[FIRST, FRONT, objects.as_bytes(), BACK])?;
     let came = came_of(alloc, &text, 100, &Query::all(alloc), trees())?;
-    check_went(rt, &came, 0, refused(2, place, reason), &header, objects);
+    check_went(rt, &came, 0, refused(2, place, reason), FIRST, objects);
     Ok(())
 }
 
@@ -384,7 +376,7 @@ fn add_side(
 
 /// The header, and those of the features for which this is told; and how many these are.
 fn side_of(alloc: Global, holds: [bool; 4], side: bool) -> Result<(Vec<u8>, u64), Fail> {
-    let mut text = joined(alloc, &[HEADER, b"\n"])?;
+    let mut text = FIRST.to_vec(alloc)?;
     let count = add_side(&mut text, &FEATURES, &holds, side)?;
     Ok((text, count))
 }
@@ -519,13 +511,11 @@ fn left_out_by_two_parts(rt: HostRuntime) -> Result<(), Fail> {
 #[test]
 fn all_is_left_out(rt: HostRuntime) -> Result<(), Fail> {
     check_sides(&rt, rt.alloc(), &ALL, [true; 4], "nothing asked")?;
-    let header = joined(rt.alloc(), &[HEADER, b"\n"])?;
-    let text = joined(rt.alloc(), &[&header, SMALL, b"\n", FEATURE])?;
     let row = Row {
         name: "all left out",
-        text: &text,
+        text: &[FIRST, SMALL, b"\n", FEATURE],
         options: Options::new().exclude(true),
-        written: &header,
+        written: &[FIRST],
         reports: "",
         outcome: complete(3, 0, 0, held(350, 65, 8)),
     };
@@ -537,9 +527,9 @@ fn all_is_left_out(rt: HostRuntime) -> Result<(), Fail> {
 fn a_header_alone_is_not_left_out(rt: HostRuntime) -> Result<(), Fail> {
     let row = Row {
         name: "a header alone",
-        text: HEADER,
+        text: &[HEADER],
         options: Options::new().exclude(true),
-        written: HEADER,
+        written: &[HEADER],
         reports: "",
         outcome: complete(1, 0, 0, held(140, 21, 3)),
     };
@@ -555,14 +545,11 @@ fn check_faulty(
     reports: &str,
     outcome: Outcome,
 ) -> Result<(), Fail> {
-    let lines = [HEADER, b"\n", FEATURE, b"\n{}\n", ROAD, b"\n3\n\n", SMALL];
-    let text = joined(alloc, &lines)?;
-    let written = joined(alloc, written)?;
     let row = Row {
         name: "left out among refused lines",
-        text: &text,
+        text: &[STREAM, b"{}\n", ROAD, b"\n3\n\n", SMALL],
         options,
-        written: &written,
+        written,
         reports,
         outcome,
     };
@@ -573,7 +560,7 @@ fn check_faulty(
 #[test]
 fn left_out_among_refused_lines(rt: HostRuntime) -> Result<(), Fail> {
     let reports = "3 0 10\n5 0 12\n";
-    let written = [HEADER, b"\n", ROAD, b"\n", SMALL];
+    let written = [FIRST, ROAD, b"\n", SMALL];
     let others = complete(7, 2, 2, held(350, 65, 8));
     check_faulty(
         &rt,
@@ -583,9 +570,8 @@ fn left_out_among_refused_lines(rt: HostRuntime) -> Result<(), Fail> {
         reports,
         others,
     )?;
-    let written = [HEADER, b"\n", FEATURE, b"\n"];
     let asked = complete(7, 1, 2, held(350, 65, 8));
-    check_faulty(&rt, rt.alloc(), going(), &written, reports, asked)
+    check_faulty(&rt, rt.alloc(), going(), &[STREAM], reports, asked)
 }
 
 #[test]
@@ -593,5 +579,5 @@ fn a_refused_line_is_the_end_where_others_are_left_out(rt: HostRuntime) -> Resul
     let options = Options::new().exclude(true);
     let end = refused(3, 0, Reason::MissingMember);
     let first = outcome(2, 0, held(350, 65, 8), end);
-    check_faulty(&rt, rt.alloc(), options, &[HEADER, b"\n"], "", first)
+    check_faulty(&rt, rt.alloc(), options, &[FIRST], "", first)
 }

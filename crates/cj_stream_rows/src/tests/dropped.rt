@@ -1,8 +1,8 @@
 //! Lines that are too long, step by step: what is held and told while their bytes come, and when they are reported. The line limit
 //! is 210 throughout.
-use super::calls::{check_bytes, held, joined};
+use super::calls::{check_bytes, check_joined, held, joined};
 use super::reports::going;
-use super::rows::{FEATURE, HEADER, with_last_index};
+use super::rows::{FEATURE, FIRST, HEADER, STREAM, THIRD_REFUSED};
 use super::steps::{Opening, Step, written_by_steps};
 use cj_stream::End;
 use std::alloc::Global;
@@ -82,8 +82,7 @@ fn a_line_too_long_by_steps(rt: HostRuntime) -> Result<(), Fail> {
         reported(),
     ];
     let written = behind_long_line(&rt, rt.alloc(), &steps)?;
-    let wanted = joined(rt.alloc(), &[HEADER, b"\n"])?;
-    check_bytes(&rt, &written, &wanted, "too long", 0);
+    check_bytes(&rt, &written, FIRST, "too long", 0);
     Ok(())
 }
 
@@ -97,8 +96,7 @@ fn a_last_line_too_long_by_steps(rt: HostRuntime) -> Result<(), Fail> {
         Step::Counts(356, 2, 0),
     ];
     let written = behind_long_line(&rt, rt.alloc(), &steps)?;
-    let wanted = joined(rt.alloc(), &[HEADER, b"\n"])?;
-    check_bytes(&rt, &written, &wanted, "too long at last", 0);
+    check_bytes(&rt, &written, FIRST, "too long at last", 0);
     Ok(())
 }
 
@@ -127,9 +125,8 @@ fn check_cut_line<'a>(
 /// What fits of a line is stored first, also where the part that is too long comes after a part that fits.
 #[test]
 fn what_fits_counts_whatever_the_cut(rt: HostRuntime) -> Result<(), Fail> {
-    let header = joined(rt.alloc(), &[HEADER, b"\n", &FEATURE[..100]])?;
     let long = joined(rt.alloc(), &[FEATURE, FEATURE])?;
-    check_cut_line(&rt, rt.alloc(), &header, &long)
+    check_cut_line(&rt, rt.alloc(), &STREAM[..241], &long)
 }
 
 /// Gives the LF of the line that was dropped with the first 200 bytes of the next one, and its rest: what is written.
@@ -156,9 +153,14 @@ fn after_long_line<'a>(
 fn the_line_after_one_that_is_dropped(rt: HostRuntime) -> Result<(), Fail> {
     let front = joined(rt.alloc(), &[b"\n", &FEATURE[..200]])?;
     let written = after_long_line(&rt, rt.alloc(), &front, &FEATURE[200..])?;
-    let wanted = joined(rt.alloc(), &[HEADER, b"\n", FEATURE])?;
-    check_bytes(&rt, &written, &wanted, "the line after", 0);
-    Ok(())
+    check_joined(
+        &rt,
+        rt.alloc(),
+        &written,
+        &[FIRST, FEATURE],
+        "the line after",
+        0,
+    )
 }
 
 /// Gives a header with a line that is nested too deep, and a line that is refused for its last vertex index.
@@ -182,8 +184,7 @@ fn check_refused_lines<'a>(
 /// The lists of a line that is refused are emptied, as those of any other: also what was open in it.
 #[test]
 fn a_refused_line_is_held_no_longer(rt: HostRuntime) -> Result<(), Fail> {
-    let deep = joined(rt.alloc(), &[HEADER, b"\n[[[[[[[[[\n"])?;
-    let feature = with_last_index(rt.alloc(), b"4")?;
-    let line = joined(rt.alloc(), &[&feature, b"\n"])?;
-    check_refused_lines(&rt, rt.alloc(), &deep, &line)
+    let deep = joined(rt.alloc(), &[FIRST, b"[[[[[[[[[\n"])?;
+    let third = &THIRD_REFUSED[352..563];
+    check_refused_lines(&rt, rt.alloc(), &deep, third)
 }

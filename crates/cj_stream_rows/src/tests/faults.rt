@@ -4,7 +4,7 @@ use super::calls::{
     refused,
 };
 use super::devices::{SlowReader, SlowWriter};
-use super::rows::{FEATURE, HEADER, with_last_index};
+use super::rows::{BEYOND, FIRST, HEADER, STREAM};
 use super::steps::{Opening, Step, check_steps};
 use cj_budget::Limits;
 use cj_spans::Reason;
@@ -24,11 +24,10 @@ fn ran_from_slice<S: LineSink>(alloc: Global, text: &[u8], sink: &mut S) -> Outc
 
 #[test]
 fn a_writer_that_takes_five_bytes_and_fails(rt: HostRuntime) -> Result<(), Fail> {
-    let text = joined(rt.alloc(), &[HEADER, b"\n", FEATURE, b"\n"])?;
     let mut writer = SlowWriter::new(Vec::new(rt.alloc()), 5);
     writer.fails_at = 2;
     let mut sink = WriteSink::new(writer);
-    let outcome = ran_from_slice(rt.alloc(), &text, &mut sink);
+    let outcome = ran_from_slice(rt.alloc(), STREAM, &mut sink);
     check_ended(&rt, outcome.ended, End::WriteFault, "five bytes", 0);
     check_number(&rt, outcome.lines, 0, "lines", 0);
     check_bytes(&rt, &sink.into_inner().bytes, b"{\"typ", "five bytes", 0);
@@ -42,13 +41,12 @@ fn check_failing_write(
     text: &[u8],
     fails_at: u64,
     fault: ErrorKind,
-) -> Result<(), Fail> {
+) {
     let mut writer = SlowWriter::new(Vec::new(alloc), 1);
     writer.fails_at = fails_at;
     writer.fault = fault;
     let mut reader = SlowReader::new(text, 100);
-    let limits = Limits::new(8_388_608, 64)?;
-    let outcome = copied_to(alloc, &mut reader, &mut writer, limits);
+    let outcome = copied_to(alloc, &mut reader, &mut writer, Limits::usual());
     check_ended(rt, outcome.ended, End::WriteFault, "write", fails_at);
     let written = writer.bytes.as_slice();
     assert!(rt; written.len() <= text.len());
@@ -61,44 +59,31 @@ fn check_failing_write(
         fails_at,
     );
     check_bytes(rt, written, &text[..written.len()], "write", fails_at);
-    Ok(())
 }
 
 #[test]
-fn a_writer_that_fails_at_each_call(rt: HostRuntime) -> Result<(), Fail> {
-    let text = joined(rt.alloc(), &[HEADER, b"\n", FEATURE, b"\n"])?;
+fn a_writer_that_fails_at_each_call(rt: HostRuntime) {
     for fails_at in 1..=352u64 {
-        check_failing_write(&rt, rt.alloc(), &text, fails_at, ErrorKind::Other)?;
-        check_failing_write(&rt, rt.alloc(), &text, fails_at, ErrorKind::Interrupted)?;
+        check_failing_write(&rt, rt.alloc(), STREAM, fails_at, ErrorKind::Other);
+        check_failing_write(&rt, rt.alloc(), STREAM, fails_at, ErrorKind::Interrupted);
     }
-    Ok(())
 }
 
 /// Copies to a writer that takes `step` bytes a write, and is not asked again after it took none.
-fn check_step(
-    rt: &impl Abort,
-    alloc: Global,
-    text: &[u8],
-    step: usize,
-    ended: End,
-    wanted: &[u8],
-) -> Result<(), Fail> {
+fn check_step(rt: &impl Abort, alloc: Global, text: &[u8], step: usize, ended: End, wanted: &[u8]) {
     let mut writer = SlowWriter::new(Vec::new(alloc), step);
     let mut reader = SlowReader::new(text, 1_000);
-    let limits = Limits::new(8_388_608, 64)?;
-    let outcome = copied_to(alloc, &mut reader, &mut writer, limits);
+    let outcome = copied_to(alloc, &mut reader, &mut writer, Limits::usual());
     check_ended(rt, outcome.ended, ended, "by steps", step as u64);
     check_bytes(rt, &writer.bytes, wanted, "by steps", step as u64);
     let writes = (wanted.len() as u64).max(1);
     check_number(rt, writer.writes, writes, "writes", step as u64);
-    Ok(())
 }
 
 #[test]
-fn a_writer_that_takes_one_byte_and_one_that_takes_none(rt: HostRuntime) -> Result<(), Fail> {
-    let text = joined(rt.alloc(), &[HEADER, b"\n", FEATURE, b"\n"])?;
-    check_step(&rt, rt.alloc(), &text, 1, End::Complete, &text)?;
-    check_step(&rt, rt.alloc(), &text, 0, End::WriteFault, b"")
+fn a_writer_that_takes_one_byte_and_one_that_takes_none(rt: HostRuntime) {
+    check_step(&rt, rt.alloc(), STREAM, 1, End::Complete, STREAM);
+    check_step(&rt, rt.alloc(), STREAM, 0, End::WriteFault, b"");
 }
 
 /// Runs over a reader that gives a byte a read, up to the read that fails.
@@ -108,11 +93,11 @@ fn check_failing_read(
     text: &[u8],
     fails_at: u64,
     fault: ErrorKind,
-) -> Result<(), Fail> {
+) {
     let mut reader = SlowReader::new(text, 1);
     reader.fails_at = fails_at;
     reader.fault = fault;
-    let (outcome, written) = copied(alloc, &mut reader, Limits::new(8_388_608, 64)?);
+    let (outcome, written) = copied(alloc, &mut reader, Limits::usual());
     let (lines, front) = match fails_at {
         0..=141 => (0, 0),
         142..=352 => (1, 141),
@@ -123,36 +108,30 @@ fn check_failing_read(
     check_number(rt, outcome.lines, lines, "lines", fails_at);
     check_number(rt, reader.reads, fails_at, "reads", fails_at);
     check_bytes(rt, &written, &text[..front], "read", fails_at);
-    Ok(())
 }
 
 #[test]
-fn a_reader_that_fails_at_each_call(rt: HostRuntime) -> Result<(), Fail> {
-    let text = joined(rt.alloc(), &[HEADER, b"\n", FEATURE, b"\n"])?;
+fn a_reader_that_fails_at_each_call(rt: HostRuntime) {
     for fails_at in 1..=353u64 {
-        check_failing_read(&rt, rt.alloc(), &text, fails_at, ErrorKind::Other)?;
-        check_failing_read(&rt, rt.alloc(), &text, fails_at, ErrorKind::Interrupted)?;
+        check_failing_read(&rt, rt.alloc(), STREAM, fails_at, ErrorKind::Other);
+        check_failing_read(&rt, rt.alloc(), STREAM, fails_at, ErrorKind::Interrupted);
     }
-    Ok(())
 }
 
 #[test]
-fn a_reader_that_fails_in_the_second_line(rt: HostRuntime) -> Result<(), Fail> {
-    let text = joined(rt.alloc(), &[HEADER, b"\n", FEATURE, b"\n"])?;
-    let header = joined(rt.alloc(), &[HEADER, b"\n"])?;
-    let mut reader = SlowReader::new(&text, 145);
+fn a_reader_that_fails_in_the_second_line(rt: HostRuntime) {
+    let mut reader = SlowReader::new(STREAM, 145);
     reader.fails_at = 2;
-    let (outcome, written) = copied(rt.alloc(), &mut reader, Limits::new(8_388_608, 64)?);
+    let (outcome, written) = copied(rt.alloc(), &mut reader, Limits::usual());
     check_ended(&rt, outcome.ended, End::ReadFault, "second line", 2);
     check_number(&rt, outcome.lines, 1, "lines", 2);
     check_number(&rt, outcome.kept, 0, "kept", 2);
-    check_bytes(&rt, &written, &header, "second line", 2);
-    Ok(())
+    check_bytes(&rt, &written, FIRST, "second line", 2);
 }
 
 /// Runs over a stream to a sink whose writer may fail.
-fn run_to<S: LineSink>(alloc: Global, text: &[u8], sink: &mut S) -> Result<End, Fail> {
-    Ok(ran_to(alloc, text, 1_000, sink)?.ended)
+fn run_to<S: LineSink>(alloc: Global, text: &[u8], sink: &mut S) -> End {
+    ran_to(alloc, text, 1_000, sink).ended
 }
 
 /// Copies a header to a writer that takes nothing.
@@ -179,7 +158,7 @@ fn a_write_fault_stays_the_end(rt: HostRuntime) -> Result<(), Fail> {
     let mut writer = SlowWriter::new(Vec::new(rt.alloc()), 0);
     check_fault_of(&rt, rt.alloc(), &mut writer)?;
     check_number(&rt, writer.writes, 1, "writes", 0);
-    let ended = run_to(rt.alloc(), HEADER, &mut Output::new(&mut writer))?;
+    let ended = run_to(rt.alloc(), HEADER, &mut Output::new(&mut writer));
     check_ended(&rt, ended, End::WriteFault, "another run", 0);
     check_number(&rt, writer.writes, 2, "writes", 1);
     Ok(())
@@ -217,29 +196,22 @@ fn check_fault_told_again(
 
 #[test]
 fn an_engine_tells_each_write_fault_again(rt: HostRuntime) -> Result<(), Fail> {
-    let text = joined(rt.alloc(), &[HEADER, b"\n", FEATURE, b"\n"])?;
     for at in 1..=352u64 {
         let mut writer = SlowWriter::new(Vec::new(rt.alloc()), 1);
         writer.fails_at = at;
-        check_fault_told_again(&rt, rt.alloc(), &text, &mut writer, at)?;
+        check_fault_told_again(&rt, rt.alloc(), STREAM, &mut writer, at)?;
         let mut writer = SlowWriter::new(Vec::new(rt.alloc()), 1);
         writer.stops_at = at;
-        check_fault_told_again(&rt, rt.alloc(), &text, &mut writer, at)?;
+        check_fault_told_again(&rt, rt.alloc(), STREAM, &mut writer, at)?;
     }
     Ok(())
 }
 
 /// Runs over a stream to a sink whose writer fails in it, and once more. How often a sink's writer failed
 /// is seen by contracts alone; what can be seen here is that a failure does not stay.
-fn check_one_failure<S: LineSink>(
-    rt: &impl Abort,
-    alloc: Global,
-    text: &[u8],
-    sink: &mut S,
-) -> Result<(), Fail> {
-    check_ended(rt, run_to(alloc, text, sink)?, End::WriteFault, "first", 0);
-    check_ended(rt, run_to(alloc, text, sink)?, End::Complete, "second", 0);
-    Ok(())
+fn check_one_failure<S: LineSink>(rt: &impl Abort, alloc: Global, text: &[u8], sink: &mut S) {
+    check_ended(rt, run_to(alloc, text, sink), End::WriteFault, "first", 0);
+    check_ended(rt, run_to(alloc, text, sink), End::Complete, "second", 0);
 }
 
 /// A writer that fails at this write, to which `front` was written before, and then the whole stream.
@@ -253,37 +225,34 @@ fn check_sinks(
     let wanted = joined(alloc, &[front, text])?;
     let mut writer = SlowWriter::new(Vec::new(alloc), 1_000);
     writer.fails_at = fails_at;
-    check_one_failure(rt, alloc, text, &mut Output::new(&mut writer))?;
+    check_one_failure(rt, alloc, text, &mut Output::new(&mut writer));
     check_bytes(rt, &writer.bytes, &wanted, "lent", fails_at);
     let mut writer = SlowWriter::new(Vec::new(alloc), 1_000);
     writer.fails_at = fails_at;
     let mut sink = WriteSink::new(writer);
-    check_one_failure(rt, alloc, text, &mut sink)?;
+    check_one_failure(rt, alloc, text, &mut sink);
     check_bytes(rt, &sink.into_inner().bytes, &wanted, "owned", fails_at);
     Ok(())
 }
 
 #[test]
 fn a_sink_takes_lines_after_a_failure(rt: HostRuntime) -> Result<(), Fail> {
-    let header = joined(rt.alloc(), &[HEADER, b"\n"])?;
-    let text = joined(rt.alloc(), &[&header, FEATURE])?;
-    check_sinks(&rt, rt.alloc(), &text, 1, b"")?;
-    check_sinks(&rt, rt.alloc(), &text, 2, HEADER)?;
-    check_sinks(&rt, rt.alloc(), &text, 3, &header)
+    let text = &STREAM[..351];
+    check_sinks(&rt, rt.alloc(), text, 1, b"")?;
+    check_sinks(&rt, rt.alloc(), text, 2, HEADER)?;
+    check_sinks(&rt, rt.alloc(), text, 3, FIRST)
 }
 
 /// A line that is refused for what it says is not put to the sink: its writer fails at the next write.
 #[test]
 fn a_refused_line_is_not_put(rt: HostRuntime) -> Result<(), Fail> {
-    let header = joined(rt.alloc(), &[HEADER, b"\n"])?;
-    let line = with_last_index(rt.alloc(), b"4")?;
-    let text = joined(rt.alloc(), &[&header, &line, b"\n"])?;
+    let text = joined(rt.alloc(), &[FIRST, BEYOND, b"\n"])?;
     let mut writer = SlowWriter::new(Vec::new(rt.alloc()), 1_000);
     writer.fails_at = 3;
-    let ended = run_to(rt.alloc(), &text, &mut Output::new(&mut writer))?;
+    let ended = run_to(rt.alloc(), &text, &mut Output::new(&mut writer));
     let wanted = refused(2, 144, Reason::VertexIndex);
     check_ended(&rt, ended, wanted, "refused", 0);
     check_number(&rt, writer.writes, 2, "writes", 0);
-    check_bytes(&rt, &writer.bytes, &header, "refused", 0);
+    check_bytes(&rt, &writer.bytes, FIRST, "refused", 0);
     Ok(())
 }

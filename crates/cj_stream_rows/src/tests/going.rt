@@ -1,12 +1,12 @@
 //! Streams whose refused lines reading goes on after: each whole, by single bytes, and cut in two at every place, given to a run,
 //! to an engine and to a reader of lines.
 use super::calls::{
-    Reading, check_bytes, check_outcome, given, held, joined, outcome, ran, refused,
+    Reading, check_bytes, check_joined, check_outcome, given, held, joined, outcome, ran, refused,
 };
 use super::devices::SlowReader;
 use super::line_pieces::given_behind;
 use super::reports::{NoteReports, check_notes, going};
-use super::rows::{FEATURE, HEADER, SMALL, attributed, with_last_index};
+use super::rows::{BEYOND, FEATURE, FIRST, HEADER, SMALL, STREAM, attributed};
 use cj_budget::{Limits, Peaks};
 use cj_spans::Reason;
 use cj_stream::{End, Outcome, Query, WriteSink};
@@ -14,13 +14,13 @@ use std::alloc::Global;
 use std::process::Abort;
 use std::test::Fail;
 
-/// A stream, and what has to come of it where reading goes on.
+/// A stream, and what has to come of it where reading goes on. The stream and what has to be written of it are given in parts.
 #[derive(Clone, Copy)]
 struct Row<'a> {
     name: &'a str,
-    text: &'a [u8],
+    text: &'a [&'a [u8]],
     line_limit: u64,
-    written: &'a [u8],
+    written: &'a [&'a [u8]],
     reports: &'a str,
     outcome: Outcome,
 }
@@ -36,18 +36,10 @@ pub const fn complete(lines: u64, kept: u64, refused: u64, peaks: Peaks) -> Outc
     }
 }
 
-/// Compares what came of a stream that was cut here.
-fn check_came(
-    rt: &impl Abort,
-    row: &Row,
-    got: Outcome,
-    written: &[u8],
-    reports: &NoteReports,
-    at: u64,
-) {
+/// Compares what was told of a stream that was cut here.
+fn check_told(rt: &impl Abort, row: &Row, got: Outcome, reports: &NoteReports, at: u64) {
     check_notes(rt, reports, row.reports, row.name, at);
     check_outcome(rt, got, row.outcome, row.name, at);
-    check_bytes(rt, written, row.written, row.name, at);
 }
 
 /// Going on after a refused line.
@@ -60,34 +52,52 @@ fn going_within(limits: Limits, query: &Query) -> Reading<'_> {
 }
 
 /// Runs over a reader that gives `step` bytes a read.
-fn check_run(rt: &impl Abort, alloc: Global, row: &Row, step: usize) -> Result<(), Fail> {
-    let mut reader = SlowReader::new(row.text, step);
+fn check_run(
+    rt: &impl Abort,
+    alloc: Global,
+    text: &[u8],
+    step: usize,
+    written: &[u8],
+    row: &Row,
+) -> Result<(), Fail> {
+    let mut reader = SlowReader::new(text, step);
     let mut sink = WriteSink::new(Vec::new(alloc));
     let mut reports = NoteReports::new(alloc);
     let query = Query::all(alloc);
     let reading = going_within(Limits::new(row.line_limit, 64)?, &query);
     let got = ran(alloc, &mut reader, &mut sink, &mut reports, &reading);
-    check_came(rt, row, got, &sink.into_inner(), &reports, step as u64);
+    check_told(rt, row, got, &reports, step as u64);
+    check_bytes(rt, &sink.into_inner(), written, row.name, step as u64);
     Ok(())
 }
 
 /// Gives the stream to an engine, cut in two at this place.
-fn check_cut(rt: &impl Abort, alloc: Global, row: &Row, at: usize) -> Result<(), Fail> {
+fn check_cut(
+    rt: &impl Abort,
+    alloc: Global,
+    text: &[u8],
+    at: usize,
+    written: &[u8],
+    row: &Row,
+) -> Result<(), Fail> {
     let query = Query::all(alloc);
     let mut sink = WriteSink::new(Vec::new(alloc));
     let mut reports = NoteReports::new(alloc);
     let reading = going_within(Limits::new(row.line_limit, 64)?, &query);
-    let got = given(rt, alloc, row.text, at, &mut sink, &mut reports, &reading)?;
-    check_came(rt, row, got, &sink.into_inner(), &reports, at as u64);
+    let got = given(rt, alloc, text, at, &mut sink, &mut reports, &reading)?;
+    check_told(rt, row, got, &reports, at as u64);
+    check_bytes(rt, &sink.into_inner(), written, row.name, at as u64);
     Ok(())
 }
 
 /// A stream in every way.
 fn check(rt: &impl Abort, alloc: Global, row: &Row) -> Result<(), Fail> {
-    check_run(rt, alloc, row, 8_192)?;
-    check_run(rt, alloc, row, 1)?;
-    for at in 0..=row.text.len() {
-        check_cut(rt, alloc, row, at)?;
+    let text = joined(alloc, row.text)?;
+    let written = joined(alloc, row.written)?;
+    check_run(rt, alloc, &text, 8_192, &written, row)?;
+    check_run(rt, alloc, &text, 1, &written, row)?;
+    for at in 0..=text.len() {
+        check_cut(rt, alloc, &text, at, &written, row)?;
     }
     Ok(())
 }
@@ -96,15 +106,11 @@ fn check(rt: &impl Abort, alloc: Global, row: &Row) -> Result<(), Fail> {
 
 #[test]
 fn after_a_finding(rt: HostRuntime) -> Result<(), Fail> {
-    let line = with_last_index(rt.alloc(), b"4")?;
-    let front = joined(rt.alloc(), &[HEADER, b"\n", FEATURE, b"\n"])?;
-    let text = joined(rt.alloc(), &[&front, &line, b"\n", FEATURE, b"\n"])?;
-    let written = joined(rt.alloc(), &[&front, FEATURE, b"\n"])?;
     let row = Row {
         name: "after a finding",
-        text: &text,
+        text: &[STREAM, BEYOND, b"\n", FEATURE, b"\n"],
         line_limit: 1_000,
-        written: &written,
+        written: &[STREAM, FEATURE, b"\n"],
         reports: "3 144 25\n",
         outcome: complete(4, 2, 1, held(350, 65, 8)),
     };
@@ -113,14 +119,11 @@ fn after_a_finding(rt: HostRuntime) -> Result<(), Fail> {
 
 #[test]
 fn after_a_line_one_byte_too_long(rt: HostRuntime) -> Result<(), Fail> {
-    let front = joined(rt.alloc(), &[HEADER, b"\n", FEATURE, b"\n"])?;
-    let text = joined(rt.alloc(), &[&front, FEATURE, b" \n", FEATURE, b"\n"])?;
-    let written = joined(rt.alloc(), &[&front, FEATURE, b"\n"])?;
     let row = Row {
         name: "after a line one byte too long",
-        text: &text,
+        text: &[STREAM, FEATURE, b" \n", FEATURE, b"\n"],
         line_limit: 210,
-        written: &written,
+        written: &[STREAM, FEATURE, b"\n"],
         reports: "3 210 2\n",
         outcome: complete(4, 2, 1, held(350, 65, 8)),
     };
@@ -129,36 +132,31 @@ fn after_a_line_one_byte_too_long(rt: HostRuntime) -> Result<(), Fail> {
 
 #[test]
 fn a_first_line_of_an_older_version(rt: HostRuntime) -> Result<(), Fail> {
-    let line = joined(rt.alloc(), &[&HEADER[..29], b"\"1.1\"", &HEADER[34..]])?;
-    let text = joined(rt.alloc(), &[&line, b"\n", FEATURE])?;
     let row = Row {
         name: "an older version",
-        text: &text,
+        text: &[&HEADER[..29], b"\"1.1\"", &HEADER[34..], b"\n", FEATURE],
         line_limit: 1_000,
-        written: b"",
+        written: &[],
         reports: "",
         outcome: outcome(0, 0, held(140, 21, 3), refused(1, 29, Reason::WrongVersion)),
     };
     check(&rt, rt.alloc(), &row)
 }
 
-/// A header, and lines of which none is kept, in every way.
+/// A stream of which the header alone is kept, in every way.
 fn check_refused(
     rt: &impl Abort,
     alloc: Global,
-    lines: &[&[u8]],
+    text: &[&[u8]],
     reports: &str,
     counts: (u64, u64),
     peaks: Peaks,
 ) -> Result<(), Fail> {
-    let written = joined(alloc, &[HEADER, b"\n"])?;
-    let rest = joined(alloc, lines)?;
-    let text = joined(alloc, &[&written, &rest])?;
     let row = Row {
         name: reports,
-        text: &text,
+        text,
         line_limit: 210,
-        written: &written,
+        written: &[FIRST],
         reports,
         outcome: complete(counts.0, 0, counts.1, peaks),
     };
@@ -181,107 +179,75 @@ const FULL: Peaks = Peaks {
 #[test]
 fn a_line_five_bytes_too_long(rt: HostRuntime) -> Result<(), Fail> {
     let report = "2 210 2\n";
-    let line = joined(rt.alloc(), &[FEATURE, b"     "])?;
-    check_refused(&rt, rt.alloc(), &[&line, b"\n"], report, (2, 1), FULL)?;
-    check_refused(&rt, rt.alloc(), &[&line], report, (2, 1), FULL)?;
-    check_refused(&rt, rt.alloc(), &[&LETTERS, b"\n"], report, (2, 1), FULL)?;
-    check_refused(&rt, rt.alloc(), &[&LETTERS], report, (2, 1), FULL)
+    let text = [FIRST, FEATURE, b"     ", b"\n"];
+    check_refused(&rt, rt.alloc(), &text, report, (2, 1), FULL)?;
+    check_refused(&rt, rt.alloc(), &text[..3], report, (2, 1), FULL)?;
+    let text = [FIRST, &LETTERS, b"\n"];
+    check_refused(&rt, rt.alloc(), &text, report, (2, 1), FULL)?;
+    check_refused(&rt, rt.alloc(), &text[..2], report, (2, 1), FULL)
 }
 
 #[test]
 fn a_blank_line_too_long(rt: HostRuntime) -> Result<(), Fail> {
     let report = "2 210 2\n";
-    check_refused(&rt, rt.alloc(), &[&SPACES, b"\n"], report, (2, 1), FULL)?;
-    check_refused(&rt, rt.alloc(), &[&SPACES], report, (2, 1), FULL)?;
-    check_refused(
-        &rt,
-        rt.alloc(),
-        &[&SPACES[..211], b"\n\n"],
-        report,
-        (3, 1),
-        FULL,
-    )?;
-    check_refused(
-        &rt,
-        rt.alloc(),
-        &[&SPACES[..210], b"\n\n"],
-        "",
-        (3, 0),
-        FULL,
-    )
+    let text = [FIRST, &SPACES, b"\n"];
+    check_refused(&rt, rt.alloc(), &text, report, (2, 1), FULL)?;
+    check_refused(&rt, rt.alloc(), &text[..2], report, (2, 1), FULL)?;
+    let text = [FIRST, &SPACES[..211], b"\n\n"];
+    check_refused(&rt, rt.alloc(), &text, report, (3, 1), FULL)?;
+    let text = [FIRST, &SPACES[..210], b"\n\n"];
+    check_refused(&rt, rt.alloc(), &text, "", (3, 0), FULL)
 }
 
 #[test]
 fn two_lines_too_long_in_a_row(rt: HostRuntime) -> Result<(), Fail> {
     let reports = "2 210 2\n3 210 2\n";
-    let lines = [LETTERS.as_slice(), b"\n", &SPACES, b"\n"];
-    check_refused(&rt, rt.alloc(), &lines, reports, (3, 2), FULL)?;
-    check_refused(&rt, rt.alloc(), &lines[..3], reports, (3, 2), FULL)?;
-    let lines = [LETTERS.as_slice(), b"\n\n", &LETTERS, b"\n \n{}\n"];
+    let text = [FIRST, &LETTERS, b"\n", &SPACES, b"\n"];
+    check_refused(&rt, rt.alloc(), &text, reports, (3, 2), FULL)?;
+    check_refused(&rt, rt.alloc(), &text[..4], reports, (3, 2), FULL)?;
+    let text = [FIRST, &LETTERS, b"\n\n", &LETTERS, b"\n \n{}\n"];
     let reports = "2 210 2\n4 210 2\n6 0 10\n";
-    check_refused(&rt, rt.alloc(), &lines, reports, (6, 3), held(350, 22, 3))
+    check_refused(&rt, rt.alloc(), &text, reports, (6, 3), held(350, 22, 3))
 }
 
 /// The rest of a line that is too long is none of its own, also where it is one that would be valid, or is refused.
 #[test]
 fn the_rest_of_a_line_too_long(rt: HostRuntime) -> Result<(), Fail> {
     let report = "2 210 2\n";
-    let lines = [&SPACES[..210], SMALL, b"\n"];
-    check_refused(&rt, rt.alloc(), &lines, report, (2, 1), FULL)?;
-    let lines = [&SPACES[..210], b"{}\n"];
-    check_refused(&rt, rt.alloc(), &lines, report, (2, 1), FULL)
+    let text = [FIRST, &SPACES[..210], SMALL, b"\n"];
+    check_refused(&rt, rt.alloc(), &text, report, (2, 1), FULL)?;
+    let text = [FIRST, &SPACES[..210], b"{}\n"];
+    check_refused(&rt, rt.alloc(), &text, report, (2, 1), FULL)
 }
 
 /// A line that is no UTF-8 has no tokens, though as bytes it is a JSON text with more of them than the header; and neither
 /// has one that is too long.
 #[test]
 fn lines_that_are_not_looked_at(rt: HostRuntime) -> Result<(), Fail> {
-    let line = joined(
-        rt.alloc(),
-        &[
-            &FEATURE[..141],
-            b"3]]]}]}},\"a\":\"\xff\",\"vertices\":[[0,0,0]]}",
-        ],
-    )?;
-    check_refused(
-        &rt,
-        rt.alloc(),
-        &[&line, b"\n"],
-        "2 155 3\n",
-        (2, 1),
-        held(319, 21, 3),
-    )?;
-    let line = attributed(rt.alloc(), b"a")?;
-    check_refused(&rt, rt.alloc(), &[&line, b"\n"], "2 210 2\n", (2, 1), FULL)
+    let end = b"3]]]}]}},\"a\":\"\xff\",\"vertices\":[[0,0,0]]}\n";
+    let text = [FIRST, &FEATURE[..141], end];
+    let peaks = held(319, 21, 3);
+    check_refused(&rt, rt.alloc(), &text, "2 155 3\n", (2, 1), peaks)?;
+    let [front, name, value, end, back] = attributed(b"a");
+    let text = [FIRST, front, name, value, end, back, b"\n"];
+    check_refused(&rt, rt.alloc(), &text, "2 210 2\n", (2, 1), FULL)
 }
 
 #[test]
 fn blank_lines_are_not_reported(rt: HostRuntime) -> Result<(), Fail> {
-    let lines = [b"\n".as_slice(), b" \t\r\n", b"3\n", b"\n\n", b"[]", b"\n "];
+    let text = [FIRST, b"\n \t\r\n3\n\n\n[]\n "];
     let reports = "4 0 12\n7 0 12\n";
-    check_refused(&rt, rt.alloc(), &lines, reports, (8, 2), held(143, 22, 3))
+    check_refused(&rt, rt.alloc(), &text, reports, (8, 2), held(143, 22, 3))
 }
 
 /// A header as a later line is one more that is refused, and has the most tokens of these.
 #[test]
 fn every_second_line_is_refused(rt: HostRuntime) -> Result<(), Fail> {
-    let bad = with_last_index(rt.alloc(), b"4")?;
-    let three = joined(
-        rt.alloc(),
-        &[
-            b"\n", FEATURE, b"\n", &bad, b"\n", SMALL, b"\n", HEADER, b"\n", FEATURE, b"\n{}",
-        ],
-    )?;
-    let text = joined(rt.alloc(), &[HEADER, &three])?;
-    let written = joined(
-        rt.alloc(),
-        &[HEADER, b"\n", FEATURE, b"\n", SMALL, b"\n", FEATURE, b"\n"],
-    )?;
     let row = Row {
         name: "every second line",
-        text: &text,
+        text: &[STREAM, BEYOND, b"\n", SMALL, b"\n", FIRST, FEATURE, b"\n{}"],
         line_limit: 1_000,
-        written: &written,
+        written: &[STREAM, SMALL, b"\n", FEATURE, b"\n"],
         reports: "3 144 25\n5 0 10\n7 0 10\n",
         outcome: complete(7, 3, 3, held(350, 65, 8)),
     };
@@ -291,20 +257,17 @@ fn every_second_line_is_refused(rt: HostRuntime) -> Result<(), Fail> {
 /// What no JSON text is may have added tokens and open containers before that was seen, but fewer than the feature has.
 #[test]
 fn lines_that_are_no_json(rt: HostRuntime) -> Result<(), Fail> {
-    let lines = [
-        HEADER,
-        b"\n{\"type\":\"CityJSONFeature\",}\n",
-        FEATURE,
-        b"\ntru\n}\xff\n",
-        FEATURE,
-    ];
-    let text = joined(rt.alloc(), &lines)?;
-    let written = joined(rt.alloc(), &[HEADER, b"\n", FEATURE, b"\n", FEATURE])?;
     let row = Row {
         name: "no JSON",
-        text: &text,
+        text: &[
+            FIRST,
+            b"{\"type\":\"CityJSONFeature\",}\n",
+            FEATURE,
+            b"\ntru\n}\xff\n",
+            FEATURE,
+        ],
         line_limit: 1_000,
-        written: &written,
+        written: &[STREAM, FEATURE],
         reports: "2 26 4\n4 3 4\n5 1 3\n",
         outcome: complete(6, 2, 3, held(350, 65, 8)),
     };
@@ -315,30 +278,26 @@ fn lines_that_are_no_json(rt: HostRuntime) -> Result<(), Fail> {
 
 /// Runs over a stream, asking for the small feature.
 fn check_asked(rt: &impl Abort, alloc: Global, row: &Row) -> Result<(), Fail> {
+    let text = joined(alloc, row.text)?;
     let mut query = Query::all(alloc);
     query.add_id("b")?;
     let reading = going_within(Limits::new(row.line_limit, 64)?, &query);
-    let mut reader = SlowReader::new(row.text, 50);
+    let mut reader = SlowReader::new(&text, 50);
     let mut sink = WriteSink::new(Vec::new(alloc));
     let mut reports = NoteReports::new(alloc);
     let got = ran(alloc, &mut reader, &mut sink, &mut reports, &reading);
-    check_came(rt, row, got, &sink.into_inner(), &reports, 50);
-    Ok(())
+    check_told(rt, row, got, &reports, 50);
+    check_joined(rt, alloc, &sink.into_inner(), row.written, row.name, 50)
 }
 
 /// A line that is refused is reported, whatever the query asks for, and a feature that is not asked for is not.
 #[test]
 fn refused_lines_of_any_query(rt: HostRuntime) -> Result<(), Fail> {
-    let text = joined(
-        rt.alloc(),
-        &[HEADER, b"\n{}\n", FEATURE, b"\n", SMALL, b"\n3\n"],
-    )?;
-    let written = joined(rt.alloc(), &[HEADER, b"\n", SMALL, b"\n"])?;
     let row = Row {
         name: "asked for",
-        text: &text,
+        text: &[FIRST, b"{}\n", FEATURE, b"\n", SMALL, b"\n3\n"],
         line_limit: 1_000,
-        written: &written,
+        written: &[FIRST, SMALL, b"\n"],
         reports: "2 0 10\n5 0 12\n",
         outcome: complete(5, 1, 2, held(350, 65, 8)),
     };
@@ -348,11 +307,12 @@ fn refused_lines_of_any_query(rt: HostRuntime) -> Result<(), Fail> {
 // ---- behind a header
 
 /// Gives what comes behind the header to a reader of lines, cut in two at this place.
-fn check_lines(
+fn check_lines_cut(
     rt: &impl Abort,
     alloc: Global,
     rest: &[u8],
     at: usize,
+    written: &[u8],
     row: &Row,
 ) -> Result<(), Fail> {
     let query = Query::all(alloc);
@@ -360,26 +320,30 @@ fn check_lines(
     let mut reports = NoteReports::new(alloc);
     let reading = going_within(Limits::new(row.line_limit, 64)?, &query);
     let got = given_behind(rt, alloc, rest, at, &mut sink, &mut reports, &reading)?;
-    check_came(rt, row, got, &sink.into_inner(), &reports, at as u64);
+    check_told(rt, row, got, &reports, at as u64);
+    check_bytes(rt, &sink.into_inner(), written, row.name, at as u64);
+    Ok(())
+}
+
+/// Gives a row's text, which has no header, to a reader of lines, cut in two at each place.
+fn check_lines(rt: &impl Abort, alloc: Global, row: &Row) -> Result<(), Fail> {
+    let rest = joined(alloc, row.text)?;
+    let written = joined(alloc, row.written)?;
+    for at in 0..=rest.len() {
+        check_lines_cut(rt, alloc, &rest, at, &written, row)?;
+    }
     Ok(())
 }
 
 #[test]
 fn refused_lines_behind_a_header(rt: HostRuntime) -> Result<(), Fail> {
-    let bad = with_last_index(rt.alloc(), b"4")?;
-    let rest = joined(rt.alloc(), &[FEATURE, b" \n", FEATURE, b"\n", &bad])?;
-    let text = joined(rt.alloc(), &[HEADER, b"\n", &rest])?;
-    let written = joined(rt.alloc(), &[HEADER, b"\n", FEATURE, b"\n"])?;
     let row = Row {
         name: "behind a header",
-        text: &text,
+        text: &[FEATURE, b" \n", FEATURE, b"\n", BEYOND],
         line_limit: 210,
-        written: &written,
+        written: &[STREAM],
         reports: "2 210 2\n4 144 25\n",
         outcome: complete(4, 1, 2, held(350, 65, 8)),
     };
-    for at in 0..=rest.len() {
-        check_lines(&rt, rt.alloc(), &rest, at, &row)?;
-    }
-    Ok(())
+    check_lines(&rt, rt.alloc(), &row)
 }

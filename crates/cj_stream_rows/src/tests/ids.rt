@@ -1,7 +1,7 @@
 //! Queries of many ids: each that was added is found, and no other.
 use super::calls::{Reading, check_ended, check_number, joined, ran};
 use super::devices::SlowReader;
-use super::rows::HEADER;
+use super::rows::FIRST;
 use cj_budget::Limits;
 use cj_stream::{CountSink, End, NoReports, Query};
 use std::alloc::Global;
@@ -62,7 +62,7 @@ fn named(alloc: Global, id: &[u8]) -> Result<Vec<u8>, Fail> {
 
 /// A header, and a feature for each number below this.
 fn stream_of(alloc: Global, numbers: u64) -> Result<Vec<u8>, Fail> {
-    let mut text = joined(alloc, &[HEADER, b"\n"])?;
+    let mut text = FIRST.to_vec(alloc)?;
     for number in 0..numbers {
         let line = named(alloc, id_of(alloc, number)?.as_bytes())?;
         text.extend_from_slice(&line)?;
@@ -84,7 +84,7 @@ fn check_kept(
         headers: 0,
         features: 0,
     };
-    let reading = Reading::usual(Limits::new(8_388_608, 64)?, query);
+    let reading = Reading::usual(Limits::usual(), query);
     let outcome = ran(alloc, &mut reader, &mut sink, &mut NoReports, &reading);
     check_ended(rt, outcome.ended, End::Complete, row, kept);
     check_number(rt, sink.features, kept, row, kept);
@@ -210,7 +210,7 @@ fn check_one(
         query.add_id(id)?;
     }
     let feature = named(alloc, spelled)?;
-    let text = joined(alloc, &[HEADER, b"\n", &feature])?;
+    let text = joined(alloc, &[FIRST, &feature])?;
     check_kept(rt, alloc, &text, &query, keeps.into(), row)
 }
 

@@ -4,7 +4,7 @@ use super::calls::{
     refused, written_by,
 };
 use super::devices::SlowReader;
-use super::rows::{FEATURE, HEADER};
+use super::rows::{FEATURE, FIRST};
 use cj_budget::Limits;
 use cj_spans::Reason;
 use cj_stream::{End, Outcome, Query};
@@ -30,23 +30,22 @@ fn check_large(
     wanted: End,
     written: &[u8],
     row: &str,
-) -> Result<Outcome, Fail> {
+) -> Outcome {
     let mut reader = SlowReader::new(text, 8_192);
-    let (outcome, bytes) = copied(alloc, &mut reader, Limits::new(8_388_608, 64)?);
+    let (outcome, bytes) = copied(alloc, &mut reader, Limits::usual());
     check_ended(rt, outcome.ended, wanted, row, 0);
     check_number(rt, bytes.len() as u64, written.len() as u64, row, 1);
     check_bytes(rt, &bytes, written, row, 2);
-    Ok(outcome)
+    outcome
 }
 
 /// A line of 8,388,608 bytes `0,`: what comes after the first value is no JSON text.
 #[test]
 fn zeros_without_brackets(rt: HostRuntime) -> Result<(), Fail> {
-    let header = joined(rt.alloc(), &[HEADER, b"\n"])?;
     let line = zeros(rt.alloc(), 4_194_304)?;
-    let text = joined(rt.alloc(), &[&header, &line, b"\n"])?;
+    let text = joined(rt.alloc(), &[FIRST, &line, b"\n"])?;
     let end = refused(2, 1, Reason::Syntax);
-    let _ = check_large(&rt, rt.alloc(), &text, end, &header, "no brackets")?;
+    let _ = check_large(&rt, rt.alloc(), &text, end, FIRST, "no brackets");
     Ok(())
 }
 
@@ -64,8 +63,8 @@ fn listed(alloc: Global, zeros: &[u8]) -> Result<Vec<u8>, Fail> {
 #[test]
 fn zeros_in_a_list(rt: HostRuntime) -> Result<(), Fail> {
     let line = listed(rt.alloc(), &zeros(rt.alloc(), 4_194_187)?)?;
-    let text = joined(rt.alloc(), &[HEADER, b"\n", &line, b"\n"])?;
-    let got = check_large(&rt, rt.alloc(), &text, End::Complete, &text, "a list")?;
+    let text = joined(rt.alloc(), &[FIRST, &line, b"\n"])?;
+    let got = check_large(&rt, rt.alloc(), &text, End::Complete, &text, "a list");
     let peaks = held(8_388_747, 4_194_257, 8);
     let wanted = outcome(2, 1, peaks, End::Complete);
     check_outcome(&rt, got, wanted, "a list", 3);
@@ -81,9 +80,9 @@ fn check_keeps(
     keeps: bool,
     row: &str,
 ) -> Result<(), Fail> {
-    let text = joined(alloc, &[HEADER, b"\n", feature, b"\n"])?;
+    let text = joined(alloc, &[FIRST, feature, b"\n"])?;
     let mut reader = SlowReader::new(&text, 8_192);
-    let reading = Reading::usual(Limits::new(8_388_608, 64)?, query);
+    let reading = Reading::usual(Limits::usual(), query);
     let (outcome, _) = written_by(alloc, &mut reader, &reading);
     check_ended(rt, outcome.ended, End::Complete, row, 0);
     check_number(rt, outcome.kept, keeps.into(), row, 1);

@@ -1,6 +1,6 @@
 //! What comes behind a header, in pieces given to its reader of lines.
-use super::calls::{Reading, check_bytes, check_outcome, held, joined, outcome, refused};
-use super::rows::{FEATURE, HEADER, with_last_index};
+use super::calls::{Reading, check_bytes, check_outcome, held, outcome, refused};
+use super::rows::{HEADER, STREAM, THIRD_REFUSED};
 use super::states::{check_progress, feed_header, header_opened};
 use cj_budget::{Limits, Peaks};
 use cj_spans::Reason;
@@ -91,23 +91,18 @@ fn check_cuts(rt: &impl Abort, alloc: Global, rest: &[u8], wanted: &Behind) -> R
 
 #[test]
 fn a_feature_behind_a_header(rt: HostRuntime) -> Result<(), Fail> {
-    let rest = joined(rt.alloc(), &[FEATURE, b"\n"])?;
-    let written = joined(rt.alloc(), &[HEADER, b"\n", FEATURE, b"\n"])?;
     let wanted = Behind {
-        written: &written,
+        written: STREAM,
         outcome: outcome(2, 1, held(350, 65, 8), End::Complete),
     };
-    check_cuts(&rt, rt.alloc(), &rest, &wanted)
+    check_cuts(&rt, rt.alloc(), &STREAM[141..], &wanted)
 }
 
 #[test]
 fn a_refused_line_behind_a_header(rt: HostRuntime) -> Result<(), Fail> {
-    let line = with_last_index(rt.alloc(), b"4")?;
-    let rest = joined(rt.alloc(), &[FEATURE, b"\n", &line, b"\n", FEATURE])?;
-    let written = joined(rt.alloc(), &[HEADER, b"\n", FEATURE, b"\n"])?;
     let wanted = Behind {
-        written: &written,
+        written: STREAM,
         outcome: outcome(2, 1, held(350, 65, 8), refused(3, 144, Reason::VertexIndex)),
     };
-    check_cuts(&rt, rt.alloc(), &rest, &wanted)
+    check_cuts(&rt, rt.alloc(), &THIRD_REFUSED[141..], &wanted)
 }

@@ -20,7 +20,7 @@ fn check_front(
     let mut writer = SlowWriter::new(Vec::new(alloc), step);
     writer.fails_at = fails_at;
     let mut reader = SlowReader::new(text, 10_000);
-    let limits = Limits::new(8_388_608, 64)?;
+    let limits = Limits::usual();
     let outcome = copied_to(alloc, &mut reader, &mut writer, limits);
     check_ended(rt, outcome.ended, End::WriteFault, "write", fails_at);
     check_number(rt, writer.writes, fails_at, "writes", fails_at);
@@ -69,7 +69,7 @@ fn a_writer_that_fails_far_in_one_line(rt: HostRuntime) -> Result<(), Fail> {
 fn check_whole(rt: &impl Abort, alloc: Global, text: &[u8], step: usize) -> Result<(), Fail> {
     let mut writer = SlowWriter::new(Vec::new(alloc), step);
     let mut reader = SlowReader::new(text, 10_000);
-    let limits = Limits::new(8_388_608, 64)?;
+    let limits = Limits::usual();
     let outcome = copied_to(alloc, &mut reader, &mut writer, limits);
     check_ended(rt, outcome.ended, End::Complete, "whole", step as u64);
     check_bytes(rt, &writer.bytes, text, "whole", step as u64);
@@ -98,7 +98,7 @@ fn check_failing_read(
 ) -> Result<(), Fail> {
     let mut reader = SlowReader::new(text, 100);
     reader.fails_at = fails_at;
-    let (outcome, bytes) = copied(alloc, &mut reader, Limits::new(8_388_608, 64)?);
+    let (outcome, bytes) = copied(alloc, &mut reader, Limits::usual());
     check_ended(rt, outcome.ended, End::ReadFault, "read", fails_at);
     check_number(rt, outcome.lines, lines, "lines", fails_at);
     assert!(rt; written <= text.len());

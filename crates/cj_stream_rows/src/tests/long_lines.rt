@@ -1,10 +1,9 @@
 //! Lines longer than one read, given at once and in very many pieces.
-use super::calls::{
-    check_bytes, check_feed, check_finish, check_outcome, held, joined, opened, outcome,
-};
-use super::rows::{FEATURE, HEADER, Wanted, attributed, check_run};
+use super::calls::{check_bytes, held, joined, outcome};
+use super::rows::{FEATURE, FIRST, Wanted, attributed, check_run};
+use super::steps::{Opening, Step, written_by_steps};
 use cj_budget::Limits;
-use cj_stream::{End, Engine, Options, Query, WriteSink};
+use cj_stream::{End, Outcome};
 use std::alloc::Global;
 use std::process::Abort;
 use std::test::Fail;
@@ -20,23 +19,33 @@ fn digits(alloc: Global, count: usize) -> Result<Vec<u8>, Fail> {
 
 /// A header, and a feature of this many bytes, of which 232 are no digits of its attribute.
 pub fn long_text(alloc: Global, length: usize) -> Result<Vec<u8>, Fail> {
-    let line = attributed(alloc, &digits(alloc, length.saturating_sub(232))?)?;
-    joined(alloc, &[HEADER, b"\n", &line, b"\n"])
+    let digits = digits(alloc, length.saturating_sub(232))?;
+    let [front, name, value, end, back] = attributed(&digits);
+    joined(alloc, &[FIRST, front, name, value, end, back, b"\n"])
 }
 
-/// Feeds a stream by pieces of `step` bytes.
-fn feed_by(
+/// Gives a stream by pieces of `step` bytes, and its end, which has to come to this.
+fn by_pieces<'a>(
     rt: &impl Abort,
-    engine: &mut Engine,
-    text: &[u8],
+    alloc: Global,
+    text: &'a [u8],
     step: usize,
-    sink: &mut WriteSink<Vec<u8>>,
-) {
+    wanted: Outcome,
+) -> Result<Vec<Step<'a>>, Fail> {
     assert!(rt; step > 0);
+    let mut steps = Vec::new(alloc);
     for piece in text.chunks(step) {
-        check_feed(rt, engine, piece, sink, Ok(()));
+        steps.push(Step::Feed(piece, Ok(())))?;
     }
-    check_finish(rt, engine, sink, End::Complete);
+    for step in [
+        Step::Finish(wanted.ended),
+        Step::Counts(text.len() as u64, wanted.lines, wanted.kept),
+        Step::Held(held(140, 21, 0), wanted.peaks),
+        Step::Reported(0, ""),
+    ] {
+        steps.push(step)?;
+    }
+    Ok(steps)
 }
 
 /// Gives a stream to an engine by pieces of `step` bytes.
@@ -47,19 +56,9 @@ fn check_pieces(
     step: usize,
     wanted: &Wanted,
 ) -> Result<(), Fail> {
-    let query = Query::all(alloc);
-    let mut engine = opened(alloc, 8_388_608, 64, &query, Options::new())?;
-    let mut sink = WriteSink::new(Vec::new(alloc));
-    feed_by(rt, &mut engine, text, step, &mut sink);
-    let told = outcome(engine.lines(), engine.kept(), engine.peaks(), End::Complete);
-    check_outcome(rt, told, wanted.outcome, wanted.name, step as u64);
-    check_bytes(
-        rt,
-        &sink.into_inner(),
-        wanted.written,
-        wanted.name,
-        step as u64,
-    );
+    let steps = by_pieces(rt, alloc, text, step, wanted.outcome)?;
+    let written = written_by_steps(rt, alloc, &Opening::usual(), &steps)?;
+    check_bytes(rt, &written, wanted.written, wanted.name, step as u64);
     Ok(())
 }
 
@@ -73,9 +72,8 @@ fn check_long_line(rt: &impl Abort, alloc: Global, length: usize) -> Result<(), 
         written: &text,
         outcome: outcome(2, 1, held(bytes, 69, 8), End::Complete),
     };
-    let limits = Limits::new(8_388_608, 64)?;
-    check_run(rt, alloc, &text, 1_000_000, limits, &wanted);
-    check_run(rt, alloc, &text, 8_191, limits, &wanted);
+    check_run(rt, alloc, &text, 1_000_000, Limits::usual(), &wanted);
+    check_run(rt, alloc, &text, 8_191, Limits::usual(), &wanted);
     check_pieces(rt, alloc, &text, text.len(), &wanted)?;
     check_pieces(rt, alloc, &text, text.len().saturating_sub(1), &wanted)?;
     check_pieces(rt, alloc, &text, 50, &wanted)
@@ -99,7 +97,7 @@ fn a_line_of_a_million_bytes(rt: HostRuntime) -> Result<(), Fail> {
 
 /// A header, and this many features.
 pub fn many_features(alloc: Global, features: usize) -> Result<Vec<u8>, Fail> {
-    let mut text = joined(alloc, &[HEADER, b"\n"])?;
+    let mut text = FIRST.to_vec(alloc)?;
     for _i in 0..features {
         text.extend_from_slice(FEATURE)?;
         text.push(b'\n')?;
@@ -115,7 +113,6 @@ fn a_thousand_features_in_a_piece(rt: HostRuntime) -> Result<(), Fail> {
         written: &text,
         outcome: outcome(1_001, 1_000, held(350, 65, 8), End::Complete),
     };
-    let limits = Limits::new(8_388_608, 64)?;
-    check_run(&rt, rt.alloc(), &text, 1_000_000, limits, &wanted);
+    check_run(&rt, rt.alloc(), &text, 1_000_000, Limits::usual(), &wanted);
     check_pieces(&rt, rt.alloc(), &text, text.len(), &wanted)
 }

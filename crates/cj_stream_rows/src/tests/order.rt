@@ -1,7 +1,7 @@
 //! Of several faults of one line, the one that is told.
 use super::calls::{check_ended, copied, joined, refused};
 use super::devices::SlowReader;
-use super::rows::HEADER;
+use super::rows::FIRST;
 use cj_budget::Limits;
 use cj_spans::Reason;
 use std::alloc::Global;
@@ -17,7 +17,7 @@ fn check_fault(
     place: u64,
     reason: Reason,
 ) -> Result<(), Fail> {
-    let text = joined(alloc, &[HEADER, b"\n", line, b"\n"])?;
+    let text = joined(alloc, &[FIRST, line, b"\n"])?;
     let (outcome, _) = copied(alloc, &mut SlowReader::new(&text, 1), limits);
     let wanted = refused(2, place, reason);
     check_ended(rt, outcome.ended, wanted, "first fault", place);
@@ -40,7 +40,7 @@ fn the_length_comes_first(rt: HostRuntime) -> Result<(), Fail> {
 
 #[test]
 fn bytes_come_before_the_text(rt: HostRuntime) -> Result<(), Fail> {
-    let limits = Limits::new(8_388_608, 64)?;
+    let limits = Limits::usual();
     check_fault(&rt, rt.alloc(), b"[]\xff", limits, 2, Reason::NotUtf8)?;
     check_fault(&rt, rt.alloc(), b" \xff", limits, 1, Reason::NotUtf8)
 }

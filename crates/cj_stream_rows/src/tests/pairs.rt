@@ -5,7 +5,7 @@ use super::calls::{check_number, joined, refused};
 use super::choosing::{APART, Came, ROAD, came_of, check_went};
 use super::queries::{Parts, SEVERAL, by_ids, by_lods, by_types, query_of};
 use super::reports::{check_notes, going};
-use super::rows::{FEATURE, HEADER, SMALL};
+use super::rows::{FEATURE, FIRST, SMALL, STREAM};
 use cj_spans::Reason;
 use cj_stream::{End, Options};
 use std::alloc::Global;
@@ -94,7 +94,7 @@ fn add_kept(
 
 /// What is written where these features satisfy the query, and how many features that are.
 fn kept_of(alloc: Global, holds: [bool; 5], case: &Case) -> Result<(Vec<u8>, u64), Fail> {
-    let mut text = joined(alloc, &[HEADER, b"\n"])?;
+    let mut text = FIRST.to_vec(alloc)?;
     let count = add_kept(&mut text, &FEATURES, &holds, case)?;
     Ok((text, count))
 }
@@ -124,7 +124,7 @@ fn check_pair(
     row: &str,
 ) -> Result<(), Fail> {
     let lines = [
-        HEADER, b"\n", FEATURE, b"\n", APART, b"\n", ROAD, b"\n{}\n", SEVERAL, b"\n", SMALL, b"\n",
+        STREAM, APART, b"\n", ROAD, b"\n{}\n", SEVERAL, b"\n", SMALL, b"\n",
     ];
     let text = joined(alloc, &lines)?;
     let query = query_of(alloc, parts)?;

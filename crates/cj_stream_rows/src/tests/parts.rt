@@ -4,7 +4,7 @@ use super::calls::{Reading, check_outcome, held, joined, outcome, ran, refused};
 use super::devices::SlowReader;
 use super::going::complete;
 use super::reports::{NoteReports, check_notes, going};
-use super::rows::{FEATURE, HEADER, SMALL, with_last_index};
+use super::rows::{BEYOND, FEATURE, HEADER, SMALL};
 use cj_budget::Limits;
 use cj_spans::Reason;
 use cj_stream::{IgnoreSink, Options, Outcome, Query};
@@ -12,13 +12,13 @@ use std::alloc::Global;
 use std::process::Abort;
 use std::test::Fail;
 
-/// A header, and what is behind it in two parts.
+/// A header, and what is behind it in two parts, each by its texts.
 #[derive(Clone, Copy)]
 struct Parts<'a> {
     name: &'a str,
-    header: &'a [u8],
-    first: &'a [u8],
-    second: &'a [u8],
+    header: &'a [&'a [u8]],
+    first: &'a [&'a [u8]],
+    second: &'a [&'a [u8]],
     options: Options,
 }
 
@@ -30,7 +30,8 @@ fn over(
     behind: &[u8],
     notes: &str,
 ) -> Result<Outcome, Fail> {
-    let text = joined(alloc, &[parts.header, b"\n", behind])?;
+    let header = joined(alloc, parts.header)?;
+    let text = joined(alloc, &[&header, b"\n", behind])?;
     let mut reader = SlowReader::new(&text, 100);
     let mut reports = NoteReports::new(alloc);
     let reading = Reading {
@@ -52,10 +53,12 @@ fn check(
     wanted: Outcome,
 ) -> Result<(), Fail> {
     let [of_first, of_second, of_all] = notes;
-    let first = over(rt, alloc, parts, parts.first, of_first)?;
-    let second = over(rt, alloc, parts, parts.second, of_second)?;
+    let front = joined(alloc, parts.first)?;
+    let rest = joined(alloc, parts.second)?;
+    let first = over(rt, alloc, parts, &front, of_first)?;
+    let second = over(rt, alloc, parts, &rest, of_second)?;
     check_outcome(rt, first.then(second), wanted, parts.name, 1);
-    let behind = joined(alloc, &[parts.first, parts.second])?;
+    let behind = joined(alloc, &[&front, &rest])?;
     let all = over(rt, alloc, parts, &behind, of_all)?;
     check_outcome(rt, all, wanted, parts.name, 2);
     Ok(())
@@ -69,14 +72,11 @@ fn check_lines(
     notes: [&str; 3],
     wanted: Outcome,
 ) -> Result<(), Fail> {
-    let line = with_last_index(alloc, b"4")?;
-    let first = joined(alloc, &[FEATURE, b"\n\n"])?;
-    let second = joined(alloc, &[SMALL, b"\n", &line, b"\n", FEATURE])?;
     let parts = Parts {
         name: "a line of the second part",
-        header: HEADER,
-        first: &first,
-        second: &second,
+        header: &[HEADER],
+        first: &[FEATURE, b"\n\n"],
+        second: &[SMALL, b"\n", BEYOND, b"\n", FEATURE],
         options,
     };
     check(rt, alloc, &parts, notes, wanted)
@@ -84,12 +84,11 @@ fn check_lines(
 
 #[test]
 fn two_features_in_two_parts(rt: HostRuntime) -> Result<(), Fail> {
-    let first = joined(rt.alloc(), &[SMALL, b"\n"])?;
     let parts = Parts {
         name: "two features",
-        header: HEADER,
-        first: &first,
-        second: FEATURE,
+        header: &[HEADER],
+        first: &[SMALL, b"\n"],
+        second: &[FEATURE],
         options: Options::new(),
     };
     let wanted = complete(3, 2, 0, held(350, 65, 8));
@@ -99,12 +98,11 @@ fn two_features_in_two_parts(rt: HostRuntime) -> Result<(), Fail> {
 /// The part that has the most of all may come first.
 #[test]
 fn the_longer_part_first(rt: HostRuntime) -> Result<(), Fail> {
-    let first = joined(rt.alloc(), &[FEATURE, b"\n"])?;
     let parts = Parts {
         name: "the longer part first",
-        header: HEADER,
-        first: &first,
-        second: SMALL,
+        header: &[HEADER],
+        first: &[FEATURE, b"\n"],
+        second: &[SMALL],
         options: Options::new(),
     };
     let wanted = complete(3, 2, 0, held(350, 65, 8));
@@ -115,9 +113,9 @@ fn the_longer_part_first(rt: HostRuntime) -> Result<(), Fail> {
 fn parts_of_nothing(rt: HostRuntime) -> Result<(), Fail> {
     let parts = Parts {
         name: "nothing",
-        header: HEADER,
-        first: b"",
-        second: b"",
+        header: &[HEADER],
+        first: &[],
+        second: &[],
         options: Options::new(),
     };
     let wanted = complete(1, 0, 0, held(140, 21, 3));
@@ -140,12 +138,11 @@ fn a_reported_line_of_the_second_part(rt: HostRuntime) -> Result<(), Fail> {
 
 #[test]
 fn a_refused_line_of_the_first_part(rt: HostRuntime) -> Result<(), Fail> {
-    let first = joined(rt.alloc(), &[&with_last_index(rt.alloc(), b"4")?, b"\n"])?;
     let parts = Parts {
         name: "a line of the first part",
-        header: HEADER,
-        first: &first,
-        second: SMALL,
+        header: &[HEADER],
+        first: &[BEYOND, b"\n"],
+        second: &[SMALL],
         options: Options::new(),
     };
     let ended = refused(2, 144, Reason::VertexIndex);
@@ -155,13 +152,11 @@ fn a_refused_line_of_the_first_part(rt: HostRuntime) -> Result<(), Fail> {
 
 #[test]
 fn parts_of_a_refused_header(rt: HostRuntime) -> Result<(), Fail> {
-    let header = joined(rt.alloc(), &[&HEADER[..29], b"\"1.1\"", &HEADER[34..]])?;
-    let first = joined(rt.alloc(), &[FEATURE, b"\n"])?;
     let parts = Parts {
         name: "a header",
-        header: &header,
-        first: &first,
-        second: SMALL,
+        header: &[&HEADER[..29], b"\"1.1\"", &HEADER[34..]],
+        first: &[FEATURE, b"\n"],
+        second: &[SMALL],
         options: going(),
     };
     let ended = refused(1, 29, Reason::WrongVersion);

@@ -1,7 +1,7 @@
 //! Rows of queries: which features are kept of a stream.
-use super::calls::{Reading, check_bytes, check_ended, check_number, joined, refused, written_by};
+use super::calls::{Reading, check_ended, check_joined, check_number, joined, refused, written_by};
 use super::devices::SlowReader;
-use super::rows::{FEATURE, HEADER};
+use super::rows::{FEATURE, HEADER, STREAM};
 use cj_budget::Limits;
 use cj_spans::Reason;
 use cj_stream::{End, Outcome, Query, QueryFault};
@@ -134,16 +134,15 @@ fn check_keeps(
     keeps: bool,
     row: &str,
 ) -> Result<(), Fail> {
-    let header = joined(alloc, &[pair.header, b"\n"])?;
-    let text = joined(alloc, &[&header, pair.feature, b"\n"])?;
+    let lines = [pair.header, b"\n", pair.feature, b"\n"];
+    let text = joined(alloc, &lines)?;
     let query = query_of(alloc, parts)?;
-    let limits = Limits::new(8_388_608, 64)?;
-    let (outcome, written) = kept_of(alloc, &text, limits, &query);
+    let (outcome, written) = kept_of(alloc, &text, Limits::usual(), &query);
     check_ended(rt, outcome.ended, End::Complete, row, 0);
     check_number(rt, outcome.lines, 2, row, 1);
     check_number(rt, outcome.kept, keeps.into(), row, 2);
-    check_bytes(rt, &written, if keeps { &text } else { &header }, row, 3);
-    Ok(())
+    let kept = if keeps { 4 } else { 2 };
+    check_joined(rt, alloc, &written, &lines[..kept], row, 3)
 }
 
 /// Runs over a header and a feature, of which one is refused.
@@ -156,8 +155,7 @@ fn check_refused(
 ) -> Result<(), Fail> {
     let text = joined(alloc, &[pair.header, b"\n", pair.feature, b"\n"])?;
     let query = query_of(alloc, parts)?;
-    let limits = Limits::new(8_388_608, 64)?;
-    let (outcome, _) = kept_of(alloc, &text, limits, &query);
+    let (outcome, _) = kept_of(alloc, &text, Limits::usual(), &query);
     check_ended(rt, outcome.ended, end, "refused", 0);
     Ok(())
 }
@@ -452,48 +450,33 @@ fn check_fault(
 }
 
 /// Runs over the usual header and feature, which has to be kept or not.
-fn check_query(
-    rt: &impl Abort,
-    alloc: Global,
-    query: &Query,
-    keeps: bool,
-    row: &str,
-) -> Result<(), Fail> {
-    let text = joined(alloc, &[HEADER, b"\n", FEATURE, b"\n"])?;
-    let limits = Limits::new(8_388_608, 64)?;
-    let (outcome, _) = kept_of(alloc, &text, limits, query);
+fn check_query(rt: &impl Abort, alloc: Global, query: &Query, keeps: bool, row: &str) {
+    let (outcome, _) = kept_of(alloc, STREAM, Limits::usual(), query);
     check_number(rt, outcome.kept, keeps.into(), row, 0);
-    Ok(())
 }
 
 /// A type that is not known is refused, and changes nothing.
 #[test]
-fn an_unknown_type(rt: HostRuntime) -> Result<(), Fail> {
+fn an_unknown_type(rt: HostRuntime) {
     let mut query = Query::all(rt.alloc());
     check_fault(&rt, query.add_type("Building"), Ok(()), "Building");
-    check_query(&rt, rt.alloc(), &query, true, "Building")?;
+    check_query(&rt, rt.alloc(), &query, true, "Building");
     let unknown = Err(QueryFault::UnknownTypeName);
     check_fault(&rt, query.add_type("+Shed"), unknown, "+Shed");
-    check_query(&rt, rt.alloc(), &query, true, "after +Shed")?;
+    check_query(&rt, rt.alloc(), &query, true, "after +Shed");
     query.start_types();
-    check_query(&rt, rt.alloc(), &query, false, "no type")
+    check_query(&rt, rt.alloc(), &query, false, "no type");
 }
 
 /// A box that is refused leaves the one before it.
-fn check_box(
-    rt: &impl Abort,
-    alloc: Global,
-    query: &mut Query,
-    text: &str,
-    fault: QueryFault,
-) -> Result<(), Fail> {
+fn check_box(rt: &impl Abort, alloc: Global, query: &mut Query, text: &str, fault: QueryFault) {
     check_fault(rt, query.bbox(text), Err(fault), text);
     assert!(rt; query.wants_box());
-    check_query(rt, alloc, query, true, text)
+    check_query(rt, alloc, query, true, text);
 }
 
 #[test]
-fn boxes_that_are_refused(rt: HostRuntime) -> Result<(), Fail> {
+fn boxes_that_are_refused(rt: HostRuntime) {
     let mut query = Query::all(rt.alloc());
     check_fault(&rt, query.bbox("1000,2000,1001,2001"), Ok(()), "a box");
     for (text, fault) in [
@@ -509,29 +492,28 @@ fn boxes_that_are_refused(rt: HostRuntime) -> Result<(), Fail> {
         ("3,0,1,1", QueryFault::EmptyBox),
         ("0,1.000000000000000001,1,1", QueryFault::EmptyBox),
     ] {
-        check_box(&rt, rt.alloc(), &mut query, text, fault)?;
+        check_box(&rt, rt.alloc(), &mut query, text, fault);
     }
-    Ok(())
 }
 
 /// A part that is set anew begins empty; a text that is added to a part that is not set is its first.
 #[test]
-fn parts_are_set_anew(rt: HostRuntime) -> Result<(), Fail> {
+fn parts_are_set_anew(rt: HostRuntime) {
     let mut query = Query::all(rt.alloc());
     check_fault(&rt, query.add_id("b2"), Ok(()), "b2");
-    check_query(&rt, rt.alloc(), &query, false, "b2")?;
+    check_query(&rt, rt.alloc(), &query, false, "b2");
     check_fault(&rt, query.add_id("b1"), Ok(()), "b1");
-    check_query(&rt, rt.alloc(), &query, true, "b2 and b1")?;
+    check_query(&rt, rt.alloc(), &query, true, "b2 and b1");
     query.start_ids();
-    check_query(&rt, rt.alloc(), &query, false, "no id")?;
+    check_query(&rt, rt.alloc(), &query, false, "no id");
     check_fault(&rt, query.add_id("b1"), Ok(()), "b1");
     check_fault(&rt, query.add_lod("2"), Ok(()), "2");
-    check_query(&rt, rt.alloc(), &query, false, "b1 and 2")?;
+    check_query(&rt, rt.alloc(), &query, false, "b1 and 2");
     query.start_lods();
     check_fault(&rt, query.add_lod("2.2"), Ok(()), "2.2");
-    check_query(&rt, rt.alloc(), &query, true, "b1 and 2.2")?;
+    check_query(&rt, rt.alloc(), &query, true, "b1 and 2.2");
     check_fault(&rt, query.bbox("0,0,1,1"), Ok(()), "away");
-    check_query(&rt, rt.alloc(), &query, false, "away")?;
+    check_query(&rt, rt.alloc(), &query, false, "away");
     check_fault(&rt, query.bbox("0,0,1e4,1e4"), Ok(()), "around");
-    check_query(&rt, rt.alloc(), &query, true, "around")
+    check_query(&rt, rt.alloc(), &query, true, "around");
 }

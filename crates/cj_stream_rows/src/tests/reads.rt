@@ -1,14 +1,13 @@
 //! Runs within a number of reads: how often the reader is read, what is written, and how they end.
-use super::calls::{check_bytes, check_ended, check_number, joined, refused};
+use super::calls::{check_bytes, check_ended, check_number, refused};
 use super::devices::{EndlessReader, SlowReader};
-use super::rows::{FEATURE, HEADER};
+use super::rows::{FIRST, HEADER, STREAM};
 use cj_budget::Limits;
 use cj_spans::Reason;
 use cj_stream::{End, NoReports, Options, Outcome, Query, WriteSink, run_within};
 use std::alloc::Global;
 use std::io::Read;
 use std::process::Abort;
-use std::test::Fail;
 
 /// Runs within so many reads: the outcome, and what was written.
 fn run_by<R: Read>(
@@ -67,16 +66,14 @@ fn check_reads(
     reads: u64,
     wanted: &Wanted,
     written: &[u8],
-) -> Result<(), Fail> {
+) {
     let mut reader = SlowReader::new(text, 1);
-    let limits = Limits::new(8_388_608, 64)?;
-    let went = run_by(rt, alloc, &mut reader, limits, reads);
+    let went = run_by(rt, alloc, &mut reader, Limits::usual(), reads);
     check_went(rt, &went, reader.reads, wanted, written, reads);
-    Ok(())
 }
 
 /// Too few reads for the stream of 352 bytes: what is written are its whole lines.
-fn check_too_few(rt: &impl Abort, alloc: Global, text: &[u8], reads: u64) -> Result<(), Fail> {
+fn check_too_few(rt: &impl Abort, alloc: Global, text: &[u8], reads: u64) {
     let (lines, kept, front) = match reads {
         0..=140 => (0, 0, 0),
         141..=351 => (1, 0, 141),
@@ -89,117 +86,104 @@ fn check_too_few(rt: &impl Abort, alloc: Global, text: &[u8], reads: u64) -> Res
         kept,
         reads,
     };
-    check_reads(rt, alloc, text, reads, &wanted, &text[..front])
+    check_reads(rt, alloc, text, reads, &wanted, &text[..front]);
 }
 
 /// A read for each byte is too few, as none is left to find the end.
 #[test]
-fn each_number_of_reads_that_is_too_few(rt: HostRuntime) -> Result<(), Fail> {
-    let text = joined(rt.alloc(), &[HEADER, b"\n", FEATURE, b"\n"])?;
+fn each_number_of_reads_that_is_too_few(rt: HostRuntime) {
     for reads in 0..=352u64 {
-        check_too_few(&rt, rt.alloc(), &text, reads)?;
+        check_too_few(&rt, rt.alloc(), STREAM, reads);
     }
-    Ok(())
 }
 
 /// The read that finds the end of the input counts.
 #[test]
-fn one_read_more_than_there_are_bytes(rt: HostRuntime) -> Result<(), Fail> {
-    let text = joined(rt.alloc(), &[HEADER, b"\n", FEATURE, b"\n"])?;
+fn one_read_more_than_there_are_bytes(rt: HostRuntime) {
     let wanted = Wanted {
         ended: End::Complete,
         lines: 2,
         kept: 1,
         reads: 353,
     };
-    check_reads(&rt, rt.alloc(), &text, 353, &wanted, &text)?;
-    check_reads(&rt, rt.alloc(), &text, 1_000, &wanted, &text)
+    check_reads(&rt, rt.alloc(), STREAM, 353, &wanted, STREAM);
+    check_reads(&rt, rt.alloc(), STREAM, 1_000, &wanted, STREAM);
 }
 
 /// The end that the last read gives is told, and not that it was the last one.
 #[test]
-fn a_line_that_the_last_read_refuses(rt: HostRuntime) -> Result<(), Fail> {
+fn a_line_that_the_last_read_refuses(rt: HostRuntime) {
     let wanted = Wanted {
         ended: refused(1, 1, Reason::Syntax),
         lines: 0,
         kept: 0,
         reads: 3,
     };
-    check_reads(&rt, rt.alloc(), b"{x\n", 3, &wanted, b"")?;
+    check_reads(&rt, rt.alloc(), b"{x\n", 3, &wanted, b"");
     let wanted = Wanted {
         ended: End::ReadLimit,
         reads: 2,
         ..wanted
     };
-    check_reads(&rt, rt.alloc(), b"{x\n", 2, &wanted, b"")
+    check_reads(&rt, rt.alloc(), b"{x\n", 2, &wanted, b"");
 }
 
 /// It takes a read to find that there is nothing.
 #[test]
-fn an_empty_input_by_no_read_and_by_one(rt: HostRuntime) -> Result<(), Fail> {
+fn an_empty_input_by_no_read_and_by_one(rt: HostRuntime) {
     let wanted = Wanted {
         ended: End::ReadLimit,
         lines: 0,
         kept: 0,
         reads: 0,
     };
-    check_reads(&rt, rt.alloc(), b"", 0, &wanted, b"")?;
+    check_reads(&rt, rt.alloc(), b"", 0, &wanted, b"");
     let wanted = Wanted {
         ended: refused(1, 0, Reason::NoHeader),
         reads: 1,
         ..wanted
     };
-    check_reads(&rt, rt.alloc(), b"", 1, &wanted, b"")
+    check_reads(&rt, rt.alloc(), b"", 1, &wanted, b"");
 }
 
 /// Runs by so many reads over a reader whose third read fails.
-fn check_failing_read(
-    rt: &impl Abort,
-    alloc: Global,
-    reads: u64,
-    wanted: &Wanted,
-) -> Result<(), Fail> {
+fn check_failing_read(rt: &impl Abort, alloc: Global, reads: u64, wanted: &Wanted) {
     let mut reader = SlowReader::new(HEADER, 1);
     reader.fails_at = 3;
-    let limits = Limits::new(8_388_608, 64)?;
-    let went = run_by(rt, alloc, &mut reader, limits, reads);
+    let went = run_by(rt, alloc, &mut reader, Limits::usual(), reads);
     check_went(rt, &went, reader.reads, wanted, b"", reads);
-    Ok(())
 }
 
 /// The failure that the last read gives is told, and not that it was the last one.
 #[test]
-fn a_last_read_that_fails(rt: HostRuntime) -> Result<(), Fail> {
+fn a_last_read_that_fails(rt: HostRuntime) {
     let wanted = Wanted {
         ended: End::ReadFault,
         lines: 0,
         kept: 0,
         reads: 3,
     };
-    check_failing_read(&rt, rt.alloc(), 3, &wanted)?;
+    check_failing_read(&rt, rt.alloc(), 3, &wanted);
     let wanted = Wanted {
         ended: End::ReadLimit,
         reads: 2,
         ..wanted
     };
-    check_failing_read(&rt, rt.alloc(), 2, &wanted)
+    check_failing_read(&rt, rt.alloc(), 2, &wanted);
 }
 
 #[test]
-fn a_reader_without_end(rt: HostRuntime) -> Result<(), Fail> {
-    let header = joined(rt.alloc(), &[HEADER, b"\n"])?;
+fn a_reader_without_end(rt: HostRuntime) {
     let mut reader = EndlessReader {
-        front: &header,
+        front: FIRST,
         reads: 0,
     };
-    let limits = Limits::new(8_388_608, 64)?;
-    let went = run_by(&rt, rt.alloc(), &mut reader, limits, 200);
+    let went = run_by(&rt, rt.alloc(), &mut reader, Limits::usual(), 200);
     let wanted = Wanted {
         ended: End::ReadLimit,
         lines: 1,
         kept: 0,
         reads: 200,
     };
-    check_went(&rt, &went, reader.reads, &wanted, &header, 200);
-    Ok(())
+    check_went(&rt, &went, reader.reads, &wanted, FIRST, 200);
 }

@@ -4,7 +4,7 @@ use super::calls::{
     Reading, check_bytes, check_ended, check_number, joined, ran, refused, written_by,
 };
 use super::devices::{SlowReader, SlowWriter};
-use super::rows::{FEATURE, HEADER, with_last_index};
+use super::rows::{BEYOND, FEATURE, FIRST};
 use super::steps::{Opening, Step, check_steps, written_by_steps};
 use cj_budget::Limits;
 use cj_spans::Reason;
@@ -84,7 +84,7 @@ fn counted(alloc: Global, text: &[u8], from: u64) -> Result<(Outcome, u64), Fail
 
 /// Counts the reports of a stream with two refused lines.
 fn check_counted(rt: &impl Abort, alloc: Global, from: u64, wanted: u64) -> Result<(), Fail> {
-    let text = joined(alloc, &[HEADER, b"\n{}\n", FEATURE, b"\n3"])?;
+    let text = joined(alloc, &[FIRST, b"{}\n", FEATURE, b"\n3"])?;
     let (outcome, reports) = counted(alloc, &text, from)?;
     check_ended(rt, outcome.ended, End::Complete, "counted", from);
     check_number(rt, outcome.refused, 2, "refused", from);
@@ -112,7 +112,7 @@ fn options_are_set_by_name(rt: HostRuntime) {
 
 /// A stream whose third line has begun, and is refused already for its length or would be for what it says.
 fn begun(alloc: Global, line: &[u8]) -> Result<Vec<u8>, Fail> {
-    joined(alloc, &[HEADER, b"\n{}\n", line])
+    joined(alloc, &[FIRST, b"{}\n", line])
 }
 
 /// Compares a run up to the third line, which is not reported.
@@ -192,8 +192,7 @@ fn opening() -> Opening {
 /// Gives a text whose second line is refused, and its third at the end.
 #[test]
 fn nothing_is_reported_after_a_complete_stream(rt: HostRuntime) -> Result<(), Fail> {
-    let header = joined(rt.alloc(), &[HEADER, b"\n"])?;
-    let text = joined(rt.alloc(), &[&header, b"{}\n3"])?;
+    let text = joined(rt.alloc(), &[FIRST, b"{}\n3"])?;
     let steps = [
         Step::Feed(&text, Ok(())),
         Step::Reported(1, "2 0 10\n"),
@@ -204,7 +203,7 @@ fn nothing_is_reported_after_a_complete_stream(rt: HostRuntime) -> Result<(), Fa
         Step::Counts(145, 3, 0),
     ];
     let written = written_by_steps(&rt, rt.alloc(), &opening(), &steps)?;
-    check_bytes(&rt, &written, &header, "after the end", 0);
+    check_bytes(&rt, &written, FIRST, "after the end", 0);
     Ok(())
 }
 
@@ -229,13 +228,11 @@ fn check_write_fault(
 /// What was reported before a write fails stays, and nothing is reported after it.
 #[test]
 fn a_write_fault_after_reports(rt: HostRuntime) -> Result<(), Fail> {
-    let header = joined(rt.alloc(), &[HEADER, b"\n"])?;
-    let line = with_last_index(rt.alloc(), b"4")?;
-    let text = joined(rt.alloc(), &[&header, &line, b"\n\n", FEATURE, b"\n{}\n"])?;
+    let text = joined(rt.alloc(), &[FIRST, BEYOND, b"\n\n", FEATURE, b"\n{}\n"])?;
     let mut writer = SlowWriter::new(Vec::new(rt.alloc()), 1_000);
     writer.fails_at = 3;
     check_write_fault(&rt, rt.alloc(), &text, &mut writer)?;
-    check_bytes(&rt, &writer.bytes, &header, "a write fault", 0);
+    check_bytes(&rt, &writer.bytes, FIRST, "a write fault", 0);
     Ok(())
 }
 
@@ -264,7 +261,7 @@ fn check_first(
 
 #[test]
 fn a_refused_first_line_is_not_reported(rt: HostRuntime) -> Result<(), Fail> {
-    let text = joined(rt.alloc(), &[HEADER, b"\n{}\n"])?;
+    let text = joined(rt.alloc(), &[FIRST, b"{}\n"])?;
     let end = refused(1, 139, Reason::LineTooLong);
     check_first(&rt, rt.alloc(), &text, 139, end)?;
     let end = refused(1, 0, Reason::WrongKind);
@@ -293,8 +290,7 @@ fn a_stream_without_a_line_is_not_reported(rt: HostRuntime) -> Result<(), Fail> 
 /// Told nothing, the engine ends at the first refused line, and reports nothing.
 #[test]
 fn the_first_refused_line_is_the_usual_end(rt: HostRuntime) -> Result<(), Fail> {
-    let header = joined(rt.alloc(), &[HEADER, b"\n"])?;
-    let text = joined(rt.alloc(), &[&header, b"{}\n3\n"])?;
+    let text = joined(rt.alloc(), &[FIRST, b"{}\n3\n"])?;
     let end = refused(2, 0, Reason::MissingMember);
     let steps = [
         Step::Feed(&text, Err(end)),
@@ -304,7 +300,7 @@ fn the_first_refused_line_is_the_usual_end(rt: HostRuntime) -> Result<(), Fail> 
         Step::Counts(0, 1, 0),
     ];
     let written = written_by_steps(&rt, rt.alloc(), &Opening::usual(), &steps)?;
-    check_bytes(&rt, &written, &header, "the usual end", 0);
+    check_bytes(&rt, &written, FIRST, "the usual end", 0);
     Ok(())
 }
 
@@ -324,9 +320,8 @@ fn written_unread(rt: &impl Abort, alloc: Global, text: &[u8]) -> Result<Vec<u8>
 /// A sink that takes no notice of reports changes nothing else.
 #[test]
 fn reports_that_no_one_reads(rt: HostRuntime) -> Result<(), Fail> {
-    let header = joined(rt.alloc(), &[HEADER, b"\n"])?;
-    let text = joined(rt.alloc(), &[&header, b"{}\n3\n"])?;
+    let text = joined(rt.alloc(), &[FIRST, b"{}\n3\n"])?;
     let written = written_unread(&rt, rt.alloc(), &text)?;
-    check_bytes(&rt, &written, &header, "no one reads", 0);
+    check_bytes(&rt, &written, FIRST, "no one reads", 0);
     Ok(())
 }

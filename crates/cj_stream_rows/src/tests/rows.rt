@@ -27,6 +27,22 @@ const SPACED: &[u8] =
 pub const SMALL: &[u8] =
     b"{\"type\":\"CityJSONFeature\",\"id\":\"b\",\"CityObjects\":{\"b\":{\"type\":\"Building\"}},\"vertices\":[]}";
 
+/// The same feature, with its last index, which stands at byte 144, past its four vertices.
+pub const BEYOND: &[u8] =
+    b"{\"type\":\"CityJSONFeature\",\"id\":\"b1\",\"CityObjects\":{\"b1\":{\"type\":\"Building\",\"geometry\":[{\"type\":\"MultiSurface\",\"lod\":\"2.2\",\"boundaries\":[[[0,1,2,4]]]}]}},\"vertices\":[[0,0,0],[1000,0,0],[1000,1000,0],[0,1000,0]]}";
+
+/// The header with its LF.
+pub const FIRST: &[u8] =
+    b"{\"type\":\"CityJSON\",\"version\":\"2.0\",\"transform\":{\"scale\":[0.001,0.001,0.001],\"translate\":[1000.0,2000.0,0.0]},\"CityObjects\":{},\"vertices\":[]}\n";
+
+/// The header and the feature, each with its LF.
+pub const STREAM: &[u8] =
+    b"{\"type\":\"CityJSON\",\"version\":\"2.0\",\"transform\":{\"scale\":[0.001,0.001,0.001],\"translate\":[1000.0,2000.0,0.0]},\"CityObjects\":{},\"vertices\":[]}\n{\"type\":\"CityJSONFeature\",\"id\":\"b1\",\"CityObjects\":{\"b1\":{\"type\":\"Building\",\"geometry\":[{\"type\":\"MultiSurface\",\"lod\":\"2.2\",\"boundaries\":[[[0,1,2,3]]]}]}},\"vertices\":[[0,0,0],[1000,0,0],[1000,1000,0],[0,1000,0]]}\n";
+
+/// A header, a feature, one whose last index is past its vertices, and the feature again: what ends it is the LF at byte 562.
+pub const THIRD_REFUSED: &[u8] =
+    b"{\"type\":\"CityJSON\",\"version\":\"2.0\",\"transform\":{\"scale\":[0.001,0.001,0.001],\"translate\":[1000.0,2000.0,0.0]},\"CityObjects\":{},\"vertices\":[]}\n{\"type\":\"CityJSONFeature\",\"id\":\"b1\",\"CityObjects\":{\"b1\":{\"type\":\"Building\",\"geometry\":[{\"type\":\"MultiSurface\",\"lod\":\"2.2\",\"boundaries\":[[[0,1,2,3]]]}]}},\"vertices\":[[0,0,0],[1000,0,0],[1000,1000,0],[0,1000,0]]}\n{\"type\":\"CityJSONFeature\",\"id\":\"b1\",\"CityObjects\":{\"b1\":{\"type\":\"Building\",\"geometry\":[{\"type\":\"MultiSurface\",\"lod\":\"2.2\",\"boundaries\":[[[0,1,2,4]]]}]}},\"vertices\":[[0,0,0],[1000,0,0],[1000,1000,0],[0,1000,0]]}\n{\"type\":\"CityJSONFeature\",\"id\":\"b1\",\"CityObjects\":{\"b1\":{\"type\":\"Building\",\"geometry\":[{\"type\":\"MultiSurface\",\"lod\":\"2.2\",\"boundaries\":[[[0,1,2,3]]]}]}},\"vertices\":[[0,0,0],[1000,0,0],[1000,1000,0],[0,1000,0]]}\n";
+
 /// What a run has to make of a stream.
 #[derive(Clone, Copy)]
 pub struct Wanted<'a> {
@@ -97,15 +113,62 @@ fn check_every_cut(
     check_cuts(rt, alloc, text, limits, wanted)
 }
 
+/// A stream and what is written of it, each in parts, and how it is read and goes.
+#[derive(Clone, Copy)]
+struct Row<'a> {
+    name: &'a str,
+    text: &'a [&'a [u8]],
+    limits: Limits,
+    written: &'a [&'a [u8]],
+    outcome: Outcome,
+}
+
+/// A row in every way.
+fn check_row(rt: &impl Abort, alloc: Global, row: &Row) -> Result<(), Fail> {
+    let text = joined(alloc, row.text)?;
+    let written = joined(alloc, row.written)?;
+    let wanted = Wanted {
+        name: row.name,
+        written: &written,
+        outcome: row.outcome,
+    };
+    check_every_cut(rt, alloc, &text, row.limits, &wanted)
+}
+
+/// Compares a text with its parts.
+fn check_text(rt: &impl Abort, alloc: Global, text: &[u8], parts: &[&[u8]]) -> Result<(), Fail> {
+    check_bytes(
+        rt,
+        text,
+        &joined(alloc, parts)?,
+        "a text",
+        text.len() as u64,
+    );
+    Ok(())
+}
+
+#[test]
+fn texts_have_their_parts(rt: HostRuntime) -> Result<(), Fail> {
+    let beyond = [&FEATURE[..144], b"4", &FEATURE[145..]];
+    check_text(&rt, rt.alloc(), BEYOND, &beyond)?;
+    check_text(&rt, rt.alloc(), FIRST, &[HEADER, b"\n"])?;
+    check_text(&rt, rt.alloc(), STREAM, &[FIRST, FEATURE, b"\n"])?;
+    let third = [STREAM, BEYOND, b"\n", FEATURE, b"\n"];
+    check_text(&rt, rt.alloc(), THIRD_REFUSED, &third)?;
+    for (text, length) in [(HEADER, 140), (FEATURE, 210), (SMALL, 89)] {
+        check_number(&rt, text.len() as u64, length, "bytes", length);
+    }
+    Ok(())
+}
+
 #[test]
 fn no_line_at_all(rt: HostRuntime) -> Result<(), Fail> {
-    let limits = Limits::new(8_388_608, 64)?;
     let wanted = Wanted {
         name: "empty",
         written: b"",
         outcome: outcome(0, 0, held(0, 0, 0), refused(1, 0, Reason::NoHeader)),
     };
-    check_every_cut(&rt, rt.alloc(), b"", limits, &wanted)?;
+    check_every_cut(&rt, rt.alloc(), b"", Limits::usual(), &wanted)?;
     laws::lines_are_the_lines(b"");
     laws::good_lines_are_the_longest(b"");
     laws::good_lines_are_all_or_none();
@@ -126,69 +189,64 @@ fn no_line_at_all(rt: HostRuntime) -> Result<(), Fail> {
 
 #[test]
 fn a_header_and_a_feature(rt: HostRuntime) -> Result<(), Fail> {
-    let limits = Limits::new(8_388_608, 64)?;
-    let text = joined(rt.alloc(), &[HEADER, b"\n", FEATURE, b"\n"])?;
-    assert_eq!(rt; text.len(), 352);
     let wanted = Wanted {
         name: "header and feature",
-        written: &text,
+        written: STREAM,
         outcome: outcome(2, 1, held(350, 65, 8), End::Complete),
     };
-    check_every_cut(&rt, rt.alloc(), &text, limits, &wanted)
+    check_every_cut(&rt, rt.alloc(), STREAM, Limits::usual(), &wanted)
 }
 
 #[test]
 fn a_blank_line_and_no_last_lf(rt: HostRuntime) -> Result<(), Fail> {
-    let limits = Limits::new(8_388_608, 64)?;
-    let text = joined(rt.alloc(), &[HEADER, b"\n\r\n", SPACED])?;
-    let written = joined(rt.alloc(), &[HEADER, b"\n", SPACED])?;
-    let wanted = Wanted {
+    let row = Row {
         name: "blank line",
-        written: &written,
+        text: &[HEADER, b"\n\r\n", SPACED],
+        limits: Limits::usual(),
+        written: &[HEADER, b"\n", SPACED],
         outcome: outcome(3, 1, held(351, 65, 8), End::Complete),
     };
-    check_every_cut(&rt, rt.alloc(), &text, limits, &wanted)
+    check_row(&rt, rt.alloc(), &row)
 }
 
 #[test]
 fn a_line_one_byte_too_long(rt: HostRuntime) -> Result<(), Fail> {
-    let limits = Limits::new(210, 64)?;
-    let written = joined(rt.alloc(), &[HEADER, b"\n", FEATURE, b"\n"])?;
-    let wanted = Wanted {
+    let with_lf = Row {
         name: "too long",
-        written: &written,
+        text: &[STREAM, FEATURE, b" \n"],
+        limits: Limits::new(210, 64)?,
+        written: &[STREAM],
         outcome: outcome(2, 1, held(350, 65, 8), refused(3, 210, Reason::LineTooLong)),
     };
-    let with_lf = joined(rt.alloc(), &[&written, FEATURE, b" \n"])?;
-    check_run(&rt, rt.alloc(), &with_lf, 1, limits, &wanted);
-    check_cuts(&rt, rt.alloc(), &with_lf, limits, &wanted)?;
-    let without = joined(rt.alloc(), &[&written, FEATURE, b" "])?;
-    check_run(&rt, rt.alloc(), &without, 1, limits, &wanted);
-    check_cuts(&rt, rt.alloc(), &without, limits, &wanted)
+    check_row(&rt, rt.alloc(), &with_lf)?;
+    let without = Row {
+        text: &[STREAM, FEATURE, b" "],
+        ..with_lf
+    };
+    check_row(&rt, rt.alloc(), &without)
 }
 
 #[test]
 fn the_greatest_of_later_lines_counts(rt: HostRuntime) -> Result<(), Fail> {
-    let limits = Limits::new(8_388_608, 64)?;
-    let text = joined(rt.alloc(), &[HEADER, b"\n", SMALL, b"\n", FEATURE, b"\n"])?;
-    assert_eq!(rt; SMALL.len(), 89);
-    let wanted = Wanted {
+    let text = [FIRST, SMALL, b"\n", FEATURE, b"\n"];
+    let row = Row {
         name: "two features",
+        text: &text,
+        limits: Limits::usual(),
         written: &text,
         outcome: outcome(3, 2, held(350, 65, 8), End::Complete),
     };
-    check_every_cut(&rt, rt.alloc(), &text, limits, &wanted)
+    check_row(&rt, rt.alloc(), &row)
 }
 
 #[test]
 fn a_header_alone_without_lf(rt: HostRuntime) -> Result<(), Fail> {
-    let limits = Limits::new(8_388_608, 64)?;
     let wanted = Wanted {
         name: "a header alone",
         written: HEADER,
         outcome: outcome(1, 0, held(140, 21, 3), End::Complete),
     };
-    check_every_cut(&rt, rt.alloc(), HEADER, limits, &wanted)
+    check_every_cut(&rt, rt.alloc(), HEADER, Limits::usual(), &wanted)
 }
 
 /// How a line after the header is refused, and what was held at most of both.
@@ -207,11 +265,10 @@ fn check_refused(
     limits: Limits,
     refusal: Refusal,
 ) -> Result<(), Fail> {
-    let header = joined(alloc, &[HEADER, b"\n"])?;
-    let text = joined(alloc, &[&header, line, b"\n"])?;
+    let text = joined(alloc, &[FIRST, line, b"\n"])?;
     let wanted = Wanted {
         name: "refused",
-        written: &header,
+        written: FIRST,
         outcome: outcome(
             1,
             0,
@@ -232,8 +289,7 @@ fn a_comma_before_a_brace(rt: HostRuntime) -> Result<(), Fail> {
         reason: Reason::Syntax,
         peaks: held(167, 24, 3),
     };
-    let limits = Limits::new(8_388_608, 64)?;
-    check_refused(&rt, rt.alloc(), line, limits, refusal)
+    check_refused(&rt, rt.alloc(), line, Limits::usual(), refusal)
 }
 
 /// Cut within the value of the geometry's type: 15 values and names stand before it.
@@ -244,7 +300,7 @@ fn a_feature_cut_short(rt: HostRuntime) -> Result<(), Fail> {
         reason: Reason::Syntax,
         peaks: held(240, 36, 5),
     };
-    let limits = Limits::new(8_388_608, 64)?;
+    let limits = Limits::usual();
     check_refused(&rt, rt.alloc(), &FEATURE[..100], limits, refusal)
 }
 
@@ -255,15 +311,14 @@ fn bytes_before_syntax(rt: HostRuntime) -> Result<(), Fail> {
         reason: Reason::NotUtf8,
         peaks: held(142, 21, 3),
     };
-    let limits = Limits::new(8_388_608, 64)?;
-    check_refused(&rt, rt.alloc(), b"}\xff", limits, refusal)
+    check_refused(&rt, rt.alloc(), b"}\xff", Limits::usual(), refusal)
 }
 
 /// Runs over a header and a line that is no JSON text from a place on, by single bytes.
 pub fn check_place(rt: &impl Abort, alloc: Global, line: &[u8], place: u64) -> Result<(), Fail> {
-    let text = joined(alloc, &[HEADER, b"\n", line])?;
+    let text = joined(alloc, &[FIRST, line])?;
     let mut reader = SlowReader::new(&text, 1);
-    let (outcome, _) = copied(alloc, &mut reader, Limits::new(8_388_608, 64)?);
+    let (outcome, _) = copied(alloc, &mut reader, Limits::usual());
     let wanted = refused(2, place, Reason::Syntax);
     check_ended(rt, outcome.ended, wanted, "syntax", place);
     Ok(())
@@ -281,27 +336,26 @@ fn places_of_syntax(rt: HostRuntime) -> Result<(), Fail> {
 }
 
 /// Runs over a text whose first line is no JSON text from its first byte on.
-fn check_first(rt: &impl Abort, alloc: Global, text: &[u8], bytes: u64) -> Result<(), Fail> {
+fn check_first(rt: &impl Abort, alloc: Global, text: &[u8], bytes: u64) {
     let wanted = Wanted {
         name: "no JSON text at first",
         written: b"",
         outcome: outcome(0, 0, held(bytes, 0, 0), refused(1, 0, Reason::Syntax)),
     };
-    let limits = Limits::new(8_388_608, 64)?;
-    check_run(rt, alloc, text, 8_192, limits, &wanted);
-    check_run(rt, alloc, text, 1, limits, &wanted);
-    Ok(())
+    check_run(rt, alloc, text, 8_192, Limits::usual(), &wanted);
+    check_run(rt, alloc, text, 1, Limits::usual(), &wanted);
 }
 
 #[test]
-fn a_blank_first_line(rt: HostRuntime) -> Result<(), Fail> {
-    check_first(&rt, rt.alloc(), b"\n", 0)
+fn a_blank_first_line(rt: HostRuntime) {
+    check_first(&rt, rt.alloc(), b"\n", 0);
 }
 
 #[test]
 fn a_byte_order_mark(rt: HostRuntime) -> Result<(), Fail> {
     let text = joined(rt.alloc(), &[b"\xef\xbb\xbf", HEADER])?;
-    check_first(&rt, rt.alloc(), &text, 143)
+    check_first(&rt, rt.alloc(), &text, 143);
+    Ok(())
 }
 
 /// One bracket more than the greatest depth limit.
@@ -336,77 +390,63 @@ fn brackets_past_the_usual_depth_limit(rt: HostRuntime) -> Result<(), Fail> {
         reason: Reason::TooDeep,
         peaks: held(1_165, 85, 64),
     };
-    let limits = Limits::new(8_388_608, 64)?;
-    check_refused(&rt, rt.alloc(), &BRACKETS, limits, refusal)
+    check_refused(&rt, rt.alloc(), &BRACKETS, Limits::usual(), refusal)
 }
 
-/// The feature with an attribute of this text, which begins at byte 170: 22 bytes more and the text.
-pub fn attributed(alloc: Global, text: &[u8]) -> Result<Vec<u8>, Fail> {
-    let front = &FEATURE[..150];
-    let back = &FEATURE[150..];
-    joined(
-        alloc,
-        &[front, b",\"attributes\":{\"a\":\"", text, b"\"}", back],
-    )
+/// The feature with an attribute of this text, which begins at byte 170: 22 bytes more and the text, in parts.
+pub fn attributed(text: &[u8]) -> [&[u8]; 5] {
+    let (front, back) = (&FEATURE[..150], &FEATURE[150..]);
+    [front, b",\"attributes\":{\"a\":\"", text, b"\"}", back]
 }
 
 #[test]
 fn a_character_of_three_bytes(rt: HostRuntime) -> Result<(), Fail> {
-    let limits = Limits::new(8_388_608, 64)?;
-    let line = attributed(rt.alloc(), b"\xe2\x82\xac")?;
-    let text = joined(rt.alloc(), &[HEADER, b"\n", &line, b"\n"])?;
-    let whole = Wanted {
+    let [front, name, value, end, back] = attributed(b"\xe2\x82\xac");
+    let text = [FIRST, front, name, value, end, back, b"\n"];
+    let row = Row {
         name: "three bytes",
+        text: &text,
+        limits: Limits::usual(),
         written: &text,
         outcome: outcome(2, 1, held(375, 69, 8), End::Complete),
     };
-    check_every_cut(&rt, rt.alloc(), &text, limits, &whole)
+    check_row(&rt, rt.alloc(), &row)
 }
 
 /// Runs over a header and a line whose character at byte 170 is cut short.
 fn check_cut_character(
     rt: &impl Abort,
     alloc: Global,
-    line: &[u8],
+    text: &[&[u8]],
     bytes: u64,
 ) -> Result<(), Fail> {
-    let limits = Limits::new(8_388_608, 64)?;
-    let header = joined(alloc, &[HEADER, b"\n"])?;
-    let text = joined(alloc, &[&header, line, b"\n"])?;
-    let cut = Wanted {
+    let row = Row {
         name: "two of three bytes",
-        written: &header,
+        text,
+        limits: Limits::usual(),
+        written: &[FIRST],
         outcome: outcome(1, 0, held(bytes, 21, 3), refused(2, 170, Reason::NotUtf8)),
     };
-    check_every_cut(rt, alloc, &text, limits, &cut)
+    check_row(rt, alloc, &row)
 }
 
 #[test]
 fn two_bytes_of_a_character(rt: HostRuntime) -> Result<(), Fail> {
-    let line = attributed(rt.alloc(), b"\xe2\x82")?;
-    check_cut_character(&rt, rt.alloc(), &line, 374)?;
-    let front = &FEATURE[..150];
-    let line = joined(rt.alloc(), &[front, b",\"attributes\":{\"a\":\"\xe2\x82"])?;
-    check_cut_character(&rt, rt.alloc(), &line, 312)
-}
-
-/// The feature with this in place of its last index, which stands at byte 144.
-pub fn with_last_index(alloc: Global, index: &[u8]) -> Result<Vec<u8>, Fail> {
-    joined(alloc, &[&FEATURE[..144], index, &FEATURE[145..]])
+    let [front, name, value, end, back] = attributed(b"\xe2\x82");
+    let text = [FIRST, front, name, value, end, back, b"\n"];
+    check_cut_character(&rt, rt.alloc(), &text, 374)?;
+    let text = [FIRST, front, name, value, b"\n"];
+    check_cut_character(&rt, rt.alloc(), &text, 312)
 }
 
 #[test]
 fn nothing_is_judged_after_a_refused_line(rt: HostRuntime) -> Result<(), Fail> {
-    let limits = Limits::new(8_388_608, 64)?;
-    let line = with_last_index(rt.alloc(), b"4")?;
-    let written = joined(rt.alloc(), &[HEADER, b"\n", FEATURE, b"\n"])?;
-    let text = joined(rt.alloc(), &[&written, &line, b"\n", FEATURE, b"\n"])?;
     let wanted = Wanted {
         name: "after a refused line",
-        written: &written,
+        written: STREAM,
         outcome: outcome(2, 1, held(350, 65, 8), refused(3, 144, Reason::VertexIndex)),
     };
-    check_every_cut(&rt, rt.alloc(), &text, limits, &wanted)
+    check_every_cut(&rt, rt.alloc(), THIRD_REFUSED, Limits::usual(), &wanted)
 }
 
 /// A line that is refused for what it says is none of the output, also where it has no LF.
@@ -422,9 +462,9 @@ fn check_refused_first(
         written: b"",
         outcome: outcome(0, 0, peaks, ended),
     };
-    let limits = Limits::new(8_388_608, 64)?;
+    let limits = Limits::usual();
     check_every_cut(rt, alloc, text, limits, &wanted)?;
-    let ended = joined(alloc, &[text, b"\n", HEADER, b"\n"])?;
+    let ended = joined(alloc, &[text, b"\n", FIRST])?;
     check_run(rt, alloc, &ended, 8_192, limits, &wanted);
     Ok(())
 }
@@ -444,13 +484,12 @@ fn a_feature_as_first_line(rt: HostRuntime) -> Result<(), Fail> {
 
 #[test]
 fn a_header_as_later_line(rt: HostRuntime) -> Result<(), Fail> {
-    let limits = Limits::new(8_388_608, 64)?;
-    let written = joined(rt.alloc(), &[HEADER, b"\n"])?;
-    let text = joined(rt.alloc(), &[HEADER, b"\n", HEADER, b"\n"])?;
-    let wanted = Wanted {
+    let row = Row {
         name: "a second header",
-        written: &written,
+        text: &[FIRST, FIRST],
+        limits: Limits::usual(),
+        written: &[FIRST],
         outcome: outcome(1, 0, held(280, 42, 3), refused(2, 0, Reason::MissingMember)),
     };
-    check_every_cut(&rt, rt.alloc(), &text, limits, &wanted)
+    check_row(&rt, rt.alloc(), &row)
 }

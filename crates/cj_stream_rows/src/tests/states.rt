@@ -2,13 +2,13 @@
 use super::calls::{
     Reading, check_bytes, check_ended, check_number, check_outcome, held, joined, outcome, refused,
 };
-use super::rows::{FEATURE, HEADER, SMALL, Wanted, with_last_index};
+use super::rows::{FEATURE, FIRST, HEADER, SMALL, STREAM, THIRD_REFUSED, Wanted};
 use super::steps::{Opening, Step, written_by_steps};
 use cj_budget::Limits;
 use cj_spans::Reason;
 use cj_stream::{
-    End, HeaderEnd, HeaderReader, LineEnd, LineReader, LineSink, NoReports, Options, Outcome,
-    Progress, Query, WriteSink,
+    End, HeaderEnd, HeaderReader, LineEnd, LineReader, LineSink, NoReports, Outcome, Progress,
+    Query, WriteSink,
 };
 use std::alloc::Global;
 use std::process::Abort;
@@ -177,31 +177,27 @@ fn check_states(
 
 #[test]
 fn a_header_and_a_feature_by_states(rt: HostRuntime) -> Result<(), Fail> {
-    let text = joined(rt.alloc(), &[HEADER, b"\n", FEATURE, b"\n"])?;
     let wanted = Wanted {
         name: "header and feature",
-        written: &text,
+        written: STREAM,
         outcome: outcome(2, 1, held(350, 65, 8), End::Complete),
     };
-    check_states(&rt, rt.alloc(), &text, Limits::usual(), &wanted)
+    check_states(&rt, rt.alloc(), STREAM, Limits::usual(), &wanted)
 }
 
 #[test]
 fn a_refused_line_by_states(rt: HostRuntime) -> Result<(), Fail> {
-    let line = with_last_index(rt.alloc(), b"4")?;
-    let written = joined(rt.alloc(), &[HEADER, b"\n", FEATURE, b"\n"])?;
-    let text = joined(rt.alloc(), &[&written, &line, b"\n", FEATURE, b"\n"])?;
     let wanted = Wanted {
         name: "after a refused line",
-        written: &written,
+        written: STREAM,
         outcome: outcome(2, 1, held(350, 65, 8), refused(3, 144, Reason::VertexIndex)),
     };
-    check_states(&rt, rt.alloc(), &text, Limits::usual(), &wanted)
+    check_states(&rt, rt.alloc(), THIRD_REFUSED, Limits::usual(), &wanted)
 }
 
 #[test]
 fn a_small_feature_and_a_greater_one_by_states(rt: HostRuntime) -> Result<(), Fail> {
-    let text = joined(rt.alloc(), &[HEADER, b"\n", SMALL, b"\n", FEATURE, b"\n"])?;
+    let text = joined(rt.alloc(), &[FIRST, SMALL, b"\n", FEATURE, b"\n"])?;
     let wanted = Wanted {
         name: "two features",
         written: &text,
@@ -233,8 +229,7 @@ fn a_first_line_that_is_no_header_by_states(rt: HostRuntime) -> Result<(), Fail>
 
 #[test]
 fn a_line_too_long_by_states(rt: HostRuntime) -> Result<(), Fail> {
-    let written = joined(rt.alloc(), &[HEADER, b"\n"])?;
-    let text = joined(rt.alloc(), &[&written, FEATURE, b" \n"])?;
+    let text = joined(rt.alloc(), &[FIRST, FEATURE, b" \n"])?;
     let query = Query::all(rt.alloc());
     let mut sink = WriteSink::new(Vec::new(rt.alloc()));
     let limits = Limits::new(210, 64)?;
@@ -247,7 +242,7 @@ fn a_line_too_long_by_states(rt: HostRuntime) -> Result<(), Fail> {
         "too long",
         0,
     );
-    check_bytes(&rt, &sink.into_inner(), &written, "too long", 0);
+    check_bytes(&rt, &sink.into_inner(), FIRST, "too long", 0);
     Ok(())
 }
 
@@ -312,7 +307,7 @@ fn check_rest(rt: &impl Abort, alloc: Global, text: &[u8], wanted: End) -> Resul
 
 #[test]
 fn a_piece_whose_rest_is_refused(rt: HostRuntime) -> Result<(), Fail> {
-    let text = joined(rt.alloc(), &[HEADER, b"\n{}\n"])?;
+    let text = joined(rt.alloc(), &[FIRST, b"{}\n"])?;
     let wanted = refused(2, 0, Reason::MissingMember);
     check_rest_by_states(&rt, rt.alloc(), &text, wanted)?;
     check_rest(&rt, rt.alloc(), &text, wanted)

@@ -1,8 +1,6 @@
 //! Engines that are called step by step: a row is a list of calls, each with what it has to answer, and of what the engine has to
 //! tell between them. One function opens all of these engines, since to have one is what makes the proof of a function dear.
-use super::calls::{
-    check_counts, check_feed_noting, check_finish_noting, check_held, check_number, opened,
-};
+use super::calls::{check_counts, check_feed, check_finish, check_held, check_number, opened};
 use super::reports::{NoteReports, check_notes};
 use cj_budget::Peaks;
 use cj_stream::{End, Engine, LineSink, Options, Query, WriteSink};
@@ -40,8 +38,8 @@ fn check_again<S: LineSink>(
 ) {
     let held = engine.held();
     let peaks = engine.peaks();
-    check_feed_noting(rt, engine, piece, sink, reports, Err(end));
-    check_finish_noting(rt, engine, sink, reports, end);
+    check_feed(rt, engine, piece, sink, reports, Err(end));
+    check_finish(rt, engine, sink, reports, end);
     check_held(rt, engine, held, peaks);
 }
 
@@ -66,8 +64,8 @@ fn check_step<S: LineSink>(
     reports: &mut NoteReports,
 ) {
     match step {
-        Step::Feed(piece, wanted) => check_feed_noting(rt, engine, piece, sink, reports, wanted),
-        Step::Finish(end) => check_finish_noting(rt, engine, sink, reports, end),
+        Step::Feed(piece, wanted) => check_feed(rt, engine, piece, sink, reports, wanted),
+        Step::Finish(end) => check_finish(rt, engine, sink, reports, end),
         Step::Again(piece, end) => check_again(rt, engine, piece, sink, reports, end),
         Step::Held(held, peaks) => check_held(rt, engine, held, peaks),
         Step::PeakOfBytes(most) => check_number(rt, engine.peaks().bytes, most, "peak", 0),

@@ -4,7 +4,7 @@ use super::calls::{Reading, check_bound, check_bytes, check_outcome, ran};
 use super::devices::{CutReader, SlowReader};
 use super::plain::{Known, Plain, Verdict, Way, plainly};
 use super::reports::{NoteReports, check_notes};
-use super::rows::{FEATURE, HEADER, SMALL};
+use super::rows::{BEYOND, FEATURE, HEADER, SMALL};
 use cj_budget::{Limits, Peaks};
 use cj_spans::Reason;
 use cj_stream::{End, Options, Outcome, Query, WriteSink};
@@ -63,10 +63,6 @@ const fn no_header<'a>(
         depth,
     }
 }
-
-/// The feature with the last index 4.
-const BEYOND: &[u8] =
-    b"{\"type\":\"CityJSONFeature\",\"id\":\"b1\",\"CityObjects\":{\"b1\":{\"type\":\"Building\",\"geometry\":[{\"type\":\"MultiSurface\",\"lod\":\"2.2\",\"boundaries\":[[[0,1,2,4]]]}]}},\"vertices\":[[0,0,0],[1000,0,0],[1000,1000,0],[0,1000,0]]}";
 
 /// The feature with two spaces after it, so that it has 212 bytes.
 const TRAILED: &[u8] =

@@ -1,6 +1,6 @@
 //! What both states tell, call by call: where one turns into the other, and behind an end.
 use super::calls::{check_bytes, check_number, held, joined};
-use super::rows::{FEATURE, HEADER, with_last_index};
+use super::rows::{FEATURE, FIRST, HEADER, STREAM, THIRD_REFUSED};
 use super::states::{
     behind_header, check_progress, feed_header, feed_lines, finish_header, turned, until_accepted,
     usual_header,
@@ -21,15 +21,6 @@ const THIRD: LineEnd = LineEnd::Refused {
     place: 144,
     reason: Reason::VertexIndex,
 };
-
-/// A header, a feature, one with the last vertex index 4, and the feature again: what ends it is the LF at byte 562.
-pub fn third_refused(alloc: Global) -> Result<Vec<u8>, Fail> {
-    let line = with_last_index(alloc, b"4")?;
-    joined(
-        alloc,
-        &[HEADER, b"\n", FEATURE, b"\n", &line, b"\n", FEATURE, b"\n"],
-    )
-}
 
 /// Gives a piece to the reader of a header, which has to end, or to have ended, so.
 fn check_header_end<S: LineSink>(
@@ -149,12 +140,11 @@ fn both_states_tell_what_they_hold(rt: HostRuntime) -> Result<(), Fail> {
 #[test]
 fn a_piece_that_ends_with_lf(rt: HostRuntime) -> Result<(), Fail> {
     let query = Query::all(rt.alloc());
-    let piece = joined(rt.alloc(), &[HEADER, b"\n"])?;
     let mut sink = WriteSink::new(Vec::new(rt.alloc()));
     let mut header = usual_header(rt.alloc(), &query)?;
     check_progress(
         &rt,
-        feed_header(&rt, &mut header, &piece, &mut sink),
+        feed_header(&rt, &mut header, FIRST, &mut sink),
         141,
         true,
     );
@@ -163,7 +153,7 @@ fn a_piece_that_ends_with_lf(rt: HostRuntime) -> Result<(), Fail> {
     check_lines_finish(&rt, &mut lines, &mut sink, LineEnd::Complete);
     check_lines_counts(&rt, &lines, 141, 1, 0);
     check_lines_held(&rt, &lines, held(140, 21, 0), held(140, 21, 3));
-    check_bytes(&rt, &sink.into_inner(), &piece, "a header with its LF", 0);
+    check_bytes(&rt, &sink.into_inner(), &FIRST, "a header with its LF", 0);
     Ok(())
 }
 
@@ -242,21 +232,18 @@ fn take_refused_third<S: LineSink>(
 
 #[test]
 fn an_end_of_lines_stays_the_end(rt: HostRuntime) -> Result<(), Fail> {
-    let written = joined(rt.alloc(), &[HEADER, b"\n", FEATURE, b"\n"])?;
-    let text = third_refused(rt.alloc())?;
-    assert_eq!(rt; text.len(), 774);
     let query = Query::all(rt.alloc());
     let mut sink = WriteSink::new(Vec::new(rt.alloc()));
     let mut header = usual_header(rt.alloc(), &query)?;
     check_progress(
         &rt,
-        feed_header(&rt, &mut header, &text, &mut sink),
+        feed_header(&rt, &mut header, THIRD_REFUSED, &mut sink),
         141,
         true,
     );
     let mut lines = turned(&rt, header);
-    take_refused_third(&rt, &mut lines, &text[141..], &mut sink);
-    check_bytes(&rt, &sink.into_inner(), &written, "an end of lines", 0);
+    take_refused_third(&rt, &mut lines, &THIRD_REFUSED[141..], &mut sink);
+    check_bytes(&rt, &sink.into_inner(), STREAM, "an end of lines", 0);
     Ok(())
 }
 
@@ -287,17 +274,15 @@ fn take_lines_by_bytes<S: LineSink>(
 
 #[test]
 fn an_end_of_lines_stays_by_single_bytes(rt: HostRuntime) -> Result<(), Fail> {
-    let written = joined(rt.alloc(), &[HEADER, b"\n", FEATURE, b"\n"])?;
-    let text = third_refused(rt.alloc())?;
-    assert_eq!(rt; text.len(), 774);
     let query = Query::all(rt.alloc());
     let mut sink = WriteSink::new(Vec::new(rt.alloc()));
     let mut header = usual_header(rt.alloc(), &query)?;
     take_header_by_bytes(&rt, &mut header, &mut sink);
     let mut lines = turned(&rt, header);
-    take_lines_by_bytes(&rt, &mut lines, &text[141..], &mut sink, 562 - 141, THIRD);
+    let rest = &THIRD_REFUSED[141..];
+    take_lines_by_bytes(&rt, &mut lines, rest, &mut sink, 562 - 141, THIRD);
     check_lines_counts(&rt, &lines, 562, 2, 1);
-    check_bytes(&rt, &sink.into_inner(), &written, "by single bytes", 0);
+    check_bytes(&rt, &sink.into_inner(), STREAM, "by single bytes", 0);
     Ok(())
 }
 
@@ -355,9 +340,8 @@ fn check_taken(
 
 #[test]
 fn what_is_taken_of_a_refused_stream(rt: HostRuntime) -> Result<(), Fail> {
-    let text = third_refused(rt.alloc())?;
-    for at in 0..text.len() {
-        check_taken(&rt, rt.alloc(), &text, at, 562)?;
+    for at in 0..THIRD_REFUSED.len() {
+        check_taken(&rt, rt.alloc(), THIRD_REFUSED, at, 562)?;
     }
     Ok(())
 }
