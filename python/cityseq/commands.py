@@ -18,7 +18,6 @@ from .query import Work, asked
 from .reports import Report, explain
 from .running import Info, Result, Stream, threaded
 from .sources import Writer, is_same_file, size_of, why
-from .tally import normal
 
 STATUSES = """\
 Exit status, the greatest over all files: 0 valid up to the end; 1 a line is not valid; 2 the command line is wrong; 3 a read
@@ -214,6 +213,8 @@ class Printer:
 
 def info_lines(info: Info) -> Iterator[str]:
     """The report of a stream: the program's lines, then the box in world coordinates and the texts of LoDs."""
+    from .world import normal
+
     yield f"lines {info.lines}"
     yield f"features {info.features}"
     yield "scale " + " ".join(map(normal, info.scale))

@@ -8,8 +8,8 @@ from .reports import Report
 
 HEAD = 65_536  # how many bytes are looked at
 NO_HEADER, NOT_EMPTY, SYNTAX = 1, 16, 4
-CITYJSON = re.compile(rb'"type"\s*:\s*"CityJSON"')
-FEATURE = re.compile(rb'"type"\s*:\s*"CityJSONFeature"')
+CITYJSON = rb'"type"\s*:\s*"CityJSON"'
+FEATURE = rb'"type"\s*:\s*"CityJSONFeature"'
 # What no stream begins with: the bytes, what they are the mark of, and what to do.
 MARKS = (
     (b"\x1f\x8b", "It is packed by gzip: give it a name that ends in .gz, or unpack it first, as by zcat."),
@@ -37,6 +37,6 @@ def hints_for(end: Report, head: bytes) -> List[str]:
     if end.code == SYNTAX:
         is_laid_out = end.byte >= len(first.rstrip()) and first.strip()[:1] in (b"{", b"[") and behind.strip() != b""
         return [MANY_LINES] if is_laid_out else []
-    if FEATURE.search(first):
+    if re.search(FEATURE, first):
         return [FEATURE_FIRST]
-    return [ONE_LINE] if end.code == NOT_EMPTY and CITYJSON.search(first) else []
+    return [ONE_LINE] if end.code == NOT_EMPTY and re.search(CITYJSON, first) else []

@@ -8,7 +8,6 @@ from dataclasses import dataclass
 from itertools import islice
 from typing import Callable, Iterable, Iterator, Optional, Tuple, Union
 
-from . import lods
 from ._library import COMPLETE, NO_MEMORY, REFUSED, RawAnswer, RawReports, Text, library
 from .faults import CityseqError
 from .query import Work
@@ -173,6 +172,8 @@ def _judge(work: Work, file: str, header: bytes, part: Text, first: bool) -> Ans
     if answer.status not in (COMPLETE, REFUSED, NO_MEMORY):
         raise CityseqError(f"the library answered {answer.status}, code {answer.code}, of a part of {len(part)} bytes")
     if tally is not None and work.exact_lods and answer.status == COMPLETE:
+        from . import lods  # few runs need it
+
         lods.count(tally, work, header, part)
     told = _held(part) if answer.refused or answer.status == REFUSED else b""
     return Answer(

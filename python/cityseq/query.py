@@ -2,14 +2,16 @@
 from __future__ import annotations
 
 from dataclasses import dataclass
-from decimal import Decimal
-from typing import Iterable, Optional, Union
+from typing import TYPE_CHECKING, Iterable, Optional, Union
 
 from ._library import BAD_REQUEST, DEPTH_LIMITS, FAULTS, LINE_LIMITS, TYPES, USUAL_DEPTH, USUAL_LINE, RawRequest, Text, library
 from .faults import RequestError
 
+if TYPE_CHECKING:
+    from decimal import Decimal
+
 Texts = Union[str, Iterable[str]]
-Box = Union[str, Iterable[Union[int, float, str, Decimal]]]
+Box = Union[str, Iterable[Union[int, float, str, "Decimal"]]]
 
 
 def lines_of(texts: Iterable[str]) -> bytes:

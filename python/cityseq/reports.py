@@ -15,7 +15,7 @@ TOO_LONG = 2
 BESIDE = 40  # how many bytes an excerpt shows on each side of the place
 LONGEST_READ = 1 << 20  # lines that are longer are not read as JSON to find an id
 # A feature that begins as usual: with its id, or with its type and then its id.
-USUAL_BEGIN = re.compile(
+USUAL_BEGIN = (
     rb'[ \t\r]*\{[ \t\r]*(?:"type"[ \t\r]*:[ \t\r]*"CityJSONFeature"[ \t\r]*,[ \t\r]*)?'
     rb'"id"[ \t\r]*:[ \t\r]*("(?:[^"\\\x00-\x1f]|\\.)*")')
 
@@ -77,7 +77,7 @@ class Report:
 
 def find_id(line: Text) -> Optional[str]:
     """The id of a feature, where the line can be read so far."""
-    usual = USUAL_BEGIN.match(line)
+    usual = re.match(USUAL_BEGIN, line)
     if usual is None and len(line) > LONGEST_READ:
         return None
     try:

@@ -4,13 +4,10 @@ from __future__ import annotations
 import contextlib
 import os
 from collections import deque
-from concurrent.futures import ThreadPoolExecutor
 from dataclasses import asdict, dataclass, field, replace
-from decimal import Decimal
 from functools import partial
-from typing import Any, Callable, Deque, Dict, Generator, Iterable, Iterator, List, Optional, Tuple, Type
+from typing import TYPE_CHECKING, Any, Callable, Deque, Dict, Generator, Iterable, Iterator, List, Optional, Tuple, Type
 
-from . import tally as tallies
 from ._library import NO_MEMORY, REFUSED, Text
 from .faults import MemoryFault, ReadFault, RequestError, WriteFault
 from .hints import HEAD, hints_for
@@ -19,6 +16,10 @@ from .places import Places, Read, judge_read, placed
 from .query import Work
 from .reports import Report
 from .sources import Reader, Source, Writer, is_path, name_of, opened
+from .tally import Range, Tally
+
+if TYPE_CHECKING:
+    from decimal import Decimal
 
 HEADERS = 4  # so many times the header's length is a part
 AHEAD = 2  # how many parts wait beside those that are judged
@@ -75,16 +76,18 @@ class Info(Result):
     translate: List[Decimal] = field(default_factory=list)
     types: Dict[str, int] = field(default_factory=dict)
     classes: Dict[str, int] = field(default_factory=dict)
-    x: tallies.Range = None
-    y: tallies.Range = None
-    z: tallies.Range = None
+    x: Range = None
+    y: Range = None
+    z: Range = None
     box: Optional[str] = None
     lods: Optional[Dict[str, int]] = None
     unasked: Tuple[str, ...] = ()
 
     def summary(self) -> Dict[str, Any]:
         """All but the reports, as JSON may have it: the numbers of the transform as the program writes them."""
-        transform = {"scale": list(map(tallies.normal, self.scale)), "translate": list(map(tallies.normal, self.translate))}
+        from .world import normal
+
+        transform = {"scale": list(map(normal, self.scale)), "translate": list(map(normal, self.translate))}
         return {**super().summary(), **transform}
 
 
@@ -198,12 +201,14 @@ class Stream:
             self._inform(result, joined.tally)
         return result
 
-    def _inform(self, info: Info, tally: tallies.Tally) -> None:
-        info.scale, info.translate = tallies.transform_of(self._header)
+    def _inform(self, info: Info, tally: Tally) -> None:
+        from .world import box_of, transform_of  # `info` alone needs it
+
+        info.scale, info.translate = transform_of(self._header)
         info.types = {name: count for name, count in tally.types.items() if count}
         info.classes = {name: count for name, count in tally.classes.items() if count}
         info.x, info.y, info.z = tally.ranges
-        info.box = tallies.box_of(tally.ranges, info.scale, info.translate)
+        info.box = box_of(tally.ranges, info.scale, info.translate)
         info.lods, info.unasked = tally.lods, tuple(sorted(tally.unasked))
 
 
@@ -276,5 +281,7 @@ def threaded(streams: Iterable[Stream], jobs: Optional[int]) -> Results:
 
 
 def _pooled(streams: Iterable[Stream], jobs: int) -> Results:
+    from concurrent.futures import ThreadPoolExecutor  # which one thread does not wait for
+
     with ThreadPoolExecutor(jobs) as pool:
         yield from results(streams, pool.submit, jobs + AHEAD)

@@ -2,7 +2,6 @@
 from __future__ import annotations
 
 import contextlib
-import gzip
 import io
 import os
 import sys
@@ -79,13 +78,20 @@ def why(fault: BaseException) -> str:
     return " ".join(str(told).split())
 
 
+def _packed(path: str, mode: str) -> Any:
+    """The file object of a path that is packed."""
+    import gzip  # few runs need it
+
+    return gzip.open(path, mode, 6)
+
+
 def _open(source: Source) -> Any:
     """The file object of a source, which is to be closed if the source is a path or bytes."""
     if isinstance(source, (bytes, bytearray, memoryview)):
         return io.BytesIO(source)
     if isinstance(source, (str, os.PathLike)):
         path = os.fspath(source)
-        return gzip.open(path, "rb") if path.endswith(".gz") else open(path, "rb")
+        return _packed(path, "rb") if path.endswith(".gz") else open(path, "rb")
     raise RequestError(f"a source is a path, bytes or a binary file, and no {type(source).__name__}")
 
 
@@ -127,7 +133,7 @@ class Writer:
             self._file = sys.stdout.buffer
         elif self._file is None:
             assert self._path is not None
-            self._file = gzip.open(self._path, "wb", 6) if self._path.endswith(".gz") else open(self._path, "wb")
+            self._file = _packed(self._path, "wb") if self._path.endswith(".gz") else open(self._path, "wb")
         return self._file
 
     def write(self, text: Union[bytes, bytearray, memoryview]) -> None:

@@ -11,7 +11,7 @@ from .support import HEADER, PLAIN, feature
 
 import cityseq
 from cityseq.reports import excerpt_of, find_id
-from cityseq.tally import box_of, normal, plain
+from cityseq.world import box_of, normal, plain
 
 sys.path.insert(0, os.path.join(support.ROOT, "python"))
 import make_reasons  # noqa: E402

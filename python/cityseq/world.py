@@ -1,0 +1,79 @@
+"""The transform of a stream, and the box in world coordinates that it makes of ranges of vertices, by exact decimals."""
+from __future__ import annotations
+
+import decimal
+import json
+import sys
+from decimal import Decimal
+from typing import Any, Iterator, List, Optional, Tuple
+
+from .tally import Range
+
+UNITS, GREATEST = -18, Decimal(10) ** 18  # a box takes multiples of 10^-18 that are below 10^18 in size
+NESTED = 1_100  # arrays and objects that a header may have open at once, and some more
+
+
+def _read_json(text: str) -> Any:
+    """Reads JSON with all numbers exact. A valid header may be nested deeper than Python reads by itself."""
+    try:
+        return json.loads(text, parse_float=Decimal, parse_int=Decimal)
+    except RecursionError:
+        limit = sys.getrecursionlimit()
+        sys.setrecursionlimit(limit + NESTED)
+        try:
+            return json.loads(text, parse_float=Decimal, parse_int=Decimal)
+        finally:
+            sys.setrecursionlimit(limit)
+
+
+def transform_of(header: bytes) -> Tuple[List[Decimal], List[Decimal]]:
+    """The scale and the translation of a valid header."""
+    transform = _read_json(header.decode("utf-8"))["transform"]
+    return transform["scale"], transform["translate"]
+
+
+def normal(number: Decimal) -> str:
+    """A number as the program writes it: a whole number that does not end in 0, `e` and a power of ten."""
+    sign, digits, power = number.as_tuple()
+    text = "".join(map(str, digits)).lstrip("0")
+    short = text.rstrip("0")
+    if not short:
+        return "0e0"
+    return f"{'-' if sign else ''}{short}e{int(power) + len(text) - len(short)}"
+
+
+def _edges(vertices: Tuple[int, int], scale: Decimal, shift: Decimal) -> Iterator[Decimal]:
+    """The least and the greatest world coordinate, by exact sums. Raises `decimal.Inexact` where they are too long."""
+    exact = decimal.Context(prec=200, traps=[decimal.Inexact, decimal.Overflow, decimal.InvalidOperation, decimal.Subnormal])
+    edges = [exact.add(exact.multiply(Decimal(vertex), scale), shift) for vertex in vertices]
+    yield from sorted(edges)
+
+
+def plain(number: Decimal) -> str:
+    """A number without an exponent, as a box takes it."""
+    if number == 0:
+        return "0"
+    text = format(number, "f")
+    return text.rstrip("0").rstrip(".") if "." in text else text
+
+
+def _fits(number: Decimal) -> bool:
+    """Whether a box takes the number."""
+    if number.copy_abs() >= GREATEST:
+        return False
+    digits, power = number.as_tuple().digits, int(number.as_tuple().exponent)
+    ended = len(digits) - len("".join(map(str, digits)).rstrip("0"))
+    return number == 0 or power + ended >= UNITS
+
+
+def box_of(ranges: Tuple[Range, Range, Range], scale: List[Decimal], translate: List[Decimal]) -> Optional[str]:
+    """The box round all vertices, as `--bbox` takes it. None where there is no vertex, or no box can be asked for."""
+    if ranges[0] is None or ranges[1] is None:
+        return None
+    try:
+        x, y = (list(_edges(ranges[axis], scale[axis], translate[axis])) for axis in (0, 1))  # type: ignore[arg-type]
+    except decimal.DecimalException:
+        return None
+    edges = [x[0], y[0], x[1], y[1]]
+    numbers = edges + scale[:2] + translate[:2]
+    return ",".join(map(plain, edges)) if all(map(_fits, numbers)) else None
