@@ -5,9 +5,18 @@ from contextlib import suppress
 
 from .commands import main
 
-status = main()
-with suppress(OSError, ValueError):  # the status tells of a fault, and where there was none all has been flushed
-    for output in (sys.stdout, sys.stderr):
-        if output is not None:
-            output.flush()
-os._exit(status)  # nothing is open any more: Python would take itself down piece by piece, in a sixth of a short run's time
+
+def run() -> None:
+    """Runs the command by the words of the command line, and ends the process with its status.
+
+    Nothing is open any more then, so it ends at once: Python would take itself down piece by piece, in a sixth of a short run's time."""
+    status = main()
+    with suppress(OSError, ValueError):  # the status tells of a fault, and where there was none all has been flushed
+        for output in (sys.stdout, sys.stderr):
+            if output is not None:
+                output.flush()
+    os._exit(status)
+
+
+if __name__ == "__main__":
+    run()
