@@ -11,7 +11,8 @@
     '995,1990,1050,2005'
 
 A source is a path, `-` for standard input, bytes or a binary file; a path that ends in `.gz` is unpacked. `jobs` says how many threads
-judge parts of it at once; None is as many as there are processors. `progress` is called with the bytes of each part that is done, as
+judge parts of it at once; None is as many as there are processors. `part_size` is how many bytes parts have; None is 4 MiB, and 512 KiB
+where one thread judges them. `progress` is called with the bytes of each part that is done, as
 `tqdm.update` may be, and `on_report` with each report as it comes, instead of their list."""
 from __future__ import annotations
 
@@ -19,7 +20,6 @@ from typing import Callable, Iterable, Iterator, Optional
 
 from ._library import USUAL_DEPTH, USUAL_LINE
 from .faults import CityseqError, LibraryMissing, MemoryFault, ReadFault, RequestError, WriteFault
-from .parts import PART
 from .query import Box, Texts, asked
 from .reports import Explanation, Report, explain
 from .running import Info, Result, Stream, threaded
@@ -35,15 +35,15 @@ OnReport = Optional[Callable[[Report], None]]
 Progress = Optional[Callable[[int], None]]
 
 
-def _part_size(size: int) -> int:
-    if isinstance(size, bool) or not isinstance(size, int) or size < 1:
+def _part_size(size: Optional[int]) -> Optional[int]:
+    if size is not None and (isinstance(size, bool) or not isinstance(size, int) or size < 1):
         raise RequestError(f"a part has one byte or more: {size!r}")
     return size
 
 
 def check(source: Source, *, jobs: Optional[int] = None, line_limit: int = USUAL_LINE, depth: int = USUAL_DEPTH,
           keep_going: bool = False, tree: bool = False, on_report: OnReport = None, progress: Progress = None,
-          part_size: int = PART) -> Result:
+          part_size: Optional[int] = None) -> Result:
     """Says whether a stream is valid, and counts its lines and features.
 
     The limits are those of the program: bytes in a line, and arrays and objects that are open at once. With `keep_going` each invalid
@@ -56,7 +56,7 @@ def check(source: Source, *, jobs: Optional[int] = None, line_limit: int = USUAL
 
 def check_files(sources: Iterable[Source], *, jobs: Optional[int] = None, line_limit: int = USUAL_LINE, depth: int = USUAL_DEPTH,
                 keep_going: bool = False, tree: bool = False, on_report: OnReport = None, progress: Progress = None,
-                part_size: int = PART) -> Iterator[Result]:
+                part_size: Optional[int] = None) -> Iterator[Result]:
     """Checks many streams, by threads that are shared, and gives the result of each, in order. A fault is told by the result."""
     work, size = asked("check", line_limit=line_limit, depth=depth, keep_going=keep_going, tree=tree), _part_size(part_size)
     return threaded((Stream(source, work, size, tell=on_report, progress=progress) for source in sources), jobs)
@@ -65,7 +65,7 @@ def check_files(sources: Iterable[Source], *, jobs: Optional[int] = None, line_l
 def filter(source: Source, output: Target, *, ids: Optional[Texts] = None, types: Optional[Texts] = None,
            lods: Optional[Texts] = None, box: Optional[Box] = None, exclude: bool = False, jobs: Optional[int] = None,
            line_limit: int = USUAL_LINE, depth: int = USUAL_DEPTH, keep_going: bool = False, tree: bool = False,
-           on_report: OnReport = None, progress: Progress = None, part_size: int = PART) -> Result:
+           on_report: OnReport = None, progress: Progress = None, part_size: Optional[int] = None) -> Result:
     """Copies the header and the features that are wanted, byte for byte, to a path, `-` or a binary file.
 
     A feature is wanted if its id is one of `ids`, some city object has one of `types`, some geometry one of `lods`, and its vertices
@@ -81,7 +81,7 @@ def filter(source: Source, output: Target, *, ids: Optional[Texts] = None, types
 
 def info(source: Source, *, exact_lods: bool = True, jobs: Optional[int] = None, line_limit: int = USUAL_LINE,
          depth: int = USUAL_DEPTH, keep_going: bool = False, tree: bool = False, on_report: OnReport = None,
-         progress: Progress = None, part_size: int = PART) -> Info:
+         progress: Progress = None, part_size: Optional[int] = None) -> Info:
     """Reports what is in a stream: transform, types, LoDs, ranges of vertices, and their box in world coordinates.
 
     `exact_lods` asks for each text of an LoD with how many features have it, which takes as long again for each text. The other

@@ -92,6 +92,7 @@ class Library:
 
     def __init__(self, calls: Any) -> None:
         self._calls = calls
+        self._type_names: Tuple[str, ...] = ()
 
     def check(self, header: bytes, part: Text, request: RawRequest, room: int) -> Tuple[RawAnswer, RawReports]:
         """Judges a header and a part. The second is the room for reports, of which the first ones are written."""
@@ -119,9 +120,11 @@ class Library:
         """The words of a reason; none where no reason has this code."""
         return self._text(self._calls.cityseq_reason_text, code)
 
-    def type_name(self, number: int) -> str:
-        """The name of a type of city objects."""
-        return self._text(self._calls.cityseq_type_name, number)
+    def type_names(self) -> Tuple[str, ...]:
+        """The names of the types of city objects, in their order. They are asked for once."""
+        if not self._type_names:
+            self._type_names = tuple(self._text(self._calls.cityseq_type_name, number) for number in range(TYPES))
+        return self._type_names
 
     @staticmethod
     def _given(header: bytes, part: Text, request: RawRequest) -> Tuple[Any, ...]:
@@ -172,6 +175,10 @@ def keep_room() -> None:
 
 def library() -> Library:
     """The library, loaded at the first call."""
+    return _loaded or _load_once()
+
+
+def _load_once() -> Library:
     global _loaded
     with _lock:
         if _loaded is None:

@@ -12,7 +12,6 @@ from typing import Any, Callable, Iterator, List, Optional, Sequence
 from . import __version__
 from ._library import USUAL_DEPTH, USUAL_LINE, keep_room
 from .faults import CityseqError, MemoryFault, RequestError, WriteFault
-from .parts import PART
 from .progress import Bar
 from .query import Work, asked
 from .reports import Report, explain
@@ -79,7 +78,7 @@ def _add_common(command: argparse.ArgumentParser) -> None:
     option("--keep-going", action="store_true", help="report each line that is not valid, and go on with the next")
     option("--tree", action="store_true", help="refuse a feature of which a city object is not reached from the main one")
     option("--jobs", metavar="N", type=int, action=Once, help="judge so many parts at once (the number of processors)")
-    option("--part-size", metavar="BYTES", type=int, default=PART, action=Once, help="how long parts are (4 MiB)")
+    option("--part-size", metavar="BYTES", type=int, action=Once, help="how long parts are (4 MiB, and 512 KiB with one job)")
     option("--json", action="store_true", help="write an object a line: one for each report, and one for each file at its end")
     option("--progress", action="store_true", help="show on standard error how far it is")
 
@@ -236,7 +235,7 @@ def info_lines(info: Info) -> Iterator[str]:
 def _run(options: argparse.Namespace) -> int:
     """Does what is asked with each file, in order, and answers the greatest status."""
     work, outputs, worst = _work(options), _outputs(options), 0
-    if options.part_size < 1:
+    if options.part_size is not None and options.part_size < 1:
         raise RequestError("a part has one byte or more")
     if options.command == "filter" and options.output_dir is not None:
         _make_folder(options.output_dir)

@@ -135,6 +135,14 @@ class Answer:
             self.tally = answer.tally if self.tally is None else self.tally.joined(answer.tally)
         self.parts += 1
 
+    def count(self, told: RawAnswer, size: int) -> None:
+        """Joins the next part, which is valid, by what the library told of it. The header's line is counted before."""
+        self.lines += told.lines - 1
+        self.kept += told.kept
+        self.peaks = (max(self.peaks[0], told.peak_bytes), max(self.peaks[1], told.peak_tokens), max(self.peaks[2], told.peak_depth))
+        self.size += size
+        self.parts = 1
+
 
 def _call(work: Work, header: bytes, part: Text, room: int) -> Tuple[RawAnswer, RawReports, Text, Optional[Tally]]:
     """The call of the library that the work asks for."""
@@ -182,4 +190,4 @@ def _judge(work: Work, file: str, header: bytes, part: Text, first: bool) -> Ans
         end=next(describe([answer], header, told, file)) if answer.status == REFUSED else None,
         reports=describe(islice(raws, answer.refused), header, told, file) if answer.refused else (),
         output=output if first else memoryview(output)[min(len(header), len(output)):], tally=tally,
-        size=len(part) + (len(header) if first else 0))
+        size=len(part))

@@ -1,20 +1,23 @@
-"""Parts of a file that are read by the thread that judges them: where they begin and end is told by a look at their ends alone."""
+"""Parts of a file that are read by the thread that judges them. Where there are many threads, a look at the ends of parts alone tells
+where they are; where there is one, each part is read behind the one before."""
 from __future__ import annotations
 
 import io
 import os
 import stat
+import sys
 import threading
 from dataclasses import replace
 from functools import partial
 from typing import Any, Callable, Iterator, Optional, Tuple
 
-from ._library import COMPLETE, NO_MEMORY, Text
+from ._library import COMPLETE, NO_MEMORY, Text, library
 from .parts import Answer, judge
 from .query import Work
 from .sources import PIECE, why
 
 LOOK = 1 << 16  # how many bytes before a part's end are looked at first
+SMALL = 1 << 19  # how long parts are that one thread reads in turn: what it has read is still near the processor when it is judged
 Read = Callable[[], Tuple[Text, Optional[str]]]  # the bytes of a part, and why a read behind them failed, if one did
 
 
@@ -51,10 +54,9 @@ class Placed:
         except OSError:
             return None
 
-    def read(self, begin: int, end: int) -> Tuple[memoryview, Optional[str]]:
-        """The bytes from one place up to another, or as many as there are, and why a read behind them failed, if one did. They are
-        there until this thread reads again."""
-        room, count = _room.of(end - begin), 0
+    def fill(self, room: memoryview, begin: int) -> Tuple[int, Optional[str]]:
+        """Reads to a room from a place on: how many bytes there are, and why a read behind them failed, if one did."""
+        count = 0
         try:
             while count < len(room):
                 read = os.preadv(self._descriptor, [room[count:]], begin + count)
@@ -62,8 +64,15 @@ class Placed:
                     break
                 count += read
         except OSError as error:
-            return room[:count], why(error)
-        return room[:count], None
+            return count, why(error)
+        return count, None
+
+    def read(self, begin: int, end: int) -> Tuple[memoryview, Optional[str]]:
+        """The bytes from one place up to another, or as many as there are, and why a read behind them failed, if one did. They are
+        there until this thread reads again."""
+        room = _room.of(end - begin)
+        count, fault = self.fill(room, begin)
+        return room[:count], fault
 
 
 def placed(file: Any) -> Optional[Placed]:
@@ -110,16 +119,70 @@ class Places:
             place += len(piece)
         return None
 
-    def parts(self) -> Iterator[Read]:
-        """What reads each part, in order."""
+    def parts(self) -> Iterator[Tuple[int, int]]:
+        """Where each part begins and ends, in order."""
         while True:
             end = self._end_before(self.begin + self._size)
             if end == self.begin:
                 end = self._end_of_line()
             if end is None:
                 return
-            yield partial(self._file.read, self.begin, end)
+            yield self.begin, end
             self.begin = end
+
+
+class Turns:
+    """Cuts a file, or its bytes up to one of them, into parts of which each is judged before the next is read: all are read to one room,
+    each from behind the last LF that was read. Where a line is longer than the room, that becomes twice as long, and so do the parts from
+    there on. It leaves what `Places` does."""
+
+    def __init__(self, file: Placed, begin: int, size: int, line_limit: int, end: int = sys.maxsize) -> None:
+        self._file, self._end, self._line_limit = file, end, line_limit
+        self._room = bytearray(min(size, end - begin))
+        self.begin = begin  # of what is left
+
+    def _next(self) -> Tuple[memoryview, Optional[str]]:
+        """The next part, which is empty where it is left; or, where a read fails, what is there before that, and why it failed."""
+        while True:
+            room = memoryview(self._room)[:self._end - self.begin]
+            count, fault = self._file.fill(room, self.begin)
+            if fault is not None:
+                return room[:count], fault
+            if count < len(room):
+                return room[:0], None
+            end = self._room.rfind(b"\n", 0, count) + 1
+            if end or count < len(self._room) or count > self._line_limit:
+                return room[:end], None
+            self._room = bytearray(2 * count)
+
+    def parts(self) -> Iterator[Read]:
+        """What gives each part, in order."""
+        while True:
+            part, fault = self._next()
+            if not part and fault is None:
+                return
+            yield partial(given, part, fault)
+            self.begin += len(part)
+
+    def counted(self, work: Work, header: bytes, most: int) -> Optional[Answer]:
+        """Judges parts as long as they are valid, until they have so many bytes, and answers what comes of them together: nothing where the
+        next part is not valid or not read, or is left."""
+        answer, begin = Answer(lines=1, parts=0), self.begin
+        while self.begin < begin + most:
+            part, fault = self._next()
+            if not part or fault is not None:
+                break
+            told, _ = library().check(header, part, work.request(header, part), 0)
+            if told.status != COMPLETE:
+                break
+            answer.count(told, len(part))
+            self.begin += len(part)
+        return answer if answer.parts else None
+
+
+def given(part: Text, fault: Optional[str] = None) -> Tuple[Text, Optional[str]]:
+    """What is given for a part that has been read."""
+    return part, fault
 
 
 def judge_read(work: Work, file: str, header: bytes, read: Read, first: bool) -> Answer:
@@ -132,3 +195,17 @@ def judge_read(work: Work, file: str, header: bytes, read: Read, first: bool) ->
         return judge(work, file, header, part, first)
     answer = judge(work, file, header, part[:bytes(part).rfind(b"\n") + 1], first)
     return replace(answer, fault=f"read fault: {fault}") if answer.status == COMPLETE else answer
+
+
+def judge_placed(work: Work, file: str, header: bytes, source: Placed, ends: Tuple[int, int], size: int, first: bool) -> Answer:
+    """Judges a header and the part of a file between two places: in smaller parts, of this size, where it is valid and counted alone."""
+    begin, end = ends
+    if work.counts_alone:
+        try:
+            turns = Turns(source, begin, size, work.line_limit, end)
+            answer = turns.counted(work, header, end - begin)
+            if answer is not None and turns.begin == end:
+                return answer
+        except MemoryError:
+            pass  # which is told of the whole part, if it is so again
+    return judge_read(work, file, header, partial(source.read, begin, end), first)

@@ -2,9 +2,10 @@
 from __future__ import annotations
 
 from dataclasses import dataclass
+from functools import lru_cache
 from typing import TYPE_CHECKING, Iterable, Optional, Union
 
-from ._library import BAD_REQUEST, DEPTH_LIMITS, FAULTS, LINE_LIMITS, TYPES, USUAL_DEPTH, USUAL_LINE, RawRequest, Text, library
+from ._library import BAD_REQUEST, DEPTH_LIMITS, FAULTS, LINE_LIMITS, USUAL_DEPTH, USUAL_LINE, RawRequest, Text, library
 from .faults import RequestError
 
 if TYPE_CHECKING:
@@ -66,18 +67,24 @@ class Work:
     box: Optional[bytes] = None
     exact_lods: bool = False
 
+    @property
+    def counts_alone(self) -> bool:
+        """Whether all that is told of a valid part are counts."""
+        return self.kind == "check" and not self.keep_going
+
     def request(self, header: bytes, part: Text) -> RawRequest:
-        """The same, as the library takes it with a header and a part: room is asked for no longer lines than these can have."""
+        """The same, as the library takes it with a header and a part: room is asked for lines of less than twice as much as these have."""
         longest = max(len(header), len(part), LINE_LIMITS[0])
-        request = RawRequest(
-            line_limit=min(self.line_limit, longest), depth_limit=self.depth,
-            keep_going=self.keep_going, tree=self.tree, exclude=self.exclude)
-        for name in ("ids", "types", "lods", "box"):
-            text = getattr(self, name)
-            setattr(request, "asks_" + name, text is not None)
-            setattr(request, name, text or b"")
-            setattr(request, name + "_length", len(text or b""))
-        return request
+        return _request(self, min(self.line_limit, 1 << (longest - 1).bit_length()))
+
+
+@lru_cache(maxsize=16)
+def _request(work: Work, line_limit: int) -> RawRequest:
+    """A request, which is made once for many parts."""
+    texts = (work.ids, work.types, work.lods, work.box)
+    return RawRequest(
+        line_limit, work.depth, work.keep_going, work.tree, work.exclude, *(text is not None for text in texts),
+        *(given for text in texts for given in (text or b"", len(text or b""))))
 
 
 def asked(
@@ -100,5 +107,4 @@ def _which(work: Work, code: int) -> str:
     """Which of the types is unknown, where that is the fault."""
     if code != 5 or work.types is None:
         return ""
-    known = {library().type_name(number) for number in range(TYPES)}
-    return ": " + next((name for name in work.types.decode().split("\n") if name not in known), "")
+    return ": " + next((name for name in work.types.decode().split("\n") if name not in library().type_names()), "")

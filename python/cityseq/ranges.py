@@ -8,7 +8,7 @@ from .faults import ReadFault
 from .hints import HEAD
 from .parts import Answer, judge, read_header
 from .query import Work
-from .running import Done, Stream, results
+from .running import Stream, in_turn
 from .sources import PIECE, READ_FAULTS, Reader, opened, size_of, why
 
 Range = Tuple[int, int]
@@ -101,6 +101,6 @@ def judge_range(work: Work, path: str, begin: int, end: int, first: bool) -> Ans
 def judge_whole(work: Work, path: str) -> Answer:
     """Judges a file whose bytes cannot be gone to, as one that is packed."""
     stream = Stream(path, work)
-    for _ in results([stream], Done, 0):
+    for _ in in_turn([stream]):
         pass
     return stream.answer()

@@ -8,11 +8,11 @@ from dataclasses import asdict, dataclass, field, replace
 from functools import partial
 from typing import TYPE_CHECKING, Any, Callable, Deque, Dict, Generator, Iterable, Iterator, List, Optional, Tuple, Type
 
-from ._library import NO_MEMORY, REFUSED, Text
-from .faults import MemoryFault, ReadFault, RequestError, WriteFault
+from ._library import NO_MEMORY, REFUSED
+from .faults import CityseqError, MemoryFault, ReadFault, RequestError, WriteFault
 from .hints import HEAD, hints_for
 from .parts import PART, Answer, Cutter, read_header
-from .places import Places, Read, judge_read, placed
+from .places import SMALL, Placed, Places, Turns, given, judge_placed, judge_read, placed
 from .query import Work
 from .reports import Report
 from .sources import Reader, Source, Writer, is_path, name_of, opened
@@ -23,8 +23,10 @@ if TYPE_CHECKING:
 
 HEADERS = 4  # so many times the header's length is a part
 AHEAD = 2  # how many parts wait beside those that are judged
+AT_ONCE = 64 << 20  # after so many bytes at the latest what came of them is told
 Tell = Callable[[Report], None]
 Task = Callable[[], Answer]
+Judged = Callable[[bool], Answer]  # what judges a part, and takes whether that is the first
 Tasks = Generator[Task, None, None]
 Results = Generator["Result", None, None]
 FAULTS = {fault.status: fault for fault in (ReadFault, WriteFault, MemoryFault)}
@@ -94,9 +96,10 @@ class Info(Result):
 class Stream:
     """One stream on its way: what is still to be judged of it, and what came of its parts so far."""
 
-    def __init__(self, source: Source, work: Work, size: int = PART, output: Optional[Writer] = None,
+    def __init__(self, source: Source, work: Work, size: Optional[int] = None, output: Optional[Writer] = None,
                  tell: Optional[Tell] = None, progress: Optional[Callable[[int], None]] = None) -> None:
         self.source, self.work, self.size, self.file = source, work, size, name_of(source)
+        self._in_turn = False
         self._output, self._progress = output, progress
         self._reports: List[Report] = []
         self._tell: Tell = self._reports.append if tell is None else tell
@@ -110,15 +113,22 @@ class Stream:
         """Whether nothing after the parts that were added counts."""
         return self._joined.status != 0 or self._fault is not None
 
+    def read_in_turn(self) -> "Stream":
+        """The same, where what judges a part is called before the next is asked for."""
+        self._in_turn = True
+        return self
+
     def tasks(self) -> Tasks:
-        """What is to be called for each part, in order. A read that fails is told after them."""
+        """What is to be called for each part, in order. A read that fails, or memory that is refused, is told after them."""
         try:
             with opened(self.source) as reader:
                 yield from self._tasks(reader)
         except ReadFault as fault:
             self.fail(fault)
+        except MemoryError:
+            self.fail(MemoryFault("out of memory"))
 
-    def fail(self, fault: ReadFault) -> None:
+    def fail(self, fault: CityseqError) -> None:
         """Notes a fault that counts where no part ends the stream before it."""
         self._late = fault.status, fault.words
 
@@ -129,34 +139,52 @@ class Stream:
         is_line = header.endswith(b"\n")
         if is_line or reader.fault is None or len(header) > limit:
             first = True
-            for read in self._parts(reader, header, rest) if is_line else ():
-                yield self._task(header, read, first)
+            for judged in self._parts(reader, header, rest) if is_line else ():
+                yield partial(judged, first)
                 first = False
             if first:
-                yield self._task(header, partial(_read_before, b""), True)
+                yield partial(judge_read, self.work, self.file, header, partial(given, b""), True)
         if reader.fault is not None:
             raise ReadFault(f"read fault: {reader.fault}")
 
-    def _parts(self, reader: Reader, header: bytes, rest: bytearray) -> Iterator[Read]:
-        """What gives each part behind the header: those of a file are read where they are judged, but for its end."""
-        # a long header is judged again with each part, so that parts are to be longer
-        size = max(PART, HEADERS * len(header)) if self.size == PART else self.size
+    def _parts(self, reader: Reader, header: bytes, rest: bytearray) -> Iterator[Judged]:
+        """What judges each part behind the header: those of a file are read where they are judged, but for its end."""
         file = placed(reader.file) if is_path(self.source) else None
         if file is not None:
-            places = Places(file, len(header), size, self.work.line_limit)
-            yield from places.parts()
-            if places.begin > len(header):
-                reader.go_to(places.begin)
+            begin = yield from (self._parts_in_turn if self._in_turn else self._parts_at_once)(file, header)
+            if begin > len(header):
+                reader.go_to(begin)
                 rest = bytearray()
-        for part in Cutter(reader, rest, size, self.work.line_limit, self.work.keep_going).parts():
-            yield partial(_read_before, part)
+        for part in Cutter(reader, rest, self._part_size(PART, header), self.work.line_limit, self.work.keep_going).parts():
+            yield partial(judge_read, self.work, self.file, header, partial(given, part))
 
-    def _task(self, header: bytes, read: Read, first: bool) -> Task:
-        return partial(judge_read, self.work, self.file, header, read, first)
+    def _parts_at_once(self, file: Placed, header: bytes) -> Generator[Judged, None, int]:
+        """What judges parts of a file, by any thread. It answers where what is left begins."""
+        places = Places(file, len(header), self._part_size(PART, header), self.work.line_limit)
+        for ends in places.parts():
+            yield partial(judge_placed, self.work, self.file, header, file, ends, self._part_size(SMALL, header))
+        return places.begin
+
+    def _parts_in_turn(self, file: Placed, header: bytes) -> Generator[Judged, None, int]:
+        """What judges parts of a file that are read in turn, or what came of them. It answers where what is left begins."""
+        turns = Turns(file, len(header), self._part_size(SMALL, header), self.work.line_limit)
+        answer = turns.counted(self.work, header, AT_ONCE) if self.work.counts_alone else None
+        while answer is not None:
+            yield partial(_told, answer)
+            answer = turns.counted(self.work, header, AT_ONCE)
+        for read in turns.parts():
+            yield partial(judge_read, self.work, self.file, header, read)
+        return turns.begin
+
+    def _part_size(self, usual: int, header: bytes) -> int:
+        """How long parts are. A long header is judged again with each, so that they are longer then."""
+        return self.size or max(usual, HEADERS * len(header))
 
     def heads(self, header: bytes, behind: bytes) -> None:
         """Notes the stream's first line, and some of what follows it."""
         self._header, self._head = header, header[:HEAD] + behind
+        if self._progress is not None:
+            self._progress(len(header))
 
     def add(self, answer: Answer) -> None:
         """Joins the answer of the next part."""
@@ -212,9 +240,9 @@ class Stream:
         info.lods, info.unasked = tally.lods, tuple(sorted(tally.unasked))
 
 
-def _read_before(part: Text) -> Tuple[Text, Optional[str]]:
-    """What is given for a part that has been read."""
-    return part, None
+def _told(answer: Answer, _: bool) -> Answer:
+    """The answer of parts that have been judged."""
+    return answer
 
 
 def results(streams: Iterable[Stream], submit: Callable[[Task], Any], ahead: int) -> Results:
@@ -248,23 +276,15 @@ def results(streams: Iterable[Stream], submit: Callable[[Task], Any], ahead: int
                 future.cancel()
 
 
-class Done:
-    """A task that is done at once, in the thread that asks for it."""
-
-    def __init__(self, task: Task) -> None:
-        self._answer = task()
-
-    def result(self) -> Answer:
-        """What the task answered."""
-        return self._answer
-
-    def done(self) -> bool:
-        """It always is."""
-        return True
-
-    def cancel(self) -> bool:
-        """It cannot be cancelled."""
-        return False
+def in_turn(streams: Iterable[Stream]) -> Results:
+    """What comes of each stream, in order, by the thread that asks for it."""
+    for stream in map(Stream.read_in_turn, streams):
+        with contextlib.closing(stream.tasks()) as tasks:
+            for task in tasks:
+                stream.add(task())
+                if stream.ended:
+                    break
+        yield stream.finish()
 
 
 def usual_jobs() -> int:
@@ -277,7 +297,7 @@ def threaded(streams: Iterable[Stream], jobs: Optional[int]) -> Results:
     jobs = usual_jobs() if jobs is None else jobs
     if isinstance(jobs, bool) or not isinstance(jobs, int) or jobs < 1:
         raise RequestError(f"jobs are a whole number from 1: {jobs!r}")
-    return results(streams, Done, 0) if jobs == 1 else _pooled(streams, jobs)
+    return in_turn(streams) if jobs == 1 else _pooled(streams, jobs)
 
 
 def _pooled(streams: Iterable[Stream], jobs: int) -> Results:

@@ -4,7 +4,7 @@ from __future__ import annotations
 from dataclasses import dataclass, field
 from typing import Dict, FrozenSet, Optional, Tuple
 
-from ._library import LOD_CLASSES, TYPES, RawTally, library
+from ._library import LOD_CLASSES, RawTally, library
 
 Range = Optional[Tuple[int, int]]
 MOST_UNASKED = 1_000  # so many are kept, and those of one part more
@@ -48,7 +48,7 @@ def _wider(one: Range, other: Range) -> Range:
 
 def tally_of(raw: RawTally) -> Tally:
     """What the library told, of types and classes also those that have none, in their order."""
-    types = {library().type_name(number): raw.types[number] for number in range(TYPES)}
+    types = dict(zip(library().type_names(), raw.types))
     classes = dict(zip(LOD_CLASSES, raw.lods))
     ranges = tuple((axis.least, axis.greatest) if axis.some else None for axis in raw.ranges)
     return Tally(raw.features, types, classes, ranges)  # type: ignore[arg-type]

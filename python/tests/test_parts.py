@@ -52,9 +52,10 @@ print(resource.getrusage(resource.RUSAGE_SELF).ru_minflt - begun)
 class Room(unittest.TestCase):
     """The memory that a call asks for."""
 
-    def test_no_more_than_its_lines_need(self):
+    def test_less_than_twice_what_its_lines_need(self):
         work = asked("check", line_limit=1_000)
-        for header, part, limit in ((b"", b"", 1), (b"h" * 9, b"p" * 7, 9), (b"h", b"p" * 999, 999), (b"h", b"p" * 1_001, 1_000)):
+        for header, part, limit in ((b"", b"", 1), (b"h" * 8, b"p" * 7, 8), (b"h" * 9, b"p" * 7, 16), (b"h", b"p" * 513, 1_000),
+                                    (b"h", b"p" * 1_001, 1_000)):
             self.assertEqual(work.request(header, part).line_limit, limit)
 
     @unittest.skipUnless(platform.libc_ver()[0] == "glibc", "the C library is another one")

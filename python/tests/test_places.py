@@ -1,4 +1,4 @@
-"""Files whose parts are read where they are judged: the same comes of them as of their bytes."""
+"""Files that are read by their places, where their parts are judged or in turn: the same comes of them as of their bytes."""
 import io
 import os
 import random
@@ -12,7 +12,8 @@ from .test_sources import InFolder
 
 import cityseq
 from cityseq.parts import read_header
-from cityseq.places import Places, placed
+from cityseq.places import Places, Turns, placed
+from cityseq.query import asked
 from cityseq.sources import Reader
 
 READ = os.preadv
@@ -30,12 +31,14 @@ def failing_at(place):
     return mock.patch("os.preadv", read)
 
 
-def placed_parts(path, size, line_limit):
-    """The header, the parts that are found by their places, and what they leave."""
+def cut(path, size, line_limit, turns=False):
+    """The header, the parts that are found by their places or read in turn, and what they leave."""
     with open(path, "rb") as file:
         header, _ = read_header(Reader(file), line_limit)
-        places = Places(placed(file), len(header), size, line_limit)
-        parts = [(bytes(part), fault) for part, fault in (read() for read in places.parts())] if header.endswith(b"\n") else []
+        source = placed(file)
+        places = (Turns if turns else Places)(source, len(header), size, line_limit)
+        found = places.parts() if header.endswith(b"\n") else ()
+        parts = [(bytes(part), fault) for part, fault in (read() if turns else source.read(*read) for read in found)]
         file.seek(places.begin)
         return header, parts, file.read()
 
@@ -48,27 +51,53 @@ class Cuts(InFolder):
             text = support.stream_by_chance(seed)
             path = self.file(text)
             for size in (1, 10, 300, 10_000):
-                header, parts, rest = placed_parts(path, size, 5_000)
+                header, parts, rest = cut(path, size, 5_000)
                 self.assertEqual(header + b"".join(part for part, _ in parts) + rest, text)
                 self.assertTrue(all(fault is None and part.endswith(b"\n") for part, fault in parts))
                 self.assertTrue(all(len(part) <= size or part.count(b"\n") == 1 for part, _ in parts))
                 if header.endswith(b"\n"):
                     self.assertLessEqual(len(rest), max(size, 5_000))
 
+    def test_parts_in_turn_make_the_file_again(self):
+        for seed in range(150):
+            text = support.stream_by_chance(seed)
+            path, longest = self.file(text), max(map(len, text.split(b"\n"))) + 1
+            for size in (1, 10, 300, 10_000):
+                header, parts, rest = cut(path, size, 5_000, turns=True)
+                self.assertEqual(header + b"".join(part for part, _ in parts) + rest, text)
+                self.assertTrue(all(fault is None and part.endswith(b"\n") for part, fault in parts))
+                self.assertTrue(all(len(part) <= max(size, 2 * longest) for part, _ in parts))
+                if header.endswith(b"\n"):
+                    self.assertLess(len(rest), max(size, 2 * longest))
+
+    def test_parts_in_turn_are_as_long_as_asked(self):
+        path = self.file(b"h\n" + b"abcd\n" * 7 + b"ab")
+        parts = [b"abcd\n" * 2] * 3
+        self.assertEqual(cut(path, 13, 50, turns=True), (b"h\n", [(part, None) for part in parts], b"abcd\nab"))
+
+    def test_parts_in_turn_are_twice_as_long_from_a_longer_line_on(self):
+        path = self.file(b"h\na\n" + b"b" * 9 + b"\n" + b"c\n" * 20)
+        _, parts, rest = cut(path, 4, 50, turns=True)
+        self.assertEqual([part for part, _ in parts], [b"a\n", b"b" * 9 + b"\n" + b"c\n" * 3, b"c\n" * 8, b"c\n" * 8])
+        self.assertEqual(rest, b"c\n")
+
     def test_ends_far_from_where_they_are_looked_for(self):
         lines = [bytes([97 + number % 26]) * (length - 1) + b"\n" for number, length in enumerate(
             (1, 70_000, 300_000, 65_536, 65_537, 900_000, 3, 1_000_000, 1_000_001, 2_500_000, 1_048_576, 5, 200_000))]
         path = self.file(b"h\n" + b"".join(lines) + b"z" * 100)
         for size in (65_536, 300_000, 1_000_000):
-            _, parts, rest = placed_parts(path, size, 8_388_608)
+            _, parts, rest = cut(path, size, 8_388_608)
             self.assertEqual(b"".join(part for part, _ in parts) + rest, b"".join(lines) + b"z" * 100)
             self.assertTrue(all(len(part) <= size or part.count(b"\n") == 1 for part, _ in parts))
             self.assertLess(len(rest), size + 100)
 
     def test_a_line_that_is_too_long_is_left(self):
         path = self.file(b"h\na\n" + b"b" * 50 + b"\nc\n")
-        self.assertEqual(placed_parts(path, 4, 50), (b"h\n", [(b"a\n", None), (b"b" * 50 + b"\n", None)], b"c\n"))
-        self.assertEqual(placed_parts(path, 4, 49), (b"h\n", [(b"a\n", None)], b"b" * 50 + b"\nc\n"))
+        self.assertEqual(cut(path, 4, 50), (b"h\n", [(b"a\n", None), (b"b" * 50 + b"\n", None)], b"c\n"))
+        self.assertEqual(cut(path, 4, 49), (b"h\n", [(b"a\n", None)], b"b" * 50 + b"\nc\n"))
+        path = self.file(b"h\na\n" + b"b" * 64 + b"\nc\n")
+        self.assertEqual(cut(path, 4, 63, turns=True), (b"h\n", [(b"a\n", None)], b"b" * 64 + b"\nc\n"))
+        self.assertEqual(cut(path, 4, 64, turns=True), (b"h\n", [(b"a\n", None)], b"b" * 64 + b"\nc\n"))
 
     def test_what_has_no_places(self):
         self.assertIsNone(placed(io.BytesIO(b"h\n")))
@@ -84,6 +113,55 @@ class Cuts(InFolder):
             os.truncate(path, 50)
             self.assertEqual([bytes(held.read(*ends)[0]) for ends in ((0, 10), (46, 60), (60, 70))],
                              [b"h\n" + b"a\n" * 4, b"a\n" * 2, b""])
+
+
+class Counted(InFolder):
+    """Parts of which nothing but counts is told."""
+
+    def counted(self, text, size, most):
+        """What is told of parts that are read in turn, as long as something is."""
+        work, path = asked("check"), self.file(HEADER + text)
+        with open(path, "rb") as file:
+            turns = Turns(placed(file), len(HEADER), size, work.line_limit)
+            told = list(iter(lambda: turns.counted(work, HEADER, most), None))
+        return [(answer.lines, answer.kept, answer.size, answer.parts) for answer in told], turns.begin - len(HEADER)
+
+    def test_valid_parts_are_joined(self):
+        length = len(PLAIN)
+        text = PLAIN * 10 + b"{"
+        self.assertEqual(self.counted(text, 3 * length, 5 * length), ([(7, 6, 6 * length, 1), (4, 3, 3 * length, 1)], 9 * length))
+        self.assertEqual(self.counted(text, 3 * length, 1), ([(4, 3, 3 * length, 1)] * 3, 9 * length))
+
+    def test_parts_that_are_not_valid_are_left(self):
+        length, broken = len(PLAIN), b"x" * (len(PLAIN) - 1) + b"\n"
+        self.assertEqual(self.counted(PLAIN * 4 + broken + PLAIN * 5, 2 * length, 99 * length), ([(5, 4, 4 * length, 1)], 4 * length))
+        self.assertEqual(self.counted(broken + PLAIN * 5, 2 * length, 99 * length), ([], 0))
+
+    def test_files_are_counted_as_their_bytes(self):
+        for seed in range(200):
+            text, chance = support.stream_by_chance(seed), random.Random(seed)
+            if seed % 3 == 0:
+                text = HEADER + b"".join(feature(f"b{number}") * chance.randrange(4) for number in range(20))
+            wanted = self.told(text, line_limit=1_000)
+            for jobs in (1, 3):
+                size = chance.randrange(1, 2_000)
+                with self.subTest(seed=seed, jobs=jobs, size=size):
+                    self.assertEqual(self.told(self.file(text), line_limit=1_000, part_size=size, jobs=jobs), wanted)
+
+    def told(self, source, **options):
+        """What `check` tells, but for the file's name, and how many bytes were done."""
+        done = []
+        result = cityseq.check(source, progress=done.append, **options)
+        end = result.end and replace(result.end, file="")
+        return replace(result, file="", end=end, reports=[]), sum(done) if result.valid else None
+
+    def test_reads_that_fail(self):
+        length, text = len(PLAIN), HEADER + PLAIN * 100
+        for place in (len(HEADER), len(HEADER) + 40 * length, len(HEADER) + 41 * length + 7):
+            for jobs in (1, 2):
+                with self.subTest(place=place, jobs=jobs), failing_at(place), self.assertRaises(cityseq.ReadFault) as raised:
+                    cityseq.check(self.file(text), part_size=10 * length, jobs=jobs)
+                self.assertEqual(raised.exception.result.lines, 1 + (place - len(HEADER)) // length)
 
 
 class Runs(InFolder):
