@@ -11,9 +11,9 @@
     '995,1990,1050,2005'
 
 A source is a path, `-` for standard input, bytes or a binary file; a path that ends in `.gz` is unpacked. `jobs` says how many threads
-judge parts of it at once; None is as many as there are processors. `part_size` is how many bytes parts have; None is 4 MiB, and 512 KiB
-where one thread judges them. `progress` is called with the bytes of each part that is done, as
-`tqdm.update` may be, and `on_report` with each report as it comes, instead of their list."""
+judge parts of it at once; None is as many as there are processors. `part_size` is how long parts are; None is 4 MiB or less.
+`progress` is called with the bytes of each part that is done, as `tqdm.update` may be, and `on_report` with each report as it comes,
+instead of their list."""
 from __future__ import annotations
 
 from typing import Callable, Iterable, Iterator, Optional

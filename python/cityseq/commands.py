@@ -78,7 +78,7 @@ def _add_common(command: argparse.ArgumentParser) -> None:
     option("--keep-going", action="store_true", help="report each line that is not valid, and go on with the next")
     option("--tree", action="store_true", help="refuse a feature of which a city object is not reached from the main one")
     option("--jobs", metavar="N", type=int, action=Once, help="judge so many parts at once (the number of processors)")
-    option("--part-size", metavar="BYTES", type=int, action=Once, help="how long parts are (4 MiB, and 512 KiB with one job)")
+    option("--part-size", metavar="BYTES", type=int, action=Once, help="how long parts are (4 MiB or less)")
     option("--json", action="store_true", help="write an object a line: one for each report, and one for each file at its end")
     option("--progress", action="store_true", help="show on standard error how far it is")
 

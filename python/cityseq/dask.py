@@ -36,7 +36,7 @@ class _Ranged(Stream):
 
     def __init__(self, path: str, work: Work, size: int, seen: Seen, output: Optional[Writer], tell: OnReport) -> None:
         super().__init__(path, work, size, output, tell)
-        self._seen, self._path = seen, path
+        self._seen, self._path, self._each = seen, path, size
 
     def tasks(self) -> Tasks:
         """What is to be called for each part."""
@@ -50,7 +50,7 @@ class _Ranged(Stream):
             return
         begin = len(seen.header)
         first = True
-        for left, right in cut(begin, seen.size, max(self.size, 4 * begin)) if seen.header.endswith(b"\n") else ():
+        for left, right in cut(begin, seen.size, max(self._each, 4 * begin)) if seen.header.endswith(b"\n") else ():
             yield partial(judge_range, self.work, self._path, left, right, first)
             first = False
         if first:

@@ -7,6 +7,7 @@ import os
 import stat
 import sys
 import threading
+from contextlib import suppress
 from dataclasses import replace
 from functools import partial
 from typing import Any, Callable, Iterator, Optional, Tuple
@@ -138,12 +139,14 @@ class Turns:
 
     def __init__(self, file: Placed, begin: int, size: int, line_limit: int, end: int = sys.maxsize) -> None:
         self._file, self._end, self._line_limit = file, end, line_limit
-        self._room = bytearray(min(size, end - begin))
+        self._size, self._room = min(size, end - begin), bytearray()
         self.begin = begin  # of what is left
 
     def _next(self) -> Tuple[memoryview, Optional[str]]:
         """The next part, which is empty where it is left; or, where a read fails, what is there before that, and why it failed."""
         while True:
+            if len(self._room) < self._size:
+                self._room = bytearray(self._size)
             room = memoryview(self._room)[:self._end - self.begin]
             count, fault = self._file.fill(room, self.begin)
             if fault is not None:
@@ -153,7 +156,7 @@ class Turns:
             end = self._room.rfind(b"\n", 0, count) + 1
             if end or count < len(self._room) or count > self._line_limit:
                 return room[:end], None
-            self._room = bytearray(2 * count)
+            self._size = 2 * count
 
     def parts(self) -> Iterator[Read]:
         """What gives each part, in order."""
@@ -168,15 +171,16 @@ class Turns:
         """Judges parts as long as they are valid, until they have so many bytes, and answers what comes of them together: nothing where the
         next part is not valid or not read, or is left."""
         answer, begin = Answer(lines=1, parts=0), self.begin
-        while self.begin < begin + most:
-            part, fault = self._next()
-            if not part or fault is not None:
-                break
-            told, _ = library().check(header, part, work.request(header, part), 0)
-            if told.status != COMPLETE:
-                break
-            answer.count(told, len(part))
-            self.begin += len(part)
+        with suppress(MemoryError):  # the next part tells of it
+            while self.begin < begin + most:
+                part, fault = self._next()
+                if not part or fault is not None:
+                    break
+                told, _ = library().check(header, part, work.request(header, part), 0)
+                if told.status != COMPLETE:
+                    break
+                answer.count(told, len(part))
+                self.begin += len(part)
         return answer if answer.parts else None
 
 
@@ -201,11 +205,8 @@ def judge_placed(work: Work, file: str, header: bytes, source: Placed, ends: Tup
     """Judges a header and the part of a file between two places: in smaller parts, of this size, where it is valid and counted alone."""
     begin, end = ends
     if work.counts_alone:
-        try:
-            turns = Turns(source, begin, size, work.line_limit, end)
-            answer = turns.counted(work, header, end - begin)
-            if answer is not None and turns.begin == end:
-                return answer
-        except MemoryError:
-            pass  # which is told of the whole part, if it is so again
+        turns = Turns(source, begin, size, work.line_limit, end)
+        answer = turns.counted(work, header, end - begin)
+        if answer is not None and turns.begin == end:
+            return answer
     return judge_read(work, file, header, partial(source.read, begin, end), first)

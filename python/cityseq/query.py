@@ -78,7 +78,7 @@ class Work:
         return _request(self, min(self.line_limit, 1 << (longest - 1).bit_length()))
 
 
-@lru_cache(maxsize=16)
+@lru_cache(maxsize=8)
 def _request(work: Work, line_limit: int) -> RawRequest:
     """A request, which is made once for many parts."""
     texts = (work.ids, work.types, work.lods, work.box)

@@ -167,7 +167,9 @@ class Stream:
 
     def _parts_in_turn(self, file: Placed, header: bytes) -> Generator[Judged, None, int]:
         """What judges parts of a file that are read in turn, or what came of them. It answers where what is left begins."""
-        turns = Turns(file, len(header), self._part_size(SMALL, header), self.work.line_limit)
+        # whether the texts of LoDs are too many to be told hangs on how long parts are, and is to be the same for any number of threads
+        usual = PART if self.work.exact_lods else SMALL
+        turns = Turns(file, len(header), self._part_size(usual, header), self.work.line_limit)
         answer = turns.counted(self.work, header, AT_ONCE) if self.work.counts_alone else None
         while answer is not None:
             yield partial(_told, answer)

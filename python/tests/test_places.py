@@ -217,6 +217,20 @@ class Runs(InFolder):
                         fault = (1, None) if result.end is not None else (3, "read fault: Input/output error")
                         self.assertEqual((found.status, found.fault), fault)
 
+    def test_memory_that_is_refused(self):
+        def refusing(size=0):
+            if size > 1_000:
+                raise MemoryError
+            return bytearray(size)
+
+        path = self.file(HEADER + PLAIN * 10 + PLAIN[:-1] + b" " * 2_000 + b"\n" + PLAIN)
+        for jobs in (1, 2):
+            for call in (cityseq.check, cityseq.info, lambda *given, **options: cityseq.filter(*given, io.BytesIO(), **options)):
+                with self.subTest(jobs=jobs, call=call), mock.patch("cityseq.places.bytearray", refusing, create=True):
+                    with self.assertRaises(cityseq.MemoryFault) as raised:
+                        call(path, part_size=2 * len(PLAIN), jobs=jobs)
+                    self.assertEqual((raised.exception.result.status, raised.exception.result.lines), (5, 11))
+
     def test_what_is_opened_is_closed(self):
         if not os.path.exists("/proc/self/fd"):
             self.skipTest("the system does not tell what is open")
