@@ -134,8 +134,8 @@ class Places:
 
 class Turns:
     """Cuts a file, or its bytes up to one of them, into parts of which each is judged before the next is read: all are read to one room,
-    each from behind the last LF that was read. Where a line is longer than the room, that becomes twice as long, and so do the parts from
-    there on. It leaves what `Places` does."""
+    each from behind the last LF that was read. Where a line is longer than the room, that becomes twice as long, or as long as all that
+    is left up to that byte, and so do the parts from there on. It leaves what `Places` does."""
 
     def __init__(self, file: Placed, begin: int, size: int, line_limit: int, end: int = sys.maxsize) -> None:
         self._file, self._end, self._line_limit = file, end, line_limit
@@ -154,9 +154,9 @@ class Turns:
             if count < len(room):
                 return room[:0], None
             end = self._room.rfind(b"\n", 0, count) + 1
-            if end or count < len(self._room) or count > self._line_limit:
+            if end or count == self._end - self.begin or count > self._line_limit:
                 return room[:end], None
-            self._size = 2 * count
+            self._size = 2 * count if self._end == sys.maxsize else self._end - self.begin
 
     def parts(self) -> Iterator[Read]:
         """What gives each part, in order."""

@@ -81,6 +81,15 @@ class Cuts(InFolder):
         self.assertEqual([part for part, _ in parts], [b"a\n", b"b" * 9 + b"\n" + b"c\n" * 3, b"c\n" * 8, b"c\n" * 8])
         self.assertEqual(rest, b"c\n")
 
+    def test_parts_in_turn_up_to_a_byte(self):
+        path = self.file(b"a\n" * 5 + b"b" * 20 + b"\n" + b"c\n" * 10)
+        two, three, line = [b"a\n" * 2] * 2, [b"a\n" * 2] * 2 + [b"a\n"], b"b" * 20 + b"\n"
+        for end, wanted in ((9, two), (10, three), (30, three), (31, three + [line]), (36, three + [line + b"c\n" * 2])):
+            with open(path, "rb") as file, self.subTest(end=end):
+                turns = Turns(placed(file), 0, 4, 50, end)
+                self.assertEqual([bytes(part()[0]) for part in turns.parts()], wanted)
+                self.assertEqual(turns.begin, len(b"".join(wanted)))
+
     def test_ends_far_from_where_they_are_looked_for(self):
         lines = [bytes([97 + number % 26]) * (length - 1) + b"\n" for number, length in enumerate(
             (1, 70_000, 300_000, 65_536, 65_537, 900_000, 3, 1_000_000, 1_000_001, 2_500_000, 1_048_576, 5, 200_000))]
