@@ -43,4 +43,5 @@ printf 'CREATE c/out/libcityseq.a\nADDLIB %s\nADDLIB %s\nSAVE\nEND\n' "$built" "
 "${CC:-cc}" -shared -o c/out/libcityseq.so -Wl,-soname,libcityseq.so -Wl,--version-script=c/cityseq.map \
   -Wl,--whole-archive "$built" -Wl,--no-whole-archive "$system"
 mkdir -p python/cityseq
-cp c/out/libcityseq.so python/cityseq/libcityseq.so
+# as a new file, since one that is written over takes the library from under a process that has it
+cp --remove-destination c/out/libcityseq.so python/cityseq/libcityseq.so
