@@ -12,8 +12,8 @@
 
 A source is a path, `-` for standard input, bytes or a binary file; a path that ends in `.gz` is unpacked. `jobs` says how many threads
 judge parts of it at once; None is as many as there are processors. `part_size` is how long parts are; None is 4 MiB or less.
-`progress` is called with the bytes of each part that is done, as `tqdm.update` may be, and `on_report` with each report as it comes,
-instead of their list."""
+`progress` is called with how many bytes more are done, as `tqdm.update` may be, and `on_report` with each report as it comes, instead of
+their list."""
 from __future__ import annotations
 
 from typing import Callable, Iterable, Iterator, Optional

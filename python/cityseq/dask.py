@@ -20,7 +20,7 @@ from .parts import Answer
 from .query import Box, Texts, Work, asked
 from .ranges import Seen, cut, judge_range, judge_whole, look
 from .reports import Report
-from .running import Info, Result, Stream, Tasks, results
+from .running import HEADERS, Info, Result, Stream, Tasks, results
 from .sources import Target, Writer, is_path, is_same_file
 
 PART = 32 << 20  # how long the parts of tasks are
@@ -50,7 +50,7 @@ class _Ranged(Stream):
             return
         begin = len(seen.header)
         first = True
-        for left, right in cut(begin, seen.size, max(self._each, 4 * begin)) if seen.header.endswith(b"\n") else ():
+        for left, right in cut(begin, seen.size, max(self._each, HEADERS * begin)) if seen.header.endswith(b"\n") else ():
             yield partial(judge_range, self.work, self._path, left, right, first)
             first = False
         if first:

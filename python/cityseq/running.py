@@ -21,9 +21,9 @@ from .tally import Range, Tally
 if TYPE_CHECKING:
     from decimal import Decimal
 
-HEADERS = 4  # so many times the header's length is a part
+HEADERS = 4  # a usual part is at least so many times as long as the header
 AHEAD = 2  # how many parts wait beside those that are judged
-AT_ONCE = 64 << 20  # after so many bytes at the latest what came of them is told
+AT_ONCE = 64 << 20  # of so many bytes, or a part more, what came of parts in turn is told together
 Tell = Callable[[Report], None]
 Task = Callable[[], Answer]
 Judged = Callable[[bool], Answer]  # what judges a part, and takes whether that is the first
