@@ -1,6 +1,6 @@
 #!/usr/bin/env bash
 # Rows over the built program: what it writes, what it says on standard error, and its status; the commands that the
-# documents show; and the names that they take from the code.
+# documents show; and their names of code, links and lengths.
 #
 #     tests/program.sh [PROGRAM]
 #
@@ -709,6 +709,11 @@ row_the_example_counts() {
 row_the_documents_name_what_is_there() {
   command -v python3 > "$scratch/noise" || return $skipped
   tests/promises.py > "$scratch/noise" || { cat "$scratch/noise"; false; }
+}
+
+row_the_documents_link_to_what_is_there_and_are_short() {
+  command -v python3 > "$scratch/noise" || return $skipped
+  tests/links.py > "$scratch/noise" || { cat "$scratch/noise"; false; }
 }
 
 # ---- what the documents show
