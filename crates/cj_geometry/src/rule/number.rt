@@ -41,11 +41,11 @@ fn is_outside(count: Option<u64>, whole: i64) -> bool
     }
 }
 
-/// The value of a number of few digits: what nearly all indices are. None of any other value.
+/// The value of a number of few digits, by its bytes alone: for what is no such number of at most eight digits.
 ///
 /// Once its first byte is known to be a digit, the question for its kind costs nothing.
-#[inline(always)]
-fn read_few(node: Node) -> Option<u64>
+#[inline(never)]
+fn read_more(node: Node) -> Option<u64>
     ensures { IfSome result (λ n. (n < 10 ^ 18) × (whole_of (tree node.entry) ≡ Some (pos n))) }
 {
     let bytes = node.bytes();
@@ -58,10 +58,22 @@ fn read_few(node: Node) -> Option<u64>
     }
 }
 
-/// The value of a number of few digits, perhaps behind a minus: what nearly all coordinates are. None of any
-/// other value.
+/// The value of a number of few digits: what nearly all indices are. None of any other value. At most eight digits are
+/// read where they stand in the line, with no question for the kind.
 #[inline(always)]
-fn read_few_signed(node: Node) -> Option<i64>
+fn read_few(node: Node) -> Option<u64>
+    ensures { IfSome result (λ n. (n < 10 ^ 18) × (whole_of (tree node.entry) ≡ Some (pos n))) }
+{
+    let (start, stop) = node.span();
+    match Decimal::read_few_in(node.line(), start, stop) {
+        Some(whole) => Some(whole),
+        None => read_more(node),
+    }
+}
+
+/// The value of a number of few digits, perhaps behind a minus, as [`read_more`] reads it.
+#[inline(never)]
+fn read_more_signed(node: Node) -> Option<i64>
     ensures { IfSome result (λ w. whole_of (tree node.entry) ≡ Some w) }
 {
     let bytes = node.bytes();
@@ -71,6 +83,19 @@ fn read_few_signed(node: Node) -> Option<i64>
     match node.kind() {
         Kind::Number => Decimal::read_few_signed(bytes),
         _ => None,
+    }
+}
+
+/// The value of a number of few digits, perhaps behind a minus: what nearly all coordinates are. None of any
+/// other value.
+#[inline(always)]
+fn read_few_signed(node: Node) -> Option<i64>
+    ensures { IfSome result (λ w. whole_of (tree node.entry) ≡ Some w) }
+{
+    let (start, stop) = node.span();
+    match Decimal::read_few_signed_in(node.line(), start, stop) {
+        Some(whole) => Some(whole),
+        None => read_more_signed(node),
     }
 }
 

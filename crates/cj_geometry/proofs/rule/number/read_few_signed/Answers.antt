@@ -1,8 +1,11 @@
-use Rattle.std.proofs.Common.{◌∙◌, sym}
+use Rattle.std.proofs.Common.{Some, refl, sym, ap, ◌∙◌}
 use Rattle.cj_spans.specs.View.{tree, line_of}
-use Rattle.cj_geometry.proofs.Numbers.{few-signed-read}
+use Rattle.cj_geometry.proofs.Numbers.{signed-there, whole-fits}
 use Rattle.cj_geometry.proofs.rule.number.read_few_signed.Goals as goal
 
-pub returns-in-Number : goal.returns-in-Number
-returns-in-Number c =
-    few-signed-read (line_of c.args.node) (tree c.args.node) (sym c.kind.ensures ∙ c.in-Number.is) _ c.bytes-bytes.ensures.spelling _ c.read_few_signed.ensures.answer
+pub returns-in-Some : goal.returns-in-Some
+returns-in-Some c =
+    let span = c.span-start.ensures in
+    let read = c.in-Some.ensures in
+    signed-there (line_of c.args.node) c.line.result.now (tree c.args.node) c.span-start.result.0 c.span-start.result.1 c.line.ensures span.order span.spelling span.kind c.in-Some.whole (read.number refl) read.answer
+    ∙ ap (λ w. Some w) (sym (whole-fits c.in-Some.whole read.small))
