@@ -1,5 +1,5 @@
 //! One byte of a line: what may come, and what the byte makes of the open containers and the tokens.
-ghost use Rattle.std.specs.Prelude.{◌≡◌, ◌≤◌, ◌<◌, ◌++◌, ◌∷◌, [], length, List, ℕ, slice_get, Some, None, OnErr, IsTrue};
+ghost use Rattle.std.specs.Prelude.{◌≡◌, ◌⊎◌, true, false, ◌≤◌, ◌<◌, ◌++◌, ◌∷◌, [], length, List, ℕ, slice_get, Some, None, OnErr, IsTrue};
 ghost use Rattle.cj_budget.specs.Bounded.{IsWithin};
 ghost use Rattle.cj_spans.specs.declared.token.Token.{Token as TokenOf};
 ghost use Rattle.cj_spans.specs.declared.step.Mode.{Mode as ModeOf};
@@ -260,8 +260,18 @@ fn read_colon(byte: u8, place: usize) -> Result<Move, LineFault>
     }
 }
 
+/// Whether a value may come, or what follows one. It is told by the order of the modes: of a `match` on all six the
+/// compiler makes a jump table.
+#[inline(always)]
+fn is_at_value(mode: Mode) -> bool
+    ensures yes { result ≡ true → (mode ≡ Ready) ⊎ ((mode ≡ FirstItem) ⊎ (mode ≡ After)) }
+    ensures no { result ≡ false → (mode ≡ Ready → ⊥) × (mode ≡ FirstItem → ⊥) × (mode ≡ After → ⊥) }
+{
+    mode as u8 <= Mode::After as u8
+}
+
 /// Reads a byte that is no white space where a name or a colon may come.
-#[inline(never)]
+#[inline(always)]
 fn read_name_byte(
     mode: Mode,
     byte: u8,
@@ -293,8 +303,7 @@ fn read_name_byte(
     }
 }
 
-/// Reads a byte between scalars and names. The modes that are rare here stand apart, since of six in one `match` the
-/// compiler makes a jump table.
+/// Reads a byte between scalars and names.
 #[inline(always)]
 pub fn read_byte(
     mode: Mode,
@@ -318,6 +327,9 @@ pub fn read_byte(
     if is_white_space(byte) {
         return Ok(Move::Stay);
     }
+    if !is_at_value(mode) {
+        return read_name_byte(mode, byte, place, tokens, stack);
+    }
     match mode {
         Mode::Ready => begin_value(byte, place, tokens, stack),
         Mode::FirstItem => {
@@ -327,8 +339,7 @@ pub fn read_byte(
                 begin_value(byte, place, tokens, stack)
             }
         }
-        Mode::After => after_value(byte, place, tokens, stack),
-        _ => read_name_byte(mode, byte, place, tokens, stack),
+        _ => after_value(byte, place, tokens, stack),
     }
 }
 
