@@ -1,6 +1,6 @@
 -- What reading a number says of its findings.
 use Rattle.std.proofs.Common.{◌≡◌, ℕ, ◌<◌, ◌^◌, List, [], Bool, true, false, cond, Option, Some, None, Result, Ok, Err, ℤ, to_z, of_z, w64, refl, sym, ap, subst, ◌∙◌, arith, ◌∷◌, ◌≤◌, get_or, inl, inr}
-use Rattle.std.specs.Prelude.{unsigned_abs, pos, IfSome, slice_range}
+use Rattle.std.specs.Prelude.{unsigned_abs, pos, IfSome, IsSome, slice_range}
 use Rattle.std.proofs.lemmas.Bool.Decides.{nat_tests}
 use Rattle.std.proofs.lemmas.Int.{to_z-of_z, fits_signed_from_abs}
 use Rattle.cj_spans.specs.declared.token.Kind.TheVariants.{Number}
@@ -157,3 +157,11 @@ module _ (line b : List ℕ) (t : Tree) (start stop : ℕ) (e : b ≡ line) (ord
   signed-there w few answer =
       let P : List ℕ → Type 0 = λ s. IsFewSigned (slice_range s start stop) in
       read-there w (kind-at line start stop order (signed-first (slice_range line start stop) (subst P e few))) answer
+
+  pub few-there-if : (o : Option ℕ) → (IsSome o → IsFewDigits (slice_range b start stop)) → IfSome o (λ n. (c : Class (slice_range b start stop)) → whole_answer c ≡ Ok (Some (pos n))) → IfSome o (λ n. n < 10 ^ 18) → IfSome o (λ n. (n < 10 ^ 18) × (whole_of t ≡ Some (pos n)))
+  few-there-if None few answer small = answer
+  few-there-if (Some n) few answer small = (small, few-there n (few refl) answer)
+
+  pub signed-there-if : (o : Option ℤ) → (IsSome o → IsFewSigned (slice_range b start stop)) → IfSome o (λ w. (c : Class (slice_range b start stop)) → whole_answer c ≡ Ok (Some w)) → IfSome o (λ w. whole_of t ≡ Some w)
+  signed-there-if None few answer = answer
+  signed-there-if (Some w) few answer = signed-there w (few refl) answer
