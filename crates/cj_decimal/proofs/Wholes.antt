@@ -142,6 +142,11 @@ answer_digits s n c short =
     let plain : begins 45 s ≡ false = ap (begins 45) (front_rest s) ∙ digit_begins 45 (digits_front s) (digits_rest s) (int_is_digits _ (int_from_test _ (front_all s) short.int)) (omega arith) in
     signed_answer s false n c (sym plain) (same_short s (body s) n (no_minus s plain) short)
 
+-- what is said of a short number holds of an answer that may be there
+pub answer_of_few : (s : List ℕ) (o : Option ℕ) → IfSome o (λ n. IsShort s n) → IfSome o (λ n. (c : Class s) → whole_answer c ≡ Ok (Some (pos n)))
+answer_of_few s None short = short
+answer_of_few s (Some n) short = λ c. answer_digits s n c short
+
 -- few digits after the sign, if there is one
 pub signed_from_body : (s : List ℕ) → IsFewDigits (body s) → IsFewSigned s
 signed_from_body s few = elim (begins 45 s) as (λ b. begins 45 s ≡ b → IsFewSigned s) [

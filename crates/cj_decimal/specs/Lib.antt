@@ -5,3 +5,4 @@ pub mod Number
 pub mod Reading
 pub mod Spelling
 pub mod Rows
+pub mod Word

@@ -3,7 +3,7 @@
 //! Normal form is made once, in `from_parts`, and is the type's invariant: `==` compares fields, and the
 //! range is judged of it and not of the spelling. A new way to make a `Decimal` has to trim its zeros, and
 //! 0 is (0, 0).
-ghost use Rattle.std.specs.Prelude.{◌≡◌, ◌↔◌, ℕ, ◌*◌, ◌^◌, ◌<◌, ◌≤◌, ℤ, pos, neg_ℤ, ◌-ℤ◌, ◌*ℤ◌, unsigned_abs, IsTrue, IfSome, IfNone, IsSome, IfOk, IsOk, IsErrOf};
+ghost use Rattle.std.specs.Prelude.{◌≡◌, ◌↔◌, ℕ, ◌+◌, ◌*◌, ◌^◌, ◌<◌, ◌≤◌, ℤ, pos, neg_ℤ, ◌-ℤ◌, ◌*ℤ◌, unsigned_abs, length, slice_range, IsTrue, IfSome, IfNone, IsSome, IfOk, IsOk, IsErrOf};
 ghost use Rattle.std.proofs.Common.{rules};
 ghost use Rattle.std.specs.Cmp.Rules.{comparing};
 ghost use Rattle.cj_decimal.specs.Spelling.{IsFewDigits, IsFewSigned, IsNumber, IsValue, IsNumberInRange, IsNumberOutOfRange, HasOneValue};
@@ -17,6 +17,7 @@ use crate::powers::wide_ten_to;
 use crate::spelling::{Parts, after_minus, has_byte, read_parts};
 use crate::trimming::without_zeros;
 use crate::whole::{read_any, read_few_digits};
+use crate::word::read_word;
 use std::marker::Model;
 use thiserror::Error;
 
@@ -200,6 +201,48 @@ impl Decimal {
         } else {
             Some(size as i64)
         }
+    }
+
+    /// The number of [`Decimal::read_few`] that stands in a line from `start` to `stop`, where it has at most eight
+    /// digits: faster still, since a word of the line has them all. None also of what stands near the front of the line.
+    #[inline(always)]
+    pub fn read_few_in(line: &[u8], start: usize, stop: usize) -> Option<u64>
+        requires order { start < stop }
+        requires within { stop ≤ length line.now }
+        ensures answer { IfSome result (λ n. (c : Class (slice_range line.now start stop))
+            → whole_answer c ≡ Ok (Some (pos n))) }
+        ensures small { IfSome result (λ n. n < 10 ^ 18) }
+        ensures few { IsSome result ↔ (IsFewDigits (slice_range line.now start stop)
+            × (stop ≤ start + 8) × (8 ≤ stop)) }
+    {
+        read_word(line, start, stop)
+    }
+
+    /// The number of [`Decimal::read_few_signed`] that stands there so.
+    #[inline(always)]
+    pub fn read_few_signed_in(line: &[u8], start: usize, stop: usize) -> Option<i64>
+        requires order { start < stop }
+        requires within { stop ≤ length line.now }
+        ensures answer { IfSome result (λ w. (c : Class (slice_range line.now start stop))
+            → whole_answer c ≡ Ok (Some w)) }
+        ensures small { IfSome result (λ w. unsigned_abs w < 10 ^ 18) }
+        ensures number { IsSome result → IsFewSigned (slice_range line.now start stop) }
+        ensures few { IsFewSigned (slice_range line.now start stop) → stop ≤ start + 8 → 8 ≤ stop
+            → IsSome result }
+    {
+        if line[start] != b'-' {
+            let Some(size) = read_word(line, start, stop) else {
+                return None;
+            };
+            return Some(size as i64);
+        }
+        if start + 1 == stop {
+            return None;
+        }
+        let Some(size) = read_word(line, start + 1, stop) else {
+            return None;
+        };
+        Some(-(size as i64))
     }
 
     /// Reads the spelling of a number of JSON (RFC 8259, section 6) as a whole number: its value where that

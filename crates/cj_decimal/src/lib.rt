@@ -29,6 +29,7 @@ mod spelling;
 mod tests;
 mod trimming;
 mod whole;
+mod word;
 
 pub use affine::Affine;
 pub use decimal::{Decimal, DecimalFault};

@@ -42,26 +42,31 @@ fn read_counted(digits: &[u8], count: usize) -> Option<u64>
 /// The number that at most 18 digits spell, where nothing else stands there and no 0 before another digit: the
 /// usual case. None where it is anything else.
 ///
-/// The counts that nearly all have stand one by one: with a count that is known the loop is straight code.
+/// The counts that nearly all have stand one by one: with a count that is known the loop is straight code. They stand
+/// in groups of three behind a test of order, since the compiler makes a jump table of four.
 #[inline(always)]
 pub fn read_few_digits(digits: &[u8]) -> Option<u64>
     ensures short { IfSome result (λ n. IsShort digits.now n) }
     ensures few { IsSome result ↔ IsFewDigits digits.now }
 {
-    match digits.len() {
-        1 => read_counted(digits, 1),
-        2 => read_counted(digits, 2),
-        3 => read_counted(digits, 3),
-        4 => read_counted(digits, 4),
-        5 => read_counted(digits, 5),
-        6 => read_counted(digits, 6),
-        count => {
-            if count <= FEW {
-                read_counted(digits, count)
-            } else {
-                None
-            }
+    let count = digits.len();
+    if count <= 3 {
+        match count {
+            1 => read_counted(digits, 1),
+            2 => read_counted(digits, 2),
+            3 => read_counted(digits, 3),
+            _ => None,
         }
+    } else if count <= 6 {
+        match count {
+            4 => read_counted(digits, 4),
+            5 => read_counted(digits, 5),
+            _ => read_counted(digits, 6),
+        }
+    } else if count <= FEW {
+        read_counted(digits, count)
+    } else {
+        None
     }
 }
 

@@ -6,6 +6,7 @@ pub mod Grammars
 pub mod ListSteps
 pub mod Neighbours
 pub mod Numbers
+pub mod Lone
 pub mod ObjectTypes
 pub mod OfKind
 pub mod Ordered

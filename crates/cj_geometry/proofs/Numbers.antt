@@ -1,17 +1,21 @@
 -- What reading a number says of its findings.
-use Rattle.std.proofs.Common.{◌≡◌, ℕ, ◌<◌, ◌^◌, List, [], Bool, true, false, cond, Option, Some, None, Result, Ok, Err, ℤ, to_z, of_z, w64, refl, sym, ap, ◌∙◌, arith}
-use Rattle.std.specs.Prelude.{unsigned_abs, pos, IfSome}
+use Rattle.std.proofs.Common.{◌≡◌, ℕ, ◌<◌, ◌^◌, List, [], Bool, true, false, cond, Option, Some, None, Result, Ok, Err, ℤ, to_z, of_z, w64, refl, sym, ap, subst, ◌∙◌, arith, ◌∷◌, ◌≤◌, get_or, inl, inr}
+use Rattle.std.specs.Prelude.{unsigned_abs, pos, IfSome, IsSome, slice_range}
+use Rattle.std.proofs.lemmas.Bool.Decides.{nat_tests}
 use Rattle.std.proofs.lemmas.Int.{to_z-of_z, fits_signed_from_abs}
 use Rattle.cj_spans.specs.declared.token.Kind.TheVariants.{Number}
 use Rattle.cj_spans.specs.declared.reason.Reason.{Reason}
 use Rattle.cj_spans.specs.declared.reason.Reason.TheVariants.{NotWhole}
 use Rattle.cj_spans.specs.declared.finding.Finding.{Finding}
 use Rattle.cj_spans.specs.Tree.{Tree, scalar, array, object}
+use Rattle.cj_spans.specs.Json.{byte}
+use Rattle.cj_spans.specs.Forest.{kind_by}
 use Rattle.cj_spans.specs.Kinds.{is_number}
 use Rattle.cj_spans.specs.Parts.{kind_of, spelling_of}
 use Rattle.cj_decimal.specs.declared.decimal.DecimalFault.{DecimalFault}
 use Rattle.cj_decimal.specs.declared.decimal.DecimalFault.TheVariants.{NotANumber, NumberRange as OutOfRange}
-use Rattle.cj_decimal.specs.Spelling.{IsNumber, IsNumberInRange, IsNumberOutOfRange}
+use Rattle.cj_decimal.proofs.Eights.{first_is}
+use Rattle.cj_decimal.specs.Spelling.{IsInt, IsFewDigits, IsFewSigned, IsNumber, IsNumberInRange, IsNumberOutOfRange}
 use Rattle.cj_decimal.specs.Class.{Class, no_number, out_of_range, not_whole, whole, whole_answer}
 use Rattle.cj_decimal.proofs.Classes.{class}
 use Rattle.cj_decimal.proofs.Law.{not_both, value_is_number}
@@ -120,3 +124,44 @@ module _ (line : List ℕ) (t : Tree) (kind : kind_of t ≡ Number) where
     pub few-signed-read : (o : Option ℤ) → IfSome o (λ w. (c : Class s) → whole_answer c ≡ Ok (Some w)) → IfSome o (λ w. whole_of t ≡ Some w)
     few-signed-read None answer = answer
     few-signed-read (Some w) answer = whole-there w answer
+
+-- ---- what stands in a line as few digits is a number
+digit-kind : (b : ℕ) → 45 ≤ b → b ≤ 57 → kind_by b ≡ Number
+digit-kind b low high = grind (arith, nat_tests)
+
+int-first : (s : List ℕ) → IsInt s → (45 ≤ get_or s 0 0) × (get_or s 0 0 ≤ 57)
+int-first [] int = absurd int
+int-first (b ∷ t) (inl zero) = let e = zero.0 in (omega arith, omega arith)
+int-first (b ∷ t) (inr more) = let low = more.0 in let high = more.1 in (omega arith, omega arith)
+
+signed-first : (s : List ℕ) → IsFewSigned s → (45 ≤ get_or s 0 0) × (get_or s 0 0 ≤ 57)
+signed-first s (inl few) = int-first s few.0
+signed-first s (inr minus) = let e : get_or s 0 0 ≡ 45 = ap (λ t. get_or t 0 0) minus.1 in (omega arith, omega arith)
+
+kind-at : (line : List ℕ) (start stop : ℕ) → start < stop → (45 ≤ get_or (slice_range line start stop) 0 0) × (get_or (slice_range line start stop) 0 0 ≤ 57) → kind_by (byte line start) ≡ Number
+kind-at line start stop order first = let e = first_is line start stop order in digit-kind (byte line start) (omega (arith, first.0, e)) (omega (arith, first.1, e))
+
+-- where a node stands, and what was read there
+module _ (line b : List ℕ) (t : Tree) (start stop : ℕ) (e : b ≡ line) (order : start < stop) (same : slice_range line start stop ≡ spelling_of line t) (kind : kind_by (byte line start) ≡ kind_of t) where
+  read-there : (w : ℤ) → kind_by (byte line start) ≡ Number → ((c : Class (slice_range b start stop)) → whole_answer c ≡ Ok (Some w)) → whole_of t ≡ Some w
+  read-there w number answer =
+      let P : List ℕ → Type 0 = λ s. (c : Class (slice_range s start stop)) → whole_answer c ≡ Ok (Some w) in
+      whole-there line t (sym kind ∙ number) (slice_range line start stop) same w (subst P e answer)
+
+  pub few-there : (n : ℕ) → IsFewDigits (slice_range b start stop) → ((c : Class (slice_range b start stop)) → whole_answer c ≡ Ok (Some (pos n))) → whole_of t ≡ Some (pos n)
+  few-there n few answer =
+      let P : List ℕ → Type 0 = λ s. IsFewDigits (slice_range s start stop) in
+      read-there (pos n) (kind-at line start stop order (int-first (slice_range line start stop) (subst P e few).0)) answer
+
+  pub signed-there : (w : ℤ) → IsFewSigned (slice_range b start stop) → ((c : Class (slice_range b start stop)) → whole_answer c ≡ Ok (Some w)) → whole_of t ≡ Some w
+  signed-there w few answer =
+      let P : List ℕ → Type 0 = λ s. IsFewSigned (slice_range s start stop) in
+      read-there w (kind-at line start stop order (signed-first (slice_range line start stop) (subst P e few))) answer
+
+  pub few-there-if : (o : Option ℕ) → (IsSome o → IsFewDigits (slice_range b start stop)) → IfSome o (λ n. (c : Class (slice_range b start stop)) → whole_answer c ≡ Ok (Some (pos n))) → IfSome o (λ n. n < 10 ^ 18) → IfSome o (λ n. (n < 10 ^ 18) × (whole_of t ≡ Some (pos n)))
+  few-there-if None few answer small = answer
+  few-there-if (Some n) few answer small = (small, few-there n (few refl) answer)
+
+  pub signed-there-if : (o : Option ℤ) → (IsSome o → IsFewSigned (slice_range b start stop)) → IfSome o (λ w. (c : Class (slice_range b start stop)) → whole_answer c ≡ Ok (Some w)) → IfSome o (λ w. whole_of t ≡ Some w)
+  signed-there-if None few answer = answer
+  signed-there-if (Some w) few answer = signed-there w (few refl) answer

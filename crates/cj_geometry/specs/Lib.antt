@@ -13,3 +13,4 @@ pub mod ObjectTypes
 pub mod Rule
 pub mod Table
 pub mod TreeSet
+pub mod Lone

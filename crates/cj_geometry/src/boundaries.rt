@@ -6,17 +6,19 @@ ghost use Rattle.cj_spans.specs.View.{tree};
 ghost use Rattle.cj_geometry.specs.Rule.{needs};
 ghost use Rattle.cj_geometry.specs.Geometry.{shape};
 
-use crate::rule::{add, check_index, needed};
+use crate::rule::{add, check_index, count_indices, needed};
 use cj_spans::{Kind, Least, Node, Reason};
 
-/// The value is a list of indices of vertices: the lowest level, where nearly all numbers are.
+/// The value is a list of indices of vertices: the lowest level, where nearly all numbers are. Those at the front that
+/// are as they should be are counted first, in a loop that does nothing else; all is asked of the rest.
 #[inline(always)]
 fn check_indices(node: Node, vertices: Option<u64>, found: &mut Least)
     ensures { found.new ≡ least found.old (shape vertices 1 (tree node.entry)) }
 {
     match node.kind() {
         Kind::Array => {
-            for item in node.items() {
+            let front = count_indices(node, vertices);
+            for item in node.items_behind(front) {
                 check_index(item, Reason::VertexIndex, vertices, found);
             }
         }

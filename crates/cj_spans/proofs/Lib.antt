@@ -1,6 +1,7 @@
 pub mod Steps
 pub mod Spellings
 pub mod Atoms
+pub mod Scalars
 pub mod Judgements
 pub mod Links
 pub mod Lists

@@ -330,10 +330,10 @@ reading_sound (c ∷ r) x k h d =
 pub plain_goes : (c : ℕ) → is_plain c ≡ true → lex_step InString c ≡ Some InString
 plain_goes c h = grind (arith)
 
-escape_goes : (c : ℕ) → is_escape c ≡ true → lex_step Escape c ≡ Some InString
+pub escape_goes : (c : ℕ) → is_escape c ≡ true → lex_step Escape c ≡ Some InString
 escape_goes c h = ap (λ v. cond v (Some InString) (cond (nat_eq c 117) (Some Hex4) None)) h
 
-hex_goes : (c : ℕ) (x : Lex) → is_hex c ≡ true → hex c x ≡ Some x
+pub hex_goes : (c : ℕ) (x : Lex) → is_hex c ≡ true → hex c x ≡ Some x
 hex_goes c x h = ap (λ v. cond v (Some x) None) h
 
 body_runs : {s : List ℕ} → IsBody s → lex_run (s ++ 34 ∷ []) InString ≡ Some StringDone

@@ -22,3 +22,4 @@ pub mod Parts
 pub mod Sound
 pub mod View
 pub mod Marks
+pub mod Atom

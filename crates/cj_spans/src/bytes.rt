@@ -1,5 +1,6 @@
 //! The bytes that the grammar tells apart.
-ghost use Rattle.std.specs.Prelude.{◌≡◌};
+ghost use Rattle.std.specs.Prelude.{◌≡◌, ◌<◌, length, IsTrue};
+ghost use Rattle.cj_spans.specs.Json.{byte as byte_of};
 ghost use Rattle.cj_spans.specs.Spelling.{is_white_space as is_white_space_of, is_hex as is_hex_of, is_plain as is_plain_of, is_escape as is_escape_of};
 ghost use Rattle.cj_spans.specs.Machine.{is_digit as is_digit_of};
 
@@ -43,4 +44,12 @@ pub fn is_plain(byte: u8) -> bool
     ensures { result ≡ is_plain_of byte }
 {
     byte >= b' ' && byte != b'"' && byte != b'\\'
+}
+
+/// Whether this byte stands at the place.
+#[inline(always)]
+pub fn stands_at(line: &[u8], place: usize, byte: u8) -> bool
+    ensures { IsTrue result → (place < length line.now) × (byte_of line.now place ≡ byte) }
+{
+    place < line.len() && line[place] == byte
 }

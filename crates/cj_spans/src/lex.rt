@@ -1,9 +1,9 @@
 //! How far the spelling of a scalar or a name has been read.
-ghost use Rattle.std.specs.Prelude.{◌≡◌, ◌≤◌, ◌<◌, ℕ, length, suc, IfSome, IsTrue, Some, true};
+ghost use Rattle.std.specs.Prelude.{◌≡◌, ◌≤◌, ◌<◌, ℕ, length, IfSome, IsTrue, Some, true, false};
 ghost use Rattle.cj_spans.specs.declared.lex.Lex.{Lex as LexOf};
-ghost use Rattle.cj_spans.specs.declared.lex.Lex.TheVariants.{InString, StringDone};
+ghost use Rattle.cj_spans.specs.declared.lex.Lex.TheVariants.{InString};
 ghost use Rattle.cj_spans.specs.Json.{byte as byte_of};
-ghost use Rattle.cj_spans.specs.Machine.{is_digit as is_digit_of, lex_start as lex_start_of, lex_step as lex_step_of, lex_kind as lex_kind_of, one as one_of, hex as hex_of, mark as mark_of, point_or_mark as point_or_mark_of, zero_or_whole as zero_or_whole_of, sign_mark as sign_mark_of, string_step as string_step_of, escape_step as escape_step_of, digit_or as digit_or_of, Continues, Halts, IsQuoted};
+ghost use Rattle.cj_spans.specs.Machine.{is_digit as is_digit_of, lex_start as lex_start_of, lex_step as lex_step_of, lex_kind as lex_kind_of, one as one_of, hex as hex_of, mark as mark_of, point_or_mark as point_or_mark_of, zero_or_whole as zero_or_whole_of, sign_mark as sign_mark_of, string_step as string_step_of, escape_step as escape_step_of, digit_or as digit_or_of, Continues, IsQuoted};
 
 use crate::bytes::{is_digit, is_escape, is_hex, is_plain};
 use crate::lanes::{LANES, find_other, find_special};
@@ -41,20 +41,34 @@ pub enum Lex {
     StringDone,
 }
 
-/// What the first byte of a scalar begins.
-#[inline(always)]
-pub fn lex_start(byte: u8) -> Option<Lex>
+/// What the first byte begins of a scalar that is no number.
+#[inline(never)]
+fn lex_start_other(byte: u8) -> Option<Lex>
+    requires digit { is_digit_of byte ≡ false }
+    requires minus { byte ≡ 45 → ⊥ }
     ensures { result ≡ lex_start_of byte }
 {
     match byte {
         b'n' => Some(Lex::AfterN),
         b't' => Some(Lex::AfterT),
         b'f' => Some(Lex::AfterF),
-        b'-' => Some(Lex::Minus),
-        b'0' => Some(Lex::Zero),
-        b'1'..=b'9' => Some(Lex::Whole),
         b'"' => Some(Lex::InString),
         _ => None,
+    }
+}
+
+/// What the first byte of a scalar begins. Numbers, which are most, are told by tests: of all the bytes in one `match`
+/// the compiler makes a jump table.
+#[inline(always)]
+pub fn lex_start(byte: u8) -> Option<Lex>
+    ensures { result ≡ lex_start_of byte }
+{
+    if is_digit(byte) {
+        Some(if byte == b'0' { Lex::Zero } else { Lex::Whole })
+    } else if byte == b'-' {
+        Some(Lex::Minus)
+    } else {
+        lex_start_other(byte)
     }
 }
 
@@ -223,7 +237,7 @@ fn skip_plain_singly(line: &[u8], place: usize) -> usize
 
 /// Skips the bytes of a string that stand for themselves, 16 at once while the line has so many.
 #[inline(always)]
-fn skip_plain(line: &[u8], place: usize) -> usize
+pub fn skip_plain(line: &[u8], place: usize) -> usize
     requires { place ≤ length line.now }
     ensures same { (i : ℕ) (x : LexOf) → Continues line.now i x place InString → Continues line.now i x result InString }
     ensures order { place ≤ result }
@@ -276,7 +290,7 @@ pub fn skip_digits(line: &[u8], read: Lex, place: usize) -> usize
 
 /// Skips the bytes that leave the reading as it is, where there may be many.
 #[inline(always)]
-fn skip(line: &[u8], read: Lex, place: usize) -> usize
+pub fn skip(line: &[u8], read: Lex, place: usize) -> usize
     requires { place ≤ length line.now }
     ensures same { (i : ℕ) (x : LexOf) → Continues line.now i x place read → Continues line.now i x result read }
     ensures order { place ≤ result }
@@ -291,22 +305,12 @@ fn skip(line: &[u8], read: Lex, place: usize) -> usize
     }
 }
 
-/// How far a scalar goes, and what has been read of it there.
-#[derive(Clone, Copy)]
-pub struct Reach {
-    pub stop: usize,
-    pub read: Lex,
-}
-
-/// Whether the quote stands here that ends a string, of which what stands before it has been read.
+/// Whether the quote stands here that ends a string.
 #[inline(always)]
-fn ends_string(line: &[u8], place: usize, read: Lex) -> bool
-    ensures { IsTrue result → (place < length line.now) × (lex_step_of read (byte_of line.now place) ≡ Some StringDone) }
+pub fn ends_string(line: &[u8], place: usize) -> bool
+    ensures { IsTrue result → (place < length line.now) × (byte_of line.now place ≡ 34) }
 {
-    match read {
-        Lex::InString => place < line.len() && line[place] == b'"',
-        _ => false,
-    }
+    place < line.len() && line[place] == b'"'
 }
 
 /// Where the string that begins at `place` ends, if the first of its bytes that does not stand for itself is the
@@ -320,39 +324,9 @@ pub fn plain_string_stop(line: &[u8], place: usize) -> Option<usize>
         return None;
     }
     let stop = skip_plain(line, place + 1);
-    if ends_string(line, stop, Lex::InString) {
+    if ends_string(line, stop) {
         Some(stop + 1)
     } else {
         None
     }
-}
-
-/// Reads on in the scalar that began at `start`, up to the first byte that does not go on with it. Most strings
-/// end at the first byte that does not stand for itself.
-#[inline(always)]
-pub fn read_atom(line: &[u8], start: usize, first: Lex) -> Reach
-    requires within { start < length line.now }
-    ensures read { Continues line.now (suc start) first result.stop result.read }
-    ensures halts { Halts line.now result.stop result.read }
-    ensures order { start < result.stop }
-    ensures end { result.stop ≤ length line.now }
-{
-    let mut stop = skip(line, first, start + 1);
-    if ends_string(line, stop, first) {
-        return Reach {
-            stop: stop + 1,
-            read: Lex::StringDone,
-        };
-    }
-    let mut read = first;
-    while stop < line.len() {
-        match lex_step(read, line[stop]) {
-            Some(next) => {
-                read = next;
-                stop = skip(line, next, stop + 1);
-            }
-            None => break,
-        }
-    }
-    Reach { stop, read }
 }

@@ -31,6 +31,7 @@
 #![tactic(auto)]
 
 mod arrays;
+mod atom;
 mod bytes;
 #[cfg(test)]
 mod examples;

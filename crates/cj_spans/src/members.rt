@@ -10,18 +10,11 @@ ghost use Rattle.cj_spans.specs.Preorder.{token_at};
 ghost use Rattle.cj_spans.specs.Machine.{IsQuoted, BeginsName, StaysInObjectNext};
 ghost use Rattle.cj_spans.specs.Pass.{StandsInObject, Leads};
 
+use crate::bytes::stands_at;
 use crate::lex::plain_string_stop;
 use crate::step::{Mode, Move, Next};
 use crate::token::{Token, keep_atom};
 use cj_budget::Bounded;
-
-/// Whether this byte stands at the place.
-#[inline(always)]
-fn stands_at(line: &[u8], place: usize, byte: u8) -> bool
-    ensures { IsTrue result → (place < length line.now) × (byte_of line.now place ≡ byte) }
-{
-    place < line.len() && line[place] == byte
-}
 
 /// Reads the string that begins at `place` and keeps its token; where it ends. None where no string begins there
 /// whose bytes all stand for themselves.

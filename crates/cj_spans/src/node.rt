@@ -11,7 +11,7 @@
 //!     None => false,
 //! }
 //! ```
-ghost use Rattle.std.specs.Prelude.{◌≡◌, ◌<◌, ◌≤◌, ◌+◌, ◌^◌, ℕ, length, slice_get, Some, List, take, drop};
+ghost use Rattle.std.specs.Prelude.{◌≡◌, ◌<◌, ◌≤◌, ◌+◌, ◌^◌, ℕ, length, slice_get, Some, List, take, drop, slice_range};
 ghost use Rattle.cj_spans.specs.Sound.{AreOf, AreFull, AreWithin, AreRising, AreNested, AreNamed, AreLinked, AreLone, AreWhole, ShowMembers, before};
 ghost use Rattle.cj_spans.specs.Tree.{Tree};
 ghost use Rattle.cj_spans.specs.declared.token.Token.{Token as TokenOf};
@@ -203,6 +203,28 @@ impl<'a> Node<'a> {
     {
         let token = token_at(self.source.tokens, self.index);
         &self.source.line[token.start as usize..token.stop as usize]
+    }
+
+    /// The line that it stands in.
+    #[inline(always)]
+    pub fn line(self) -> &'a [u8]
+        ensures { result.now ≡ line_of self.entry }
+    {
+        let line = self.source.line;
+        line
+    }
+
+    /// Where it stands in the line: where its first byte is, and where the first byte behind it is.
+    #[inline(always)]
+    pub fn span(self) -> (usize, usize)
+        ensures order { result.0 < result.1 }
+        ensures within { result.1 ≤ length (line_of self.entry) }
+        ensures spelling { slice_range (line_of self.entry) result.0 result.1
+            ≡ spelling_of (line_of self.entry) (tree self.entry) }
+        ensures kind { kind_by (byte (line_of self.entry) result.0) ≡ kind_of (tree self.entry) }
+    {
+        let token = token_at(self.source.tokens, self.index);
+        (token.start as usize, token.stop as usize)
     }
 
     /// How many values and member names it is: itself, and all that it holds.

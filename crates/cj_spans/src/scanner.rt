@@ -32,8 +32,9 @@ ghost use Rattle.cj_spans.specs.Machine.{State, state, between, in_atom, ComesTo
 ghost use Rattle.cj_spans.specs.Pass.{Standing, Stands, GoesOn};
 
 use crate::arrays::{enters_array, read_arrays};
+use crate::atom::read_atom;
 use crate::fault::{LineFault, ScanFault};
-use crate::lex::{Lex, lex_kind, read_atom};
+use crate::lex::{Lex, lex_kind};
 use crate::members::{enters_object, read_members};
 use crate::step::{Mode, Move, Next, read_byte};
 use crate::token::{Token, keep_atom};

@@ -1,9 +1,10 @@
 //! One byte of a line: what may come, and what the byte makes of the open containers and the tokens.
-ghost use Rattle.std.specs.Prelude.{◌≡◌, ◌≤◌, ◌<◌, ◌++◌, ◌∷◌, [], length, List, ℕ, slice_get, Some, None, OnErr, IsTrue};
+ghost use Rattle.std.specs.Prelude.{◌≡◌, ◌⊎◌, true, false, ◌≤◌, ◌<◌, ◌++◌, ◌∷◌, [], length, List, ℕ, slice_get, Some, None, OnErr, IsTrue};
 ghost use Rattle.cj_budget.specs.Bounded.{IsWithin};
 ghost use Rattle.cj_spans.specs.declared.token.Token.{Token as TokenOf};
 ghost use Rattle.cj_spans.specs.declared.step.Mode.{Mode as ModeOf};
-ghost use Rattle.cj_spans.specs.Machine.{state, between, read as read_of, begin_value as begin_value_of, begin_name as begin_name_of, after_value as after_value_of, after_in as after_in_of, close_token as close_token_of, close_empty as close_empty_of, colon_step as colon_step_of, open_link as open_link_of, open_kind as open_kind_of, with_opened, Answers, Grown, Kept, ReadsByte, BeginsValue, FitsToken};
+ghost use Rattle.cj_spans.specs.declared.step.Mode.TheVariants.{Ready, FirstItem, After};
+ghost use Rattle.cj_spans.specs.Machine.{state, between, read as read_of, read_in as read_in_of, begin_value as begin_value_of, begin_name as begin_name_of, after_value as after_value_of, after_in as after_in_of, close_token as close_token_of, close_empty as close_empty_of, colon_step as colon_step_of, open_link as open_link_of, open_kind as open_kind_of, with_opened, Answers, Grown, Kept, ReadsByte, BeginsValue, FitsToken};
 
 use crate::bytes::is_white_space;
 use crate::fault::LineFault;
@@ -259,6 +260,49 @@ fn read_colon(byte: u8, place: usize) -> Result<Move, LineFault>
     }
 }
 
+/// Whether a value may come, or what follows one. It is told by the order of the modes: of a `match` on all six the
+/// compiler makes a jump table.
+#[inline(always)]
+fn is_at_value(mode: Mode) -> bool
+    ensures yes { result ≡ true → (mode ≡ Ready) ⊎ ((mode ≡ FirstItem) ⊎ (mode ≡ After)) }
+    ensures no { result ≡ false → (mode ≡ Ready → ⊥) × (mode ≡ FirstItem → ⊥) × (mode ≡ After → ⊥) }
+{
+    mode as u8 <= Mode::After as u8
+}
+
+/// Reads a byte that is no white space where a name or a colon may come.
+#[inline(always)]
+fn read_name_byte(
+    mode: Mode,
+    byte: u8,
+    place: usize,
+    tokens: &mut Bounded<Token>,
+    stack: &mut Stack,
+) -> Result<Move, LineFault>
+    requires mode { (mode ≡ Ready → ⊥) × (mode ≡ FirstItem → ⊥) × (mode ≡ After → ⊥) }
+    requires small { FitsToken place tokens.old }
+    requires lists { IsWithin tokens.old × IsWithin stack.old }
+    ensures answer { (p : ℕ) → Answers
+        (read_in_of mode byte (state (between mode) stack.old.elements tokens.old.elements place p))
+        mode place p stack.old.limit result stack.new.elements tokens.new.elements }
+    ensures tokens { Grown tokens.old tokens.new }
+    ensures stack { Kept stack.old stack.new }
+    ensures err { OnErr result ((tokens.new ≡ tokens.old)
+        × (length stack.old.elements ≤ length stack.new.elements)) }
+{
+    match mode {
+        Mode::FirstName => {
+            if byte == b'}' {
+                close_empty(place, tokens, stack)
+            } else {
+                begin_name(byte, place)
+            }
+        }
+        Mode::NextName => begin_name(byte, place),
+        _ => read_colon(byte, place),
+    }
+}
+
 /// Reads a byte between scalars and names.
 #[inline(always)]
 pub fn read_byte(
@@ -283,6 +327,9 @@ pub fn read_byte(
     if is_white_space(byte) {
         return Ok(Move::Stay);
     }
+    if !is_at_value(mode) {
+        return read_name_byte(mode, byte, place, tokens, stack);
+    }
     match mode {
         Mode::Ready => begin_value(byte, place, tokens, stack),
         Mode::FirstItem => {
@@ -292,16 +339,7 @@ pub fn read_byte(
                 begin_value(byte, place, tokens, stack)
             }
         }
-        Mode::After => after_value(byte, place, tokens, stack),
-        Mode::FirstName => {
-            if byte == b'}' {
-                close_empty(place, tokens, stack)
-            } else {
-                begin_name(byte, place)
-            }
-        }
-        Mode::NextName => begin_name(byte, place),
-        Mode::AfterName => read_colon(byte, place),
+        _ => after_value(byte, place, tokens, stack),
     }
 }
 

@@ -25,17 +25,19 @@ use crate::feature::reached::check_reached;
 use crate::header::Header;
 use crate::member::{check_name_member, check_there};
 use cj_geometry::Templates;
-use cj_geometry::rule::{add, check_array, check_names, check_object, check_whole};
+use cj_geometry::rule::{add, check_array, check_names, check_object, check_whole, count_wholes};
 use cj_spans::{Doc, Finding, Least, Node, Reason};
 
-/// Each item is a whole number; answers how many there are, so that they are gone over once.
+/// Each item is a whole number; answers how many there are, so that they are gone over once. Those at the front that are
+/// as they should be are counted first.
 #[inline(always)]
 fn check_wholes(node: Node, found: &mut Least) -> u64
     ensures count { result ≡ length (items_of (tree node.entry)) }
     ensures found { found.new ≡ least found.old (flat_map whole_number (items_of (tree node.entry))) }
 {
-    let mut count = 0;
-    for item in node.items() {
+    let front = count_wholes(node);
+    let mut count = front as u64;
+    for item in node.items_behind(front) {
         check_whole(item, found);
         count += 1;
     }

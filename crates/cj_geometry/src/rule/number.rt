@@ -1,5 +1,9 @@
 //! Numbers that rules read.
-ghost use Rattle.std.specs.Prelude.{◌≡◌, ℕ, ◌<◌, ◌^◌, nat_lt, not, pos, Some, IfSome};
+ghost use Rattle.std.specs.Prelude.{◌≡◌, ℕ, ◌<◌, ◌^◌, nat_lt, not, pos, Some, IfSome, length, take, []};
+ghost use Rattle.std.specs.List.{flat_map};
+ghost use Rattle.cj_spans.specs.declared.reason.Reason.{Reason as ReasonOf};
+ghost use Rattle.cj_spans.specs.Parts.{items_of};
+ghost use Rattle.cj_geometry.specs.Lone.{AreLone};
 ghost use Rattle.cj_spans.specs.Finding.{least};
 ghost use Rattle.cj_spans.specs.View.{tree};
 ghost use Rattle.cj_geometry.specs.Rule.{number, index, whole_number, is_outside as is_outside_of, whole_of, fault_reason};
@@ -41,11 +45,11 @@ fn is_outside(count: Option<u64>, whole: i64) -> bool
     }
 }
 
-/// The value of a number of few digits: what nearly all indices are. None of any other value.
+/// The value of a number of few digits, by its bytes alone: for what is no such number of at most eight digits.
 ///
 /// Once its first byte is known to be a digit, the question for its kind costs nothing.
-#[inline(always)]
-fn read_few(node: Node) -> Option<u64>
+#[inline(never)]
+fn read_more(node: Node) -> Option<u64>
     ensures { IfSome result (λ n. (n < 10 ^ 18) × (whole_of (tree node.entry) ≡ Some (pos n))) }
 {
     let bytes = node.bytes();
@@ -58,10 +62,30 @@ fn read_few(node: Node) -> Option<u64>
     }
 }
 
-/// The value of a number of few digits, perhaps behind a minus: what nearly all coordinates are. None of any
-/// other value.
+/// The value of a number of at most eight digits, read where it stands in the line, with no question for its kind. None
+/// of any other value, and near the front of the line.
 #[inline(always)]
-fn read_few_signed(node: Node) -> Option<i64>
+fn read_word(node: Node) -> Option<u64>
+    ensures { IfSome result (λ n. (n < 10 ^ 18) × (whole_of (tree node.entry) ≡ Some (pos n))) }
+{
+    let (start, stop) = node.span();
+    Decimal::read_few_in(node.line(), start, stop)
+}
+
+/// The value of a number of few digits: what nearly all indices are. None of any other value.
+#[inline(always)]
+fn read_few(node: Node) -> Option<u64>
+    ensures { IfSome result (λ n. (n < 10 ^ 18) × (whole_of (tree node.entry) ≡ Some (pos n))) }
+{
+    match read_word(node) {
+        Some(whole) => Some(whole),
+        None => read_more(node),
+    }
+}
+
+/// The value of a number of few digits, perhaps behind a minus, as [`read_more`] reads it.
+#[inline(never)]
+fn read_more_signed(node: Node) -> Option<i64>
     ensures { IfSome result (λ w. whole_of (tree node.entry) ≡ Some w) }
 {
     let bytes = node.bytes();
@@ -71,6 +95,27 @@ fn read_few_signed(node: Node) -> Option<i64>
     match node.kind() {
         Kind::Number => Decimal::read_few_signed(bytes),
         _ => None,
+    }
+}
+
+/// The value of a number of at most eight digits, perhaps behind a minus, as [`read_word`] reads it.
+#[inline(always)]
+fn read_word_signed(node: Node) -> Option<i64>
+    ensures { IfSome result (λ w. whole_of (tree node.entry) ≡ Some w) }
+{
+    let (start, stop) = node.span();
+    Decimal::read_few_signed_in(node.line(), start, stop)
+}
+
+/// The value of a number of few digits, perhaps behind a minus: what nearly all coordinates are. None of any
+/// other value.
+#[inline(always)]
+fn read_few_signed(node: Node) -> Option<i64>
+    ensures { IfSome result (λ w. whole_of (tree node.entry) ≡ Some w) }
+{
+    match read_word_signed(node) {
+        Some(whole) => Some(whole),
+        None => read_more_signed(node),
     }
 }
 
@@ -153,4 +198,49 @@ pub fn check_whole(node: Node, found: &mut Least)
     if read_few_signed(node).is_none() {
         check_any_index(node, Reason::NotWhole, None, found);
     }
+}
+
+/// How many items at the front of an array are indices below a count, if that is known, read by words alone: they are
+/// gone over by their numbers, with no look at where each ends. The array has no finding at any of them.
+#[inline(always)]
+pub fn count_indices(node: Node, count: Option<u64>) -> u32
+    ensures lone { AreLone result (items_of (tree node.entry)) }
+    ensures none { (outside : ReasonOf)
+        → flat_map (index outside count) (take result (items_of (tree node.entry))) ≡ [] }
+{
+    let bound = bound_of(count);
+    let mut items = node.items();
+    let mut front = 0;
+    while let Some(item) = items.next() {
+        match read_word(item) {
+            Some(whole) => {
+                if whole >= bound {
+                    break;
+                }
+            }
+            None => break,
+        }
+        front += 1;
+        items = node.items_behind(front);
+    }
+    front
+}
+
+/// How many items at the front of an array are whole numbers, gone over in the same way.
+#[inline(always)]
+pub fn count_wholes(node: Node) -> u32
+    ensures lone { AreLone result (items_of (tree node.entry)) }
+    ensures none { flat_map whole_number (take result (items_of (tree node.entry))) ≡ [] }
+    ensures few { length (items_of (tree node.entry)) < 2 ^ 63 }
+{
+    let mut items = node.items();
+    let mut front = 0;
+    while let Some(item) = items.next() {
+        if read_word_signed(item).is_none() {
+            break;
+        }
+        front += 1;
+        items = node.items_behind(front);
+    }
+    front
 }

@@ -1,5 +1,6 @@
-use Rattle.std.proofs.Common.{arith, refl}
+use Rattle.std.proofs.Common.{arith, refl, sym, ap}
 use Rattle.cj_spans.specs.declared.lex.Lex.TheVariants.{InString}
+use Rattle.cj_spans.specs.Machine.{lex_step}
 use Rattle.cj_spans.proofs.Atoms.{read_first, read_more}
 use Rattle.cj_spans.proofs.lex.plain_string_stop.Goals as goal
 
@@ -10,7 +11,7 @@ returns-then-ends_string c =
     let within = q.0 in
     record {
       opens = c.if-line-place-ne34.false;
-      goes = read_more _ _ _ _ _ _ _ (c.skip_plain-stop.ensures.same _ _ (read_first c.args.line.now c.args.place InString)) q.1 refl;
+      goes = read_more _ _ _ _ _ _ _ (c.skip_plain-stop.ensures.same _ _ (read_first c.args.line.now c.args.place InString)) refl (sym (ap (lex_step InString) q.1));
       order = omega arith;
       within = omega arith;
     }

@@ -1,23 +1,19 @@
-use Rattle.std.proofs.Common.{refl, sym, ◌∙◌}
-use Rattle.cj_spans.specs.declared.step.Mode.TheVariants.{FirstName, NextName, AfterName}
-use Rattle.cj_spans.specs.Machine.{state, between, begin_name, close_empty, colon_step}
-use Rattle.cj_spans.proofs.Steps.{read_answers, not_brace}
+use Rattle.std.proofs.Common.{sym, refl, ◌∙◌}
+use Rattle.cj_spans.specs.declared.step.Mode.TheVariants.{After}
+use Rattle.cj_spans.specs.Machine.{state, between, after_value}
+use Rattle.cj_spans.proofs.Steps.{in_answers, read_answers, left_after}
 use Rattle.cj_spans.proofs.step.read_byte.Goals as goal
 
-pub returns-else-byte-eq125-clause-answer : goal.returns-else-byte-eq125-clause-answer
-returns-else-byte-eq125-clause-answer c = λ p.
-    let b = c.args.byte in let i = c.args.place in let ts = c.args.tokens.now in let ks = c.args.stack.now in let s = state (between FirstName) ks.elements ts.elements i p in
-    read_answers (begin_name b s) _ FirstName b i p ks.limit c.begin_name.result ks.elements ts.elements c.in-FirstName.is (sym c.is_white_space.ensures ∙ c.if-is_white_space.false) (not_brace b (close_empty s) (begin_name b s) c.if-byte-eq125.false)
-    (c.begin_name.ensures FirstName ks.elements ts.elements p ks.limit)
+pub returns-then-not-is_at_value-clause-answer : goal.returns-then-not-is_at_value-clause-answer
+returns-then-not-is_at_value-clause-answer c = λ p.
+    let ts = c.args.tokens.now in let ks = c.args.stack.now in
+    read_answers c.args.mode (state (between c.args.mode) ks.elements ts.elements c.args.place p) c.args.byte c.args.place p ks.limit c.read_name_byte.result _ _ (sym c.is_white_space.ensures ∙ c.if-is_white_space.false)
+    (c.read_name_byte.ensures.answer p)
 
-pub returns-in-NextName-clause-answer : goal.returns-in-NextName-clause-answer
-returns-in-NextName-clause-answer c = λ p.
-    let b = c.args.byte in let i = c.args.place in let ts = c.args.tokens.now in let ks = c.args.stack.now in let s = state (between NextName) ks.elements ts.elements i p in
-    read_answers (begin_name b s) _ NextName b i p ks.limit c.begin_name-in-NextName.result ks.elements ts.elements c.in-NextName.is (sym c.is_white_space.ensures ∙ c.if-is_white_space.false) refl
-    (c.begin_name-in-NextName.ensures NextName ks.elements ts.elements p ks.limit)
-
-pub returns-in-AfterName-clause-answer : goal.returns-in-AfterName-clause-answer
-returns-in-AfterName-clause-answer c = λ p.
-    let b = c.args.byte in let i = c.args.place in let ts = c.args.tokens.now in let ks = c.args.stack.now in let s = state (between AfterName) ks.elements ts.elements i p in
-    read_answers (colon_step b s) _ AfterName b i p ks.limit c.read_colon.result ks.elements ts.elements c.in-AfterName.is (sym c.is_white_space.ensures ∙ c.if-is_white_space.false) refl
-    (c.read_colon.ensures AfterName ks.elements ts.elements p ks.limit)
+pub returns-in_default-clause-answer : goal.returns-in_default-clause-answer
+returns-in_default-clause-answer c = λ p.
+    let ts = c.args.tokens.now in let ks = c.args.stack.now in
+    let s = state (between After) ks.elements ts.elements c.args.place p in
+    let mode = left_after c.args.mode (c.is_at_value.ensures.yes c.if-not-is_at_value.false) c.in_default.not-Ready c.in_default.not-FirstItem in
+    read_answers c.args.mode (state (between c.args.mode) ks.elements ts.elements c.args.place p) c.args.byte c.args.place p ks.limit c.after_value.result _ _ (sym c.is_white_space.ensures ∙ c.if-is_white_space.false)
+    (in_answers (after_value c.args.byte s) c.args.mode After c.args.byte c.args.place p ks.limit c.after_value.result ks.elements ts.elements _ _ mode refl (c.after_value.ensures.answer After p))

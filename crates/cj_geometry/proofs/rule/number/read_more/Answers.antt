@@ -1,7 +1,7 @@
 use Rattle.std.proofs.Common.{◌∙◌, sym}
 use Rattle.cj_spans.specs.View.{tree, line_of}
 use Rattle.cj_geometry.proofs.Numbers.{few-read}
-use Rattle.cj_geometry.proofs.rule.number.read_few.Goals as goal
+use Rattle.cj_geometry.proofs.rule.number.read_more.Goals as goal
 
 pub returns-in-Number : goal.returns-in-Number
 returns-in-Number c =

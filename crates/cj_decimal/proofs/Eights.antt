@@ -1,0 +1,492 @@
+-- Numbers of at most eight digits, read by one word of eight bytes.
+use Rattle.std.proofs.Common.{◌≡◌, ℕ, zero, suc, ◌+◌, ◌-◌, ◌*◌, ◌/◌, ◌%◌, ◌^◌, ◌<◌, ◌≤◌, List, [], ◌∷◌, ◌++◌, length, take, drop, map, Bool, true, false, ◌&&◌, ◌||◌, nat_le, nat_eq, refl, sym, ap, subst, arith, ◌∙◌, inl, inr, not}
+use Rattle.std.specs.Int.Bits.{bit_and, bit_xor, and_block, xor_block}
+use Rattle.std.proofs.lemmas.Nat.{xor_lt, pow-add, pow_pos, shr-shr, shr_le, and_mask, and_shr, and_le_r}
+use Rattle.std.proofs.lemmas.Nat.Bits.{and_high_mask}
+use Rattle.std.proofs.lemmas.Bool.Decides.{nat_tests}
+use Rattle.std.proofs.lemmas.Bool.{cases_lt}
+use Rattle.std.specs.Prelude.{slice_range, Option, Some, None, IfSome}
+use Rattle.std.proofs.Common.{get_or}
+use Rattle.std.proofs.lemmas.List.{drop-take, drop-drop, get_or-take, get_or-drop, length-drop, length-take-le}
+use Rattle.cj_decimal.specs.Reading.{IsShort, digits_front, begins, begins_digit, body}
+use Rattle.cj_decimal.proofs.Grammar.{append_nil, front_append}
+use Rattle.cj_decimal.proofs.Parts.{minus_there, no_minus}
+use Rattle.cj_decimal.proofs.Wholes.{int_alone_reads}
+use Rattle.cj_decimal.specs.Spelling.{AllDigits, IsInt, IsFewDigits, digits_value, value_after}
+use Rattle.cj_decimal.specs.Word.{word_of, AllBelow}
+
+copies : ℕ → ℕ → List ℕ
+copies zero c = []
+copies (suc n) c = c ∷ copies n c
+
+-- ---- bits, byte by byte
+
+and_same : (c : ℕ) → c < 256 → (s : List ℕ) → AllBelow 256 s → bit_and (word_of s) (word_of (copies (length s) c)) ≡ word_of (map (λ b. bit_and b c) s)
+unfolding copies
+and_same c l [] h = refl
+and_same c l (b ∷ s) h =
+    let w = word_of s in let v = word_of (copies (length s) c) in
+    let p : b + 256 * w ≡ w * 2 ^ 8 + b = omega arith in
+    let q : c + 256 * v ≡ v * 2 ^ 8 + c = omega arith in
+    let block = and_block 8 w v b c h.0 l in
+    let rest = and_same c l s h.1 in
+    ap (λ n. bit_and n (c + 256 * v)) p ∙ ap (bit_and (w * 2 ^ 8 + b)) q ∙ omega (arith, block, rest)
+
+xor_same : (c : ℕ) → c < 256 → (s : List ℕ) → AllBelow 256 s → bit_xor (word_of s) (word_of (copies (length s) c)) ≡ word_of (map (λ b. bit_xor b c) s)
+unfolding copies
+xor_same c l [] h = refl
+xor_same c l (b ∷ s) h =
+    let w = word_of s in let v = word_of (copies (length s) c) in
+    let p : b + 256 * w ≡ w * 2 ^ 8 + b = omega arith in
+    let q : c + 256 * v ≡ v * 2 ^ 8 + c = omega arith in
+    let block = xor_block 8 w v b c h.0 l in
+    let rest = xor_same c l s h.1 in
+    ap (λ n. bit_xor n (c + 256 * v)) p ∙ ap (bit_xor (w * 2 ^ 8 + b)) q ∙ omega (arith, block, rest)
+
+add_same : (c : ℕ) (s : List ℕ) → word_of s + word_of (copies (length s) c) ≡ word_of (map (λ b. b + c) s)
+unfolding copies
+add_same c [] = refl
+add_same c (b ∷ s) = let rest = add_same c s in omega (arith, rest)
+
+high_of : (b : ℕ) → b < 256 → bit_and b 240 ≡ 0 → b < 16
+high_of b l h = let e : bit_and b (2 ^ 8 - 2 ^ 4) ≡ b / 2 ^ 4 * 2 ^ 4 = and_high_mask 8 4 (omega arith) b l in omega (arith, e, h)
+
+all_high : (s : List ℕ) → AllBelow 256 s → word_of (map (λ b. bit_and b 240) s) ≡ 0 → AllBelow 16 s
+all_high [] h z = tt
+all_high (b ∷ s) h z = (high_of b h.0 (omega (arith, z)), all_high s h.1 (omega (arith, z)))
+
+-- the high half of each byte is 0
+nibbles : (s : List ℕ) → length s ≡ 8 → AllBelow 256 s → bit_and (word_of s) 0xf0f0f0f0f0f0f0f0 ≡ 0 → AllBelow 16 s
+unfolding copies
+nibbles s e h z =
+    let high : word_of (copies 8 240) ≡ 0xf0f0f0f0f0f0f0f0 = refl in
+    let same = and_same 240 (omega arith) s h in
+    all_high s h (sym same ∙ ap (λ n. bit_and (word_of s) (word_of (copies n 240))) e ∙ ap (bit_and (word_of s)) high ∙ z)
+
+more_below : (s : List ℕ) → AllBelow 16 s → AllBelow 256 (map (λ b. b + 6) s)
+more_below [] h = tt
+more_below (b ∷ s) h = (omega (arith, h.0), more_below s h.1)
+
+less_below : (s : List ℕ) → AllBelow 16 (map (λ b. b + 6) s) → AllBelow 10 s
+less_below [] h = tt
+less_below (b ∷ s) h = (omega (arith, h.0), less_below s h.1)
+
+length_map : (f : ℕ → ℕ) (s : List ℕ) → length (map f s) ≡ length s
+length_map f [] = refl
+length_map f (b ∷ s) = ap suc (length_map f s)
+
+-- both tests of a word hold: each byte is below 10
+pub all_small : (s : List ℕ) → length s ≡ 8 → AllBelow 256 s → bit_and (word_of s) 0xf0f0f0f0f0f0f0f0 ≡ 0 → bit_and (word_of s + 0x0606060606060606) 0xf0f0f0f0f0f0f0f0 ≡ 0 → AllBelow 10 s
+unfolding copies
+all_small s e h z y =
+    let low = nibbles s e h z in
+    let six : word_of (copies 8 6) ≡ 0x0606060606060606 = refl in
+    let sum : word_of s + 0x0606060606060606 ≡ word_of (map (λ b. b + 6) s) = ap (λ n. word_of s + n) (sym six ∙ ap (λ n. word_of (copies n 6)) (sym e)) ∙ add_same 6 s in
+    less_below s (nibbles (map (λ b. b + 6) s) (length_map (λ b. b + 6) s ∙ e) (more_below s low) (ap (λ n. bit_and n 0xf0f0f0f0f0f0f0f0) (sym sum) ∙ y))
+
+-- ---- one byte
+
+all_to : ℕ → (ℕ → Bool) → Bool
+all_to zero p = true
+all_to (suc n) p = p n && all_to n p
+
+and_left : (a b : Bool) → a && b ≡ true → a ≡ true
+and_left a b h = grind (arith)
+
+and_right : (a b : Bool) → a && b ≡ true → b ≡ true
+and_right a b h = grind (arith)
+
+of_all : (n : ℕ) (p : ℕ → Bool) → all_to n p ≡ true → (k : ℕ) → k < n → p k ≡ true
+unfolding all_to
+of_all zero p h k l = absurd (omega arith)
+of_all (suc n) p h k l = elim (cases_lt k n) [ inl below ↦ of_all n p (and_right (p n) (all_to n p) h) k below | inr above ↦ let e : n ≡ k = omega arith in subst (λ j. p j ≡ true) e (and_left (p n) (all_to n p) h) ]
+
+is_back : ℕ → Bool
+is_back b = not (nat_le (bit_xor b 48) 9) || nat_eq (bit_xor b 48 + 48) b
+
+all_back : all_to 256 is_back ≡ true
+unfolding all_to is_back
+all_back = refl
+
+-- what is below 10 without the bits of `0` is a digit
+back : (b : ℕ) → b < 256 → bit_xor b 48 < 10 → bit_xor b 48 + 48 ≡ b
+unfolding is_back
+back b l h = let t : not (nat_le (bit_xor b 48) 9) || nat_eq (bit_xor b 48 + 48) b ≡ true = of_all 256 is_back all_back b l in from (bit_xor b 48) b h t
+  where
+    from : (x b : ℕ) → x < 10 → not (nat_le x 9) || nat_eq (x + 48) b ≡ true → x + 48 ≡ b
+    from x b h t = grind (arith, nat_tests)
+
+-- ---- the bytes before a number are cleared
+
+clear : ℕ → List ℕ → List ℕ
+clear zero s = s
+clear (suc j) [] = []
+clear (suc j) (b ∷ s) = 0 ∷ clear j s
+
+times_shifted : (x p : ℕ) → x * (2 ^ 8 * p) ≡ 256 * (x * p)
+times_shifted x p = grind (arith)
+
+nothing_shifted : (k : ℕ) → 0 / 2 ^ k * 2 ^ k ≡ 0
+nothing_shifted k = let h = shr_le 0 k in let e : 0 / 2 ^ k ≡ 0 = omega arith in ap (λ n. n * 2 ^ k) e ∙ none (2 ^ k)
+  where
+    none : (p : ℕ) → 0 * p ≡ 0
+    none p = grind (arith)
+
+clear_word : (j : ℕ) (s : List ℕ) → AllBelow 256 s → word_of s / 2 ^ (8 * j) * 2 ^ (8 * j) ≡ word_of (clear j s)
+unfolding clear
+clear_word zero s h = omega arith
+clear_word (suc j) [] h = nothing_shifted (8 * suc j)
+clear_word (suc j) (b ∷ s) h =
+    let n = b + 256 * word_of s in
+    let k : 8 * suc j ≡ 8 + 8 * j = omega arith in
+    let first : n / 2 ^ 8 ≡ word_of s = omega (arith, h.0) in
+    let rest = clear_word j s h.1 in
+    ap (λ i. n / 2 ^ i * 2 ^ i) k
+    ∙ ap (λ q. q * 2 ^ (8 + 8 * j)) (sym (shr-shr n 8 (8 * j)) ∙ ap (λ q. q / 2 ^ (8 * j)) first)
+    ∙ ap (λ p. word_of s / 2 ^ (8 * j) * p) (pow-add 2 8 (8 * j))
+    ∙ times_shifted (word_of s / 2 ^ (8 * j)) (2 ^ (8 * j))
+    ∙ omega (arith, rest)
+
+-- a list of eight
+eight : (P : List ℕ → Type 0) → ((a b c d e f g h : ℕ) → P (a ∷ b ∷ c ∷ d ∷ e ∷ f ∷ g ∷ h ∷ [])) → (s : List ℕ) → length s ≡ 8 → P s
+eight P each [] l = absurd (omega (arith, l))
+eight P each (a ∷ []) l = absurd (omega (arith, l))
+eight P each (a ∷ b ∷ []) l = absurd (omega (arith, l))
+eight P each (a ∷ b ∷ c ∷ []) l = absurd (omega (arith, l))
+eight P each (a ∷ b ∷ c ∷ d ∷ []) l = absurd (omega (arith, l))
+eight P each (a ∷ b ∷ c ∷ d ∷ e ∷ []) l = absurd (omega (arith, l))
+eight P each (a ∷ b ∷ c ∷ d ∷ e ∷ f ∷ []) l = absurd (omega (arith, l))
+eight P each (a ∷ b ∷ c ∷ d ∷ e ∷ f ∷ g ∷ []) l = absurd (omega (arith, l))
+eight P each (a ∷ b ∷ c ∷ d ∷ e ∷ f ∷ g ∷ h ∷ []) l = each a b c d e f g h
+eight P each (a ∷ b ∷ c ∷ d ∷ e ∷ f ∷ g ∷ h ∷ i ∷ s) l = absurd (omega (arith, l))
+
+word_below : (s : List ℕ) → length s ≡ 8 → AllBelow 256 s → word_of s < 2 ^ 64
+word_below s l = eight (λ t. AllBelow 256 t → word_of t < 2 ^ 64) (λ a b c d e f g h z. omega (arith, z.0, z.1.0, z.1.1.0, z.1.1.1.0, z.1.1.1.1.0, z.1.1.1.1.1.0, z.1.1.1.1.1.1.0, z.1.1.1.1.1.1.1.0)) s l
+
+masked : (j : ℕ) (s : List ℕ) → j ≤ 8 → length s ≡ 8 → AllBelow 256 s → bit_and (word_of s) (2 ^ 64 - 2 ^ (8 * j)) ≡ word_of (clear j s)
+masked j s k l h = and_high_mask 64 (8 * j) (omega arith) (word_of s) (word_below s l h) ∙ clear_word j s h
+
+-- ---- the number that eight digits spell
+
+-- two bytes of a word, four apart
+two_bytes : (n : ℕ) → bit_and n 0x000000ff000000ff ≡ n / 2 ^ 32 % 256 * 2 ^ 32 + n % 256
+two_bytes n =
+    let parts : n ≡ n / 2 ^ 32 * 2 ^ 32 + n % 2 ^ 32 = omega arith in
+    let block : bit_and (n / 2 ^ 32 * 2 ^ 32 + n % 2 ^ 32) (255 * 2 ^ 32 + 255) ≡ bit_and (n / 2 ^ 32) 255 * 2 ^ 32 + bit_and (n % 2 ^ 32) 255 = and_block 32 (n / 2 ^ 32) 255 (n % 2 ^ 32) 255 (omega arith) (omega arith) in
+    let high : bit_and (n / 2 ^ 32) 255 ≡ n / 2 ^ 32 % 256 = and_mask (n / 2 ^ 32) 8 in
+    let low : bit_and (n % 2 ^ 32) 255 ≡ n % 2 ^ 32 % 256 = and_mask (n % 2 ^ 32) 8 in
+    let all = ap (λ m. bit_and m 0x000000ff000000ff) parts in
+    omega (arith, all, block, high, low)
+
+-- the number of some pairs of digits, of which each second one counts
+of_pairs : (n p q r s t u v w : ℕ) → n ≡ p + 256 * (q + 256 * (r + 256 * (s + 256 * (t + 256 * (u + 256 * (v + 256 * w)))))) → p < 100 → q < 100 → r < 100 → s < 100 → t < 100 → u < 100 → v < 100 → w < 100
+    → (bit_and n 0x000000ff000000ff * 4294967296000100 % 2 ^ 64 + bit_and (n / 2 ^ 16) 0x000000ff000000ff * 42949672960001 % 2 ^ 64) % 2 ^ 64 / 2 ^ 32 ≡ p * 1000000 + r * 10000 + t * 100 + v
+of_pairs n p q r s t u v w e lp lq lr ls lt lu lv lw =
+    let first = two_bytes n in
+    let second = two_bytes (n / 2 ^ 16) in
+    let p_is : n % 256 ≡ p = omega arith in
+    let t_is : n / 2 ^ 32 % 256 ≡ t = omega arith in
+    let r_is : n / 2 ^ 16 % 256 ≡ r = omega arith in
+    let v_is : n / 2 ^ 16 / 2 ^ 32 % 256 ≡ v = omega arith in
+    let x : bit_and n 0x000000ff000000ff ≡ t * 2 ^ 32 + p = omega (arith, first, p_is, t_is) in
+    let y : bit_and (n / 2 ^ 16) 0x000000ff000000ff ≡ v * 2 ^ 32 + r = omega (arith, second, r_is, v_is) in
+    products (bit_and n 0x000000ff000000ff) (bit_and (n / 2 ^ 16) 0x000000ff000000ff) p r t v x y lp lr lt lv
+  where
+    products : (x y p r t v : ℕ) → x ≡ t * 2 ^ 32 + p → y ≡ v * 2 ^ 32 + r → p < 100 → r < 100 → t < 100 → v < 100 → (x * 4294967296000100 % 2 ^ 64 + y * 42949672960001 % 2 ^ 64) % 2 ^ 64 / 2 ^ 32 ≡ p * 1000000 + r * 10000 + t * 100 + v
+    products x y p r t v ex ey lp lr lt lv = omega arith
+
+horner : ℕ → List ℕ → ℕ
+horner n [] = n
+horner n (d ∷ s) = horner (10 * n + d) s
+
+spelled_value : (n : ℕ) (s : List ℕ) → value_after n (map (λ d. d + 48) s) ≡ horner n s
+unfolding horner
+spelled_value n [] = refl
+spelled_value n (d ∷ s) = let e : 10 * n + (d + 48 - 48) ≡ 10 * n + d = omega arith in ap (λ m. value_after m (map (λ c. c + 48) s)) e ∙ spelled_value (10 * n + d) s
+
+pub value_eight : (s : List ℕ) → length s ≡ 8 → AllBelow 10 s → (w n : ℕ) → w ≡ word_of s → n ≡ (bit_and (w * 10 + w / 2 ^ 8) 0x000000ff000000ff * 4294967296000100 % 2 ^ 64 + bit_and ((w * 10 + w / 2 ^ 8) / 2 ^ 16) 0x000000ff000000ff * 42949672960001 % 2 ^ 64) % 2 ^ 64 / 2 ^ 32
+    → n ≡ digits_value (map (λ d. d + 48) s)
+unfolding horner
+value_eight s l = eight P each s l
+  where
+    P : List ℕ → Type 0
+    P s = AllBelow 10 s → (w n : ℕ) → w ≡ word_of s → n ≡ (bit_and (w * 10 + w / 2 ^ 8) 0x000000ff000000ff * 4294967296000100 % 2 ^ 64 + bit_and ((w * 10 + w / 2 ^ 8) / 2 ^ 16) 0x000000ff000000ff * 42949672960001 % 2 ^ 64) % 2 ^ 64 / 2 ^ 32
+        → n ≡ digits_value (map (λ d. d + 48) s)
+
+    pairs : (a b c d e f g h w : ℕ) → a < 10 → w ≡ a + 256 * (b + 256 * (c + 256 * (d + 256 * (e + 256 * (f + 256 * (g + 256 * (h + 256 * 0)))))))
+        → w * 10 + w / 2 ^ 8 ≡ 10 * a + b + 256 * (10 * b + c + 256 * (10 * c + d + 256 * (10 * d + e + 256 * (10 * e + f + 256 * (10 * f + g + 256 * (10 * g + h + 256 * (10 * h)))))))
+    pairs a b c d e f g h w la is = let r : w / 2 ^ 8 ≡ b + 256 * (c + 256 * (d + 256 * (e + 256 * (f + 256 * (g + 256 * (h + 256 * 0)))))) = omega arith in omega arith
+
+    sum : (a b c d e f g h n : ℕ) → n ≡ (10 * a + b) * 1000000 + (10 * c + d) * 10000 + (10 * e + f) * 100 + (10 * g + h) → n ≡ horner 0 (a ∷ b ∷ c ∷ d ∷ e ∷ f ∷ g ∷ h ∷ [])
+    sum a b c d e f g h n is = omega arith
+
+    each : (a b c d e f g h : ℕ) → P (a ∷ b ∷ c ∷ d ∷ e ∷ f ∷ g ∷ h ∷ [])
+    each a b c d e f g h z w n is answer =
+        let la = z.0 in let lb = z.1.0 in let lc = z.1.1.0 in let ld = z.1.1.1.0 in let le = z.1.1.1.1.0 in let lf = z.1.1.1.1.1.0 in let lg = z.1.1.1.1.1.1.0 in let lh = z.1.1.1.1.1.1.1.0 in
+        let value = of_pairs (w * 10 + w / 2 ^ 8) (10 * a + b) (10 * b + c) (10 * c + d) (10 * d + e) (10 * e + f) (10 * f + g) (10 * g + h) (10 * h) (pairs a b c d e f g h w la is) (omega arith) (omega arith) (omega arith) (omega arith) (omega arith) (omega arith) (omega arith) (omega arith) in
+        sum a b c d e f g h n (answer ∙ value) ∙ sym (spelled_value 0 (a ∷ b ∷ c ∷ d ∷ e ∷ f ∷ g ∷ h ∷ []))
+
+-- ---- the digits at the end of eight bytes
+
+length_clear : (j : ℕ) (s : List ℕ) → length (clear j s) ≡ length s
+unfolding clear
+length_clear zero s = refl
+length_clear (suc j) [] = refl
+length_clear (suc j) (b ∷ s) = ap suc (length_clear j s)
+
+clear_below : (j : ℕ) (s : List ℕ) → AllBelow 256 s → AllBelow 256 (clear j s)
+unfolding clear
+clear_below zero s h = h
+clear_below (suc j) [] h = tt
+clear_below (suc j) (b ∷ s) h = (omega arith, clear_below j s h.1)
+
+without_zeros : List ℕ → List ℕ
+without_zeros s = map (λ b. bit_xor b 48) s
+
+xor_below : (s : List ℕ) → AllBelow 256 s → AllBelow 256 (without_zeros s)
+unfolding without_zeros
+xor_below [] h = tt
+xor_below (b ∷ s) h = (xor_lt 8 b 48 h.0 (omega arith), xor_below s h.1)
+
+spelled : (s : List ℕ) → AllBelow 256 s → AllBelow 10 (without_zeros s) → AllDigits s × (map (λ d. d + 48) (without_zeros s) ≡ s)
+unfolding without_zeros
+spelled [] h z = (tt, refl)
+spelled (b ∷ s) h z =
+    let rest = spelled s h.1 z.1 in
+    let e = back b h.0 z.0 in
+    let l = z.0 in
+    ((((omega arith), (omega arith)), rest.0), ap (λ c. c ∷ map (λ d. d + 48) (without_zeros s)) e ∙ ap (λ t. b ∷ t) rest.1)
+
+cleared : (j : ℕ) (s : List ℕ) → AllBelow 256 s → AllBelow 10 (clear j (without_zeros s)) → AllDigits (drop j s) × (digits_value (map (λ d. d + 48) (clear j (without_zeros s))) ≡ digits_value (drop j s))
+unfolding clear without_zeros
+cleared zero s h z = let e = spelled s h z in (e.0, ap digits_value e.1)
+cleared (suc j) [] h z = (tt, refl)
+cleared (suc j) (b ∷ s) h z = cleared j s h.1 z.1
+
+-- ---- and back: of digits both tests hold
+
+is_small : ℕ → Bool
+is_small b = not (nat_le 48 b && nat_le b 57) || nat_le (bit_xor b 48) 9
+
+all_digits_small : all_to 256 is_small ≡ true
+unfolding all_to is_small
+all_digits_small = refl
+
+digit_small : (b : ℕ) → 48 ≤ b → b ≤ 57 → bit_xor b 48 < 10
+unfolding is_small
+digit_small b low high = let t : not (nat_le 48 b && nat_le b 57) || nat_le (bit_xor b 48) 9 ≡ true = of_all 256 is_small all_digits_small b (omega arith) in from (bit_xor b 48) b low high t
+  where
+    from : (x b : ℕ) → 48 ≤ b → b ≤ 57 → not (nat_le 48 b && nat_le b 57) || nat_le x 9 ≡ true → x < 10
+    from x b low high t = grind (arith, nat_tests)
+
+digits_small : (j : ℕ) (s : List ℕ) → AllDigits (drop j s) → AllBelow 10 (clear j (without_zeros s))
+unfolding clear without_zeros
+digits_small zero [] d = tt
+digits_small zero (b ∷ s) d = (digit_small b d.0.0 d.0.1, digits_small zero s d.1)
+digits_small (suc j) [] d = tt
+digits_small (suc j) (b ∷ s) d = (omega arith, digits_small j s d)
+
+low_of : (b : ℕ) → b < 16 → bit_and b 240 ≡ 0
+low_of b l = let e : bit_and b (2 ^ 8 - 2 ^ 4) ≡ b / 2 ^ 4 * 2 ^ 4 = and_high_mask 8 4 (omega arith) b (omega arith) in omega (arith, e)
+
+all_low : (s : List ℕ) → AllBelow 16 s → word_of (map (λ b. bit_and b 240) s) ≡ 0
+all_low [] h = refl
+all_low (b ∷ s) h = let first = low_of b h.0 in let rest = all_low s h.1 in omega (arith, first, rest)
+
+below_more : (m n : ℕ) → m ≤ n → (s : List ℕ) → AllBelow m s → AllBelow n s
+below_more m n l [] h = tt
+below_more m n l (b ∷ s) h = (omega (arith, h.0), below_more m n l s h.1)
+
+no_nibbles : (s : List ℕ) → length s ≡ 8 → AllBelow 16 s → bit_and (word_of s) 0xf0f0f0f0f0f0f0f0 ≡ 0
+unfolding copies
+no_nibbles s e h =
+    let high : word_of (copies 8 240) ≡ 0xf0f0f0f0f0f0f0f0 = refl in
+    let same = and_same 240 (omega arith) s (below_more 16 256 (omega arith) s h) in
+    ap (bit_and (word_of s)) (sym high ∙ ap (λ n. word_of (copies n 240)) (sym e)) ∙ same ∙ all_low s h
+
+sixes_below : (s : List ℕ) → AllBelow 10 s → AllBelow 16 (map (λ b. b + 6) s)
+sixes_below [] h = tt
+sixes_below (b ∷ s) h = (omega (arith, h.0), sixes_below s h.1)
+
+-- the word that is tested, and what its tests say of the bytes
+module _ (j : ℕ) (s : List ℕ) (w m : ℕ) (lj : j ≤ 8) (ls : length s ≡ 8) (h : AllBelow 256 s) (is : w ≡ word_of s) (word : m ≡ bit_and (bit_xor w 0x3030303030303030) (2 ^ 64 - 2 ^ (8 * j))) where
+  tested_length : length (clear j (without_zeros s)) ≡ 8
+  unfolding without_zeros
+  tested_length = length_clear j (without_zeros s) ∙ length_map (λ b. bit_xor b 48) s ∙ ls
+
+  tested : m ≡ word_of (clear j (without_zeros s))
+  unfolding copies without_zeros
+  tested =
+      let xs = without_zeros s in
+      let zeros : word_of (copies 8 48) ≡ 0x3030303030303030 = refl in
+      let same : bit_xor (word_of s) 0x3030303030303030 ≡ word_of xs = ap (bit_xor (word_of s)) (sym zeros ∙ ap (λ k. word_of (copies k 48)) (sym ls)) ∙ xor_same 48 (omega arith) s h in
+      word ∙ ap (λ v. bit_and (bit_xor v 0x3030303030303030) (2 ^ 64 - 2 ^ (8 * j))) is ∙ ap (λ v. bit_and v (2 ^ 64 - 2 ^ (8 * j))) same ∙ masked j xs lj (length_map (λ b. bit_xor b 48) s ∙ ls) (xor_below s h)
+
+  -- the digits that stand at the end of eight bytes, where both tests hold
+  pub digits_at_end : bit_and m 0xf0f0f0f0f0f0f0f0 ≡ 0 → bit_and (m + 0x0606060606060606) 0xf0f0f0f0f0f0f0f0 ≡ 0
+      → (n : ℕ) → ((t : List ℕ) → length t ≡ 8 → AllBelow 10 t → m ≡ word_of t → n ≡ digits_value (map (λ d. d + 48) t)) → AllDigits (drop j s) × (n ≡ digits_value (drop j s))
+  digits_at_end low high n value =
+      let t = clear j (without_zeros s) in
+      let small = all_small t tested_length (clear_below j (without_zeros s) (xor_below s h)) (ap (λ v. bit_and v 0xf0f0f0f0f0f0f0f0) (sym tested) ∙ low) (ap (λ v. bit_and (v + 0x0606060606060606) 0xf0f0f0f0f0f0f0f0) (sym tested) ∙ high) in
+      let end = cleared j s h small in
+      (end.0, value t tested_length small tested ∙ end.1)
+
+  pub tests_hold : AllDigits (drop j s) → (bit_and m 0xf0f0f0f0f0f0f0f0 ≡ 0) × (bit_and (m + 0x0606060606060606) 0xf0f0f0f0f0f0f0f0 ≡ 0)
+  unfolding copies
+  tests_hold d =
+      let t = clear j (without_zeros s) in
+      let small = digits_small j s d in
+      let six : word_of (copies 8 6) ≡ 0x0606060606060606 = refl in
+      let sum : word_of t + 0x0606060606060606 ≡ word_of (map (λ b. b + 6) t) = ap (λ n. word_of t + n) (sym six ∙ ap (λ n. word_of (copies n 6)) (sym tested_length)) ∙ add_same 6 t in (
+        ap (λ v. bit_and v 0xf0f0f0f0f0f0f0f0) tested ∙ no_nibbles t tested_length (below_more 10 16 (omega arith) t small),
+        ap (λ v. bit_and (v + 0x0606060606060606) 0xf0f0f0f0f0f0f0f0) tested ∙ ap (λ v. bit_and v 0xf0f0f0f0f0f0f0f0) sum ∙ no_nibbles (map (λ b. b + 6) t) (length_map (λ b. b + 6) t ∙ tested_length) (sixes_below t small),
+      )
+
+-- ---- in a line
+
+below_front : (n : ℕ) (s : List ℕ) → AllBelow 256 s → AllBelow 256 (take n s)
+below_front zero s h = tt
+below_front (suc n) [] h = tt
+below_front (suc n) (b ∷ s) h = (h.0, below_front n s h.1)
+
+below_rest : (n : ℕ) (s : List ℕ) → AllBelow 256 s → AllBelow 256 (drop n s)
+below_rest zero s h = h
+below_rest (suc n) [] h = tt
+below_rest (suc n) (b ∷ s) h = below_rest n s h.1
+
+all_bytes : (s : List ℕ) → ((k : ℕ) → get_or s k 0 < 256) → AllBelow 256 s
+all_bytes [] each = tt
+all_bytes (b ∷ s) each = (each 0, all_bytes s (λ k. each (suc k)))
+
+pub bytes_below : (line : List ℕ) (i j : ℕ) → ((k : ℕ) → get_or line k 0 < 256) → AllBelow 256 (slice_range line i j)
+bytes_below line i j each = below_front (j - i) (drop i line) (below_rest i line (all_bytes line each))
+
+pub length_slice : (line : List ℕ) (i j : ℕ) → j ≤ length line → length (slice_range line i j) ≡ j - i
+length_slice line i j h = let l = length-drop i line in length-take-le (j - i) (drop i line) (omega (arith, l))
+
+-- the last of eight bytes
+pub end_of_eight : (line : List ℕ) (count stop : ℕ) → count ≤ 8 → 8 ≤ stop → drop (8 - count) (slice_range line (stop - 8) stop) ≡ slice_range line (stop - count) stop
+end_of_eight line count stop few room =
+    let n : stop - (stop - 8) ≡ 8 - count + count = omega arith in
+    let m : stop - (stop - count) ≡ count = omega arith in
+    let p : stop - 8 + (8 - count) ≡ stop - count = omega arith in
+    ap (λ k. drop (8 - count) (take k (drop (stop - 8) line))) n
+    ∙ drop-take (8 - count) count (drop (stop - 8) line)
+    ∙ ap (take count) (drop-drop (8 - count) (stop - 8) line ∙ ap (λ k. drop k line) p)
+    ∙ ap (λ k. take k (drop (stop - count) line)) (sym m)
+
+-- the top half of the last byte is 0
+pub below_top : (m : ℕ) → m < 2 ^ 64 → bit_and m 0xf0f0f0f0f0f0f0f0 ≡ 0 → m < 2 ^ 60
+below_top m l h =
+    let top : bit_and m 0xf0f0f0f0f0f0f0f0 / 2 ^ 60 ≡ bit_and (m / 2 ^ 60) (2 ^ 4 - 1) = and_shr m 0xf0f0f0f0f0f0f0f0 60 in
+    let mask = and_mask (m / 2 ^ 60) 4 in
+    omega (arith, top, mask, h)
+
+pub masked_below : (x k : ℕ) → bit_and x (2 ^ 64 - 2 ^ k) < 2 ^ 64
+masked_below x k = let h = and_le_r x (2 ^ 64 - 2 ^ k) in let p = pow_pos k in omega (arith, h, p)
+
+-- ---- short numbers
+
+alone : (t : List ℕ) → length t ≡ 0 → t ≡ []
+alone [] h = refl
+alone (b ∷ t) h = absurd (omega (arith, h))
+
+int_of : (s : List ℕ) → 0 < length s → AllDigits s → (get_or s 0 0 ≡ 48 → length s ≡ 1) → IsInt s
+int_of [] l all lead = absurd (omega (arith, l))
+int_of (b ∷ t) l all lead =
+    let low = all.0.0 in let high = all.0.1 in
+    elim (cases_lt 48 b) [
+      | inl more ↦ inr (omega arith, omega arith, all.1)
+      | inr less ↦ let zero_is : b ≡ 48 = omega arith in let one = lead zero_is in inl (zero_is, alone t (omega (arith, one)))
+    ]
+
+short_of : (s : List ℕ) (n : ℕ) → 0 < length s → AllDigits s → n ≡ digits_value s → n < 2 ^ 32 → (get_or s 0 0 ≡ 48 → length s ≡ 1) → IsShort s n
+unfolding begins_digit
+short_of s n l all value small lead =
+    let int = int_of s l all lead in
+    let front : digits_front s ≡ s = ap digits_front (sym (append_nil s)) ∙ front_append s [] all refl in
+    let tests = int_alone_reads s int in
+    record { int = tests.0; rest = tests.1; value = value ∙ ap digits_value (sym front); small = omega (arith, small) }
+
+pub word_short : (o : Option ℕ) (line : List ℕ) (start stop : ℕ) → start < stop → stop ≤ length line → (get_or line start 0 ≡ 48 → stop - start ≡ 1) → IfSome o (λ n. n < 2 ^ 32)
+    → IfSome o (λ n. AllDigits (slice_range line (stop - (stop - start)) stop) × (n ≡ digits_value (slice_range line (stop - (stop - start)) stop))) → IfSome o (λ n. IsShort (slice_range line start stop) n)
+word_short None line start stop order within lead small value = value
+word_short (Some n) line start stop order within lead small value =
+    let e : stop - (stop - start) ≡ start = omega arith in
+    let s = slice_range line start stop in
+    let P : ℕ → Type 0 = λ k. AllDigits (slice_range line k stop) × (n ≡ digits_value (slice_range line k stop)) in
+    let is = subst P e value in
+    let l = length_slice line start stop within in
+    let first : get_or s 0 0 ≡ get_or line start 0 = get_or-take (stop - start) (drop start line) 0 0 (omega arith) ∙ get_or-drop start line 0 0 ∙ ap (λ k. get_or line k 0) (omega arith) in
+    short_of s n (omega (arith, l)) is.0 is.1 small (λ z. l ∙ lead (sym first ∙ z))
+
+pub first_is : (line : List ℕ) (start stop : ℕ) → start < stop → get_or (slice_range line start stop) 0 0 ≡ get_or line start 0
+first_is line start stop order = get_or-take (stop - start) (drop start line) 0 0 (omega arith) ∙ get_or-drop start line 0 0 ∙ ap (λ k. get_or line k 0) (omega arith)
+
+pub int_slice : (line : List ℕ) (start stop : ℕ) → start < stop → stop ≤ length line → (get_or line start 0 ≡ 48 → stop - start ≡ 1) → AllDigits (slice_range line start stop) → IsInt (slice_range line start stop)
+int_slice line start stop order within lead all =
+    let l = length_slice line start stop within in
+    int_of (slice_range line start stop) (omega (arith, l)) all (λ z. l ∙ lead (sym (first_is line start stop order) ∙ z))
+
+one_zero : (s : List ℕ) → IsInt s → get_or s 0 0 ≡ 48 → length s ≡ 1
+one_zero [] int z = absurd int
+one_zero (b ∷ t) (inl alone_is) z = let n : length t ≡ 0 = ap length alone_is.1 in omega (arith, n)
+one_zero (b ∷ t) (inr more) z = let low = more.0 in absurd (omega arith)
+
+pub lead_alone : (line : List ℕ) (start stop : ℕ) → start < stop → stop ≤ length line → IsInt (slice_range line start stop) → get_or line start 0 ≡ 48 → stop - start ≡ 1
+lead_alone line start stop order within int z = sym (length_slice line start stop within) ∙ one_zero (slice_range line start stop) int (first_is line start stop order ∙ z)
+
+-- ---- behind a minus
+
+begins_first : (c : ℕ) (s : List ℕ) → 0 < length s → get_or s 0 0 ≡ c → begins c s ≡ true
+unfolding begins
+begins_first c [] l e = absurd (omega (arith, l))
+begins_first c (b ∷ t) l e = test b e
+  where
+    test : (b : ℕ) → b ≡ c → nat_eq b c ≡ true
+    test b e = grind (arith, nat_tests)
+
+pub minus_first : (line : List ℕ) (start stop : ℕ) → start < stop → stop ≤ length line → get_or line start 0 ≡ 45 → true ≡ begins 45 (slice_range line start stop)
+minus_first line start stop order within z =
+    let l = length_slice line start stop within in
+    sym (begins_first 45 (slice_range line start stop) (omega (arith, l)) (first_is line start stop order ∙ z))
+
+begins_not : (c : ℕ) (s : List ℕ) → (get_or s 0 0 ≡ c → ⊥) → begins c s ≡ false
+unfolding begins
+begins_not c [] n = refl
+begins_not c (b ∷ t) n = test b n
+  where
+    test : (b : ℕ) → (b ≡ c → ⊥) → nat_eq b c ≡ false
+    test b n = grind (arith, nat_tests)
+
+pub body_plain : (line : List ℕ) (start stop : ℕ) → start < stop → (get_or line start 0 ≡ 45 → ⊥) → body (slice_range line start stop) ≡ slice_range line start stop
+body_plain line start stop order n = let s = slice_range line start stop in no_minus s (begins_not 45 s (λ z. n (sym (first_is line start stop order) ∙ z)))
+
+pub body_behind : (line : List ℕ) (start stop : ℕ) → start < stop → true ≡ begins 45 (slice_range line start stop) → body (slice_range line start stop) ≡ slice_range line (start + 1) stop
+body_behind line start stop order minus =
+    let s = slice_range line start stop in
+    let m : stop - start ≡ 1 + (stop - (start + 1)) = omega arith in
+    minus_there s (sym minus) ∙ ap (λ k. drop 1 (take k (drop start line))) m ∙ drop-take 1 (stop - (start + 1)) (drop start line) ∙ ap (take (stop - (start + 1))) (drop-drop 1 start line)
+
+pub short_behind : (line : List ℕ) (start stop n : ℕ) → start < stop → true ≡ begins 45 (slice_range line start stop) → IsShort (slice_range line (start + 1) stop) n → IsShort (body (slice_range line start stop)) n
+short_behind line start stop n order minus short = let P : List ℕ → Type 0 = λ t. IsShort t n in subst P (sym (body_behind line start stop order minus)) short
+
+-- few digits, as a body and where they stand
+pub few_in : (line : List ℕ) (start stop : ℕ) (s : List ℕ) → s ≡ slice_range line start stop → stop ≤ length line → stop ≤ start + 8 → IsInt (slice_range line start stop) → IsFewDigits s
+few_in line start stop s e within near int =
+    let l = length_slice line start stop within in
+    let few : IsFewDigits (slice_range line start stop) = (int, omega (arith, l)) in
+    let P : List ℕ → Type 0 = λ t. IsFewDigits t in
+    subst P (sym e) few
+
+pub int_in : (s t : List ℕ) → s ≡ t → IsFewDigits s → IsInt t
+int_in s t e few = let P : List ℕ → Type 0 = λ u. IsInt u in subst P e few.0
+
+pub no_int : (line : List ℕ) (start stop : ℕ) → stop ≤ start → IsInt (slice_range line start stop) → ⊥
+no_int line start stop h int =
+    let n : stop - start ≡ 0 = omega arith in
+    let e : slice_range line start stop ≡ [] = ap (λ k. take k (drop start line)) n in
+    let P : List ℕ → Type 0 = λ t. IsInt t in subst P e int
+
+pub all_from_eight : (line : List ℕ) (count stop : ℕ) → count ≤ 8 → 8 ≤ stop → AllDigits (slice_range line (stop - count) stop) → AllDigits (drop (8 - count) (slice_range line (stop - 8) stop))
+all_from_eight line count stop few room all = let P : List ℕ → Type 0 = λ t. AllDigits t in subst P (sym (end_of_eight line count stop few room)) all

@@ -1,0 +1,108 @@
+//! Numbers of at most eight digits in a line, read by one word: the eight bytes that end where the number ends.
+ghost use Rattle.std.specs.Prelude.{◌≡◌, ℕ, ◌+◌, ◌-◌, ◌*◌, ◌^◌, ◌<◌, ◌≤◌, List, length, map, slice_range, IfSome, IsSome, ◌↔◌};
+ghost use Rattle.cj_decimal.specs.Reading.{IsShort};
+ghost use Rattle.cj_decimal.specs.Spelling.{AllDigits, IsInt, digits_value};
+ghost use Rattle.cj_decimal.specs.Word.{word_of, AllBelow};
+
+/// How many bytes a word has.
+const BYTES: usize = 8;
+
+/// The byte `0` at each place of a word.
+const ZEROS: u64 = 0x3030_3030_3030_3030;
+
+/// The high half of each byte.
+const HIGH: u64 = 0xf0f0_f0f0_f0f0_f0f0;
+
+/// The number 6 in each byte: with it a number above 9 reaches the high half.
+const SIXES: u64 = 0x0606_0606_0606_0606;
+
+/// All bits of the last bytes of a word, for each count of them.
+const LAST: [u64; 9] = [
+    0,
+    0xff00_0000_0000_0000,
+    0xffff_0000_0000_0000,
+    0xffff_ff00_0000_0000,
+    0xffff_ffff_0000_0000,
+    0xffff_ffff_ff00_0000,
+    0xffff_ffff_ffff_0000,
+    0xffff_ffff_ffff_ff00,
+    0xffff_ffff_ffff_ffff,
+];
+
+/// The first and the fifth byte.
+const PAIRS: u64 = 0x0000_00ff_0000_00ff;
+
+/// The eight bytes before `stop`, of which the first is least.
+#[inline(always)]
+fn word_before(line: &[u8], stop: usize) -> u64
+    requires room { 8 ≤ stop }
+    requires within { stop ≤ length line.now }
+    ensures { result ≡ word_of (slice_range line.now (stop - 8) stop) }
+{
+    let bytes = &line[stop - BYTES..stop];
+    u64::from_le_bytes([
+        bytes[0], bytes[1], bytes[2], bytes[3], bytes[4], bytes[5], bytes[6], bytes[7],
+    ])
+}
+
+/// All bits of the last bytes of a word.
+#[inline(always)]
+fn last_bytes(count: usize) -> u64
+    requires { count ≤ 8 }
+    ensures { result ≡ 2 ^ 64 - 2 ^ (8 * (8 - count)) }
+{
+    LAST[count]
+}
+
+/// The number that eight digits spell, each given as its number.
+///
+/// Digits are joined to pairs, and of these every second one counts. Two products weigh four of them, and add two each.
+#[inline(always)]
+fn value_of(word: u64) -> u64
+    requires { word < 2 ^ 60 }
+    ensures small { result < 2 ^ 32 }
+    ensures value { (s : List ℕ) → length s ≡ 8 → AllBelow 10 s → word ≡ word_of s
+        → result ≡ digits_value (map (λ d. d + 48) s) }
+{
+    let pairs = word * 10 + (word >> 8);
+    let first = (pairs & PAIRS).wrapping_mul(100 + (1_000_000 << 32));
+    let second = ((pairs >> 16) & PAIRS).wrapping_mul(1 + (10_000 << 32));
+    first.wrapping_add(second) >> 32
+}
+
+/// The number that the last `count` bytes before `stop` spell, where these are digits. None where they are not.
+#[inline(always)]
+fn read_digits_before(line: &[u8], count: usize, stop: usize) -> Option<u64>
+    requires few { count ≤ 8 }
+    requires room { 8 ≤ stop }
+    requires within { stop ≤ length line.now }
+    ensures small { IfSome result (λ n. n < 2 ^ 32) }
+    ensures digits { IsSome result ↔ AllDigits (slice_range line.now (stop - count) stop) }
+    ensures value { IfSome result (λ n. AllDigits (slice_range line.now (stop - count) stop)
+        × (n ≡ digits_value (slice_range line.now (stop - count) stop))) }
+{
+    let word = (word_before(line, stop) ^ ZEROS) & last_bytes(count);
+    if word & HIGH != 0 || word.wrapping_add(SIXES) & HIGH != 0 {
+        return None;
+    }
+    Some(value_of(word))
+}
+
+/// The number that the bytes from `start` to `stop` spell, where they are at most eight digits and nothing else, and no
+/// 0 before another digit. None where they are anything else, and near the front of the line.
+#[inline(always)]
+pub fn read_word(line: &[u8], start: usize, stop: usize) -> Option<u64>
+    requires order { start < stop }
+    requires within { stop ≤ length line.now }
+    ensures short { IfSome result (λ n. IsShort (slice_range line.now start stop) n) }
+    ensures few { IsSome result ↔ (IsInt (slice_range line.now start stop) × (stop ≤ start + 8) × (8 ≤ stop)) }
+{
+    let count = stop - start;
+    if count > BYTES || stop < BYTES {
+        return None;
+    }
+    if line[start] == b'0' && count != 1 {
+        return None;
+    }
+    read_digits_before(line, count, stop)
+}

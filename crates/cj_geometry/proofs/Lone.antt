@@ -1,0 +1,114 @@
+-- Items at the front of an array that hold nothing, and have no finding.
+use Rattle.std.proofs.Common.{◌≡◌, ℕ, zero, suc, ◌+◌, ◌<◌, ◌≤◌, List, [], ◌∷◌, ◌++◌, length, take, drop, Bool, true, false, not, nat_lt, Option, Some, None, pos, refl, sym, ap, subst, arith, ◌∙◌, add-one}
+use Rattle.std.specs.List.{flat_map}
+use Rattle.std.specs.Prelude.{ℤ, IfSome, IsSome}
+use Rattle.std.proofs.lemmas.List.{length-drop}
+use Rattle.std.proofs.lemmas.List.Concat.{flat_map-append}
+use Rattle.std.proofs.lemmas.Bool.Decides.{nat_tests}
+use Rattle.cj_spans.specs.declared.reason.Reason.{Reason}
+use Rattle.cj_spans.specs.declared.finding.Finding.{Finding}
+use Rattle.cj_spans.specs.Tree.{Tree, scalar, array, object, size, total_size}
+use Rattle.cj_spans.specs.Kinds.{is_number}
+use Rattle.cj_spans.specs.Parts.{kind_of}
+use Rattle.cj_decimal.specs.Class.{Class, no_number, out_of_range, not_whole, whole}
+use Rattle.cj_decimal.proofs.Classes.{class}
+use Rattle.cj_geometry.specs.Rule.{one, spelling, index, is_outside, whole_of, whole_by, whole_number, whole_findings}
+use Rattle.cj_geometry.specs.Lone.{AreLone}
+use Rattle.cj_geometry.proofs.Numbers.{index-of-whole}
+
+take-next : (n : ℕ) (ts : List Tree) (t : Tree) (rest : List Tree) → drop n ts ≡ t ∷ rest → take (suc n) ts ≡ take n ts ++ t ∷ []
+take-next zero [] t rest e = absurd (cc e)
+take-next zero (x ∷ xs) t rest e = let same : x ≡ t = cc e in ap (λ y. y ∷ []) same
+take-next (suc n) [] t rest e = absurd (cc e)
+take-next (suc n) (x ∷ xs) t rest e = ap (λ ys. x ∷ ys) (take-next n xs t rest e)
+
+there : (n : ℕ) (ts : List Tree) (t : Tree) (rest : List Tree) → drop n ts ≡ t ∷ rest → suc n ≤ length ts
+there zero [] t rest e = absurd (cc e)
+there zero (x ∷ xs) t rest e = omega arith
+there (suc n) [] t rest e = absurd (cc e)
+there (suc n) (x ∷ xs) t rest e = let h = there n xs t rest e in omega (arith, h)
+
+size-append : (ts us : List Tree) → total_size (ts ++ us) ≡ total_size ts + total_size us
+size-append [] us = omega arith
+size-append (t ∷ ts) us = let h = size-append ts us in omega (arith, h)
+
+size-front : (n : ℕ) (ts : List Tree) → total_size (take n ts) ≤ total_size ts
+size-front zero ts = omega arith
+size-front (suc n) [] = omega arith
+size-front (suc n) (t ∷ ts) = let h = size-front n ts in omega (arith, h)
+
+-- ---- one item more
+
+module _ (n : ℕ) (ts : List Tree) (t : Tree) (rest : List Tree) (next : drop n ts ≡ t ∷ rest) where
+  front : take (n + 1) ts ≡ take n ts ++ t ∷ []
+  front = let e : suc n ≡ n + 1 = omega arith in subst (λ k. take k ts ≡ take n ts ++ t ∷ []) e (take-next n ts t rest next)
+
+  pub lone-more : size t ≡ 1 → AreLone n ts → AreLone (n + 1) ts
+  lone-more one_is h =
+      let l = there n ts t rest next in
+      let s = ap total_size front ∙ size-append (take n ts) (t ∷ []) in
+      let before = h.sizes in
+      record { within = omega (arith, l); sizes = omega (arith, s, before, one_is) }
+
+  pub none-more : (rule : Tree → List Finding) → rule t ≡ [] → flat_map rule (take n ts) ≡ [] → flat_map rule (take (n + 1) ts) ≡ []
+  none-more rule none h = ap (flat_map rule) front ∙ flat_map-append rule (take n ts) (t ∷ []) ∙ ap (λ fs. fs ++ (rule t ++ [])) h ∙ ap (λ fs. fs ++ []) none
+
+-- what is counted is less than what an array holds
+pub lone-below : (n : ℕ) (ts : List Tree) → AreLone n ts → n ≤ total_size ts
+lone-below n ts h = let f = size-front n ts in let s = h.sizes in omega (arith, f, s)
+
+pub lone-none : (ts : List Tree) → AreLone 0 ts
+lone-none ts = record { within = omega arith; sizes = refl }
+
+-- ---- a whole number
+
+pub whole-size : (t : Tree) (w : ℤ) → whole_of t ≡ Some w → size t ≡ 1
+whole-size (scalar k a) w e = refl
+whole-size (array i j ts) w e = absurd (cc e)
+whole-size (object i j ms) w e = absurd (cc e)
+
+-- where a whole number was read, there is one
+pub whole-there : (o : Option ℤ) (t : Tree) → IfSome o (λ w. whole_of t ≡ Some w) → IsSome o → (w : ℤ) × (whole_of t ≡ Some w)
+whole-there None t is some = absurd (cc some)
+whole-there (Some w) t is some = (w, is)
+
+whole-by-none : (s : List ℕ) (t : Tree) (c : Class s) (w : ℤ) → whole_by c ≡ Some w → whole_findings t c ≡ []
+whole-by-none s t (no_number n) w e = absurd (cc e)
+whole-by-none s t (out_of_range n) w e = absurd (cc e)
+whole-by-none s t (not_whole v value range n) w e = absurd (cc e)
+whole-by-none s t (whole v x value range is) w e = refl
+
+pub whole-none : (t : Tree) (w : ℤ) → whole_of t ≡ Some w → whole_number t ≡ []
+whole-none t w e = go (is_number (kind_of t)) refl
+  where
+    go : (b : Bool) → is_number (kind_of t) ≡ b → whole_number t ≡ []
+    go true k = rw k (whole-by-none (spelling t) t (class (spelling t)) w (rw k at e))
+    go false k = absurd (cc (rw k at e))
+
+pub index-none : (t : Tree) (n bound : ℕ) → whole_of t ≡ Some (pos n) → (reason : Reason) (count : Option ℕ) → is_outside count (pos n) ≡ not (nat_lt n bound) → n < bound → index reason count t ≡ []
+index-none t n bound is reason count outside below =
+    let inside : not (nat_lt n bound) ≡ false = grind (arith, nat_tests) in
+    let e : is_outside count (pos n) ≡ false = outside ∙ inside in
+    rw (index-of-whole t (pos n) is reason count, e) refl
+
+-- ---- the rest
+
+pub past-none : (rule : Tree → List Finding) (n : ℕ) (ts : List Tree) → flat_map rule (take n ts) ≡ [] → flat_map rule (drop n ts) ≡ flat_map rule ts
+past-none rule zero ts h = refl
+past-none rule (suc n) [] h = refl
+past-none rule (suc n) (t ∷ ts) h = past-none rule n ts (right_none (rule t) _ h) ∙ ap (λ fs. fs ++ flat_map rule ts) (sym (left_none (rule t) _ h))
+  where
+    left_none : (fs gs : List Finding) → fs ++ gs ≡ [] → fs ≡ []
+    left_none [] gs e = refl
+    left_none (f ∷ fs) gs e = absurd (cc e)
+
+    right_none : (fs gs : List Finding) → fs ++ gs ≡ [] → gs ≡ []
+    right_none [] gs e = e
+    right_none (f ∷ fs) gs e = absurd (cc e)
+
+-- a walk behind one item more has less left
+pub left-falls : (n : ℕ) (ts us vs : List Tree) → us ≡ drop n ts → vs ≡ drop (n + 1) ts → n + 1 ≤ length ts → length vs < length us
+left-falls n ts us vs a b l =
+    let p = ap length a ∙ length-drop n ts in
+    let q = ap length b ∙ length-drop (n + 1) ts in
+    omega (arith, p, q)

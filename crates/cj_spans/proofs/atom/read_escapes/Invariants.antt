@@ -1,0 +1,10 @@
+use Rattle.std.proofs.Common.{◌-◌, length}
+use Rattle.cj_spans.specs.declared.lex.Lex.TheVariants.{InString}
+use Rattle.cj_spans.specs.Atom.{GoesTo}
+use Rattle.cj_spans.proofs.atom.read_escapes.Given as goal
+
+abbrev pub invariant-loop-next : goal.invariant-loop-next
+invariant-loop-next l = GoesTo l.line l.place InString l.stop InString
+
+abbrev pub decreases-loop-next : goal.decreases-loop-next
+decreases-loop-next l = length l.line - l.stop
