@@ -1,5 +1,5 @@
 -- What a contract sees of a list with a limit.
-use Rattle.std.specs.Prelude.{◌≡◌, ◌↔◌, ◌⊎◌, ℕ, ◌<◌, ◌≤◌, List, [], length, max, Bool, true, IsTrue, Result, OnOk, OnErr, IsOk, IsErrOf, refl}
+use Rattle.std.specs.Prelude.{◌≡◌, ◌↔◌, ◌⊎◌, ℕ, ◌<◌, ◌≤◌, List, [], length, max, nat_le, Bool, true, IsTrue, Result, OnOk, OnErr, IsOk, IsErrOf, refl}
 use Rattle.std.specs.Coded.{Coded, code_by, coded×, coded_ℕ, coded_list, coded_bool}
 use Rattle.cj_budget.specs.Counts.{HasRisen, one_more}
 use Rattle.cj_budget.specs.declared.growth.NoMemory.{NoMemory}
@@ -40,11 +40,12 @@ module _ {T : Type 0} where
     pub refused : new.refused ≡ old.refused
     pub within : IsWithin new
 
-  -- an empty list under this limit
-  pub record IsNew (most : ℕ) (b : BoundedList T) : Type 0 where
+  -- an empty list under this limit, with room for so many elements
+  pub record IsNew (room most : ℕ) (b : BoundedList T) : Type 0 where
     pub elements : b.elements ≡ []
     pub limit : b.limit ≡ most
     pub peak : b.peak ≡ 0
+    pub reserved : b.reserved ≡ nat_le most room
     pub refused : b.refused ≡ 0
 
   -- a growth was refused: the count of that is one more, and nothing else has changed

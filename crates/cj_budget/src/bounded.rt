@@ -75,7 +75,7 @@ impl<T: Copy> Model for Bounded<T> {
 impl<T: Copy> Bounded<T> {
     /// An empty list. It takes no memory.
     pub fn new(alloc: Global, limit: usize) -> Bounded<T>
-        ensures { IsNew limit result }
+        ensures { IsNew 0 limit result }
     {
         Bounded {
             items: Vec::new(alloc),

@@ -51,7 +51,7 @@ impl Model for Stack {
 impl Stack {
     /// An empty stack. It takes no memory.
     pub fn new(alloc: Global, limit: usize) -> Stack
-        ensures { IsNew limit result }
+        ensures { IsNew INLINE limit result }
     {
         Stack {
             items: SmallVec::new(alloc),

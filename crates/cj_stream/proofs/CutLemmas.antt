@@ -152,22 +152,22 @@ module _ {S : Type 0} (takes leaves : S → Item → S → Type 0) (rules : Rule
       Runs takes leaves run (joined (take (n + 1) pieces) ≡ joined pieces) s t
 
   -- what a sink took of the lines that were dealt with before a fault
-  taken : (e : End) → TookWhole takes leaves rules pieces n count s t e → (more : List Item) × (middle : S)
+  taken : (e : End) → TookWhole takes leaves rules [] 0 pieces n count s t e → (more : List Item) × (middle : S)
       × (kept_first rules count (joined (take (n + 1) pieces)) ≡ kept rules (whole (joined (take n pieces))) ++ more)
       × Took takes s (kept rules (whole (joined (take n pieces))) ++ more) middle × Faults leaves rules (joined (take (n + 1) pieces)) count middle t (Some e)
   taken e k =
       let same = kept-pieces rules pieces n k.good in
-      let first : k.before.added ≡ kept rules (whole (joined (take n pieces))) = sym k.before.kept ∙ same.0 in
-      let before = subst (λ z. Took takes s k.before.added z) (sym k.before.fault) k.before.took in (
+      let first : k.taken.added ≡ kept rules (whole (joined (take n pieces))) = sym k.taken.kept ∙ same.0 in
+      let before = subst (λ z. Took takes s k.taken.added z) (sym k.taken.fault) k.taken.took in (
         k.after.added,
         k.after.middle,
         k.after.kept ∙ ap (λ z. z ++ k.after.added) same.1,
-        rw (← first) (Took-append takes s k.middle k.after.middle k.before.added k.after.added before k.after.took),
+        rw (← first) (Took-append takes s k.middle k.after.middle k.taken.added k.after.added before k.after.took),
         k.after.fault,
       )
 
   -- what a run over pieces has put
-  pub PutsPieces-runs : (e : End) → Given e → TookWhole takes leaves rules pieces n count s t e → IsUnread e → PutsPieces takes leaves rules pieces n e s t
+  pub PutsPieces-runs : (e : End) → Given e → TookWhole takes leaves rules [] 0 pieces n count s t e → IsUnread e → PutsPieces takes leaves rules pieces n e s t
   PutsPieces-runs Complete h k u = rw (← h.account.ends.2) (h.account.ends.0, Took-all takes leaves rules (joined (take (n + 1) pieces)) count s t Complete h.sink h.sink.fault h.account.ends.1)
   PutsPieces-runs (Refused number place reason) h k u = go h.account.ends.2
     where
@@ -221,30 +221,30 @@ Copies-puts contents rules pieces n s t Memory h =
     front-bytes contents (λ others a b. b ≡ a) (no-bytes contents) (kept rules (joined (take (n + 1) pieces))) (kept rules (whole (joined (take n pieces)))) s t h
 
 -- where a piece, or the end, ended it
-pub EndsAt-told : (rules : Rules) (pieces : List (List ℕ)) (k n : ℕ) (e : End) → Tells rules (joined (take (k + 1) pieces)) n e → EndsAt rules pieces k e
-EndsAt-told rules pieces k n Complete c = absurd c
-EndsAt-told rules pieces k n (Refused number place reason) c = inr c.0
-EndsAt-told rules pieces k n ReadFault c = c
-EndsAt-told rules pieces k n ReadLimit c = c
-EndsAt-told rules pieces k n WriteFault c = tt
-EndsAt-told rules pieces k n Memory c = tt
+pub EndsAt-told : (rules : Rules) (before : List ℕ) (pieces : List (List ℕ)) (k n : ℕ) (e : End) → Tells rules (before ++ joined (take (k + 1) pieces)) n e → EndsAt rules before pieces k e
+EndsAt-told rules before pieces k n Complete c = absurd c
+EndsAt-told rules before pieces k n (Refused number place reason) c = inr c.0
+EndsAt-told rules before pieces k n ReadFault c = c
+EndsAt-told rules before pieces k n ReadLimit c = c
+EndsAt-told rules before pieces k n WriteFault c = tt
+EndsAt-told rules before pieces k n Memory c = tt
 
-pub EndsAt-concludes : (rules : Rules) (pieces : List (List ℕ)) (k : ℕ) (p : List ℕ) (n : ℕ) (e : End) → k ≡ length pieces → Concludes rules p n e → EndsAt rules pieces k e
-EndsAt-concludes rules pieces k p n Complete all c = all
-EndsAt-concludes rules pieces k p n (Refused number place reason) all c = inl all
-EndsAt-concludes rules pieces k p n ReadFault all c = c
-EndsAt-concludes rules pieces k p n ReadLimit all c = c
-EndsAt-concludes rules pieces k p n WriteFault all c = tt
-EndsAt-concludes rules pieces k p n Memory all c = tt
+pub EndsAt-concludes : (rules : Rules) (before : List ℕ) (pieces : List (List ℕ)) (k : ℕ) (p : List ℕ) (n : ℕ) (e : End) → k ≡ length pieces → Concludes rules p n e → EndsAt rules before pieces k e
+EndsAt-concludes rules before pieces k p n Complete all c = all
+EndsAt-concludes rules before pieces k p n (Refused number place reason) all c = inl all
+EndsAt-concludes rules before pieces k p n ReadFault all c = c
+EndsAt-concludes rules before pieces k p n ReadLimit all c = c
+EndsAt-concludes rules before pieces k p n WriteFault all c = tt
+EndsAt-concludes rules before pieces k p n Memory all c = tt
 
 -- such an end is none that a reader makes
-pub unread-at : (rules : Rules) (pieces : List (List ℕ)) (k : ℕ) (e : End) → EndsAt rules pieces k e → IsUnread e
-unread-at rules pieces k Complete c = tt
-unread-at rules pieces k (Refused number place reason) c = tt
-unread-at rules pieces k ReadFault c = c
-unread-at rules pieces k ReadLimit c = c
-unread-at rules pieces k WriteFault c = tt
-unread-at rules pieces k Memory c = tt
+pub unread-at : (rules : Rules) (before : List ℕ) (pieces : List (List ℕ)) (k : ℕ) (e : End) → EndsAt rules before pieces k e → IsUnread e
+unread-at rules before pieces k Complete c = tt
+unread-at rules before pieces k (Refused number place reason) c = tt
+unread-at rules before pieces k ReadFault c = c
+unread-at rules before pieces k ReadLimit c = c
+unread-at rules before pieces k WriteFault c = tt
+unread-at rules before pieces k Memory c = tt
 
 pub unread-told : (rules : Rules) (q : List ℕ) (n : ℕ) (e : End) → Tells rules q n e → IsUnread e
 unread-told rules q n Complete h = tt
@@ -263,12 +263,12 @@ unread-concludes rules q n WriteFault h = tt
 unread-concludes rules q n Memory h = tt
 
 -- what an engine that had read some pieces did with the next, or at the end
-pub TookWhole-left : {S : Type 0} (takes leaves : S → Item → S → Type 0) (e : EngineState) (rules : Rules) (pieces : List (List ℕ)) (n count : ℕ) (s m t : S) (end : End)
-    → rules_of e ≡ rules → Reads e.reading (joined (take n pieces)) → Delivers takes leaves rules (joined (take n pieces)) 0 (lines_of e) s m None
-    → Delivers takes leaves rules (joined (take (n + 1) pieces)) (lines_of e) count m t (Some end) → TookWhole takes leaves rules pieces n count s t end
-TookWhole-left takes leaves e rules pieces n count s m t end same reads before after = record {
+pub TookWhole-left : {S : Type 0} (takes leaves : S → Item → S → Type 0) (e : EngineState) (rules : Rules) (before : List ℕ) (first : ℕ) (pieces : List (List ℕ)) (n count : ℕ) (s m t : S) (end : End)
+    → rules_of e ≡ rules → Reads e.reading (before ++ joined (take n pieces)) → Delivers takes leaves rules (before ++ joined (take n pieces)) first (lines_of e) s m None
+    → Delivers takes leaves rules (before ++ joined (take (n + 1) pieces)) (lines_of e) count m t (Some end) → TookWhole takes leaves rules before first pieces n count s t end
+TookWhole-left takes leaves e rules before first pieces n count s m t end same reads head tail = record {
   middle = m;
-  good = let x = (whole-good e (joined (take n pieces)) reads).0 in rw same at x;
-  before = rw (← reads.lines) before;
-  after = rw (← reads.lines) after;
+  good = let x = (whole-good e (before ++ joined (take n pieces)) reads).0 in rw same at x;
+  taken = rw (← reads.lines) head;
+  after = rw (← reads.lines) tail;
 }

@@ -1,5 +1,5 @@
 -- What stays of a reading, whatever comes of some bytes.
-use Rattle.std.proofs.Common.{◌≡◌, ℕ, ◌+◌, ◌<◌, ◌≤◌, ◌⊎◌, inl, inr, List, Bool, true, false, cond, length, Option, Some, None, Result, Ok, Err, arith, refl, sym, ap, ◌∙◌}
+use Rattle.std.proofs.Common.{◌≡◌, ℕ, ◌+◌, ◌<◌, ◌≤◌, ◌⊎◌, inl, inr, List, Bool, true, false, cond, length, Option, Some, None, Result, Ok, Err, OnErr, arith, refl, sym, ap, ◌∙◌}
 use Rattle.cj_budget.specs.Bounded.{IsWithin}
 use Rattle.cj_spans.specs.declared.reason.Reason.{Reason}
 use Rattle.cj_stream.specs.declared.ending.End.{End}
@@ -131,3 +131,9 @@ settled-err takes leaves on Blank i f g s t e (inl d) = let ok : ◌≡◌ {A = 
 settled-err takes leaves on Unwanted i f g s t e (inl d) = let ok : ◌≡◌ {A = Result (Unit {0}) End} (Err e) (Ok tt) = d.0 in cc
 settled-err takes leaves on Valid i f g s t e (inl d) = ap (λ x. x.lines) d.1.same
 settled-err takes leaves on v i f g s t e (inr m) = ap (λ x. x.lines) m.1.same
+
+-- so none counts after an error in the first
+pub none-settled : {S : Type 0} (takes leaves : S → Item → S → Type 0) (on : Bool) (v : Verdict) (i : Item) (f g : Reading) (s t : S) (r : Result (Unit {0}) End) → f.lines ≡ 0 → Settles takes leaves on v i f s r g t
+    → OnErr r (g.lines ≡ 0)
+none-settled takes leaves on v i f g s t (Ok x) first d = tt
+none-settled takes leaves on v i f g s t (Err e) first d = settled-err takes leaves on v i f g s t e d ∙ first

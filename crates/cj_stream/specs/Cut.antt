@@ -8,7 +8,8 @@ use Rattle.cj_stream.specs.Lines.{closed, lines, whole}
 use Rattle.cj_stream.specs.Item.{Item}
 use Rattle.cj_stream.specs.Verdict.{Rules, refusal_in, judged, kept, ending, output}
 use Rattle.cj_stream.specs.Bound.{IsBounded, IsBelow, IsExact}
-use Rattle.cj_stream.specs.Engine.{EngineState, Delivers, rules_of, held_by, peaks_of}
+use Rattle.cj_stream.specs.Engine.{EngineState, Counts, Delivers, rules_of, lines_of, refused_of, held_by, peaks_of}
+use Rattle.cj_stream.specs.Reading.{LacksMemory}
 use Rattle.cj_stream.specs.Sink.{Took, TookFront, LeavesNext, AppendsPart}
 
 -- the stream that pieces are a cut of; pieces may be empty
@@ -65,35 +66,40 @@ IsUnread ReadLimit = ⊥
 IsUnread WriteFault = Unit {0}
 IsUnread Memory = Unit {0}
 
--- the piece at which it ended, after n: none after a complete end; after a refusal the next one, if there is one, ended
--- the refused line or made it too long
-abbrev pub EndsAt : Rules → List (List ℕ) → ℕ → End → Type 0
-EndsAt rules pieces n Complete = n ≡ length pieces
-EndsAt rules pieces n (Refused number place reason) =
-    (n ≡ length pieces) ⊎ (refusal_in rules (judged rules.limits (joined (take (n + 1) pieces))) ≡ Some (Refused number place reason))
-EndsAt rules pieces n ReadFault = ⊥
-EndsAt rules pieces n ReadLimit = ⊥
-EndsAt rules pieces n WriteFault = Unit {0}
-EndsAt rules pieces n Memory = Unit {0}
+-- the piece at which it ended, after n, where these bytes came before the pieces: none after a complete end; after a
+-- refusal the next one, if there is one, ended the refused line or made it too long
+abbrev pub EndsAt : Rules → List ℕ → List (List ℕ) → ℕ → End → Type 0
+EndsAt rules before pieces n Complete = n ≡ length pieces
+EndsAt rules before pieces n (Refused number place reason) =
+    (n ≡ length pieces) ⊎ (refusal_in rules (judged rules.limits (before ++ joined (take (n + 1) pieces))) ≡ Some (Refused number place reason))
+EndsAt rules before pieces n ReadFault = ⊥
+EndsAt rules before pieces n ReadLimit = ⊥
+EndsAt rules before pieces n WriteFault = Unit {0}
+EndsAt rules before pieces n Memory = Unit {0}
 
--- An engine that had been given nothing was given these pieces and then the end, until it ended. So many of them were
--- wholly taken, of which nothing that could be judged was refused. What it is said to have held at most is what its lists
--- have held at most, within the bound for the pieces that were given, and exact where the end is complete.
-pub record Fed (rules : Rules) (pieces : List (List ℕ)) (outcome : PiecesOutcome) (engine : EngineState) : Type 0 where
+-- An engine that stood for the bytes before, and had not ended, was given these pieces and then the end, until it
+-- ended. So many of the pieces were wholly taken, of which nothing that could be judged was refused, and it counts
+-- their bytes. Its other counts are of the lines that it dealt with, of all bytes that were given. Memory is refused
+-- with a valid first line alone. What it is said to have held at most is what its lists have held at most, within the
+-- bound for the bytes that were given, and exact where the end is complete.
+pub record Fed (rules : Rules) (before : List ℕ) (pieces : List (List ℕ)) (outcome : PiecesOutcome) (engine : EngineState) : Type 0 where
   pub under : rules_of engine ≡ rules
   pub ended : engine.ended ≡ Some outcome.ended
   pub few : outcome.taken ≤ length pieces
-  pub good : refusal_in rules (judged rules.limits (joined (take outcome.taken pieces))) ≡ None
-  pub at : EndsAt rules pieces outcome.taken outcome.ended
+  pub good : refusal_in rules (judged rules.limits (before ++ joined (take outcome.taken pieces))) ≡ None
+  pub at : EndsAt rules before pieces outcome.taken outcome.ended
+  pub used : engine.taken ≡ length (before ++ joined (take outcome.taken pieces))
+  pub counts : Counts rules (before ++ joined (take (outcome.taken + 1) pieces)) (lines_of engine) engine.reading.kept (refused_of engine)
+  pub memory : outcome.ended ≡ Memory → LacksMemory rules (before ++ joined (take (outcome.taken + 1) pieces)) (lines_of engine)
   pub peaks : outcome.peaks ≡ peaks_of engine
   pub held : IsBelow (held_by engine) outcome.peaks
-  pub bounded : IsBounded rules.limits (joined (take (outcome.taken + 1) pieces)) outcome.peaks
-  pub exact : outcome.ended ≡ Complete → IsExact rules.limits (joined pieces) outcome.peaks
+  pub bounded : IsBounded rules.limits (before ++ joined (take (outcome.taken + 1) pieces)) outcome.peaks
+  pub exact : outcome.ended ≡ Complete → IsExact rules.limits (before ++ joined pieces) outcome.peaks
 
--- a sink took what is kept of the first n pieces, of whose whole lines none was refused, and then came to an end by the
--- next piece, or after the last
-pub record TookWhole {S : Type 0} (takes leaves : S → Item → S → Type 0) (rules : Rules) (pieces : List (List ℕ)) (n lines_now : ℕ) (s t : S) (e : End) : Type 0 where
+-- a sink took what is kept of the first n pieces, behind the first lines, those of the bytes before; no whole line was
+-- refused by then; and then it came to an end by the next piece, or after the last
+pub record TookWhole {S : Type 0} (takes leaves : S → Item → S → Type 0) (rules : Rules) (before : List ℕ) (first : ℕ) (pieces : List (List ℕ)) (n lines_now : ℕ) (s t : S) (e : End) : Type 0 where
   pub middle : S
-  pub good : refusal_in rules (lines (whole (joined (take n pieces)))) ≡ None
-  pub before : Delivers takes leaves rules (joined (take n pieces)) 0 (length (closed (joined (take n pieces)))) s middle None
-  pub after : Delivers takes leaves rules (joined (take (n + 1) pieces)) (length (closed (joined (take n pieces)))) lines_now middle t (Some e)
+  pub good : refusal_in rules (lines (whole (before ++ joined (take n pieces)))) ≡ None
+  pub taken : Delivers takes leaves rules (before ++ joined (take n pieces)) first (length (closed (before ++ joined (take n pieces)))) s middle None
+  pub after : Delivers takes leaves rules (before ++ joined (take (n + 1) pieces)) (length (closed (before ++ joined (take n pieces)))) lines_now middle t (Some e)

@@ -5,6 +5,7 @@ pub mod BoxRows
 pub mod BoxText
 pub mod Carrying
 pub mod CountRows
+pub mod CountReports
 pub mod CountSink
 pub mod Criteria
 pub mod Cut

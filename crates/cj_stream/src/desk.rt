@@ -50,9 +50,9 @@ impl<'q> Desk<'q> {
         ensures limits { result.limits ≡ limits }
         ensures query { result.query.now ≡ query.now }
         ensures options { result.options ≡ options }
-        ensures header { IsNew ((limits.line + limits.depth + 1) / 2) result.header_tokens }
-        ensures line { IsNew ((limits.line + limits.depth + 1) / 2) result.line_tokens }
-        ensures opened { IsNew limits.depth result.opened }
+        ensures header { IsNew 0 ((limits.line + limits.depth + 1) / 2) result.header_tokens }
+        ensures line { IsNew 0 ((limits.line + limits.depth + 1) / 2) result.line_tokens }
+        ensures opened { IsNew 64 limits.depth result.opened }
         ensures parts { result.parts ≡ None }
     {
         let depth = limits.depth() as usize;

@@ -5,7 +5,7 @@
 //! end is one record each (`Feeds`, `IsFinished`), and the engine promises the same. It keeps a count of its own of the
 //! bytes taken: a piece that ended the stream in its second part was not taken, though its first part was by the
 //! reader of the header.
-ghost use Rattle.std.specs.Prelude.{◌≡◌, ◌≢◌, ◌+◌, ◌++◌, ◌^◌, ◌≤◌, ℕ, List, [], length, OnOk, OnErr, IfOk, Some, None, Err};
+ghost use Rattle.std.specs.Prelude.{◌≡◌, ◌≢◌, ◌+◌, ◌++◌, ◌^◌, ◌≤◌, ◌<◌, ℕ, List, [], length, OnOk, OnErr, IfOk, Some, None, Err};
 ghost use Rattle.cj_stream.specs.Ending.{header_end, line_end, IsAccepted};
 ghost use Rattle.cj_stream.specs.Feeding.{Feeds, IsFinished};
 ghost use Rattle.cj_stream.specs.Phase.{state_of, IsUnderWay};
@@ -48,6 +48,8 @@ impl<'q> Phase<'q> {
             sink.old sink.new }
         ensures reports { (p : List ℕ) → StandsFor (state_of self.entry) p → Notes N.notes (rules_of (state_of self.entry))
             (p ++ piece.now) (lines_of (state_of self.entry)) (lines_of (state_of result.0)) reports.old reports.new }
+        ensures late { 0 < lines_of (state_of self.entry) → result.1 ≢ Err End.Memory }
+        ensures none { result.1 ≡ Err End.Memory → lines_of (state_of result.0) ≡ 0 }
     {
         match self {
             Phase::Header(header) => feed_header(header, piece, sink, reports),
@@ -82,15 +84,17 @@ pub struct Engine<'q> {
 }
 
 impl<'q> Model for Engine<'q> {
-    ghost use Rattle.std.specs.Prelude.{◌≡◌, ◌≤◌, ◌^◌, None};
-    ghost use Rattle.cj_stream.specs.Engine.{EngineState};
+    ghost use Rattle.std.specs.Prelude.{◌≡◌, ◌≤◌, ◌^◌, None, Some};
+    ghost use Rattle.cj_stream.specs.Engine.{EngineState, lines_of};
     ghost use Rattle.cj_stream.specs.Phase.{seen, IsHeld, GoesOn};
+    ghost use Rattle.cj_stream.specs.declared.ending.End.TheVariants.{Memory};
 
     ghost Value = { EngineState };
 
     ghost view = { λ e. seen e.phase e.taken e.ended };
 
-    ghost invariant = { λ e. IsHeld e.phase × (e.ended ≡ None → GoesOn e.phase e.taken) × (e.taken ≤ 2 ^ 60) };
+    ghost invariant = { λ e. IsHeld e.phase × (e.ended ≡ None → GoesOn e.phase e.taken) × (e.taken ≤ 2 ^ 60)
+        × (e.ended ≡ Some Memory → lines_of (seen e.phase e.taken e.ended) ≡ 0) };
 }
 
 impl<'q> Engine<'q> {
@@ -127,6 +131,9 @@ impl<'q> Engine<'q> {
             (result ≡ Err e) × (self.new ≡ self.old) × (sink.new ≡ sink.old) × (reports.new ≡ reports.old) }
         ensures taken { OnOk result (self.new.taken ≡ self.old.taken + length piece.now) }
         ensures untaken { OnErr result (self.new.taken ≡ self.old.taken) }
+
+        // Once a line was dealt with, memory is not refused any more.
+        ensures late { 0 < lines_of self.old → result ≢ Err End.Memory }
 
         // What the answer says of all bytes so far, and of the sinks.
         ensures reports { (p : List ℕ) → StandsFor self.old p → self.old.ended ≡ None → Notes N.notes (rules_of self.old)
@@ -254,6 +261,7 @@ fn feed_header<'q, S: LineSink, N: ReportSink>(
         sink.old sink.new }
     ensures reports { (p : List ℕ) → StandsFor header.entry p → Notes N.notes (rules_of header.entry) (p ++ piece.now)
         (lines_of header.entry) (lines_of (state_of result.0)) reports.old reports.new }
+    ensures none { result.1 ≡ Err End.Memory → lines_of (state_of result.0) ≡ 0 }
 {
     let used = match header.feed(piece, sink) {
         Err(end) => return (Phase::Header(header), Err(End::from(end))),

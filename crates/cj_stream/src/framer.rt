@@ -364,6 +364,7 @@ impl<'q> Framer<'q> {
         requires undropped { self.old.reading.dropped ≡ false }
         ensures carries { Carries S.failures self.old self.new result sink.old sink.new }
         ensures one { OnOk result (self.new.reading.lines ≡ 1) }
+        ensures none { OnErr result (self.new.reading.lines ≡ 0) }
         ensures lines { self.new.reading.lines ≤ 1 }
         ensures settles { Settles S.takes S.leaves false (told_verdict self.old.reading)
             (next_item self.old.reading (record { content = begun_of self.old.reading; lf = lf }))
@@ -468,6 +469,7 @@ impl<'q> Framer<'q> {
         ensures carries { Carries S.failures self.old self.new result sink.old sink.new }
         ensures few { self.new.reading.lines ≤ 1 }
         ensures one { OnOk result (self.new.reading.lines ≡ 1) }
+        ensures none { OnErr result (self.new.reading.lines ≡ 0) }
         ensures ok { OnOk result ((p : List ℕ) → Reads self.old.reading p →
             Advances S.takes self.old.reading sink.old p (part.now ++ newline ∷ []) self.new.reading sink.new) }
         ensures err { IfErr result (λ e. (p more : List ℕ) → Reads self.old.reading p →
@@ -530,6 +532,7 @@ impl<'q> Framer<'q> {
         requires undropped { self.old.reading.dropped ≡ false }
         ensures front { IfOk result (λ t. IsFront piece.now t) }
         ensures lines { IfOk result (λ t. self.new.reading.lines ≡ (if t.accepted then 1 else 0)) }
+        ensures none { OnErr result (self.new.reading.lines ≡ 0) }
         ensures few { self.new.reading.lines ≤ 1 }
         ensures undropped { IfOk result (λ t. t.accepted ≡ false → self.new.reading.dropped ≡ false) }
         ensures carries { Carries S.failures self.old self.new result sink.old sink.new }

@@ -4,11 +4,12 @@
 //! header is valid and its LF has come, before the sink gets it. Then it is accepted, and turns into a
 //! [`LineReader`], to which memory is never refused. What both stand for is told by one record (`EngineState`), and
 //! their ends are seen as ends of a stream, so all that an engine promises is said of them in the same words.
-ghost use Rattle.std.specs.Prelude.{◌≡◌, ◌+◌, ◌^◌, ◌≤◌, ◌↔◌, [], length, take, OnErr, IfOk, IsTrue, MatchResult, Some, None, Ok, Err};
+ghost use Rattle.std.specs.Prelude.{◌≡◌, ◌+◌, ◌^◌, ◌≤◌, ◌↔◌, [], length, take, OnOk, OnErr, IfOk, IsTrue, MatchResult, Some, None, Ok, Err};
 ghost use Rattle.cj_stream.specs.Ending.{header_end, IsAccepted};
 ghost use Rattle.cj_stream.specs.Feeding.{Feeds, IsFinished};
 ghost use Rattle.cj_stream.specs.Front.{IsFront};
 ghost use Rattle.cj_stream.specs.Query.{rules_for};
+ghost use Rattle.cj_stream.specs.Scanning.{IsReady};
 ghost use Rattle.cj_stream.specs.Engine.{StandsFor, rules_of, lines_of, refused_of, held_by, peaks_of};
 
 use crate::ending::HeaderEnd;
@@ -41,10 +42,11 @@ pub struct HeaderReader<'q> {
 }
 
 impl<'q> Model for HeaderReader<'q> {
-    ghost use Rattle.std.specs.Prelude.{◌≡◌, ◌≤◌, ◌^◌, None, false, option_map};
+    ghost use Rattle.std.specs.Prelude.{◌≡◌, ◌≤◌, ◌^◌, None, Some, false, option_map};
     ghost use Rattle.cj_stream.specs.Ending.{header_end};
     ghost use Rattle.cj_stream.specs.Scanning.{IsReady};
     ghost use Rattle.cj_stream.specs.Engine.{EngineState};
+    ghost use Rattle.cj_stream.specs.declared.ending.HeaderEnd.TheVariants.{Memory};
 
     ghost Value = { EngineState };
 
@@ -52,7 +54,8 @@ impl<'q> Model for HeaderReader<'q> {
 
     ghost invariant = { λ e. (e.framer.reading.lines ≤ 1) × (e.ended ≡ None → e.framer.reading.lines ≤ e.taken)
         × (e.taken ≤ 2 ^ 60) × (e.ended ≡ None → IsReady e.framer.reading e.framer.scanning)
-        × (e.ended ≡ None → e.framer.reading.lines ≡ 0 → e.framer.reading.dropped ≡ false) };
+        × (e.ended ≡ None → e.framer.reading.lines ≡ 0 → e.framer.reading.dropped ≡ false)
+        × (e.ended ≡ Some Memory → e.framer.reading.lines ≡ 0) };
 }
 
 impl<'q> HeaderReader<'q> {
@@ -66,6 +69,7 @@ impl<'q> HeaderReader<'q> {
     ) -> Result<HeaderReader<'q>, NoMemory>
         ensures empty { IfOk result
             (λ e. StandsFor e [] × (rules_of e ≡ rules_for limits query.now options) × (e.ended ≡ None) × (e.taken ≡ 0)) }
+        ensures reserved { IfOk result (λ e. IsReady e.reading e.scanning) }
     {
         Ok(HeaderReader {
             framer: Framer::open(alloc, limits, query, options)?,
@@ -89,6 +93,8 @@ impl<'q> HeaderReader<'q> {
         ensures taken { IfOk result (λ t. self.new.taken ≡ self.old.taken + t.used) }
         ensures untaken { OnErr result (self.new.taken ≡ self.old.taken) }
         ensures few { lines_of self.new ≤ 1 }
+        ensures reserved { OnOk result (IsReady self.new.reading self.new.scanning) }
+        ensures none { result ≡ Err HeaderEnd.Memory → lines_of self.new ≡ 0 }
 
         // What the answer says of all bytes so far, and of the sink: of those that were used, or of the whole piece
         // where it ended in them.
@@ -141,7 +147,8 @@ impl<'q> HeaderReader<'q> {
     /// The reader of the lines behind an accepted header. It takes no memory.
     pub fn into_lines(self) -> LineReader<'q>
         requires { IsAccepted self }
-        ensures { result ≡ self.entry }
+        ensures same { result ≡ self.entry }
+        ensures reserved { IsReady result.reading result.scanning }
     {
         let HeaderReader {
             framer,

@@ -14,6 +14,7 @@ ghost use Rattle.std.specs.Io.KnownBytes.{IsAtEnd};
 ghost use Rattle.cj_budget.specs.Limits.{LimitPair};
 ghost use Rattle.cj_budget.specs.declared.limits.Peaks.{Peaks};
 ghost use Rattle.cj_stream.specs.Bound.{IsExact, exact_peaks};
+ghost use Rattle.cj_stream.specs.CountReports.{count_of, no_reports, CountsReportsOfRun, CountsReportsOfPieces};
 ghost use Rattle.cj_stream.specs.CountSink.{no_counts, Counts, CountsRun, CountsPieces};
 ghost use Rattle.cj_stream.specs.Cut.{joined, Copies, PutsPieces};
 ghost use Rattle.cj_stream.specs.Ending.{line_end};
@@ -24,7 +25,7 @@ ghost use Rattle.cj_stream.specs.Item.{is_feature};
 ghost use Rattle.cj_stream.specs.Lines.{Line, later_of, lines, whole};
 ghost use Rattle.cj_stream.specs.Output.{output_writer, output_failures, channel, WritesItem, WritesPart};
 ghost use Rattle.cj_stream.specs.Parts.{headed, IsCut, AreComplete, moved_end, moved_report, greater_peaks, JoinsTallies};
-ghost use Rattle.cj_stream.specs.Reporting.{Collects};
+ghost use Rattle.cj_stream.specs.Reporting.{Collects, CountsReport, Notes, NotesRun, NotesPieces};
 ghost use Rattle.cj_stream.specs.Run.{Account, Puts, Run, Runs, RunsNoting, Writes};
 ghost use Rattle.cj_stream.specs.Sink.{HasRisen};
 ghost use Rattle.cj_stream.specs.TallySink.{Tally, no_tally, Tallies, IsTallyOf, TalliesRun, TalliesPieces};
@@ -32,6 +33,7 @@ ghost use Rattle.cj_stream.specs.Verdict.{Rules, refusal_in, good, kept, kept_fi
 ghost use Rattle.cj_stream.specs.declared.ending.End.{End};
 ghost use Rattle.cj_stream.specs.declared.ending.LineEnd.{LineEnd};
 ghost use Rattle.cj_stream.specs.declared.output.Output.{Output};
+ghost use Rattle.cj_stream.specs.declared.reporting.CountReports.{CountReports};
 ghost use Rattle.cj_stream.specs.declared.sink.CountSink.{CountSink};
 
 use crate::reporting::ReportSink;
@@ -158,6 +160,17 @@ pub fn puts_are_counted()
         → Puts Counts (λ a i b. ⊥) rules r e no_counts c → CountsRun rules r e c }
     ensures pieces { (rules : Rules) (pieces : List (List ℕ)) (n : ℕ) (e : End) (c : CountSink)
         → PutsPieces Counts (λ a i b. ⊥) rules pieces n e no_counts c → CountsPieces rules pieces n e c }
+{}
+
+/// What a `CountReports` that has counted nothing notes is counted: of the first lines of a stream, in a run, by its
+/// end, and of pieces.
+pub fn reports_are_counted()
+    ensures lines { (rules : Rules) (q : List ℕ) (n : ℕ) (c : CountReports)
+        → Notes CountsReport rules q 0 n no_reports c → c ≡ count_of (reported_first rules n q) }
+    ensures runs { (rules : Rules) (r : List ℕ) (e : End) (c : CountReports)
+        → NotesRun CountsReport rules r e no_reports c → CountsReportsOfRun rules r e c }
+    ensures pieces { (rules : Rules) (pieces : List (List ℕ)) (n : ℕ) (e : End) (c : CountReports)
+        → NotesPieces CountsReport rules pieces n e no_reports c → CountsReportsOfPieces rules pieces n e c }
 {}
 
 /// What a `TallySink` that has tallied nothing takes is tallied: in a run, by its end, and of pieces.

@@ -1,11 +1,14 @@
 //! Pieces for a reader of lines: the promise of the whole for a stream whose header was accepted.
 //!
 //! It says of what comes after the header what `pieces` says of a whole stream, and has no case for want of memory.
-ghost use Rattle.std.specs.Prelude.{◌≡◌, ◌+◌, ◌++◌, ◌≤◌, ◌^◌, ℕ, List, None, length, map, take};
-ghost use Rattle.cj_stream.specs.Cut.{joined};
-ghost use Rattle.cj_stream.specs.Engine.{StandsFor, rules_of, lines_of};
-ghost use Rattle.cj_stream.specs.LinePieces.{PutsLines, NotesLines, HeadlineOfLines};
-ghost use Rattle.cj_stream.specs.Output.{channel};
+ghost use Rattle.std.specs.Prelude.{◌≡◌, ◌+◌, ◌++◌, ◌≤◌, ◌^◌, ℕ, List, None, Some, length, map, take};
+ghost use Rattle.cj_stream.specs.Cut.{joined, TookWhole, Fed};
+ghost use Rattle.cj_stream.specs.Ending.{line_end};
+ghost use Rattle.cj_stream.specs.Engine.{Delivers, StandsFor, rules_of, lines_of};
+ghost use Rattle.cj_stream.specs.LinePieces.{pieces_outcome, PutsLines, NotesLines, CopiesLines, HeadlineOfLines};
+ghost use Rattle.cj_stream.specs.Output.{output_writer, channel, WritesItem, WritesPart};
+ghost use Rattle.cj_stream.specs.Reporting.{Notes};
+ghost use Rattle.cj_stream.specs.Run.{Ends};
 ghost use Rattle.cj_stream.specs.Sink.{HasRisen};
 
 use crate::ending::LineEnd;
@@ -28,11 +31,8 @@ pub struct LinesOutcome {
     pub ended: LineEnd,
 }
 
-/// Gives all pieces to a reader of lines that has not ended, and then the end, until it ends. However they are
-/// cut, the sink takes what is kept of the stream after the lines that were dealt with, one after another, and the
-/// end is the ending of the whole stream, unless a step of the sink fails: then it took a prefix of that. The sink of
-/// reports notes what is reported of these lines. It takes no memory.
-pub fn put_lines<S: LineSink, N: ReportSink>(
+/// Feeds all pieces, and finishes, until an end.
+fn feed_all<S: LineSink, N: ReportSink>(
     reader: &mut LineReader,
     pieces: &[&[u8]],
     sink: &mut S,
@@ -40,10 +40,18 @@ pub fn put_lines<S: LineSink, N: ReportSink>(
 ) -> LinesOutcome
     requires going { reader.old.ended ≡ None }
     requires short { reader.old.taken + length (joined (map (λ piece. piece.now) pieces.now)) ≤ 2 ^ 60 }
-    ensures puts { (p : List ℕ) → StandsFor reader.old p → PutsLines S.takes S.leaves (rules_of reader.old) p
-        (map (λ piece. piece.now) pieces.now) (lines_of reader.old) result sink.old sink.new }
-    ensures notes { (p : List ℕ) → StandsFor reader.old p → NotesLines N.notes (rules_of reader.old) p
-        (map (λ piece. piece.now) pieces.now) (lines_of reader.old) result reports.old reports.new }
+    ensures fed { (p : List ℕ) → StandsFor reader.old p → Fed (rules_of reader.old) p
+        (map (λ piece. piece.now) pieces.now) (pieces_outcome result) reader.new }
+    ensures ends { (p : List ℕ) → StandsFor reader.old p → Ends (rules_of reader.old)
+        (p ++ joined (take (result.taken + 1) (map (λ piece. piece.now) pieces.now))) (lines_of reader.new)
+        (joined (map (λ piece. piece.now) pieces.now)
+        ≡ joined (take (result.taken + 1) (map (λ piece. piece.now) pieces.now))) (line_end result.ended) }
+    ensures taken { (p : List ℕ) → StandsFor reader.old p → TookWhole S.takes S.leaves (rules_of reader.old) p
+        (lines_of reader.old) (map (λ piece. piece.now) pieces.now) result.taken (lines_of reader.new)
+        sink.old sink.new (line_end result.ended) }
+    ensures reports { (p : List ℕ) → StandsFor reader.old p → Notes N.notes (rules_of reader.old)
+        (p ++ joined (take (result.taken + 1) (map (λ piece. piece.now) pieces.now))) (lines_of reader.old)
+        (lines_of reader.new) reports.old reports.new }
     ensures cause { result.ended ≡ LineEnd.WriteFault → HasRisen (S.failures sink.old) (S.failures sink.new) }
 {
     for (taken, piece) in pieces.iter().enumerate() {
@@ -63,10 +71,41 @@ pub fn put_lines<S: LineSink, N: ReportSink>(
     }
 }
 
+/// Gives all pieces to a reader of lines that has not ended, and then the end, until it ends. However they are
+/// cut, the sink takes what is kept of the stream after the lines that were dealt with, one after another, and the
+/// end is the ending of the whole stream, unless a step of the sink fails: then it took a prefix of what is kept of the
+/// pieces that were given, with all that is kept of the whole lines of those that were wholly taken. The sink of
+/// reports notes what is reported of the lines that were dealt with. It takes no memory.
+pub fn put_lines<S: LineSink, N: ReportSink>(
+    reader: &mut LineReader,
+    pieces: &[&[u8]],
+    sink: &mut S,
+    reports: &mut N,
+) -> LinesOutcome
+    requires going { reader.old.ended ≡ None }
+    requires short { reader.old.taken + length (joined (map (λ piece. piece.now) pieces.now)) ≤ 2 ^ 60 }
+    ensures fed { (p : List ℕ) → StandsFor reader.old p → Fed (rules_of reader.old) p
+        (map (λ piece. piece.now) pieces.now) (pieces_outcome result) reader.new }
+    ensures puts { (p : List ℕ) → StandsFor reader.old p → PutsLines S.takes S.leaves (rules_of reader.old) p
+        (map (λ piece. piece.now) pieces.now) (lines_of reader.old) result sink.old sink.new }
+    ensures notes { (p : List ℕ) → StandsFor reader.old p → NotesLines N.notes (rules_of reader.old) p
+        (map (λ piece. piece.now) pieces.now) (lines_of reader.old) result reports.old reports.new }
+    ensures sink { (p : List ℕ) → StandsFor reader.old p → Delivers S.takes S.leaves (rules_of reader.old)
+        (p ++ joined (take (result.taken + 1) (map (λ piece. piece.now) pieces.now))) (lines_of reader.old)
+        (lines_of reader.new) sink.old sink.new (Some (line_end result.ended)) }
+    ensures reports { (p : List ℕ) → StandsFor reader.old p → Notes N.notes (rules_of reader.old)
+        (p ++ joined (take (result.taken + 1) (map (λ piece. piece.now) pieces.now))) (lines_of reader.old)
+        (lines_of reader.new) reports.old reports.new }
+    ensures cause { result.ended ≡ LineEnd.WriteFault → HasRisen (S.failures sink.old) (S.failures sink.new) }
+{
+    feed_all(reader, pieces, sink, reports)
+}
+
 /// Writes what comes after the lines that were dealt with: for every stream however it is cut, exactly the valid
 /// features that satisfy the query, byte for byte, in order, up to the first invalid line or, told to go on, all of
-/// them, and gives each invalid line with its number, place and reason, unless a write fails. No memory is taken, so no
-/// end tells that it lacks.
+/// them, and gives each invalid line with its number, place and reason, unless a write fails: then the writer has a
+/// prefix of the output of the pieces that were given, with all of the output of the whole lines of those that were wholly
+/// taken. No memory is taken, so no end tells that it lacks.
 ///
 /// The stream is one that the reader stands for, with these pieces after it: where the header came to it through
 /// [`crate::HeaderReader`], that begins with the first line.
@@ -82,6 +121,17 @@ pub fn headline_of_lines<W: Write + Drop, N: ReportSink>(
         (p : List ℕ) → StandsFor reader.old p → HeadlineOfLines N.notes (rules_of reader.old) (p ++ joined cut)
         (p ++ joined (take (result.taken + 1) cut)) (lines_of reader.old) result.ended result.peaks
         (channel W.contents sink.old) (channel W.contents sink.new) reports.old reports.new }
+    ensures fed { (p : List ℕ) → StandsFor reader.old p → Fed (rules_of reader.old) p
+        (map (λ piece. piece.now) pieces.now) (pieces_outcome result) reader.new }
+    ensures copies { (p : List ℕ) → StandsFor reader.old p → CopiesLines (rules_of reader.old) p
+        (map (λ piece. piece.now) pieces.now) (lines_of reader.old) result
+        (W.contents (output_writer sink.old)) (W.contents (output_writer sink.new)) }
+    ensures sink { (p : List ℕ) → StandsFor reader.old p → Delivers (WritesItem W.contents) (WritesPart W.contents)
+        (rules_of reader.old) (p ++ joined (take (result.taken + 1) (map (λ piece. piece.now) pieces.now)))
+        (lines_of reader.old) (lines_of reader.new) sink.old sink.new (Some (line_end result.ended)) }
+    ensures reports { (p : List ℕ) → StandsFor reader.old p → Notes N.notes (rules_of reader.old)
+        (p ++ joined (take (result.taken + 1) (map (λ piece. piece.now) pieces.now))) (lines_of reader.old)
+        (lines_of reader.new) reports.old reports.new }
 {
     put_lines(reader, pieces, sink, reports)
 }

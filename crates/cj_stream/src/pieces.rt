@@ -1,12 +1,12 @@
 //! Streams that come in pieces: the promise of the whole, for any cut.
 //!
 //! What is held does not depend on the cut, as each line is put together in the engine's own list.
-ghost use Rattle.std.specs.Prelude.{◌≡◌, ◌+◌, ◌≤◌, ◌^◌, length, map, take};
+ghost use Rattle.std.specs.Prelude.{◌≡◌, ◌+◌, ◌≤◌, ◌^◌, [], Some, length, map, take};
 ghost use Rattle.cj_stream.specs.Cut.{joined, Copies, PutsPieces, TookWhole, Fed};
-ghost use Rattle.cj_stream.specs.Engine.{IsFresh, rules_of, lines_of};
+ghost use Rattle.cj_stream.specs.Engine.{Delivers, IsFresh, rules_of, lines_of};
 ghost use Rattle.cj_stream.specs.Headline.{Headline, IsUnhindered};
-ghost use Rattle.cj_stream.specs.Output.{output_writer, channel};
-ghost use Rattle.cj_stream.specs.Reporting.{NotesPieces};
+ghost use Rattle.cj_stream.specs.Output.{output_writer, channel, WritesItem, WritesPart};
+ghost use Rattle.cj_stream.specs.Reporting.{Notes, NotesPieces};
 ghost use Rattle.cj_stream.specs.Run.{CountsAll, Runs, RunsNoting, outcome_of};
 ghost use Rattle.cj_stream.specs.Sink.{HasRisen};
 
@@ -39,7 +39,7 @@ fn feed_all<S: LineSink, N: ReportSink>(
 ) -> PiecesOutcome
     requires fresh { IsFresh engine.old }
     requires short { length (joined (map (λ piece. piece.now) pieces.now)) ≤ 2 ^ 60 }
-    ensures fed { Fed (rules_of engine.old) (map (λ piece. piece.now) pieces.now) result engine.new }
+    ensures fed { Fed (rules_of engine.old) [] (map (λ piece. piece.now) pieces.now) result engine.new }
     ensures runs { let given = joined (take (result.taken + 1) (map (λ piece. piece.now) pieces.now)) in
         Runs S.takes S.leaves
         (record { rules = rules_of engine.old; read = given; outcome = outcome_of engine.new result.ended })
@@ -48,8 +48,8 @@ fn feed_all<S: LineSink, N: ReportSink>(
         RunsNoting N.notes
         (record { rules = rules_of engine.old; read = given; outcome = outcome_of engine.new result.ended })
         reports.old reports.new }
-    ensures taken { TookWhole S.takes S.leaves (rules_of engine.old) (map (λ piece. piece.now) pieces.now) result.taken
-        (lines_of engine.new) sink.old sink.new result.ended }
+    ensures taken { TookWhole S.takes S.leaves (rules_of engine.old) [] 0 (map (λ piece. piece.now) pieces.now)
+        result.taken (lines_of engine.new) sink.old sink.new result.ended }
     ensures cause { result.ended ≡ End.WriteFault → HasRisen (S.failures sink.old) (S.failures sink.new) }
     ensures memory { result.ended ≡ End.Memory → (lines_of engine.new ≡ 0) × (sink.new ≡ sink.old)
         × (reports.new ≡ reports.old) }
@@ -85,11 +85,17 @@ pub fn put_pieces<S: LineSink, N: ReportSink>(
 ) -> PiecesOutcome
     requires fresh { IsFresh engine.old }
     requires short { length (joined (map (λ piece. piece.now) pieces.now)) ≤ 2 ^ 60 }
-    ensures fed { Fed (rules_of engine.old) (map (λ piece. piece.now) pieces.now) result engine.new }
+    ensures fed { Fed (rules_of engine.old) [] (map (λ piece. piece.now) pieces.now) result engine.new }
     ensures puts { PutsPieces S.takes S.leaves (rules_of engine.old) (map (λ piece. piece.now) pieces.now)
         result.taken result.ended sink.old sink.new }
     ensures notes { NotesPieces N.notes (rules_of engine.old) (map (λ piece. piece.now) pieces.now)
         result.taken result.ended reports.old reports.new }
+    ensures sink { Delivers S.takes S.leaves (rules_of engine.old)
+        (joined (take (result.taken + 1) (map (λ piece. piece.now) pieces.now))) 0 (lines_of engine.new)
+        sink.old sink.new (Some result.ended) }
+    ensures reports { Notes N.notes (rules_of engine.old)
+        (joined (take (result.taken + 1) (map (λ piece. piece.now) pieces.now))) 0 (lines_of engine.new)
+        reports.old reports.new }
     ensures counts { IsUnhindered result.ended → CountsAll (rules_of engine.old)
         (joined (map (λ piece. piece.now) pieces.now)) (outcome_of engine.new result.ended) }
     ensures cause { result.ended ≡ End.WriteFault → HasRisen (S.failures sink.old) (S.failures sink.new) }
@@ -121,9 +127,15 @@ pub fn headline<W: Write + Drop, N: ReportSink>(
     ensures headline { let cut = map (λ piece. piece.now) pieces.now in
         Headline N.notes (rules_of engine.old) (joined cut) (joined (take (result.taken + 1) cut)) result.ended
         result.peaks (channel W.contents sink.old) (channel W.contents sink.new) reports.old reports.new }
-    ensures fed { Fed (rules_of engine.old) (map (λ piece. piece.now) pieces.now) result engine.new }
+    ensures fed { Fed (rules_of engine.old) [] (map (λ piece. piece.now) pieces.now) result engine.new }
     ensures copies { Copies (rules_of engine.old) (map (λ piece. piece.now) pieces.now) result.taken result.ended
         (W.contents (output_writer sink.old)) (W.contents (output_writer sink.new)) }
+    ensures sink { Delivers (WritesItem W.contents) (WritesPart W.contents) (rules_of engine.old)
+        (joined (take (result.taken + 1) (map (λ piece. piece.now) pieces.now))) 0 (lines_of engine.new)
+        sink.old sink.new (Some result.ended) }
+    ensures reports { Notes N.notes (rules_of engine.old)
+        (joined (take (result.taken + 1) (map (λ piece. piece.now) pieces.now))) 0 (lines_of engine.new)
+        reports.old reports.new }
     ensures memory { result.ended ≡ End.Memory → (lines_of engine.new ≡ 0) × (sink.new ≡ sink.old)
         × (reports.new ≡ reports.old) }
 {

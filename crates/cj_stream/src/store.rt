@@ -30,8 +30,8 @@ pub struct Store {
 impl Store {
     /// A store that holds nothing, under this line limit. It takes no memory.
     pub fn new(alloc: Global, limit: usize) -> Store
-        ensures header { IsNew limit result.header }
-        ensures line { IsNew limit result.line }
+        ensures header { IsNew 0 limit result.header }
+        ensures line { IsNew 0 limit result.line }
         ensures lines { result.lines ≡ 0 }
         ensures held { result.dropped ≡ false }
     {

@@ -30,7 +30,10 @@ returns-in-Err-clause-fed g c =
       ended = c.in-Err.ensures.feeds.ended;
       few = omega (arith, length-map c.args.pieces.now (λ piece. piece.now));
       good = i.5;
-      at = EndsAt-told _ pieces k (lines_of c.feed.new.self) c.in-Err.ended (rw more (rw i.1 at told));
+      at = EndsAt-told _ [] pieces k (lines_of c.feed.new.self) c.in-Err.ended (rw more (rw i.1 at told));
+      used = c.in-Err.ensures.untaken ∙ (i.2.going i.0).2;
+      counts = rw more (let x = stands.counts in rw (i.0, c.feed.ensures.feeds.rules, i.1) at x);
+      memory = λ h. let x = (c.feed.ensures.feeds.memory r i.2 i.0 (c.in-Err.is ∙ ap Err h)).0 in rw more (rw i.1 at x);
       peaks = c.peaks.ensures;
       held = rw c.peaks.ensures stands.held;
       bounded = rw (more, c.peaks.ensures) (let x = stands.bounded in rw (i.0, c.feed.ensures.feeds.rules, i.1) at x);
@@ -65,7 +68,7 @@ returns-in-Err-clause-taken g c =
     let more = joined-more (λ piece. piece.now) c.args.pieces.now k (record { ref_ptr = (0, 0); now = [] }) (omega arith) in
     let x = c.feed.ensures.feeds.sink r i.2 i.0 in
     let y = rw (i.1, c.in-Err.ensures.feeds.ended) at x in
-    TookWhole-left g.S.LineSink.takes g.S.LineSink.leaves c.loop-taken.engine (rules_of c.args.engine.now) (map (λ piece. piece.now) c.args.pieces.now) k (lines_of c.feed.new.self) c.args.sink.now c.loop-taken.sink c.feed.new.sink c.in-Err.ended i.1 (i.2.going i.0).0 i.3 (rw more y)
+    TookWhole-left g.S.LineSink.takes g.S.LineSink.leaves c.loop-taken.engine (rules_of c.args.engine.now) [] 0 (map (λ piece. piece.now) c.args.pieces.now) k (lines_of c.feed.new.self) c.args.sink.now c.loop-taken.sink c.feed.new.sink c.in-Err.ended i.1 (i.2.going i.0).0 i.3 (rw more y)
 
 pub returns-in-Err-clause-cause : goal.returns-in-Err-clause-cause
 returns-in-Err-clause-cause g c = λ e. HasRisen-after _ _ _ c.loop-taken.invariant.4 (c.feed.ensures.feeds.cause c.loop-taken.invariant.0 (c.in-Err.is ∙ ap Err e))
@@ -107,7 +110,10 @@ returns-clause-fed g c =
       ended = c.finish-ended.ensures.finished.ended;
       few = omega (arith, length-map c.args.pieces.now (λ piece. piece.now));
       good = rw taken i.5;
-      at = EndsAt-concludes _ pieces (length c.args.pieces.now) r (lines_of c.finish-ended.new.self) c.finish-ended.result (omega (arith, length-map c.args.pieces.now (λ piece. piece.now))) (rw i.1 at answer);
+      at = EndsAt-concludes _ [] pieces (length c.args.pieces.now) r (lines_of c.finish-ended.new.self) c.finish-ended.result (omega (arith, length-map c.args.pieces.now (λ piece. piece.now))) (rw i.1 at answer);
+      used = rw taken (c.finish-ended.ensures.untaken ∙ (i.2.going i.0).2);
+      counts = rw same (let x = stands.counts in rw (c.finish-ended.ensures.finished.rules, i.1) at x);
+      memory = λ h. absurd (c.finish-ended.ensures.finished.memory i.0 h);
       peaks = c.peaks-2.ensures;
       held = rw c.peaks-2.ensures stands.held;
       bounded = rw (same, c.peaks-2.ensures) (let x = stands.bounded in rw (c.finish-ended.ensures.finished.rules, i.1) at x);
@@ -148,7 +154,7 @@ returns-clause-taken g c =
     let taken : joined (take (length c.args.pieces.now) (map (λ piece. piece.now) c.args.pieces.now)) ≡ joined (take k (map (λ piece. piece.now) c.args.pieces.now)) = whole ∙ sym all in
     let x = c.finish-ended.ensures.finished.sink r i.2 i.0 in
     let y = rw (i.1, c.finish-ended.ensures.finished.ended) at x in
-    TookWhole-left g.S.LineSink.takes g.S.LineSink.leaves c.loop-taken.engine (rules_of c.args.engine.now) (map (λ piece. piece.now) c.args.pieces.now) (length c.args.pieces.now) (lines_of c.finish-ended.new.self) c.args.sink.now c.loop-taken.sink c.finish-ended.new.sink c.finish-ended.result i.1 (rw taken (i.2.going i.0).0) (rw taken i.3) (rw same y)
+    TookWhole-left g.S.LineSink.takes g.S.LineSink.leaves c.loop-taken.engine (rules_of c.args.engine.now) [] 0 (map (λ piece. piece.now) c.args.pieces.now) (length c.args.pieces.now) (lines_of c.finish-ended.new.self) c.args.sink.now c.loop-taken.sink c.finish-ended.new.sink c.finish-ended.result i.1 (rw taken (i.2.going i.0).0) (rw taken i.3) (rw same y)
 
 pub returns-clause-cause : goal.returns-clause-cause
 returns-clause-cause g c = λ e. HasRisen-after _ _ _ c.loop-taken.invariant.4 (c.finish-ended.ensures.finished.cause c.loop-taken.invariant.0 e)

@@ -1,4 +1,4 @@
-use Rattle.std.proofs.Common.{map}
+use Rattle.std.proofs.Common.{[], map}
 use Rattle.cj_stream.specs.Engine.{rules_of}
 use Rattle.cj_stream.proofs.CutLemmas.{PutsPieces-runs, unread-at}
 use Rattle.cj_stream.proofs.NoteLemmas.{NotesPieces-told}
@@ -10,13 +10,13 @@ returns-clause-puts g c =
     let e = c.feed_all.ensures in
     let pieces = map (λ piece. piece.now) c.args.pieces.now in
     PutsPieces-runs g.S.LineSink.takes g.S.LineSink.leaves (rules_of c.args.engine.now) (map (λ piece. piece.now) c.args.pieces.now) c.feed_all.result.taken c.args.sink.now c.feed_all.new.sink _ _ _ _ c.feed_all.result.ended e.runs e.taken
-    (unread-at (rules_of c.args.engine.now) pieces c.feed_all.result.taken c.feed_all.result.ended e.fed.at)
+    (unread-at (rules_of c.args.engine.now) [] pieces c.feed_all.result.taken c.feed_all.result.ended e.fed.at)
 
 pub returns-clause-notes : goal.returns-clause-notes
 returns-clause-notes g c =
     let e = c.feed_all.ensures in
     let pieces = map (λ piece. piece.now) c.args.pieces.now in
-    let u = unread-at (rules_of c.args.engine.now) pieces c.feed_all.result.taken c.feed_all.result.ended e.fed.at in
+    let u = unread-at (rules_of c.args.engine.now) [] pieces c.feed_all.result.taken c.feed_all.result.ended e.fed.at in
     NotesPieces-told g.N.ReportSink.notes (rules_of c.args.engine.now) (map (λ piece. piece.now) c.args.pieces.now) c.feed_all.result.taken _ c.args.reports.now c.feed_all.new.reports c.feed_all.result.ended e.runs.account.ends
     (λ h. let k = rw h at u in k) (λ h. let k = rw h at u in k) e.noting.noted
 
@@ -25,4 +25,4 @@ returns-clause-counts g c free =
     let e = c.feed_all.ensures in
     let pieces = map (λ piece. piece.now) c.args.pieces.now in
     CountsAll-ends (rules_of c.args.engine.now) _ _ _ _ pieces c.feed_all.result.taken c.feed_all.result.ended e.runs.account.counts e.runs.account.ends
-    (unread-at (rules_of c.args.engine.now) pieces c.feed_all.result.taken c.feed_all.result.ended e.fed.at) free
+    (unread-at (rules_of c.args.engine.now) [] pieces c.feed_all.result.taken c.feed_all.result.ended e.fed.at) free

@@ -1,4 +1,6 @@
 use Rattle.std.proofs.Common.{◌≡◌, ◌+◌, ◌∙◌, length, sym, ap, arith, Some}
+use Rattle.cj_stream.specs.declared.ending.End.TheVariants.{Memory}
+use Rattle.cj_stream.proofs.FeedingLemmas.{not-going}
 use Rattle.cj_stream.proofs.PhaseLemmas.{self-is, has-taken, seen-taken, Feeds-goes_on, Feeds-ends}
 use Rattle.cj_stream.proofs.engine.Engine.feed.Goals as goal
 
@@ -8,7 +10,7 @@ invariant_of-self g c =
     let going = let k = c.self.invariant.1 c.in_default.is in rw held_is at k in
     let later = rw (c.in-Ok.is, has-taken c.in-Some-take.phase c.self.inside.taken going) at c.feed-phase.ensures.going in
     let taken : c.args.self.now.taken ≡ c.self.inside.taken = sym (ap (λ e. e.taken) c.self.view_is) ∙ seen-taken c.self.inside.phase c.self.inside.taken c.self.inside.ended in
-    (tt, λ _. later, omega (arith, c.requires, taken))
+    (tt, λ _. later, omega (arith, c.requires, taken), λ is. absurd (not-going c.self.inside.ended Memory is c.in_default.is))
 
 pub returns-in-Ok-clause-feeds : goal.returns-in-Ok-clause-feeds
 returns-in-Ok-clause-feeds g c =

@@ -2,7 +2,7 @@ use Rattle.std.proofs.Common.{◌≡◌, ◌+◌, ◌++◌, ◌≤◌, ℕ, List
 use Rattle.cj_stream.specs.Cut.{joined}
 use Rattle.cj_stream.specs.Engine.{StandsFor, rules_of, lines_of, Delivers}
 use Rattle.cj_stream.specs.Reporting.{Notes}
-use Rattle.cj_stream.proofs.line_pieces.put_lines.Given as goal
+use Rattle.cj_stream.proofs.line_pieces.feed_all.Given as goal
 
 abbrev pub invariant-loop-taken : goal.invariant-loop-taken
 invariant-loop-taken g l =

@@ -1,0 +1,54 @@
+-- Counts of what a sink of reports noted.
+use Rattle.std.proofs.Common.{◌≡◌, ℕ, ◌+◌, ◌-◌, ◌^◌, ◌≤◌, List, [], ◌∷◌, length, min, take, ap, arith}
+use Rattle.cj_stream.specs.declared.ending.End.{End}
+use Rattle.cj_stream.specs.declared.ending.End.TheVariants.{Complete, Refused, ReadFault, ReadLimit, WriteFault, Memory}
+use Rattle.cj_stream.specs.declared.reporting.CountReports.{CountReports}
+use Rattle.cj_stream.specs.declared.reporting.Report.{Report}
+use Rattle.cj_stream.specs.CountReports.{count_of, no_reports, CountsFirst, CountsReportsOfRun, CountsReportsOfPieces}
+use Rattle.cj_stream.specs.Cut.{joined}
+use Rattle.cj_stream.specs.Lines.{whole}
+use Rattle.cj_stream.specs.Reporting.{CountsReport, Notes, NotesRun, NotesPieces}
+use Rattle.cj_stream.specs.Sink.{Took, TookFront}
+use Rattle.cj_stream.specs.Verdict.{Rules, reported, reported_first}
+
+-- a sink that counted some reports goes up by them
+reports-more : (a b : CountReports) (rs : List Report) → a.reports ≤ 2 ^ 64 - 1 → Took CountsReport a rs b → b.reports ≡ min (a.reports + length rs) (2 ^ 64 - 1)
+reports-more a b [] h took = omega (arith, h, ap (λ c. c.reports) took)
+reports-more a b (r ∷ rs) h took =
+    let later = reports-more took.0 b rs (omega (arith, took.1)) took.2 in
+    omega (arith, later, took.1)
+
+-- a new sink that counted some reports has their count
+reports-all : (c : CountReports) (rs : List Report) → Took CountsReport (no_reports) rs c → c ≡ count_of rs
+reports-all c rs took =
+    let all = reports-more (no_reports) c rs (omega arith) took in
+    let same : c.reports ≡ min (length rs) (2 ^ 64 - 1) = omega (arith, all) in
+    let counts : ◌≡◌ {A = CountReports} (record { reports = c.reports }) (record { reports = min (length rs) (2 ^ 64 - 1) }) = ap (λ n. record { reports = n }) same in
+    counts
+
+-- of the first ones, where no more were noted
+reports-first : (rs : List Report) (c : CountReports) → TookFront CountsReport (λ others a b. b ≡ a) rs [] (no_reports) c → CountsFirst rs c
+reports-first rs c h = record { front = h.more; others = h.others; all = h.front; counts = reports-all c h.more (rw h.left h.took) }
+
+-- of lines, one after another
+pub counts-lines : (rules : Rules) (q : List ℕ) (n : ℕ) (c : CountReports) → Notes CountsReport rules q 0 n (no_reports) c → c ≡ count_of (reported_first rules n q)
+counts-lines rules q n c h = rw h.told (reports-all c h.added h.noted)
+
+-- what a run has counted, by its end
+pub counts-run : (rules : Rules) (r : List ℕ) (c : CountReports) (e : End) → NotesRun CountsReport rules r e (no_reports) c → CountsReportsOfRun rules r e c
+counts-run rules r c Complete h = reports-all c (reported rules r) h
+counts-run rules r c (Refused number place reason) h = reports-all c (reported rules r) h
+counts-run rules r c ReadFault h = reports-all c (reported rules (whole r)) h
+counts-run rules r c ReadLimit h = reports-all c (reported rules (whole r)) h
+counts-run rules r c WriteFault h = reports-first (reported rules r) c h
+counts-run rules r c Memory h = h
+
+-- what was counted of pieces
+pub counts-pieces : (rules : Rules) (pieces : List (List ℕ)) (n : ℕ) (c : CountReports) (e : End)
+    → NotesPieces CountsReport rules pieces n e (no_reports) c → CountsReportsOfPieces rules pieces n e c
+counts-pieces rules pieces n c Complete h = reports-all c (reported rules (joined pieces)) h
+counts-pieces rules pieces n c (Refused number place reason) h = reports-all c (reported rules (joined pieces)) h
+counts-pieces rules pieces n c ReadFault h = h
+counts-pieces rules pieces n c ReadLimit h = h
+counts-pieces rules pieces n c WriteFault h = reports-first (reported rules (joined (take (n + 1) pieces))) c h
+counts-pieces rules pieces n c Memory h = h
