@@ -17,7 +17,8 @@ use Rattle.cj_stream.specs.Scanning.{HasRoom, Rises, Scanned, HoldsFew}
 use Rattle.cj_stream.specs.Sink.{HasRisen}
 use Rattle.cj_stream.proofs.Apart.{some-none}
 use Rattle.cj_stream.proofs.EngineLemmas.{Tells-stops, Delivers-advances, Delivers-stops, LacksMemory-stops, StandsFor-reads, StandsFor-stops, Going-reads}
-use Rattle.cj_stream.proofs.FinishLemmas.{Finishes-concludes, Finishes-delivers, StandsFor-finished, finished-ok, peaks-finished}
+use Rattle.cj_stream.proofs.LineLemmas.{closed-grows}
+use Rattle.cj_stream.proofs.FinishLemmas.{Finishes-concludes, Finishes-delivers, StandsFor-finished, finished-ok, finishes-onward, peaks-finished}
 use Rattle.cj_stream.proofs.RunLemmas.{Delivers-join, HasRisen-after, kept_first-same}
 use Rattle.cj_stream.proofs.ScanningLemmas.{scanned-under}
 
@@ -55,6 +56,7 @@ module _ {S : Type 0} (takes leaves : S → Item → S → Type 0) (failures : S
     cause = λ going. absurd (not-going old.ended e is going);
     rules = refl;
     stands = λ p st. subst (λ z. StandsFor old z) (sym (after-end p bytes)) st;
+    onward = λ p st. omega arith;
     rises = below-same old;
     going = tt;
     told = λ p st going. absurd (not-going old.ended e is going);
@@ -73,6 +75,7 @@ module _ {S : Type 0} (takes leaves : S → Item → S → Type 0) (failures : S
     cause = λ going. absurd (not-going old.ended e is going);
     rules = refl;
     stands = λ p st. st;
+    onward = λ p st. omega arith;
     rises = below-same old;
     concludes = λ p st going. absurd (not-going old.ended e is going);
     exact = λ p st going. absurd (not-going old.ended e is going);
@@ -100,6 +103,9 @@ module _ {S : Type 0} (takes leaves : S → Item → S → Type 0) (failures : S
           let reads = (st.going going).0 in
           rw going (StandsFor-reads new (p ++ bytes) (omega (arith, (st.going going).2, taken, length-append p bytes)) sound room (advances p reads).reads
           (scanned-under (limits_of old) (limits_of new) (closed (p ++ bytes)) new.scanning limits (scanned p reads (st.going going).1)));
+      onward = λ p st.
+          let reads = (st.going going).0 in
+          omega (arith, reads.lines, (advances p reads).reads.lines, closed-grows p bytes);
       rises = below-rises old new stays rises;
       going = λ p st.
           let reads = (st.going going).0 in
@@ -127,6 +133,9 @@ module _ {S : Type 0} (takes leaves : S → Item → S → Type 0) (failures : S
       stands = λ p st.
           let reads = (st.going going).0 in
           rw going (StandsFor-stops takes leaves old new s t p bytes e ended sound room (rw limits (held p reads (st.going going).1)) (stops p reads));
+      onward = λ p st.
+          let reads = (st.going going).0 in
+          omega (arith, reads.lines, (stops p reads).reads.lines, closed-grows p (stops p reads).done);
       rises = below-rises old new stays rises;
       going = tt;
       told = λ p st _. Tells-stops takes leaves old.reading new.reading s t p bytes e (stops p (st.going going).0);
@@ -155,6 +164,9 @@ module _ {S : Type 0} (takes leaves : S → Item → S → Type 0) (failures : S
       stands = λ p st.
           let reads = (st.going going).0 in
           rw ended (StandsFor-finished takes leaves old.reading new.reading s t p reads r new.scanning new.taken e st.bounded.bytes (rw limits at room) (held p reads (st.going going).1) (finishes p reads));
+      onward = λ p st.
+          let reads = (st.going going).0 in
+          finishes-onward takes leaves old.reading new.reading s t p reads r (finishes p reads);
       rises = below-rises old new stays rises;
       concludes = λ p st _.
           let reads = (st.going going).0 in
@@ -188,6 +200,7 @@ module _ {S : Type 0} (takes leaves : S → Item → S → Type 0) (failures : S
         cause = λ _ fault. HasRisen-after _ _ _ first.counts (second.cause first.unended fault);
         rules = second.rules ∙ first.rules;
         stands = λ p st. let k = second.stands (p ++ take n bytes) (stands p st) in rw going (rw (first.unended, whole p) at k);
+        onward = λ p st. omega (arith, first.onward p st, second.onward (p ++ take n bytes) (stands p st));
         rises = record {
           bytes = omega (arith, first.rises.bytes, second.rises.bytes);
           tokens = omega (arith, first.rises.tokens, second.rises.tokens);
@@ -225,6 +238,7 @@ module _ {S : Type 0} (takes leaves : S → Item → S → Type 0) (failures : S
     stands = λ p st.
         let k = h.stands p st in
         record { held = k.held; bounded = k.bounded; counts = k.counts; going = λ going. absurd (not-going new.ended e h.ended going) };
+    onward = h.onward;
     rises = h.rises;
     going = tt;
     told = h.told;

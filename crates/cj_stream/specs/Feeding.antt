@@ -9,7 +9,7 @@ use Rattle.cj_stream.specs.Reading.{LacksMemory}
 use Rattle.cj_stream.specs.Sink.{HasRisen}
 
 -- these bytes were given, and this was answered. An error is the end of the stream, and a write fault has its cause in the
--- sink; what it stands for and may hold goes on; and the answer tells of all bytes so far: that nothing was refused that
+-- sink; what it stands for and may hold goes on, and no line is taken back; and the answer tells of all bytes so far: that nothing was refused that
 -- could be judged, or what was, or where memory lacks, because of a growth that was refused, and what the sink has
 -- taken by that.
 pub record Feeds {S : Type 0} (takes leaves : S → Item → S → Type 0) (failures : S → ℕ) (old : EngineState) (bytes : List ℕ) (answer : Result (Unit {0}) End) (new : EngineState) (s t : S) : Type 0 where
@@ -19,6 +19,7 @@ pub record Feeds {S : Type 0} (takes leaves : S → Item → S → Type 0) (fail
   pub cause : old.ended ≡ None → IsErrOf answer WriteFault → HasRisen (failures s) (failures t)
   pub rules : rules_of new ≡ rules_of old
   pub stands : (p : List ℕ) → StandsFor old p → StandsFor new (given old p bytes)
+  pub onward : (p : List ℕ) → StandsFor old p → lines_of old ≤ lines_of new
   pub rises : IsBelow (peaks_of old) (peaks_of new)
   pub going : OnOk answer ((p : List ℕ) → StandsFor old p → Going new (p ++ bytes))
   pub told : IfErr answer (λ e. (p : List ℕ) → StandsFor old p → old.ended ≡ None → Tells (rules_of old) (p ++ bytes) (lines_of new) e)
@@ -27,7 +28,7 @@ pub record Feeds {S : Type 0} (takes leaves : S → Item → S → Type 0) (fail
   pub sink : (p : List ℕ) → StandsFor old p → old.ended ≡ None → Delivers takes leaves (rules_of old) (p ++ bytes) (lines_of old) (lines_of new) s t new.ended
 
 -- the stream ended here, and this was answered, which is never want of memory. A write fault has its cause in the sink;
--- what it stands for and may hold goes on; and the answer is the ending of all bytes, after all good lines, with what was
+-- what it stands for and may hold goes on, and no line is taken back; and the answer is the ending of all bytes, after all good lines, with what was
 -- held at most where it is complete, and what the sink has taken by that.
 pub record IsFinished {S : Type 0} (takes leaves : S → Item → S → Type 0) (failures : S → ℕ) (old : EngineState) (answer : End) (new : EngineState) (s t : S) : Type 0 where
   pub ended : new.ended ≡ Some answer
@@ -35,6 +36,7 @@ pub record IsFinished {S : Type 0} (takes leaves : S → Item → S → Type 0) 
   pub cause : old.ended ≡ None → answer ≡ WriteFault → HasRisen (failures s) (failures t)
   pub rules : rules_of new ≡ rules_of old
   pub stands : (p : List ℕ) → StandsFor old p → StandsFor new p
+  pub onward : (p : List ℕ) → StandsFor old p → lines_of old ≤ lines_of new
   pub rises : IsBelow (peaks_of old) (peaks_of new)
   pub concludes : (p : List ℕ) → StandsFor old p → old.ended ≡ None → Concludes (rules_of old) p (lines_of new) answer
   pub exact : (p : List ℕ) → StandsFor old p → old.ended ≡ None → answer ≡ Complete → IsExact (limits_of old) p (peaks_of new)
