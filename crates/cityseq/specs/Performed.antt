@@ -99,9 +99,9 @@ Answers (Filter limits query options) r at_end outcome reports told old new =
     × WritesLines (rules_for limits query options) r outcome.lines outcome.ended old.bytes new.bytes
 Answers (Info limits options) r at_end outcome reports told old new = SaysReport (all_under limits options) r outcome.ended told old new
 
--- What is asked was done with bytes r that were read, but for what is said at its end: the account of the run over them, which
--- read no further than to its end; its reports, which a sink of reports has taken; what standard output has got, and that a write to it failed where that is
--- told; and how many lines were refused that reading went on after.
+-- What is asked was done with bytes r that were read, but for what is said at its end: the account of the run over
+-- them, which stopped in time; its reports, which a sink of reports has taken; what standard output has got, and that a
+-- write to it failed where that is told; and how many lines were refused that reading went on after.
 pub record Does {N : Type 0} (notes : N → Report → N → Type 0) (ask : Ask) (r : List ℕ) (at_end : Type 0) (told : Told) (old new : Channel) (n m : N) : Type 0 where
   pub outcome : Outcome
   pub refused : List Report
@@ -113,9 +113,10 @@ pub record Does {N : Type 0} (notes : N → Report → N → Type 0) (ask : Ask)
   pub cause : told.end ≡ WriteFault → HasRisen old.failures new.failures
   pub count : told.refused ≡ length refused
 
--- What is asked was done with bytes r that were read: the account of the run over them, which read no further than to its
--- end, and of fewer than 2^40 bytes never tells that its reads ran out; its reports, of which there are none unless it is told to go on; what standard output has got, and that a write to it failed where that is told; what the
--- flush answered, and standard error has got: the lines of the reports, and then that of the end; and the status.
+-- What is asked was done with bytes r that were read: the account of the run over them, which stopped in time; that its
+-- reads ran out is never told of fewer than 2^40 bytes; its reports, of which there are none unless it goes on;
+-- what standard output has got, and that a write to it failed where that is told; what the flush answered, and standard
+-- error has got: the lines of the reports, and then that of the end; and the status.
 pub record Performs (ask : Ask) (r : List ℕ) (at_end : Type 0) (answer : ℕ) (old new : Channels) : Type 0 where
   pub outcome : Outcome
   pub refused : List Report

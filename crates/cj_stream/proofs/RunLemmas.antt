@@ -8,9 +8,11 @@ use Rattle.cj_stream.specs.declared.ending.End.TheVariants.{Complete, Refused, R
 use Rattle.cj_stream.specs.Lines.{Line, closed, last_line, lines, whole}
 use Rattle.cj_stream.specs.Item.{Item}
 use Rattle.cj_stream.specs.Verdict.{Rules, verdict, refusal_of, refusal_in, refusal_from, judged, ending, ending_of, kept_first}
-use Rattle.cj_stream.specs.Engine.{EngineState, StandsFor, Counts, Delivers, Faults, Concludes, Tells, rules_of, lines_of}
+use Rattle.cj_stream.specs.Engine.{EngineState, StandsFor, Counts, Delivers, Faults, Concludes, Tells, rules_of, limits_of, lines_of, peaks_of}
 use Rattle.cj_stream.specs.Reading.{Reading, Reads}
-use Rattle.cj_stream.specs.Run.{Run, Ends, Gave, IsLastRead, IsReadWithin, LacksRoom, Runs, StopsInTime, outcome_of}
+use Rattle.cj_stream.specs.Run.{Run, Ends, Gave, HeldBegun, IsLastRead, IsReadWithin, LacksRoom, Runs, StopsInTime, outcome_of}
+use Rattle.cj_stream.specs.Bound.{IsBelow, exact_peaks, first_lines}
+use Rattle.cj_stream.specs.Scanning.{Scanned}
 use Rattle.cj_stream.specs.Sink.{HasRisen, Took}
 use Rattle.cj_stream.specs.Cut.{IsUnread}
 use Rattle.cj_stream.proofs.PieceLemmas.{Took-append}
@@ -18,6 +20,7 @@ use Rattle.cj_stream.proofs.EngineLemmas.{begun-good, judged-front, kept_first-f
 use Rattle.cj_stream.proofs.ReadingLemmas.{length-map_lines, zero_or}
 use Rattle.cj_stream.proofs.IsLinesLemmas.{lines-whole}
 use Rattle.cj_stream.proofs.GoodLemmas.{good-refused}
+use Rattle.cj_stream.proofs.LeastLemmas.{held-scanned, least-read}
 use Rattle.cj_stream.proofs.OutputLemmas.{Runs-told}
 pub use Rattle.cj_stream.proofs.OutputLemmas.{refused-sink}
 use Rattle.cj_stream.proofs.Apart.{none-some}
@@ -163,8 +166,9 @@ last-piece rules q n Memory piece told few = few
 
 -- before these last bytes no line was the end
 pub stops-after : (f : Reading) (run : Run) (front last : List ℕ) → Reads f front → f.rules ≡ run.rules → run.read ≡ front ++ last → IsLastRead run.outcome.ended last
-    → f.lines ≤ run.outcome.lines → (run.outcome.ended ≡ Memory → LacksRoom run) → StopsInTime run
-stops-after f run front last reads same cut short onward memory = record {
+    → f.lines ≤ run.outcome.lines → (run.outcome.ended ≡ Memory → LacksRoom run) → IsBelow (exact_peaks run.rules.limits (first_lines run.outcome.lines run.read)) run.outcome.peaks
+    → HeldBegun run run.outcome.ended → StopsInTime run
+stops-after f run front last reads same cut short onward memory least begun = record {
   front = front;
   last = last;
   cut = cut;
@@ -172,7 +176,24 @@ stops-after f run front last reads same cut short onward memory = record {
   good = rw (← same) (begun-good f front reads);
   done = rw (lines-whole front) (omega (arith, reads.lines, length-map_lines (closed front), onward));
   memory = memory;
+  least = least;
+  begun = begun;
 }
+
+-- where the engine ended, no more is told of the begun line
+pub begun-judged : (run : Run) (e : End) → IsUnread e → HeldBegun run e
+begun-judged run Complete u = tt
+begun-judged run (Refused number place reason) u = tt
+begun-judged run ReadFault u = absurd u
+begun-judged run ReadLimit u = absurd u
+begun-judged run WriteFault u = tt
+begun-judged run Memory u = tt
+
+-- an engine that has not ended has held what all that it has read needs
+pub least-going : (e : EngineState) (r : List ℕ) → Reads e.reading r → Scanned (limits_of e) (closed r) e.scanning → IsBelow (exact_peaks (limits_of e) (first_lines (lines_of e) r)) (peaks_of e)
+least-going e r reads scanned =
+    let k = least-read e r [] reads (held-scanned (limits_of e) (closed r) e.scanning scanned) in
+    rw (append-nil r) at k
 
 -- memory was refused before the first read
 pub Stops-refused : (rules : Rules) → StopsInTime (record { rules = rules; read = []; outcome = record { lines = 0; kept = 0; refused = 0; peaks = record { bytes = 0; tokens = 0; depth = 0 }; ended = Memory } })
@@ -184,6 +205,8 @@ Stops-refused rules = record {
   good = nothing (ltb rules.limits.line 0);
   done = omega arith;
   memory = λ h. inl (refl, refl);
+  least = record { bytes = omega arith; tokens = omega arith; depth = omega arith };
+  begun = tt;
 }
   where
     nothing : (long : Bool) → refusal_in rules (cond long (last_line []) []) ≡ None

@@ -9,7 +9,7 @@ use Rattle.cj_stream.specs.declared.running.Outcome.{Outcome}
 use Rattle.cj_stream.specs.Lines.{Line, lines, raw, whole}
 use Rattle.cj_stream.specs.Item.{Item, is_feature}
 use Rattle.cj_stream.specs.Verdict.{Rules, refusal_in, judged, good, is_kept, kept, ending, output, output_first, reported, verdict}
-use Rattle.cj_stream.specs.Bound.{IsBounded, IsExact}
+use Rattle.cj_stream.specs.Bound.{IsBelow, IsBounded, IsExact, exact_peaks, first_lines}
 use Rattle.cj_stream.specs.Engine.{EngineState, Counts, Delivers, lines_of, refused_of, peaks_of}
 use Rattle.cj_stream.specs.Reading.{LacksMemory}
 use Rattle.cj_stream.specs.Reporting.{Notes, NotesRun}
@@ -88,15 +88,26 @@ IsLastRead ReadLimit last = last ≡ []
 IsLastRead WriteFault last = length last ≤ 8192
 IsLastRead Memory last = length last ≤ 8192
 
--- why memory was refused to a run: nothing was read yet, nor held; or the first line is valid, LF ended it, and no line was
--- dealt with
+-- why memory was refused to a run: nothing was read yet, nor held; or the first line is valid, LF ended it, and no line
+-- was dealt with
 abbrev pub LacksRoom : Run → Type 0
 LacksRoom run =
-    ((run.read ≡ []) × (run.outcome.peaks ≡ record { bytes = 0; tokens = 0; depth = 0 })) ⊎ LacksMemory run.rules run.read run.outcome.lines
+    ((run.read ≡ []) × (run.outcome.peaks ≡ record { bytes = 0; tokens = 0; depth = 0 }))
+    ⊎ LacksMemory run.rules run.read run.outcome.lines
 
--- A run stops in time. Before its last read nothing of what it had read, and that can be judged, was refused; and all whole
+-- of the begun line, which was not judged, the bytes were held too, by the end: after a read fault, and where the reads
+-- ran out
+abbrev pub HeldBegun : Run → End → Type 0
+HeldBegun run Complete = Unit {0}
+HeldBegun run (Refused number place reason) = Unit {0}
+HeldBegun run ReadFault = (exact_peaks run.rules.limits run.read).bytes ≤ run.outcome.peaks.bytes
+HeldBegun run ReadLimit = (exact_peaks run.rules.limits run.read).bytes ≤ run.outcome.peaks.bytes
+HeldBegun run WriteFault = Unit {0}
+HeldBegun run Memory = Unit {0}
+
+-- A run stops in time. Before its last read nothing that can be judged of what it had read was refused; and all whole
 -- lines were dealt with, so no write had failed, and no memory was refused. After a read fault, and where the reads ran
--- out, this is so of all that it read.
+-- out, this is so of all that it read. No less was held at most than the lines that were dealt with need.
 pub record StopsInTime (run : Run) : Type 0 where
   pub front : List ℕ
   pub last : List ℕ
@@ -105,6 +116,8 @@ pub record StopsInTime (run : Run) : Type 0 where
   pub good : refusal_in run.rules (judged run.rules.limits front) ≡ None
   pub done : length (lines (whole front)) ≤ run.outcome.lines
   pub memory : run.outcome.ended ≡ Memory → LacksRoom run
+  pub least : IsBelow (exact_peaks run.rules.limits (first_lines run.outcome.lines run.read)) run.outcome.peaks
+  pub begun : HeldBegun run run.outcome.ended
 
 -- a run from one state of a sink to another: its account, and what the sink took, by the lines that were dealt with and
 -- by the end
@@ -128,8 +141,8 @@ Writes rules r ReadLimit old new = Appends old new (output rules (whole r))
 Writes rules r WriteFault old new = AppendsPart old new (output rules r)
 Writes rules r Memory old new = AppendsPart old new (output rules r)
 
--- the bytes that a writer got of r where the write of the line after n lines failed: the output of those, and a prefix of
--- that line, which is kept
+-- the bytes that a writer got of r where the write of the line after n lines failed: the output of those, and a prefix
+-- of that line, which is kept
 pub record WritesNext (rules : Rules) (r : List ℕ) (n : ℕ) (old new : Option (List ℕ)) : Type 0 where
   pub line : Line
   pub next : slice_get (lines r) n ≡ Some line

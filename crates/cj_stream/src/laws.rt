@@ -168,8 +168,8 @@ pub fn puts_are_tallied()
         → PutsPieces Tallies (λ a i b. ⊥) rules pieces n e start t → TalliesPieces rules pieces n e t }
 {}
 
-/// What an `Output` takes is written: in a run, by its end and by the lines that were dealt with, and of pieces; and of a run
-/// the headline holds, the cause of a write fault with it.
+/// What an `Output` takes is written: in a run, by its end and by the lines that were dealt with, and of pieces; and of
+/// a run the headline holds, the cause of a write fault with it.
 pub fn puts_are_written<W: Write + Drop, N: ReportSink>()
     ensures runs { (rules : Rules) (r : List ℕ) (e : End) (a b : Output W)
         → Puts (WritesItem W.contents) (WritesPart W.contents) rules r e a b

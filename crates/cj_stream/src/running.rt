@@ -115,8 +115,8 @@ fn drive<R: Read, S: LineSink, N: ReportSink>(
 /// Puts the kept lines of what the reader gives to the sink, until its end or a fault. Told to go on after an invalid line
 /// that is not the first, it reports that line, and reads the next one.
 ///
-/// It makes at most 2^40 reads, as [`run_within`] says. Memory is refused before the sink has taken anything, or not
-/// at all.
+/// It makes at most 2^40 reads, as [`run_within`] says, and none after the one that gives the end. Memory is refused
+/// before the sink has taken anything, or not at all.
 pub fn run<R: Read, S: LineSink, N: ReportSink>(
     alloc: Global,
     reader: &mut R,
