@@ -178,6 +178,17 @@ row_a_blank_first_line() {
   answered 1 'line 1, byte 0: 4 syntax' < /dev/null
 }
 
+# Standard input stays open behind the refused line: the program ends without waiting for more.
+row_a_refused_line_is_the_end_of_an_open_input() {
+  local begun=$SECONDS more
+  exec {more}< <(lines "$header" '{x'; exec sleep 50)
+  run check <&"$more"
+  kill "$!" 2> /dev/null
+  exec {more}<&-
+  [ $((SECONDS - begun)) -lt 40 ] || { differs 'an end before the input has one' "$((SECONDS - begun)) seconds"; return 1; }
+  answered 1 'line 2, byte 1: 4 syntax' < /dev/null
+}
+
 row_65_open_arrays() {
   lines "$header" "$feature" "$(printf '[%.0s' {1..65})" | run filter
   lines "$header" "$feature" | answered 1 'line 3, byte 64: 5 nested too deep'

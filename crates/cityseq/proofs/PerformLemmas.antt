@@ -1,5 +1,5 @@
 -- What is told of texts that the program writes.
-use Rattle.std.proofs.Common.{◌≡◌, inl, inr, arith, ℕ, List, [], Option, Some, None, Result, Ok, Err, length, refl, ap, sym, subst, ◌∙◌}
+use Rattle.std.proofs.Common.{◌≡◌, inl, inr, arith, ℕ, ◌<◌, ◌≤◌, List, [], Option, Some, None, Result, Ok, Err, length, refl, ap, sym, subst, ◌∙◌}
 use Rattle.std.specs.List.{filter}
 use Rattle.std.specs.Io.KnownBytes.{Appends, Keeps}
 use Rattle.cj_budget.specs.declared.limits.Peaks.{Peaks}
@@ -13,7 +13,7 @@ use Rattle.cj_stream.specs.Headline.{Headline}
 use Rattle.cj_stream.specs.Item.{is_feature}
 use Rattle.cj_stream.specs.Output.{Channel}
 use Rattle.cj_stream.specs.Reporting.{Collects}
-use Rattle.cj_stream.specs.Run.{Run, RunsNoting, Writes}
+use Rattle.cj_stream.specs.Run.{Run, Gave, IsReadWithin, RunsNoting, Writes, WritesLines}
 use Rattle.cj_stream.specs.Sink.{HasRisen, RisesOnErr, AppendsPart, Took}
 use Rattle.cj_stream.specs.Verdict.{Rules, good, kept, kept_first, reported, reported_first}
 use Rattle.cj_stream.specs.Bound.{exact_peaks}
@@ -53,6 +53,22 @@ Writes-kept rules r ReadFault a b c h k = Appends-kept a b c _ h k
 Writes-kept rules r ReadLimit a b c h k = Appends-kept a b c _ h k
 Writes-kept rules r WriteFault a b c h k = AppendsPart-kept a b c _ h k
 Writes-kept rules r Memory a b c h k = AppendsPart-kept a b c _ h k
+
+WritesLines-kept : (rules : Rules) (r : List ℕ) (n : ℕ) (e : End) (a b c : Option (List ℕ)) → WritesLines rules r n e a b → Keeps b c → WritesLines rules r n e a c
+WritesLines-kept rules r n Complete a b c h k = Appends-kept a b c _ h k
+WritesLines-kept rules r n (Refused line place reason) a b c h k = Appends-kept a b c _ h k
+WritesLines-kept rules r n ReadFault a b c h k = Appends-kept a b c _ h k
+WritesLines-kept rules r n ReadLimit a b c h k = Appends-kept a b c _ h k
+WritesLines-kept rules r n WriteFault a b c h k = record {
+  line = h.line;
+  next = h.next;
+  kept = h.kept;
+  front = h.front;
+  rest = h.rest;
+  cut = h.cut;
+  grows = Appends-kept a b c _ h.grows k;
+}
+WritesLines-kept rules r n Memory a b c h k = (h.0, Keeps-then a b c h.1 k)
 
 Wrote-kept : (text : List ℕ) (answer : Result (Unit {0}) Unwritten) (a b c : Channel) → Wrote text answer a b → Keeps b.bytes c.bytes → c.failures ≡ b.failures → Wrote text answer a c
 Wrote-kept text (Ok x) a b c w k f = record { whole = Appends-kept a.bytes b.bytes c.bytes text w.whole k; front = tt; failures = f ∙ w.failures }
@@ -159,5 +175,39 @@ Answers-kept (Filter limits query options) r at_end outcome reports told a b c s
   says.0,
   Writes-kept (rules_for limits query options) r outcome.ended a.bytes b.bytes c.bytes says.1 k,
   λ rest all u. Headline-kept Collects (rules_for limits query options) _ r outcome.ended outcome.peaks a b c [] reports (says.2 rest all u) k f,
+  WritesLines-kept (rules_for limits query options) r outcome.lines outcome.ended a.bytes b.bytes c.bytes says.3 k,
 )
 Answers-kept (Info limits options) r at_end outcome reports told a b c says k f = SaysReport-kept _ r outcome.ended told a b c says k f
+
+-- ---- the reads of a run
+
+-- a text of our own is never told as reads that ran out
+text-limit : (written : Result (Unit {0}) Unwritten) → end_of_writing written ≡ ReadLimit → ⊥
+text-limit (Ok x) h = cc
+text-limit (Err e) h = cc
+
+Says-limit : (text : List ℕ) (e told : End) (old new : Channel) → Says text e told old new → told ≡ ReadLimit → e ≡ ReadLimit
+Says-limit text Complete told old new says is = absurd (text-limit says.0 (sym says.1 ∙ is))
+Says-limit text (Refused line place reason) told old new says is = sym says.0 ∙ is
+Says-limit text ReadFault told old new says is = sym says.0 ∙ is
+Says-limit text ReadLimit told old new says is = refl
+Says-limit text WriteFault told old new says is = absurd says
+Says-limit text Memory told old new says is = sym says.0 ∙ is
+
+Answers-limit : (ask : Ask) (r : List ℕ) (at_end : Type 0) (outcome : Outcome) (reports : List Report) (told : End) (old new : Channel) → Answers ask r at_end outcome reports told old new
+    → told ≡ ReadLimit → outcome.ended ≡ ReadLimit
+Answers-limit (Check limits options) r at_end outcome reports told old new says is = Says-limit _ outcome.ended told old new says is
+Answers-limit (Filter limits query options) r at_end outcome reports told old new says is = sym says.0 ∙ is
+Answers-limit (Info limits options) r at_end outcome reports told old new says is = Says-limit _ outcome.ended told old new says.says is
+
+-- where the reads ran out, each of them gave a byte
+limit-reads : (reads : ℕ) (r : List ℕ) (e : End) → e ≡ ReadLimit → IsReadWithin reads r e → reads ≤ length r
+limit-reads reads r e is w =
+    let all : w.giving ≡ reads = subst (λ z. Gave reads w.giving z) is w.gave in
+    omega (arith, all, w.least)
+
+-- of too few bytes it is never told that the reads ran out
+pub enough-told : (ask : Ask) (r : List ℕ) (at_end : Type 0) (outcome : Outcome) (reports : List Report) (told : End) (old new : Channel) (reads : ℕ)
+    → Answers ask r at_end outcome reports told old new → IsReadWithin reads r outcome.ended → length r < reads → told ≡ ReadLimit → ⊥
+enough-told ask r at_end outcome reports told old new reads says within few is =
+    omega (arith, few, limit-reads reads r outcome.ended (Answers-limit ask r at_end outcome reports told old new says is) within)

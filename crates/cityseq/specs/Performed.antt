@@ -1,5 +1,5 @@
 -- What the program does of what it is asked.
-use Rattle.std.specs.Prelude.{◌≡◌, ◌≢◌, ◌⊎◌, ℕ, List, [], false, Result, Ok, Err, length}
+use Rattle.std.specs.Prelude.{◌≡◌, ◌≢◌, ◌⊎◌, ℕ, ◌<◌, ◌^◌, List, [], false, Result, Ok, Err, length}
 use Rattle.std.specs.List.{filter}
 use Rattle.std.specs.Io.KnownBytes.{Keeps}
 use Rattle.clap.specs.Words.{kind_of}
@@ -14,7 +14,7 @@ use Rattle.cj_stream.specs.Item.{is_feature}
 use Rattle.cj_stream.specs.Options.{OptionSet}
 use Rattle.cj_stream.specs.Query.{rules_for}
 use Rattle.cj_stream.specs.Reporting.{Collects}
-use Rattle.cj_stream.specs.Run.{Run, Account, RunsNoting, Writes}
+use Rattle.cj_stream.specs.Run.{Run, Account, IsReadWithin, RunsNoting, StopsInTime, Writes, WritesLines}
 use Rattle.cj_stream.specs.Output.{Channel}
 use Rattle.cj_stream.specs.Sink.{HasRisen}
 use Rattle.cj_stream.specs.TallySink.{Tally, IsTallyOf}
@@ -96,29 +96,36 @@ Answers (Check limits options) r at_end outcome reports told old new = SaysCheck
 Answers (Filter limits query options) r at_end outcome reports told old new =
     (told ≡ outcome.ended) × Writes (rules_for limits query options) r outcome.ended old.bytes new.bytes
     × HeadlineOfRun Collects (run_of (Filter limits query options) r outcome) at_end old new [] reports
+    × WritesLines (rules_for limits query options) r outcome.lines outcome.ended old.bytes new.bytes
 Answers (Info limits options) r at_end outcome reports told old new = SaysReport (all_under limits options) r outcome.ended told old new
 
--- What is asked was done with bytes r that were read, but for what is said at its end: the account of the run over them, and
--- its reports, which a sink of reports has taken; what standard output has got, and that a write to it failed where that is
--- told; and how many lines were refused that reading went on after.
+-- What is asked was done with bytes r that were read, but for what is said at its end: the account of the run over
+-- them, which stopped in time; its reports, which a sink of reports has taken; what standard output has got, and that a
+-- write to it failed where that is told; and how many lines were refused that reading went on after.
 pub record Does {N : Type 0} (notes : N → Report → N → Type 0) (ask : Ask) (r : List ℕ) (at_end : Type 0) (told : Told) (old new : Channel) (n m : N) : Type 0 where
   pub outcome : Outcome
   pub refused : List Report
   pub account : Account (run_of ask r outcome) at_end
+  pub stops : StopsInTime (run_of ask r outcome)
+  pub within : IsReadWithin (2 ^ 40) r outcome.ended
   pub reported : AreReported notes (run_of ask r outcome) refused n m
   pub answers : Answers ask r at_end outcome refused told.end old new
   pub cause : told.end ≡ WriteFault → HasRisen old.failures new.failures
   pub count : told.refused ≡ length refused
 
--- What is asked was done with bytes r that were read: the account of the run over them, and its reports, of which there are
--- none unless it is told to go on; what standard output has got, and that a write to it failed where that is told; what the
--- flush answered, and standard error has got: the lines of the reports, and then that of the end; and the status.
+-- What is asked was done with bytes r that were read: the account of the run over them, which stopped in time; that its
+-- reads ran out is never told of fewer than 2^40 bytes; its reports, of which there are none unless it goes on;
+-- what standard output has got, and that a write to it failed where that is told; what the flush answered, and standard
+-- error has got: the lines of the reports, and then that of the end; and the status.
 pub record Performs (ask : Ask) (r : List ℕ) (at_end : Type 0) (answer : ℕ) (old new : Channels) : Type 0 where
   pub outcome : Outcome
   pub refused : List Report
   pub told : End
   pub shown : Shown
   pub account : Account (run_of ask r outcome) at_end
+  pub stops : StopsInTime (run_of ask r outcome)
+  pub within : IsReadWithin (2 ^ 40) r outcome.ended
+  pub enough : length r < 2 ^ 40 → told ≢ ReadLimit
   pub reported : RunsNoting Collects (run_of ask r outcome) [] refused
   pub usual : (rules_of_ask ask).options.keep_going ≡ false → refused ≡ []
   pub answers : Answers ask r at_end outcome refused told old.out new.out

@@ -136,7 +136,7 @@ Faults-cause leaves rules p q n s t WriteFault len c =
 Faults-cause leaves rules p q n s t Memory len c = c.0
 
 -- what has begun, and is no end: it is within the limit, or reading goes on after it
-begun-good : (f : Reading) (q : List ℕ) → Reads f q → refusal_in f.rules (judged f.rules.limits q) ≡ None
+pub begun-good : (f : Reading) (q : List ℕ) → Reads f q → refusal_in f.rules (judged f.rules.limits q) ≡ None
 begun-good f q h = go f.dropped refl
   where
     after : (c : List ℕ) → f.rules.limits.line < length c → is_lenient f ≡ true → refusal_from f.rules (map ended_line (closed q)) (last_line c) ≡ None

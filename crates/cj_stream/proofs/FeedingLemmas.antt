@@ -1,7 +1,7 @@
 -- What the states of a stream promise of a piece and of the end, from what their framer did.
-use Rattle.std.proofs.Common.{◌≡◌, ◌≢◌, ℕ, ◌+◌, ◌≤◌, List, ◌++◌, length, take, drop, Option, Some, None, Result, Ok, Err, arith, refl, sym, ap, ◌∙◌, append_assoc, length-append, OnOk, IfErr, subst, cond}
+use Rattle.std.proofs.Common.{◌≡◌, ◌≢◌, ℕ, ◌+◌, ◌≤◌, List, [], ◌++◌, length, take, drop, Option, Some, None, Result, Ok, Err, arith, refl, sym, ap, ◌∙◌, append_assoc, length-append, OnOk, IfErr, subst, cond}
 use Rattle.std.specs.Prelude.{is_none}
-use Rattle.std.proofs.lemmas.List.{take-append-drop}
+use Rattle.std.proofs.lemmas.List.{append-nil, take-append-drop}
 use Rattle.cj_stream.specs.declared.ending.End.{End}
 use Rattle.cj_stream.specs.declared.ending.End.TheVariants.{Complete, WriteFault, Memory}
 use Rattle.cj_stream.specs.declared.ending.LineEnd.{LineEnd}
@@ -13,11 +13,13 @@ use Rattle.cj_stream.specs.Feeding.{Feeds, IsFinished}
 use Rattle.cj_stream.specs.Item.{Item}
 use Rattle.cj_stream.specs.Lines.{closed, first_content}
 use Rattle.cj_stream.specs.Reading.{IsSound, Stays, Reads, Advances, Stops, Finishes}
-use Rattle.cj_stream.specs.Scanning.{HasRoom, Rises, Scanned, HoldsFew}
+use Rattle.cj_stream.specs.Scanning.{HasRoom, Rises, Scanned, HoldsFew, HeldUntil}
 use Rattle.cj_stream.specs.Sink.{HasRisen}
 use Rattle.cj_stream.proofs.Apart.{some-none}
 use Rattle.cj_stream.proofs.EngineLemmas.{Tells-stops, Delivers-advances, Delivers-stops, LacksMemory-stops, StandsFor-reads, StandsFor-stops, Going-reads}
-use Rattle.cj_stream.proofs.FinishLemmas.{Finishes-concludes, Finishes-delivers, StandsFor-finished, finished-ok, peaks-finished}
+use Rattle.cj_stream.proofs.LeastLemmas.{held-scanned, least-finished, least-read, least-until}
+use Rattle.cj_stream.proofs.LineLemmas.{closed-grows}
+use Rattle.cj_stream.proofs.FinishLemmas.{Finishes-concludes, Finishes-delivers, StandsFor-finished, finished-ok, finishes-onward, peaks-finished}
 use Rattle.cj_stream.proofs.RunLemmas.{Delivers-join, HasRisen-after, kept_first-same}
 use Rattle.cj_stream.proofs.ScanningLemmas.{scanned-under}
 
@@ -55,7 +57,9 @@ module _ {S : Type 0} (takes leaves : S → Item → S → Type 0) (failures : S
     cause = λ going. absurd (not-going old.ended e is going);
     rules = refl;
     stands = λ p st. subst (λ z. StandsFor old z) (sym (after-end p bytes)) st;
+    onward = λ p st. omega arith;
     rises = below-same old;
+    least = λ p st going. absurd (not-going old.ended e is going);
     going = tt;
     told = λ p st going. absurd (not-going old.ended e is going);
     memory = λ p st going. absurd (not-going old.ended e is going);
@@ -73,7 +77,9 @@ module _ {S : Type 0} (takes leaves : S → Item → S → Type 0) (failures : S
     cause = λ going. absurd (not-going old.ended e is going);
     rules = refl;
     stands = λ p st. st;
+    onward = λ p st. omega arith;
     rises = below-same old;
+    least = λ p st going. absurd (not-going old.ended e is going);
     concludes = λ p st going. absurd (not-going old.ended e is going);
     exact = λ p st going. absurd (not-going old.ended e is going);
     memory = λ going. absurd (not-going old.ended e is going);
@@ -100,7 +106,15 @@ module _ {S : Type 0} (takes leaves : S → Item → S → Type 0) (failures : S
           let reads = (st.going going).0 in
           rw going (StandsFor-reads new (p ++ bytes) (omega (arith, (st.going going).2, taken, length-append p bytes)) sound room (advances p reads).reads
           (scanned-under (limits_of old) (limits_of new) (closed (p ++ bytes)) new.scanning limits (scanned p reads (st.going going).1)));
+      onward = λ p st.
+          let reads = (st.going going).0 in
+          omega (arith, reads.lines, (advances p reads).reads.lines, closed-grows p bytes);
       rises = below-rises old new stays rises;
+      least = λ p st _.
+          let reads = (st.going going).0 in
+          let now = scanned p reads (st.going going).1 in
+          let k = least-read new (p ++ bytes) [] (advances p reads).reads (rw limits (held-scanned (limits_of old) (closed (p ++ bytes)) new.scanning now)) in
+          rw (append-nil (p ++ bytes), limits) at k;
       going = λ p st.
           let reads = (st.going going).0 in
           Going-reads new (p ++ bytes) (advances p reads).reads
@@ -117,8 +131,9 @@ module _ {S : Type 0} (takes leaves : S → Item → S → Type 0) (failures : S
     pub Feeds-stops : (bytes : List ℕ) (e : End) → new.ended ≡ Some e → (e ≡ WriteFault → HasRisen (failures s) (failures t)) → (e ≡ Memory → IsRefusedRoom old new)
         → ((p : List ℕ) → Reads old.reading p → Stops takes leaves old.reading s p bytes e new.reading t)
         → ((p : List ℕ) → Reads old.reading p → Scanned (limits_of old) (closed p) old.scanning → HoldsFew (limits_of old) (length (first_content (p ++ bytes))) new.scanning)
+        → ((p : List ℕ) → Reads old.reading p → Scanned (limits_of old) (closed p) old.scanning → HeldUntil (limits_of old) p bytes (lines_of new) new.scanning)
         → Feeds takes leaves failures old bytes (Err e) new s t
-    Feeds-stops bytes e ended cause room_refused stops held = record {
+    Feeds-stops bytes e ended cause room_refused stops held least = record {
       unended = tt;
       ended = ended;
       counts = counts;
@@ -127,7 +142,14 @@ module _ {S : Type 0} (takes leaves : S → Item → S → Type 0) (failures : S
       stands = λ p st.
           let reads = (st.going going).0 in
           rw going (StandsFor-stops takes leaves old new s t p bytes e ended sound room (rw limits (held p reads (st.going going).1)) (stops p reads));
+      onward = λ p st.
+          let reads = (st.going going).0 in
+          omega (arith, reads.lines, (stops p reads).reads.lines, closed-grows p (stops p reads).done);
       rises = below-rises old new stays rises;
+      least = λ p st _.
+          let reads = (st.going going).0 in
+          let stop = stops p reads in
+          least-until new (limits_of old) p bytes stop.done stop.left limits stop.cut stop.reads (least p reads (st.going going).1);
       going = tt;
       told = λ p st _. Tells-stops takes leaves old.reading new.reading s t p bytes e (stops p (st.going going).0);
       memory = λ p st _ none. LacksMemory-stops takes leaves old.reading new.reading s t p bytes e (stops p (st.going going).0) (err-is none);
@@ -155,7 +177,13 @@ module _ {S : Type 0} (takes leaves : S → Item → S → Type 0) (failures : S
       stands = λ p st.
           let reads = (st.going going).0 in
           rw ended (StandsFor-finished takes leaves old.reading new.reading s t p reads r new.scanning new.taken e st.bounded.bytes (rw limits at room) (held p reads (st.going going).1) (finishes p reads));
+      onward = λ p st.
+          let reads = (st.going going).0 in
+          finishes-onward takes leaves old.reading new.reading s t p reads r (finishes p reads);
       rises = below-rises old new stays rises;
+      least = λ p st _.
+          let reads = (st.going going).0 in
+          least-finished takes leaves old new s t p r reads (finishes p reads) stays rises (st.going going).1 (scanned-ok r p reads (st.going going).1 scanned);
       concludes = λ p st _.
           let reads = (st.going going).0 in
           rw is (Finishes-concludes takes leaves old.reading new.reading s t p reads r (finishes p reads));
@@ -170,6 +198,12 @@ module _ {S : Type 0} (takes leaves : S → Item → S → Type 0) (failures : S
           rw (ended, is) (Finishes-delivers takes leaves old.reading new.reading s t p reads r (finishes p reads));
     }
       where
+        scanned-ok : (r : Result (Unit {0}) End) (p : List ℕ) → Reads old.reading p → Scanned (limits_of old) (closed p) old.scanning
+            → OnOk r ((p : List ℕ) → Reads old.reading p → Scanned (limits_of old) (closed p) old.scanning → Scanned (limits_of old) (contents p) new.scanning)
+            → OnOk r (Scanned (limits_of old) (contents p) new.scanning)
+        scanned-ok (Ok x) p reads k h = h p reads k
+        scanned-ok (Err x) p reads k h = tt
+
         faulty : (r : Result (Unit {0}) End) (x : End) → (Complete ≡ x → ⊥) → end_of r ≡ x → r ≡ Err x
         faulty (Ok y) x apart h = absurd (apart h)
         faulty (Err y) x apart h = ap Err h
@@ -188,11 +222,15 @@ module _ {S : Type 0} (takes leaves : S → Item → S → Type 0) (failures : S
         cause = λ _ fault. HasRisen-after _ _ _ first.counts (second.cause first.unended fault);
         rules = second.rules ∙ first.rules;
         stands = λ p st. let k = second.stands (p ++ take n bytes) (stands p st) in rw going (rw (first.unended, whole p) at k);
+        onward = λ p st. omega (arith, first.onward p st, second.onward (p ++ take n bytes) (stands p st));
         rises = record {
           bytes = omega (arith, first.rises.bytes, second.rises.bytes);
           tokens = omega (arith, first.rises.tokens, second.rises.tokens);
           depth = omega (arith, first.rises.depth, second.rises.depth);
         };
+        least = λ p st _.
+            let k = second.least (p ++ take n bytes) (stands p st) first.unended in
+            rw (whole p, first.rules) at k;
         going = on-ok r (λ k p st. let z = k (p ++ take n bytes) (stands p st) in rw (whole p) at z) second.going;
         told = if-err r (λ e k p st _. let z = k (p ++ take n bytes) (stands p st) first.unended in rw (whole p, first.rules) at z) second.told;
         memory = λ p st _ is. absurd (memory is);
@@ -225,7 +263,9 @@ module _ {S : Type 0} (takes leaves : S → Item → S → Type 0) (failures : S
     stands = λ p st.
         let k = h.stands p st in
         record { held = k.held; bounded = k.bounded; counts = k.counts; going = λ going. absurd (not-going new.ended e h.ended going) };
+    onward = h.onward;
     rises = h.rises;
+    least = h.least;
     going = tt;
     told = h.told;
     memory = h.memory;

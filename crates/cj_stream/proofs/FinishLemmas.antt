@@ -208,15 +208,16 @@ module _ {S : Type 0} (takes leaves : S → Item → S → Type 0) (f g : Readin
       go (b ∷ c) e (inl d) = counts-last b c _ r e (sym (next-verdict f p reads (b ∷ c))) d
       go (b ∷ c) e (inr m) = counts-left m.1
 
-  -- the lists are within their peaks, and those have not changed
+  -- the lists are within their peaks, and those have not changed; and no line is taken back
   record Settled : Type 0 where
     pub rules : g.rules ≡ f.rules
     pub header : IsWithin g.header
     pub line : IsWithin g.line
     pub peaks : g.header.peak + g.line.peak ≡ f.header.peak + f.line.peak
+    pub onward : f.lines ≤ g.lines
 
   settled-same : g ≡ f → Settled
-  settled-same e = rw e (record { rules = refl; header = reads.header_within; line = reads.line_within; peaks = refl })
+  settled-same e = rw e (record { rules = refl; header = reads.header_within; line = reads.line_within; peaks = refl; onward = omega arith })
 
   settled-left : IsLeft f g → Settled
   settled-left left = rw left.same (record {
@@ -224,6 +225,7 @@ module _ {S : Type 0} (takes leaves : S → Item → S → Type 0) (f g : Readin
     header = reads.header_within;
     line = record { below_peak = reads.line_within.below_peak; below_limit = reads.line_within.below_limit };
     peaks = refl;
+    onward = omega arith;
   })
 
   settled-passed : (put refuses : Bool) → Passes put refuses f g → Settled
@@ -232,6 +234,7 @@ module _ {S : Type 0} (takes leaves : S → Item → S → Type 0) (f g : Readin
     header = rw d.header reads.header_within;
     line = d.line.within;
     peaks = rw d.header (omega (arith, d.line.peak));
+    onward = omega (arith, d.lines);
   }
 
   settled-refused : (on : Bool) (place : ℕ) (reason : Reason) (r : Result (Unit {0}) End) → Refuses on place reason f r g → Settled
@@ -252,6 +255,9 @@ module _ {S : Type 0} (takes leaves : S → Item → S → Type 0) (f g : Readin
       go [] d = settled-same d.1
       go (b ∷ c) (inl d) = settled-dealt (next_item f (unended b c)) _ r d
       go (b ∷ c) (inr m) = settled-left m.1
+
+  pub finishes-onward : (r : Result (Unit {0}) End) → Finishes takes leaves f s p r g t → f.lines ≤ g.lines
+  finishes-onward r d = (Settled-finished r d).onward
 
   pub StandsFor-finished : (r : Result (Unit {0}) End) (sc : Scanning) (n : ℕ) (e : End) → f.header.peak + f.line.peak ≤ bytes_bound f.rules.limits p → HasRoom f.rules.limits sc
       → HoldsFew f.rules.limits (length (first_content p)) sc → Finishes takes leaves f s p r g t → StandsFor (record { reading = g; scanning = sc; taken = n; ended = Some e }) p

@@ -23,6 +23,7 @@ pub mod JoinedLemmas
 pub mod JudgeLemmas
 pub mod JudgingLemmas
 pub mod KnownLemmas
+pub mod LeastLemmas
 pub mod LenientLemmas
 pub mod LineLemmas
 pub mod LinePieceLemmas

@@ -1,5 +1,5 @@
 -- The lines of a text that goes on.
-use Rattle.std.proofs.Common.{◌≡◌, ℕ, List, [], ◌∷◌, ◌++◌, Bool, true, false, eqb, cond, suc, ◌<◌, ◌≤◌, length, get_or, arith, refl, ap, ◌∙◌}
+use Rattle.std.proofs.Common.{◌≡◌, ℕ, List, [], ◌∷◌, ◌++◌, Bool, true, false, eqb, cond, suc, ◌<◌, ◌≤◌, length, get_or, arith, refl, ap, ◌∙◌, length-append}
 use Rattle.std.proofs.lemmas.List.{append-nil}
 use Rattle.cj_stream.specs.Lines.{closed, begun, begun_with, begun_after, onto_first, first_of, first_content, NoLf}
 
@@ -47,6 +47,10 @@ begun-then-byte : (b : ℕ) (is : Bool) (s t : List ℕ) → eqb b 10 ≡ is →
     → cond is (begun (s ++ t)) (begun_with (closed (s ++ t)) b (begun (s ++ t))) ≡ begun (cond is (begun s) (begun_with (closed s) b (begun s)) ++ t)
 begun-then-byte b true s t h e = e
 begun-then-byte b false s t h e = rw (closed-then s t, e) (begun_with-then b (closed s) (begun s) t h)
+
+-- more bytes end as many lines, or more
+pub closed-grows : (p t : List ℕ) → length (closed p) ≤ length (closed (p ++ t))
+closed-grows p t = rw (closed-then p t) (omega (arith, length-append (closed p) (closed (begun p ++ t))))
 
 pub begun-then : (p t : List ℕ) → begun (p ++ t) ≡ begun (begun p ++ t)
 begun-then [] t = refl

@@ -2,15 +2,15 @@
 use Rattle.std.proofs.Common.{◌≡◌, ℕ, List, [], ◌∷◌, ◌++◌, length, take, drop, Option, Some, None, refl, sym, ap, ◌∙◌}
 use Rattle.std.specs.List.{flat_map}
 use Rattle.std.proofs.lemmas.List.{append-nil}
-use Rattle.std.specs.Io.KnownBytes.{Appends}
+use Rattle.std.specs.Io.KnownBytes.{Appends, Keeps}
 use Rattle.cj_stream.specs.declared.ending.End.{End}
 use Rattle.cj_stream.specs.declared.ending.End.TheVariants.{Complete, Refused, ReadFault, ReadLimit, WriteFault, Memory}
 use Rattle.cj_stream.specs.Lines.{lines, whole, closed}
 use Rattle.cj_stream.specs.Item.{Item, raw_item}
-use Rattle.cj_stream.specs.Verdict.{Rules, refusal_in, good, good_from, kept_from, kept, kept_first, item_after}
+use Rattle.cj_stream.specs.Verdict.{Rules, refusal_in, good, good_from, kept_from, kept, kept_first, item_after, output_first}
 use Rattle.cj_stream.specs.Engine.{Counts, Delivers}
 use Rattle.cj_stream.specs.Cut.{AppendsMore}
-use Rattle.cj_stream.specs.Run.{Run, Account, Ends, Puts, Runs, Writes}
+use Rattle.cj_stream.specs.Run.{Run, Account, Ends, Puts, Runs, Writes, WritesLines}
 use Rattle.cj_stream.specs.Sink.{Took, TookFront, LeavesNext, AppendsPart}
 use Rattle.cj_stream.proofs.IsLinesLemmas.{joined-append, lines-whole}
 use Rattle.cj_stream.proofs.ReadingLemmas.{length-map_lines}
@@ -86,6 +86,14 @@ Runs-told takes leaves run at_end s t account sink = record {
   puts = puts-told takes leaves run.rules run.read at_end s t run.outcome.lines run.outcome.kept run.outcome.refused run.outcome.ended account.ends account.counts sink;
 }
 
+-- where memory was refused before any line was dealt with, the sink is as it was
+pub refused-sink : {S : Type 0} (takes leaves : S → Item → S → Type 0) (rules : Rules) (q : List ℕ) (n : ℕ) (s t : S) (e : End) → e ≡ Memory → n ≡ 0
+    → Delivers takes leaves rules q 0 n s t (Some e) → t ≡ s
+refused-sink takes leaves rules q n s t e is none h = go (rw (is, none) at h)
+  where
+    go : Delivers takes leaves rules q 0 0 s t (Some Memory) → t ≡ s
+    go h = let took = rw (sym h.kept) at h.took in h.fault ∙ took
+
 module _ {S : Type 0} (contents : S → Option (List ℕ)) where
   abbrev pub writes : S → Item → S → Type 0
   writes a l b = Appends (contents a) (contents b) (raw_item l)
@@ -124,3 +132,38 @@ module _ {S : Type 0} (contents : S → Option (List ℕ)) where
   Writes-puts rules r s t ReadLimit h = Took-appends contents s t (kept rules (whole r)) h
   Writes-puts rules r s t WriteFault h = (front-bytes (LeavesNext writes_part) next-bytes (kept rules r) [] s t h).0
   Writes-puts rules r s t Memory h = (front-bytes (λ others a b. b ≡ a) no-bytes (kept rules r) [] s t h).0
+
+  -- and by the lines that were dealt with
+  module _ (rules : Rules) (r : List ℕ) (n : ℕ) (s t : S) where
+    dealt-bytes : {e : End} (d : Delivers writes writes_part rules r 0 n s t (Some e)) → Appends (contents s) (contents d.middle) (output_first rules n r)
+    dealt-bytes d =
+        let all : kept_first rules n r ≡ d.added = d.kept in
+        rw all (Took-appends contents s d.middle d.added d.took)
+
+    still-bytes : {e : End} (d : Delivers writes writes_part rules r 0 n s t (Some e)) → t ≡ d.middle → Appends (contents s) (contents t) (output_first rules n r)
+    still-bytes d still = rw still (dealt-bytes d)
+
+    none-kept : (a : Option (List ℕ)) → Keeps a a
+    none-kept None = tt
+    none-kept (Some x) = refl
+
+    pub WritesLines-told : (e : End) → (e ≡ Memory → n ≡ 0) → Delivers writes writes_part rules r 0 n s t (Some e) → WritesLines rules r n e (contents s) (contents t)
+    WritesLines-told Complete none d = still-bytes d d.fault
+    WritesLines-told (Refused number place reason) none d = still-bytes d d.fault
+    WritesLines-told ReadFault none d = still-bytes d d.fault
+    WritesLines-told ReadLimit none d = still-bytes d d.fault
+    WritesLines-told WriteFault none d =
+        let fault = d.fault in
+        record {
+          line = fault.0;
+          next = fault.1;
+          kept = fault.2;
+          front = fault.3.front;
+          rest = fault.3.rest;
+          cut = fault.3.whole;
+          grows = Appends-then (contents s) (contents d.middle) (contents t) (output_first rules n r) fault.3.front (dealt-bytes d) fault.3.grows;
+        }
+    WritesLines-told Memory none d =
+        let nothing : n ≡ 0 = none refl in
+        let same : t ≡ s = refused-sink writes writes_part rules r n s t Memory refl nothing d in
+        (nothing, rw same (none-kept (contents s)))

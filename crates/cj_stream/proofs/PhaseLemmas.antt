@@ -73,7 +73,9 @@ module _ {S : Type 0} (takes leaves : S → Item → S → Type 0) (failures : S
     stands = λ p st.
         let k = h.stands p st in
         record { held = k.held; bounded = k.bounded; counts = k.counts; going = λ going. absurd (some-none e going) };
+    onward = h.onward;
     rises = h.rises;
+    least = h.least;
     concludes = h.concludes;
     exact = h.exact;
     memory = h.memory;

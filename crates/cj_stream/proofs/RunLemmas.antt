@@ -1,24 +1,28 @@
 -- How the calls of a run add up.
-use Rattle.std.proofs.Common.{◌≡◌, inl, inr, ℕ, zero, suc, ◌+◌, ◌-◌, ◌⊎◌, ◌<◌, ◌≤◌, List, [], ◌∷◌, ◌++◌, cond, length, Option, Some, None, refl, sym, ap, ◌∙◌, subst, append_assoc, length-append, arith}
+use Rattle.std.proofs.Common.{◌≡◌, inl, inr, ℕ, zero, suc, ◌+◌, ◌-◌, ◌⊎◌, ◌<◌, ◌≤◌, List, [], ◌∷◌, ◌++◌, Bool, true, false, cond, ltb, length, Option, Some, None, refl, sym, ap, ◌∙◌, subst, append_assoc, length-append, arith}
 use Rattle.std.specs.Prelude.{◌≢◌, is_some, IfSome}
 use Rattle.std.proofs.lemmas.List.{append-nil}
 use Rattle.std.specs.Io.KnownBytes.{Consumes, Keeps}
 use Rattle.cj_stream.specs.declared.ending.End.{End}
 use Rattle.cj_stream.specs.declared.ending.End.TheVariants.{Complete, Refused, ReadFault, ReadLimit, WriteFault, Memory}
-use Rattle.cj_stream.specs.Lines.{Line, closed, lines, whole}
+use Rattle.cj_stream.specs.Lines.{Line, closed, last_line, lines, whole}
 use Rattle.cj_stream.specs.Item.{Item}
 use Rattle.cj_stream.specs.Verdict.{Rules, verdict, refusal_of, refusal_in, refusal_from, judged, ending, ending_of, kept_first}
-use Rattle.cj_stream.specs.Engine.{EngineState, StandsFor, Counts, Delivers, Faults, Concludes, Tells, rules_of, lines_of}
-use Rattle.cj_stream.specs.Reading.{Reads}
-use Rattle.cj_stream.specs.Run.{Ends, Gave, IsReadWithin, Runs, outcome_of}
+use Rattle.cj_stream.specs.Engine.{EngineState, StandsFor, Counts, Delivers, Faults, Concludes, Tells, rules_of, limits_of, lines_of, peaks_of}
+use Rattle.cj_stream.specs.Reading.{Reading, Reads}
+use Rattle.cj_stream.specs.Run.{Run, Ends, Gave, HeldBegun, IsLastRead, IsReadWithin, LacksRoom, Runs, StopsInTime, outcome_of}
+use Rattle.cj_stream.specs.Bound.{IsBelow, exact_peaks, first_lines}
+use Rattle.cj_stream.specs.Scanning.{Scanned}
 use Rattle.cj_stream.specs.Sink.{HasRisen, Took}
 use Rattle.cj_stream.specs.Cut.{IsUnread}
 use Rattle.cj_stream.proofs.PieceLemmas.{Took-append}
-use Rattle.cj_stream.proofs.EngineLemmas.{judged-front, kept_first-front}
+use Rattle.cj_stream.proofs.EngineLemmas.{begun-good, judged-front, kept_first-front}
 use Rattle.cj_stream.proofs.ReadingLemmas.{length-map_lines, zero_or}
 use Rattle.cj_stream.proofs.IsLinesLemmas.{lines-whole}
 use Rattle.cj_stream.proofs.GoodLemmas.{good-refused}
+use Rattle.cj_stream.proofs.LeastLemmas.{held-scanned, least-read}
 use Rattle.cj_stream.proofs.OutputLemmas.{Runs-told}
+pub use Rattle.cj_stream.proofs.OutputLemmas.{refused-sink}
 use Rattle.cj_stream.proofs.Apart.{none-some}
 
 pub Consumes-then : (a b c : Option (List ℕ)) (x y : List ℕ) → Consumes a b x → Consumes b c y → Consumes a c (x ++ y)
@@ -140,13 +144,74 @@ Runs-refused takes leaves rules at_end s = record {
   puts = record { more = []; others = []; middle = s; front = refl; took = refl; left = refl };
 }
 
--- where memory was refused before any line was dealt with, the sink is as it was
-pub refused-sink : {S : Type 0} (takes leaves : S → Item → S → Type 0) (rules : Rules) (q : List ℕ) (n : ℕ) (s t : S) (e : End) → e ≡ Memory → n ≡ 0
-    → Delivers takes leaves rules q 0 n s t (Some e) → t ≡ s
-refused-sink takes leaves rules q n s t e is none h = go (rw (is, none) at h)
+-- ---- where a run stops
+
+-- no bytes gave the end
+pub last-none : (e : End) → IsLastRead e []
+last-none Complete = refl
+last-none (Refused number place reason) = omega arith
+last-none ReadFault = refl
+last-none ReadLimit = refl
+last-none WriteFault = omega arith
+last-none Memory = omega arith
+
+-- a piece gave it
+pub last-piece : (rules : Rules) (q : List ℕ) (n : ℕ) (e : End) (piece : List ℕ) → Tells rules q n e → length piece ≤ 8192 → IsLastRead e piece
+last-piece rules q n Complete piece told few = absurd told
+last-piece rules q n (Refused number place reason) piece told few = few
+last-piece rules q n ReadFault piece told few = absurd told
+last-piece rules q n ReadLimit piece told few = absurd told
+last-piece rules q n WriteFault piece told few = few
+last-piece rules q n Memory piece told few = few
+
+-- before these last bytes no line was the end
+pub stops-after : (f : Reading) (run : Run) (front last : List ℕ) → Reads f front → f.rules ≡ run.rules → run.read ≡ front ++ last → IsLastRead run.outcome.ended last
+    → f.lines ≤ run.outcome.lines → (run.outcome.ended ≡ Memory → LacksRoom run) → IsBelow (exact_peaks run.rules.limits (first_lines run.outcome.lines run.read)) run.outcome.peaks
+    → HeldBegun run run.outcome.ended → StopsInTime run
+stops-after f run front last reads same cut short onward memory least begun = record {
+  front = front;
+  last = last;
+  cut = cut;
+  short = short;
+  good = rw (← same) (begun-good f front reads);
+  done = rw (lines-whole front) (omega (arith, reads.lines, length-map_lines (closed front), onward));
+  memory = memory;
+  least = least;
+  begun = begun;
+}
+
+-- where the engine ended, no more is told of the begun line
+pub begun-judged : (run : Run) (e : End) → IsUnread e → HeldBegun run e
+begun-judged run Complete u = tt
+begun-judged run (Refused number place reason) u = tt
+begun-judged run ReadFault u = absurd u
+begun-judged run ReadLimit u = absurd u
+begun-judged run WriteFault u = tt
+begun-judged run Memory u = tt
+
+-- an engine that has not ended has held what all that it has read needs
+pub least-going : (e : EngineState) (r : List ℕ) → Reads e.reading r → Scanned (limits_of e) (closed r) e.scanning → IsBelow (exact_peaks (limits_of e) (first_lines (lines_of e) r)) (peaks_of e)
+least-going e r reads scanned =
+    let k = least-read e r [] reads (held-scanned (limits_of e) (closed r) e.scanning scanned) in
+    rw (append-nil r) at k
+
+-- memory was refused before the first read
+pub Stops-refused : (rules : Rules) → StopsInTime (record { rules = rules; read = []; outcome = record { lines = 0; kept = 0; refused = 0; peaks = record { bytes = 0; tokens = 0; depth = 0 }; ended = Memory } })
+Stops-refused rules = record {
+  front = [];
+  last = [];
+  cut = refl;
+  short = omega arith;
+  good = nothing (ltb rules.limits.line 0);
+  done = omega arith;
+  memory = λ h. inl (refl, refl);
+  least = record { bytes = omega arith; tokens = omega arith; depth = omega arith };
+  begun = tt;
+}
   where
-    go : Delivers takes leaves rules q 0 0 s t (Some Memory) → t ≡ s
-    go h = let took = rw (sym h.kept) at h.took in h.fault ∙ took
+    nothing : (long : Bool) → refusal_in rules (cond long (last_line []) []) ≡ None
+    nothing true = refl
+    nothing false = refl
 
 -- an end by a piece, a fault or the read limit is no completion
 pub told-not_complete : (rules : Rules) (q : List ℕ) (n : ℕ) (e : End) → Tells rules q n e → e ≡ Complete → ⊥

@@ -1,12 +1,12 @@
 -- The most that may be held, and how much was held at most.
-use Rattle.std.specs.Prelude.{◌≡◌, ℕ, ◌+◌, ◌/◌, ◌≤◌, List, [], ◌∷◌, Bool, true, false, not, nat_lt, ◌&&◌, ◌||◌, if◌then◌else◌, length, map, max, min}
-use Rattle.std.specs.List.{list_all}
+use Rattle.std.specs.Prelude.{◌≡◌, ℕ, ◌+◌, ◌/◌, ◌≤◌, List, [], ◌∷◌, Bool, true, false, not, nat_lt, ◌&&◌, ◌||◌, if◌then◌else◌, length, map, max, min, take}
+use Rattle.std.specs.List.{flat_map, list_all}
 use Rattle.std.specs.Str.{is_utf8}
 use Rattle.cj_budget.specs.Limits.{LimitPair}
 use Rattle.cj_budget.specs.declared.limits.Peaks.{Peaks}
 use Rattle.cj_spans.specs.Judgement.{Judgement, spelled, broken, sunk, judged_size, judged_nest}
 use Rattle.cj_spans.proofs.Judgements.{judgement}
-use Rattle.cj_stream.specs.Lines.{lines, later_of, first_content}
+use Rattle.cj_stream.specs.Lines.{lines, later_of, first_content, raw}
 use Rattle.cj_stream.specs.Verdict.{is_blank_byte}
 
 -- the bytes of a stream's first line, cut at the line limit
@@ -71,6 +71,10 @@ exact_peaks limits s = record {
   tokens = of_first (tree_size limits) (contents s) + greatest (tree_size limits) (later_of (contents s));
   depth = greatest (tree_nest limits) (contents s);
 }
+
+-- the bytes of the first n lines of a stream
+abbrev pub first_lines : ℕ → List ℕ → List ℕ
+first_lines n s = flat_map raw (take n (lines s))
 
 -- a tree was found
 abbrev pub is_spelled : {c : List ℕ} {depth : ℕ} → Judgement c depth → Bool

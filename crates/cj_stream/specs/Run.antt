@@ -1,16 +1,17 @@
 -- What a whole run makes of the bytes that it reads.
-use Rattle.std.specs.Prelude.{◌≡◌, ◌⊎◌, ℕ, ◌*◌, ◌<◌, ◌≤◌, List, [], Option, Some, None, length}
+use Rattle.std.specs.Prelude.{◌≡◌, ◌⊎◌, ℕ, ◌*◌, ◌<◌, ◌≤◌, List, [], ◌++◌, Option, Some, None, true, length, take, slice_get}
 use Rattle.std.specs.List.{filter}
-use Rattle.std.specs.Io.KnownBytes.{Appends}
+use Rattle.std.specs.Io.KnownBytes.{Appends, Keeps}
 use Rattle.cj_stream.specs.declared.ending.End.{End}
 use Rattle.cj_stream.specs.declared.ending.End.TheVariants.{Complete, Refused, ReadFault, ReadLimit, WriteFault, Memory}
 use Rattle.cj_stream.specs.declared.reporting.Report.{Report}
 use Rattle.cj_stream.specs.declared.running.Outcome.{Outcome}
-use Rattle.cj_stream.specs.Lines.{lines, whole}
+use Rattle.cj_stream.specs.Lines.{Line, lines, raw, whole}
 use Rattle.cj_stream.specs.Item.{Item, is_feature}
-use Rattle.cj_stream.specs.Verdict.{Rules, refusal_in, judged, good, kept, ending, output, reported}
-use Rattle.cj_stream.specs.Bound.{IsBounded, IsExact}
+use Rattle.cj_stream.specs.Verdict.{Rules, refusal_in, judged, good, is_kept, kept, ending, output, output_first, reported, verdict}
+use Rattle.cj_stream.specs.Bound.{IsBelow, IsBounded, IsExact, exact_peaks, first_lines}
 use Rattle.cj_stream.specs.Engine.{EngineState, Counts, Delivers, lines_of, refused_of, peaks_of}
+use Rattle.cj_stream.specs.Reading.{LacksMemory}
 use Rattle.cj_stream.specs.Reporting.{Notes, NotesRun}
 use Rattle.cj_stream.specs.Sink.{Took, TookFront, LeavesNext, AppendsPart}
 
@@ -78,6 +79,46 @@ pub record IsReadWithin (reads : ℕ) (r : List ℕ) (end : End) : Type 0 where
   pub least : giving ≤ length r
   pub most : length r ≤ 8192 * giving
 
+-- the last bytes that a run read, by its end: those of one read, or none where no bytes gave the end
+abbrev pub IsLastRead : End → List ℕ → Type 0
+IsLastRead Complete last = last ≡ []
+IsLastRead (Refused number place reason) last = length last ≤ 8192
+IsLastRead ReadFault last = last ≡ []
+IsLastRead ReadLimit last = last ≡ []
+IsLastRead WriteFault last = length last ≤ 8192
+IsLastRead Memory last = length last ≤ 8192
+
+-- why memory was refused to a run: nothing was read yet, nor held; or the first line is valid, LF ended it, and no line
+-- was dealt with
+abbrev pub LacksRoom : Run → Type 0
+LacksRoom run =
+    ((run.read ≡ []) × (run.outcome.peaks ≡ record { bytes = 0; tokens = 0; depth = 0 }))
+    ⊎ LacksMemory run.rules run.read run.outcome.lines
+
+-- of the begun line, which was not judged, the bytes were held too, by the end: after a read fault, and where the reads
+-- ran out
+abbrev pub HeldBegun : Run → End → Type 0
+HeldBegun run Complete = Unit {0}
+HeldBegun run (Refused number place reason) = Unit {0}
+HeldBegun run ReadFault = (exact_peaks run.rules.limits run.read).bytes ≤ run.outcome.peaks.bytes
+HeldBegun run ReadLimit = (exact_peaks run.rules.limits run.read).bytes ≤ run.outcome.peaks.bytes
+HeldBegun run WriteFault = Unit {0}
+HeldBegun run Memory = Unit {0}
+
+-- A run stops in time. Before its last read nothing that can be judged of what it had read was refused; and all whole
+-- lines were dealt with, so no write had failed, and no memory was refused. After a read fault, and where the reads ran
+-- out, this is so of all that it read. No less was held at most than the lines that were dealt with need.
+pub record StopsInTime (run : Run) : Type 0 where
+  pub front : List ℕ
+  pub last : List ℕ
+  pub cut : run.read ≡ front ++ last
+  pub short : IsLastRead run.outcome.ended last
+  pub good : refusal_in run.rules (judged run.rules.limits front) ≡ None
+  pub done : length (lines (whole front)) ≤ run.outcome.lines
+  pub memory : run.outcome.ended ≡ Memory → LacksRoom run
+  pub least : IsBelow (exact_peaks run.rules.limits (first_lines run.outcome.lines run.read)) run.outcome.peaks
+  pub begun : HeldBegun run run.outcome.ended
+
 -- a run from one state of a sink to another: its account, and what the sink took, by the lines that were dealt with and
 -- by the end
 pub record Runs {S : Type 0} (takes leaves : S → Item → S → Type 0) (run : Run) (at_end : Type 0) (old new : S) : Type 0 where
@@ -99,3 +140,24 @@ Writes rules r ReadFault old new = Appends old new (output rules (whole r))
 Writes rules r ReadLimit old new = Appends old new (output rules (whole r))
 Writes rules r WriteFault old new = AppendsPart old new (output rules r)
 Writes rules r Memory old new = AppendsPart old new (output rules r)
+
+-- the bytes that a writer got of r where the write of the line after n lines failed: the output of those, and a prefix
+-- of that line, which is kept
+pub record WritesNext (rules : Rules) (r : List ℕ) (n : ℕ) (old new : Option (List ℕ)) : Type 0 where
+  pub line : Line
+  pub next : slice_get (lines r) n ≡ Some line
+  pub kept : is_kept (verdict rules (take n (lines r)) line.content) ≡ true
+  pub front : List ℕ
+  pub rest : List ℕ
+  pub cut : raw line ≡ front ++ rest
+  pub grows : Appends old new (output_first rules n r ++ front)
+
+-- the same by the lines that were dealt with: the output of n lines of r, and a prefix of the next one where its write
+-- failed; and where memory was refused nothing, of no line
+abbrev pub WritesLines : Rules → List ℕ → ℕ → End → Option (List ℕ) → Option (List ℕ) → Type 0
+WritesLines rules r n Complete old new = Appends old new (output_first rules n r)
+WritesLines rules r n (Refused number place reason) old new = Appends old new (output_first rules n r)
+WritesLines rules r n ReadFault old new = Appends old new (output_first rules n r)
+WritesLines rules r n ReadLimit old new = Appends old new (output_first rules n r)
+WritesLines rules r n WriteFault old new = WritesNext rules r n old new
+WritesLines rules r n Memory old new = (n ≡ 0) × Keeps old new

@@ -12,7 +12,7 @@ use Rattle.cj_spans.proofs.Judgements.{judgement}
 use Rattle.cj_stream.specs.declared.desk.Desk.{Desk}
 use Rattle.cj_stream.specs.declared.judge.Content.{Content}
 use Rattle.cj_stream.specs.declared.judge.Content.TheVariants.{Faulty, BlankLine, Sound}
-use Rattle.cj_stream.specs.Lines.{first_of, later_of}
+use Rattle.cj_stream.specs.Lines.{closed, first_of, later_of}
 use Rattle.cj_stream.specs.Reading.{Reading, IsBegun}
 use Rattle.cj_stream.specs.Bound.{tree_size, tree_nest, is_readable, of_first, greatest}
 
@@ -61,6 +61,20 @@ pub record Scanned (limits : LimitPair) (cs : List (List ℕ)) (s : Scanning) : 
 -- what was held at most, at any exit, where the first line has so many bytes at least
 abbrev pub HoldsFew : LimitPair → ℕ → Scanning → Type 0
 HoldsFew limits h s = 2 * (s.header.peak + s.line.peak) ≤ min h limits.line + limits.line + limits.depth + 2
+
+-- no list of trees has held less at most than the lines with these contents need
+pub record HeldAll (limits : LimitPair) (cs : List (List ℕ)) (s : Scanning) : Type 0 where
+  pub header : of_first (tree_size limits) cs ≤ s.header.peak
+  pub line : greatest (tree_size limits) (later_of cs) ≤ s.line.peak
+  pub opened : greatest (tree_nest limits) cs ≤ s.opened.peak
+
+-- so it is of n lines, which are those that LF had ended where these bytes after p were cut
+pub record HeldUntil (limits : LimitPair) (p more : List ℕ) (n : ℕ) (s : Scanning) : Type 0 where
+  pub done : List ℕ
+  pub left : List ℕ
+  pub cut : more ≡ done ++ left
+  pub lines : n ≡ length (closed (p ++ done))
+  pub held : HeldAll limits (closed (p ++ done)) s
 
 -- the begun line of f was dealt with: what is held of trees is that of one line more, whatever lines came before it
 abbrev pub ScansNext : Reading → Scanning → Scanning → Type 0

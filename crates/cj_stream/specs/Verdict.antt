@@ -189,7 +189,11 @@ judged limits s = map ended_line (closed s) ++ long_line limits (begun s)
 abbrev pub kept_first : Rules → ℕ → List ℕ → List Item
 kept_first rules n s = kept_from rules [] (take n (lines s))
 
--- the features among them
+-- what is written of the first n lines
+abbrev pub output_first : Rules → ℕ → List ℕ → List ℕ
+output_first rules n s = flat_map raw_item (kept_first rules n s)
+
+-- the features among the kept ones
 abbrev pub features_first : Rules → ℕ → List ℕ → List Item
 features_first rules n s = filter is_feature (kept_first rules n s)
 

@@ -28,7 +28,7 @@ ghost use Rattle.cj_stream.specs.Judging.{Says, Misreads, ShowsTree, IsHeaderOf}
 ghost use Rattle.cj_stream.specs.Query.{rules_for};
 ghost use Rattle.cj_stream.specs.Reading.{begun_of, begun_verdict, told_verdict, next_item, is_lenient, IsLeft, Stores, Unstored, Passes, Deals, Settles, Reads, Advances, Stops, Stays, Finishes};
 ghost use Rattle.cj_stream.specs.Reporting.{Notes};
-ghost use Rattle.cj_stream.specs.Scanning.{Scanning, IsReady, IsStill, RefusesRoom, Scanned, ScansNext, HoldsFew, HoldsFewNext, JudgesLine, Forgets};
+ghost use Rattle.cj_stream.specs.Scanning.{Scanning, IsReady, IsStill, RefusesRoom, Scanned, ScansNext, HoldsFew, HoldsFewNext, HeldUntil, JudgesLine, Forgets};
 ghost use Rattle.cj_stream.specs.Sink.{HasRisen, Took};
 ghost use Rattle.cj_stream.specs.Verdict.{Valid, report_of};
 
@@ -483,6 +483,7 @@ impl<'q> Framer<'q> {
             ((p more : List ℕ) → Reads self.old.reading p → Scanned self.old.reading.rules.limits (closed p) self.old.scanning
             → HoldsFew self.old.reading.rules.limits (length (first_content (p ++ (part.now ++ newline ∷ more))))
             self.new.scanning) }
+        ensures undealt { OnErr result (self.new.reading.lines ≡ self.old.reading.lines) }
     {
         self.store_first(part)?;
         self.settle_first(true, sink)?;
@@ -516,6 +517,7 @@ impl<'q> Framer<'q> {
             ((p more : List ℕ) → Reads self.old.reading p → Scanned self.old.reading.rules.limits (closed p) self.old.scanning
             → HoldsFew self.old.reading.rules.limits (length (first_content (p ++ (part.now ++ newline ∷ more))))
             self.new.scanning) }
+        ensures undealt { OnErr result (self.new.reading.lines ≡ self.old.reading.lines) }
         ensures reports { (p more : List ℕ) → Reads self.old.reading p → Notes N.notes self.old.reading.rules
             (p ++ (part.now ++ newline ∷ more)) self.old.reading.lines self.new.reading.lines reports.old reports.new }
     {
@@ -547,6 +549,9 @@ impl<'q> Framer<'q> {
         ensures held { OnErr result
             ((p : List ℕ) → Reads self.old.reading p → Scanned self.old.reading.rules.limits (closed p) self.old.scanning
             → HoldsFew self.old.reading.rules.limits (length (first_content (p ++ piece.now))) self.new.scanning) }
+        ensures least { OnErr result
+            ((p : List ℕ) → Reads self.old.reading p → Scanned self.old.reading.rules.limits (closed p) self.old.scanning
+            → HeldUntil self.old.reading.rules.limits p piece.now self.new.reading.lines self.new.scanning) }
     {
         let Some(at) = memchr(b'\n', piece) else {
             self.store_first(piece)?;
@@ -585,6 +590,9 @@ impl<'q> Framer<'q> {
         ensures held { OnErr result
             ((p : List ℕ) → Reads self.old.reading p → Scanned self.old.reading.rules.limits (closed p) self.old.scanning
             → HoldsFew self.old.reading.rules.limits (length (first_content (p ++ piece.now))) self.new.scanning) }
+        ensures least { OnErr result
+            ((p : List ℕ) → Reads self.old.reading p → Scanned self.old.reading.rules.limits (closed p) self.old.scanning
+            → HeldUntil self.old.reading.rules.limits p piece.now self.new.reading.lines self.new.scanning) }
         ensures reports { (p : List ℕ) → Reads self.old.reading p → Notes N.notes self.old.reading.rules (p ++ piece.now)
             self.old.reading.lines self.new.reading.lines reports.old reports.new }
     {

@@ -26,7 +26,7 @@ ghost use Rattle.cj_stream.specs.Lines.{Line, later_of, lines, whole};
 ghost use Rattle.cj_stream.specs.Output.{output_writer, output_failures, channel, WritesItem, WritesPart};
 ghost use Rattle.cj_stream.specs.Parts.{headed, IsCut, AreComplete, moved_end, moved_report, greater_peaks, JoinsTallies};
 ghost use Rattle.cj_stream.specs.Reporting.{Collects, CountsReport, Notes, NotesRun, NotesPieces};
-ghost use Rattle.cj_stream.specs.Run.{Account, Puts, Run, Runs, RunsNoting, Writes};
+ghost use Rattle.cj_stream.specs.Run.{Account, Puts, Run, Runs, RunsNoting, Writes, WritesLines};
 ghost use Rattle.cj_stream.specs.Sink.{HasRisen};
 ghost use Rattle.cj_stream.specs.TallySink.{Tally, no_tally, Tallies, IsTallyOf, TalliesRun, TalliesPieces};
 ghost use Rattle.cj_stream.specs.Verdict.{Rules, refusal_in, good, kept, kept_first, reported, reported_first, output, ending};
@@ -181,12 +181,17 @@ pub fn puts_are_tallied()
         → PutsPieces Tallies (λ a i b. ⊥) rules pieces n e start t → TalliesPieces rules pieces n e t }
 {}
 
-/// What an `Output` takes is written: in a run, by its end, and of pieces; and of a run the headline holds, the cause of a
-/// write fault with it.
+/// What an `Output` takes is written: in a run, by its end and by the lines that were dealt with, and of pieces; and of
+/// a run the headline holds, the cause of a write fault with it.
 pub fn puts_are_written<W: Write + Drop, N: ReportSink>()
     ensures runs { (rules : Rules) (r : List ℕ) (e : End) (a b : Output W)
         → Puts (WritesItem W.contents) (WritesPart W.contents) rules r e a b
         → Writes rules r e (W.contents (output_writer a)) (W.contents (output_writer b)) }
+    ensures lines { (run : Run) (left : Option (List ℕ)) (a b : Output W)
+        → Runs (WritesItem W.contents) (WritesPart W.contents) run (IsAtEnd left) a b
+        → (run.outcome.ended ≡ End.Memory → run.outcome.lines ≡ 0)
+        → WritesLines run.rules run.read run.outcome.lines run.outcome.ended
+        (W.contents (output_writer a)) (W.contents (output_writer b)) }
     ensures headline { (run : Run) (left : Option (List ℕ)) (a b : Output W) (n m : N)
         → Runs (WritesItem W.contents) (WritesPart W.contents) run (IsAtEnd left) a b
         → RunsNoting N.notes run n m

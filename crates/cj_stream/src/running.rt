@@ -4,7 +4,7 @@ ghost use Rattle.std.specs.Io.KnownBytes.{Consumes, IsAtEnd};
 ghost use Rattle.cj_stream.specs.Sink.{HasRisen};
 ghost use Rattle.cj_stream.specs.Engine.{IsFresh, rules_of, lines_of};
 ghost use Rattle.cj_stream.specs.Query.{rules_for};
-ghost use Rattle.cj_stream.specs.Run.{IsReadWithin, Runs, RunsNoting, outcome_of};
+ghost use Rattle.cj_stream.specs.Run.{IsReadWithin, Runs, RunsNoting, StopsInTime, outcome_of};
 ghost use Rattle.cj_stream.specs.Source.{source_reader, source_name, reads_of, has_failed};
 
 mod source;
@@ -88,7 +88,8 @@ fn drive<R: Read, S: LineSink, N: ReportSink>(
         (IsAtEnd (R.remaining (source_reader source.new))) sink.old sink.new
         × RunsNoting N.notes
         (record { rules = rules_of engine.old; read = r; outcome = outcome_of engine.new result })
-        reports.old reports.new }
+        reports.old reports.new
+        × StopsInTime (record { rules = rules_of engine.old; read = r; outcome = outcome_of engine.new result }) }
     ensures cause { result ≡ End.WriteFault → HasRisen (S.failures sink.old) (S.failures sink.new) }
     ensures none { reads ≡ 0 → (source_reader source.new ≡ source_reader source.old) × (sink.new ≡ sink.old)
         × (result ≡ End.ReadLimit) × (reports.new ≡ reports.old) }
@@ -114,8 +115,8 @@ fn drive<R: Read, S: LineSink, N: ReportSink>(
 /// Puts the kept lines of what the reader gives to the sink, until its end or a fault. Told to go on after an invalid line
 /// that is not the first, it reports that line, and reads the next one.
 ///
-/// It makes at most 2^40 reads, as [`run_within`] says. Memory is refused before the sink has taken anything, or not
-/// at all.
+/// It makes at most 2^40 reads, as [`run_within`] says, and none after the one that gives the end. Memory is refused
+/// before the sink has taken anything, or not at all.
 pub fn run<R: Read, S: LineSink, N: ReportSink>(
     alloc: Global,
     reader: &mut R,
@@ -126,10 +127,12 @@ pub fn run<R: Read, S: LineSink, N: ReportSink>(
     options: Options,
 ) -> Outcome
     ensures runs { (r : List ℕ) × Consumes (R.remaining reader.old) (R.remaining reader.new) r
+        × IsReadWithin (2 ^ 40) r result.ended
         × Runs S.takes S.leaves (record { rules = rules_for limits query.now options; read = r; outcome = result })
         (IsAtEnd (R.remaining reader.new)) sink.old sink.new
         × RunsNoting N.notes (record { rules = rules_for limits query.now options; read = r; outcome = result })
-        reports.old reports.new }
+        reports.old reports.new
+        × StopsInTime (record { rules = rules_for limits query.now options; read = r; outcome = result }) }
     ensures cause { result.ended ≡ End.WriteFault → HasRisen (S.failures sink.old) (S.failures sink.new) }
     ensures enough { IfSome (R.remaining reader.old) (λ bytes. length bytes < 2 ^ 40 → result.ended ≢ End.ReadLimit) }
     ensures memory { result.ended ≡ End.Memory → (result.lines ≡ 0) × (sink.new ≡ sink.old)
@@ -163,7 +166,8 @@ pub fn run_within<R: Read, S: LineSink, N: ReportSink>(
         × Runs S.takes S.leaves (record { rules = rules_for limits query.now options; read = r; outcome = result })
         (IsAtEnd (R.remaining reader.new)) sink.old sink.new
         × RunsNoting N.notes (record { rules = rules_for limits query.now options; read = r; outcome = result })
-        reports.old reports.new }
+        reports.old reports.new
+        × StopsInTime (record { rules = rules_for limits query.now options; read = r; outcome = result }) }
     ensures cause { result.ended ≡ End.WriteFault → HasRisen (S.failures sink.old) (S.failures sink.new) }
     ensures enough { IfSome (R.remaining reader.old) (λ bytes. length bytes < reads → result.ended ≢ End.ReadLimit) }
     ensures none { reads ≡ 0 → (reader.new ≡ reader.old) × (sink.new ≡ sink.old) × (reports.new ≡ reports.old)

@@ -1,13 +1,14 @@
 //! Runs within a number of reads: how often the reader is read, what is written, and how they end.
-use super::calls::{check_bytes, check_ended, check_number, refused};
-use super::devices::{EndlessReader, SlowReader};
-use super::rows::{FIRST, HEADER, STREAM};
+use super::calls::{Reading, check_bytes, check_ended, check_number, ran, refused};
+use super::devices::{EndlessReader, SlowReader, SlowWriter};
+use super::rows::{FIRST, HEADER, STREAM, THIRD_REFUSED};
 use cj_budget::Limits;
 use cj_spans::Reason;
-use cj_stream::{End, NoReports, Options, Outcome, Query, WriteSink, run_within};
+use cj_stream::{End, NoReports, Options, Outcome, Output, Query, WriteSink, run_within};
 use std::alloc::Global;
 use std::io::Read;
 use std::process::Abort;
+use std::test::Fail;
 
 /// Runs within so many reads: the outcome, and what was written.
 fn run_by<R: Read>(
@@ -72,6 +73,22 @@ fn check_reads(
     check_went(rt, &went, reader.reads, wanted, written, reads);
 }
 
+/// Does the same with this line limit, and a stream of which nothing is written.
+fn check_reads_under(
+    rt: &impl Abort,
+    alloc: Global,
+    line_limit: u64,
+    text: &[u8],
+    reads: u64,
+    wanted: &Wanted,
+) -> Result<(), Fail> {
+    let mut reader = SlowReader::new(text, 1);
+    let limits = Limits::new(line_limit, 64)?;
+    let went = run_by(rt, alloc, &mut reader, limits, reads);
+    check_went(rt, &went, reader.reads, wanted, b"", reads);
+    Ok(())
+}
+
 /// Too few reads for the stream of 352 bytes: what is written are its whole lines.
 fn check_too_few(rt: &impl Abort, alloc: Global, text: &[u8], reads: u64) {
     let (lines, kept, front) = match reads {
@@ -126,6 +143,65 @@ fn a_line_that_the_last_read_refuses(rt: HostRuntime) {
         ..wanted
     };
     check_reads(&rt, rt.alloc(), b"{x\n", 2, &wanted, b"");
+}
+
+/// The byte past the line limit makes a line too long. Where the last read gives it, that is the end, and where a read
+/// more fails or none is left, too.
+#[test]
+fn a_line_that_the_last_read_makes_too_long(rt: HostRuntime) -> Result<(), Fail> {
+    let wanted = Wanted {
+        ended: refused(1, 2, Reason::LineTooLong),
+        lines: 0,
+        kept: 0,
+        reads: 3,
+    };
+    check_reads_under(&rt, rt.alloc(), 2, b"xxx", 3, &wanted)?;
+    check_reads_under(&rt, rt.alloc(), 2, b"xxx", 4, &wanted)?;
+    let wanted = Wanted {
+        ended: End::ReadLimit,
+        reads: 2,
+        ..wanted
+    };
+    check_reads_under(&rt, rt.alloc(), 2, b"xxx", 2, &wanted)
+}
+
+/// After a line that is the end the reader is not read again, though it has more.
+#[test]
+fn no_read_after_a_refused_line(rt: HostRuntime) -> Result<(), Fail> {
+    let wanted = Wanted {
+        ended: refused(1, 1, Reason::Syntax),
+        lines: 0,
+        kept: 0,
+        reads: 3,
+    };
+    check_reads(&rt, rt.alloc(), b"{x\nmore of it\n", 1_000, &wanted, b"");
+    let wanted = Wanted {
+        ended: refused(1, 2, Reason::LineTooLong),
+        ..wanted
+    };
+    check_reads_under(&rt, rt.alloc(), 2, b"xxxx\nmore of it\n", 1_000, &wanted)
+}
+
+/// Runs over four lines, by single bytes, to a writer that fails at this write: how often the reader was read.
+fn check_reads_to(rt: &impl Abort, alloc: Global, fails_at: u64, reads: u64) {
+    let mut reader = SlowReader::new(THIRD_REFUSED, 1);
+    let mut writer = SlowWriter::new(Vec::new(alloc), 1_000);
+    writer.fails_at = fails_at;
+    let query = Query::all(alloc);
+    let reading = Reading::usual(Limits::usual(), &query);
+    let mut sink = Output::new(&mut writer);
+    let outcome = ran(alloc, &mut reader, &mut sink, &mut NoReports, &reading);
+    check_ended(rt, outcome.ended, End::WriteFault, "write", fails_at);
+    check_number(rt, reader.reads, reads, "reads", fails_at);
+}
+
+/// Nor is it after a write that failed: of the header, whose LF is byte 141, and of the feature, whose LF is byte 352.
+#[test]
+fn no_read_after_a_write_fault(rt: HostRuntime) {
+    check_reads_to(&rt, rt.alloc(), 1, 141);
+    check_reads_to(&rt, rt.alloc(), 2, 141);
+    check_reads_to(&rt, rt.alloc(), 3, 352);
+    check_reads_to(&rt, rt.alloc(), 4, 352);
 }
 
 /// It takes a read to find that there is nothing.

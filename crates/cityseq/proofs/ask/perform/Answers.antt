@@ -4,7 +4,7 @@ use Rattle.cj_stream.specs.Sink.{HasRisen}
 use Rattle.cityseq.specs.Performed.{rules_of_ask}
 use Rattle.cityseq.specs.Report.{fault_line, status_after}
 use Rattle.cityseq.specs.Reporting.{lent_output, report_lines}
-use Rattle.cityseq.proofs.PerformLemmas.{Answers-kept}
+use Rattle.cityseq.proofs.PerformLemmas.{Answers-kept, enough-told}
 use Rattle.cityseq.proofs.WroteLemmas.{WroteAfter-then, wrote-reports}
 use Rattle.cityseq.proofs.ask.perform.Goals as goal
 
@@ -27,6 +27,9 @@ returns g c =
         told = c.answer-told.result.end;
         shown = c.show_after-shown.result;
         account = d.account;
+        stops = d.stops;
+        within = d.within;
+        enough = λ few is. enough-told c.args.ask.now e.0 _ d.outcome d.refused c.answer-told.result.end _ _ _ d.answers d.within few is;
         reported = d.reported.collected;
         usual = λ off.
             let added = d.reported.collected.reports in

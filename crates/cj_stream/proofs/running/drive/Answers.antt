@@ -1,9 +1,10 @@
-use Rattle.std.proofs.Common.{◌≡◌, ◌+◌, ◌++◌, ◌∙◌, length, length-append, length-take, take, refl, sym, ap, arith, Err}
+use Rattle.std.proofs.Common.{◌≡◌, ◌+◌, ◌++◌, ◌∙◌, [], inr, length, length-append, length-take, take, refl, sym, ap, arith, Err}
 use Rattle.std.proofs.lemmas.List.{append-nil}
 use Rattle.cj_stream.specs.declared.ending.End.TheVariants.{ReadFault, ReadLimit, Memory}
 use Rattle.cj_stream.specs.Engine.{rules_of, lines_of}
 use Rattle.cj_stream.specs.Run.{outcome_of}
-use Rattle.cj_stream.proofs.RunLemmas.{Consumes-then, Consumes-kept, Delivers-then, Runs-left, kept_first-same, Ends-finished, Ends-fed, whole-good, HasRisen-after, told-not_complete, fault-not_complete, limit-not_complete, Gave-finished, Gave-fed}
+use Rattle.cj_stream.proofs.RunLemmas.{Consumes-then, Consumes-kept, Delivers-then, Runs-left, kept_first-same, Ends-finished, Ends-fed, whole-good, HasRisen-after, told-not_complete, fault-not_complete, limit-not_complete, Gave-finished, Gave-fed, last-none, last-piece, least-going, begun-judged, stops-after}
+use Rattle.cj_stream.proofs.LeastLemmas.{begun-held}
 use Rattle.std.specs.Prelude.{is_err}
 use Rattle.cj_stream.proofs.CutLemmas.{unread-told, unread-concludes}
 use Rattle.cj_stream.proofs.NoteLemmas.{Notes-then, Notes-more, Noting-told}
@@ -28,6 +29,8 @@ returns-in-Err-clause-runs g c =
       rw (← i.3) (let k = rw (← i.3) at i.5.3 in Runs-left _ _ c.loop-i.engine r _ _ _ ReadFault fault-not_complete (whole-good c.loop-i.engine r (stands.going i.2).0) (λ m u e. e) stands k),
       Noting-told g.N.ReportSink.notes (record { rules = rules_of c.args.engine.now; read = r; outcome = outcome_of c.loop-i.engine ReadFault }) (Unit {0}) c.args.reports.now c.loop-i.reports
           (let k = stands.counts.good in rw i.3 at k) (let k = whole-good c.loop-i.engine r (stands.going i.2).0 in rw i.3 at k) (λ h. absurd (fault-apart h)) i.5.5,
+      stops-after c.loop-i.engine.reading _ r [] (stands.going i.2).0 i.3 (sym (append-nil r)) refl (omega arith) (λ h. absurd (fault-apart h))
+          (let k = least-going c.loop-i.engine r (stands.going i.2).0 (stands.going i.2).1 in rw i.3 at k) (let k = begun-held c.loop-i.engine.reading r (stands.going i.2).0 in rw i.3 at k),
     )
 
 pub returns-in-Ok-eq0-clause-runs : goal.returns-in-Ok-eq0-clause-runs
@@ -53,6 +56,8 @@ returns-in-Ok-eq0-clause-runs g c =
           (Ends-finished _ r _ (Unit {0}) c.finish.result tt (let k = c.finish.ensures.finished.concludes r i.5.2 i.2 in rw i.3 at k))
           (λ h. absurd (c.finish.ensures.finished.memory i.2 h))
           (let k = c.finish.ensures.reports r i.5.2 i.2 in Notes-then g.N.ReportSink.notes _ r 0 _ _ _ _ _ i.5.5 (rw i.3 at k)),
+      stops-after c.loop-i.engine.reading _ r [] (i.5.2.going i.2).0 i.3 (sym (append-nil r)) (last-none c.finish.result) (c.finish.ensures.finished.onward r i.5.2) (λ h. absurd (c.finish.ensures.finished.memory i.2 h))
+          (let k = c.finish.ensures.finished.least r i.5.2 i.2 in rw i.3 at k) (begun-judged (record { rules = rules_of c.args.engine.now; read = r; outcome = outcome_of c.finish.new.self c.finish.result }) c.finish.result (unread-concludes _ r _ c.finish.result (c.finish.ensures.finished.concludes r i.5.2 i.2))),
     )
 
 pub returns-in-Ok-eq0-clause-cause : goal.returns-in-Ok-eq0-clause-cause
@@ -85,6 +90,11 @@ returns-in-Err-feed-clause-runs g c =
           (λ h. (c.feed.ensures.feeds.memory r i.5.2 i.2 (c.in-Err-feed.is ∙ ap Err h)).0.none)
           (let k = c.feed.ensures.reports r i.5.2 i.2 in
           Notes-then g.N.ReportSink.notes _ (r ++ piece) 0 _ _ _ _ _ (Notes-more g.N.ReportSink.notes _ r piece _ _ _ (i.5.2.going i.2).0.lines i.5.5) (rw i.3 at k)),
+      stops-after e.reading _ r piece (i.5.2.going i.2).0 i.3 refl
+          (last-piece _ (r ++ piece) _ c.in-Err-feed.end piece (c.in-Err-feed.ensures.feeds.told r i.5.2 i.2) (omega (arith, c.in-Ok.ensures.bound.0, c.in-Ok.ensures.bound.1, c.read.auto.buffer, i.0)))
+          (c.feed.ensures.feeds.onward r i.5.2)
+          (λ h. inr (let k = (c.feed.ensures.feeds.memory r i.5.2 i.2 (c.in-Err-feed.is ∙ ap Err h)).0 in rw i.3 at k))
+          (let k = c.feed.ensures.feeds.least r i.5.2 i.2 in rw i.3 at k) (begun-judged (record { rules = rules_of c.args.engine.now; read = r ++ piece; outcome = outcome_of c.feed.new.self c.in-Err-feed.end }) c.in-Err-feed.end (unread-told _ (r ++ piece) _ c.in-Err-feed.end (c.in-Err-feed.ensures.feeds.told r i.5.2 i.2))),
     )
 
 pub returns-in-Err-feed-clause-cause : goal.returns-in-Err-feed-clause-cause
@@ -153,6 +163,8 @@ returns-clause-runs g c =
       rw (← i.3) (let k = rw (← i.3) at i.5.3 in Runs-left _ _ c.loop-i.engine r _ _ _ ReadLimit limit-not_complete (whole-good c.loop-i.engine r (stands.going i.2).0) (λ m u e. e) stands k),
       Noting-told g.N.ReportSink.notes (record { rules = rules_of c.args.engine.now; read = r; outcome = outcome_of c.loop-i.engine ReadLimit }) (Unit {0}) c.args.reports.now c.loop-i.reports
           (let k = stands.counts.good in rw i.3 at k) (let k = whole-good c.loop-i.engine r (stands.going i.2).0 in rw i.3 at k) (λ h. absurd (limit-apart h)) i.5.5,
+      stops-after c.loop-i.engine.reading _ r [] (stands.going i.2).0 i.3 (sym (append-nil r)) refl (omega arith) (λ h. absurd (limit-apart h))
+          (let k = least-going c.loop-i.engine r (stands.going i.2).0 (stands.going i.2).1 in rw i.3 at k) (let k = begun-held c.loop-i.engine.reading r (stands.going i.2).0 in rw i.3 at k),
     )
 
 pub returns-in-Ok-eq0-clause-limit : goal.returns-in-Ok-eq0-clause-limit

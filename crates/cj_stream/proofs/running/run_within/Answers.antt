@@ -1,7 +1,7 @@
 use Rattle.std.proofs.Common.{◌≡◌, ◌∙◌, [], inl, inr, refl, ap, sym}
 use Rattle.cj_stream.specs.Source.{source_reader}
 use Rattle.cj_stream.proofs.NoteLemmas.{Noting-refused, noted-none}
-use Rattle.cj_stream.proofs.RunLemmas.{Consumes-none, Runs-refused, refused-sink, memory-no_fault, unread-refused, enough-refused, enough-reads, none-counted}
+use Rattle.cj_stream.proofs.RunLemmas.{Consumes-none, Runs-refused, Stops-refused, refused-sink, memory-no_fault, unread-refused, enough-refused, enough-reads, none-counted}
 use Rattle.cj_stream.proofs.running.run_within.Goals as goal
 
 -- The source holds the same loan to the end, so what is left in it is what the lender finds.
@@ -36,6 +36,7 @@ returns-in-Err g c = record {
     unread-refused _ _ (ap (λ o. o.ended) c.without_memory.ensures),
     rw c.without_memory.ensures (Runs-refused g.S.LineSink.takes g.S.LineSink.leaves _ _ c.args.sink.now),
     rw c.without_memory.ensures (Noting-refused g.N.ReportSink.notes _ c.args.reports.now),
+    rw c.without_memory.ensures (Stops-refused _),
   );
   cause = λ fault. absurd (memory-no_fault (sym (ap (λ o. o.ended) c.without_memory.ensures) ∙ fault));
   enough = enough-refused _ _ _ (ap (λ o. o.ended) c.without_memory.ensures);

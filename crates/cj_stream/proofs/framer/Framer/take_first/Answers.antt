@@ -1,9 +1,10 @@
-use Rattle.std.proofs.Common.{rules, ◌∙◌, ◌∷◌, ◌++◌}
+use Rattle.std.proofs.Common.{rules, true, false, ◌∙◌, ◌∷◌, ◌++◌}
 use Rattle.std.proofs.lemmas.Result.{err_from_is_err_and}
 use Rattle.cj_stream.specs.Lines.{closed}
+use Rattle.cj_stream.specs.Reading.{begun_of, next_item, told_verdict}
 use Rattle.cj_stream.proofs.PieceLemmas.{Stops-unstored, Stops-undealt, Settles-first, Advances-line}
 use Rattle.cj_stream.proofs.ScanningLemmas.{few-scanned, first-closed, few-line, scanned-line}
-use Rattle.cj_stream.proofs.StaysLemmas.{Stays-then}
+use Rattle.cj_stream.proofs.StaysLemmas.{Stays-then, settled-err}
 use Rattle.cj_stream.proofs.framer.Framer.take_first.Goals as goal
 
 pub returns-in_err-store_first-clause-err : goal.returns-in_err-store_first-clause-err
@@ -29,6 +30,13 @@ returns-in_err-settle_first-clause-held g c =
     let p = err_from_is_err_and c.from_residual-in_err-settle_first.result c.from_residual-in_err-settle_first.ensures.1 in
     rw p.1 (λ q more reads s. few-line c.args.self.now.reading c.store_first.new.self.reading q c.args.part.now c.args.self.now.scanning c.store_first.new.self.scanning c.settle_first.new.self.scanning
     reads c.requires.one c.in_ok-store_first.ensures.ok c.store_first.ensures.lists s more c.settle_first.ensures.few)
+
+pub returns-in_err-settle_first-clause-undealt : goal.returns-in_err-settle_first-clause-undealt
+returns-in_err-settle_first-clause-undealt g c =
+    let p = err_from_is_err_and c.from_residual-in_err-settle_first.result c.from_residual-in_err-settle_first.ensures.1 in
+    let settles = rw c.in_err-settle_first.was at c.settle_first.ensures.settles in
+    let f = c.store_first.new.self.reading in
+    rw p.1 (settled-err g.S.LineSink.takes g.S.LineSink.leaves false (told_verdict f) (next_item f (record { content = begun_of f; lf = true })) f _ _ _ _ settles ∙ c.in_ok-store_first.ensures.ok.lines)
 
 pub returns-clause-scanned : goal.returns-clause-scanned
 returns-clause-scanned g c = λ q reads s. scanned-line c.args.self.now.reading c.store_first.new.self.reading q c.args.part.now c.args.self.now.scanning c.store_first.new.self.scanning c.settle_first.new.self.scanning

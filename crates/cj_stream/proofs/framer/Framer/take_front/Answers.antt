@@ -1,4 +1,4 @@
-use Rattle.std.proofs.Common.{◌≡◌, ◌++◌, ◌+◌, length, take, drop, refl, sym, subst, arith}
+use Rattle.std.proofs.Common.{◌≡◌, ◌++◌, ◌+◌, ◌∙◌, length, take, drop, refl, sym, subst, arith}
 use Rattle.std.proofs.lemmas.Result.{err_from_is_err_and}
 use Rattle.std.proofs.lemmas.List.{take_all}
 use Rattle.cj_stream.specs.Lines.{closed, first_content}
@@ -6,7 +6,8 @@ use Rattle.cj_stream.specs.Reading.{Advances, Stops}
 use Rattle.cj_stream.specs.Scanning.{Scanned, HoldsFew}
 use Rattle.cj_stream.proofs.PieceSlices.{lf_found, lf_front, NoLf-before, NoLf-not_found}
 use Rattle.cj_stream.proofs.PieceLemmas.{Stops-unstored_last, Advances-stored}
-use Rattle.cj_stream.proofs.ScanningLemmas.{few-scanned, first-closed, scanned-begun}
+use Rattle.cj_stream.proofs.ScanningLemmas.{Rises-same, few-scanned, first-closed, scanned-begun}
+use Rattle.cj_stream.proofs.LeastLemmas.{held-now}
 use Rattle.cj_stream.proofs.framer.Framer.take_front.Goals as goal
 
 pub returns-in_err-store_first-clause-err : goal.returns-in_err-store_first-clause-err
@@ -57,6 +58,16 @@ returns-in_err-take_first-clause-held g c =
     rw p.1 (λ q reads s.
     subst (λ z. HoldsFew c.args.self.now.reading.rules.limits (length (first_content (q ++ z))) c.take_first.new.self.scanning)
     (sym (lf_found c.args.piece.now c.in-Some.at c.in-Some.ensures)) (c.in_err-take_first.ensures.held q (drop (c.in-Some.at + 1) c.args.piece.now) reads s))
+
+pub returns-in_err-store_first-clause-least : goal.returns-in_err-store_first-clause-least
+returns-in_err-store_first-clause-least g c =
+    let p = err_from_is_err_and c.from_residual.result c.from_residual.ensures.1 in
+    rw p.1 (λ q reads s. rw c.in_err-store_first.ensures.err (held-now c.args.self.now.reading.rules.limits q c.args.piece.now _ c.args.self.now.scanning c.args.self.now.scanning reads.lines s (Rises-same _ _ refl)))
+
+pub returns-in_err-take_first-clause-least : goal.returns-in_err-take_first-clause-least
+returns-in_err-take_first-clause-least g c =
+    let p = err_from_is_err_and c.from_residual-in_err-take_first.result c.from_residual-in_err-take_first.ensures.1 in
+    rw p.1 (λ q reads s. held-now c.args.self.now.reading.rules.limits q c.args.piece.now _ c.args.self.now.scanning c.take_first.new.self.scanning (c.in_err-take_first.ensures.undealt ∙ reads.lines) s c.take_first.ensures.carries.rises)
 
 pub returns-clause-front : goal.returns-clause-front
 returns-clause-front g c = record {

@@ -1,10 +1,10 @@
-use Rattle.std.proofs.Common.{rules, ◌∷◌, ◌++◌}
+use Rattle.std.proofs.Common.{rules, ◌∙◌, ◌∷◌, ◌++◌}
 use Rattle.std.proofs.lemmas.Result.{err_from_is_err_and}
 use Rattle.cj_stream.specs.Lines.{closed}
 use Rattle.cj_stream.proofs.NoteLemmas.{Notes-line}
 use Rattle.cj_stream.proofs.PieceLemmas.{Stops-unstored, Stops-undealt, Advances-line}
 use Rattle.cj_stream.proofs.ScanningLemmas.{few-scanned, first-closed, few-line, scanned-line}
-use Rattle.cj_stream.proofs.StaysLemmas.{Stays-then}
+use Rattle.cj_stream.proofs.StaysLemmas.{Stays-then, settled-err}
 use Rattle.cj_stream.proofs.framer.Framer.take_line.Goals as goal
 
 pub returns-in_err-store-clause-err : goal.returns-in_err-store-clause-err
@@ -30,6 +30,12 @@ returns-in_err-deal-clause-held g c =
     let p = err_from_is_err_and c.from_residual-in_err-deal.result c.from_residual-in_err-deal.ensures.1 in
     rw p.1 (λ q more reads s. few-line c.args.self.now.reading c.store.new.self.reading q c.args.part.now c.args.self.now.scanning c.store.new.self.scanning c.deal.new.self.scanning
     reads c.requires.one c.in_ok-store.ensures.ok c.store.ensures.lists s more c.deal.ensures.few)
+
+pub returns-in_err-deal-clause-undealt : goal.returns-in_err-deal-clause-undealt
+returns-in_err-deal-clause-undealt g c =
+    let p = err_from_is_err_and c.from_residual-in_err-deal.result c.from_residual-in_err-deal.ensures.1 in
+    let settles = rw c.in_err-deal.was at c.deal.ensures.settles in
+    rw p.1 (settled-err g.S.LineSink.takes g.S.LineSink.leaves _ _ _ _ _ _ _ _ settles ∙ c.in_ok-store.ensures.ok.lines)
 
 pub returns-clause-scanned : goal.returns-clause-scanned
 returns-clause-scanned g c = λ q reads s. scanned-line c.args.self.now.reading c.store.new.self.reading q c.args.part.now c.args.self.now.scanning c.store.new.self.scanning c.deal.new.self.scanning

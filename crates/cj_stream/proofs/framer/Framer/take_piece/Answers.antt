@@ -2,6 +2,7 @@ use Rattle.std.proofs.Common.{◌≡◌, ◌∷◌, [], ◌++◌, ◌+◌, ◌�
 use Rattle.std.proofs.lemmas.Result.{err_from_is_err_and}
 use Rattle.std.proofs.lemmas.List.{append-nil}
 use Rattle.cj_stream.specs.Lines.{closed}
+use Rattle.cj_stream.proofs.LeastLemmas.{held-until}
 use Rattle.cj_stream.proofs.NoteLemmas.{Notes-none, Notes-then}
 use Rattle.cj_stream.proofs.PieceSlices.{lf_found, NoLf-before, NoLf-not_found, left_length, piece_more}
 use Rattle.cj_stream.proofs.PieceLemmas.{Stops-later, Stops-unstored_last, Advances-none, Advances-then, Advances-stored}
@@ -114,6 +115,23 @@ returns-in_err-store-clause-held g c =
     let limits = c.args.self.now.reading.rules.limits in
     rw (i.1, c.in_err-store.ensures.err) (few-then limits limits q i.0 rest c.loop-at.self.scanning refl
     (few-scanned limits (closed (q ++ i.0)) c.loop-at.self.scanning _ (i.3 q reads s) (first-closed (q ++ i.0) rest))))
+
+pub returns-in_err-take_line-clause-least : goal.returns-in_err-take_line-clause-least
+returns-in_err-take_line-clause-least g c =
+    let p = err_from_is_err_and c.from_residual.result c.from_residual.ensures.1 in
+    let i = c.loop-at.invariant.read in
+    rw p.1 (λ q reads s.
+    let limits = c.args.self.now.reading.rules.limits in
+    let count = c.in_err-take_line.ensures.undealt ∙ (i.2 q reads).reads.lines in
+    rw i.1 (held-until limits q i.0 c.loop-at.rest.now _ c.loop-at.self.scanning c.take_line.new.self.scanning count (i.3 q reads s) c.take_line.ensures.carries.rises))
+
+pub returns-in_err-store-clause-least : goal.returns-in_err-store-clause-least
+returns-in_err-store-clause-least g c =
+    let p = err_from_is_err_and c.from_residual-in_err-store.result c.from_residual-in_err-store.ensures.1 in
+    let i = c.loop-at.invariant.read in
+    rw p.1 (λ q reads s.
+    let limits = c.args.self.now.reading.rules.limits in
+    rw (i.1, c.in_err-store.ensures.err) (held-until limits q i.0 c.loop-at.rest.now _ c.loop-at.self.scanning c.loop-at.self.scanning (i.2 q reads).reads.lines (i.3 q reads s) (Rises-same _ _ refl)))
 
 pub returns-clause-scanned : goal.returns-clause-scanned
 returns-clause-scanned g c = λ q reads s.
