@@ -426,18 +426,71 @@ row_a_report_comes_at_once() {
   [ ! -s "$scratch/rest" ] && lines "$header" "$feature" | answered 1 'line 2, byte 0: 12 wrong kind'
 }
 
+# ---- an input that stays open
+
+# Runs the program with these words on what standard input has, and on nothing more, although more could come: what it reads
+# from is open until it has ended. Keeps what it writes and says, and its status, which is 124 where it does not end by itself.
+run_on_open_input() {
+  local process
+  mkfifo "$scratch/in"
+  timeout 20 "$program" "$@" < "$scratch/in" > "$scratch/written" 2> "$scratch/said" &
+  process=$!
+  exec 3> "$scratch/in"
+  cat >&3 2> "$scratch/noise"
+  wait $process
+  echo $? > "$scratch/status"
+  exec 3>&-
+  rm "$scratch/in"
+}
+
+row_a_bad_line_is_the_end_of_an_open_input() {
+  local command
+  for command in check info; do
+    lines "$header" "$feature" '[]' | run_on_open_input $command
+    answered 1 'line 3, byte 0: 12 wrong kind' < /dev/null || return 1
+  done
+  lines "$header" "$feature" '[]' | run_on_open_input filter
+  lines "$header" "$feature" | answered 1 'line 3, byte 0: 12 wrong kind'
+}
+
+row_a_bad_header_is_the_end_of_an_open_input() {
+  local command
+  for command in check filter info 'check --keep-going' 'filter --keep-going'; do
+    lines "$feature" "$header" | run_on_open_input $command
+    answered 1 'line 1, byte 0: 10 member missing' < /dev/null || return 1
+  done
+}
+
+# It is told before its LF comes.
+row_a_long_line_is_the_end_of_an_open_input() {
+  { lines "$header"; head -c 1001 /dev/zero | tr '\0' '['; } | run_on_open_input check --line-limit 1000
+  answered 1 'line 2, byte 1000: 2 line too long' < /dev/null
+}
+
+# What can be written is gathered first, so many lines come before the write that fails.
+row_a_full_device_is_the_end_of_an_open_input() {
+  mkfifo "$scratch/in"
+  timeout 20 "$program" filter < "$scratch/in" > /dev/full 2> "$scratch/said" &
+  exec 3> "$scratch/in"
+  { lines "$header"; yes "$feature" | head -n 5000; } 2> "$scratch/noise" | cat >&3 2>> "$scratch/noise"
+  wait $!
+  echo $? > "$scratch/status"
+  exec 3>&-
+  answered 4 'write fault' < /dev/null
+}
+
 row_going_on_and_info() {
-  refuses "$(mistake "unexpected argument '--keep-going' found" 'Usage: cityseq info [OPTIONS]' '')" info --keep-going
+  refuses "$(mistake "unexpected argument '--keep-going' found" 'Usage: cityseq info [OPTIONS] < FILE' '')" info --keep-going
 }
 
 row_going_on_twice() {
-  refuses "$(mistake "the argument '--keep-going' cannot be used multiple times" 'Usage: cityseq check [OPTIONS]' '')" \
+  refuses "$(mistake "the argument '--keep-going' cannot be used multiple times" 'Usage: cityseq check [OPTIONS] < FILE' '')" \
     check --keep-going --keep-going
 }
 
 row_going_on_with_a_value() {
   refuses "$(mistake "unexpected value 'true' for '--keep-going' found; no more were expected" \
-    'Usage: cityseq check --keep-going' '')" check --keep-going=true
+    'Usage: cityseq check [OPTIONS] < FILE' '')" check --keep-going=true
 }
 
 row_a_full_device_after_a_report() {
@@ -529,20 +582,29 @@ row_an_empty_word() {
 }
 
 row_a_word_too_many() {
-  refuses "$(mistake "unexpected argument 'filter' found" 'Usage: cityseq filter [OPTIONS]' '')" filter filter
+  refuses "$(mistake "unexpected argument 'filter' found" 'Usage: cityseq filter [OPTIONS] < FILE' '')" filter filter
+}
+
+# A stream is named as what standard input has, and the usage shows how.
+row_a_file_that_is_named() {
+  local command
+  for command in check filter info; do
+    refuses "$(mistake "unexpected argument 'town.city.jsonl' found" "Usage: cityseq $command [OPTIONS] < FILE" '')" \
+      $command town.city.jsonl || return 1
+  done
 }
 
 row_an_unknown_option() {
   refuses "$(mistake "unexpected argument '--idd' found" "  tip: a similar argument exists: '--id'" '' \
-    'Usage: cityseq filter --id <IDS>' '')" filter --idd b
+    'Usage: cityseq filter [OPTIONS] < FILE' '')" filter --idd b
 }
 
 row_an_option_of_another_command() {
-  refuses "$(mistake "unexpected argument '--id' found" 'Usage: cityseq check [OPTIONS]' '')" check --id b
+  refuses "$(mistake "unexpected argument '--id' found" 'Usage: cityseq check [OPTIONS] < FILE' '')" check --id b
 }
 
 row_an_option_given_twice() {
-  refuses "$(mistake "the argument '--id <IDS>' cannot be used multiple times" 'Usage: cityseq filter [OPTIONS]' '')" \
+  refuses "$(mistake "the argument '--id <IDS>' cannot be used multiple times" 'Usage: cityseq filter [OPTIONS] < FILE' '')" \
     filter --id b --id c
 }
 
@@ -551,7 +613,7 @@ row_an_option_without_its_value() {
 }
 
 row_a_box_taken_for_an_option() {
-  refuses "$(mistake "unexpected argument '-5' found" 'Usage: cityseq filter [OPTIONS]' '')" filter --bbox -5,0,5,9
+  refuses "$(mistake "unexpected argument '-5' found" 'Usage: cityseq filter [OPTIONS] < FILE' '')" filter --bbox -5,0,5,9
 }
 
 # Whether this line limit is refused.
@@ -713,6 +775,15 @@ row_the_example_counts() {
   examples/embed/run.sh --try "$scratch/stream" > "$scratch/written" 2> "$scratch/noise"
   echo $? > "$scratch/status"
   lines 'buildings 2, geometries 17' | answered 0 '' || { cat "$scratch/noise"; false; }
+}
+
+# ---- wrong bodies
+
+# Whether the gate and `tests/wrong_bodies.sh` can apply each: they are not tried here.
+row_each_edit_can_be_applied() {
+  command -v python3 > "$scratch/noise" || return $skipped
+  tests/edits.py > "$scratch/written" && grep -qx '[1-9][0-9]* edits, 0 that cannot be applied' "$scratch/written" ||
+    { cat "$scratch/written"; false; }
 }
 
 # ---- what the documents name

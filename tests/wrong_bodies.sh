@@ -4,8 +4,9 @@
 #     tests/wrong_bodies.sh [CRATE..]
 #
 # A check names each function that is not proved, so many edits are tried by one, each in a function of its own
-# (wrong_bodies.py). It begins over what the crate's own checks kept in out/. The last line is 'N refused, M get past',
-# where an edit that cannot be tried counts among the latter, and the status is 0 where none does.
+# (wrong_bodies.py). It begins over what the crate's own checks kept in out/. Nothing is tried where an edit cannot be applied
+# (edits.py). The last line is 'N refused, M get past', where one that does not compile counts among the latter, and the status
+# is 0 where none does.
 set -u
 cd "$(dirname "$0")/.." || exit
 
@@ -53,6 +54,11 @@ try_crate() {
   refused=$((refused + BASH_REMATCH[1]))
   past=$((past + BASH_REMATCH[2]))
 }
+
+if ! python3 tests/edits.py "$@"; then
+  echo "nothing was tried"
+  exit 1
+fi
 
 for name in "${@:-$(crates)}"; do
   for crate in $name; do

@@ -1,3 +1,4 @@
+pub mod Commands
 pub mod EndRows
 pub mod OptionRows
 pub mod Options
@@ -8,4 +9,5 @@ pub mod Reporting
 pub mod Summary
 pub mod SummaryRows
 pub mod Text
+pub mod WordRows
 pub mod Words

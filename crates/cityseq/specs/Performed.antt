@@ -5,7 +5,6 @@ use Rattle.std.specs.Io.KnownBytes.{Keeps}
 use Rattle.clap.specs.Words.{kind_of}
 use Rattle.clap.specs.declared.error.kind.ErrorKind.{ErrorKind}
 use Rattle.clap.specs.declared.error.kind.ErrorKind.TheVariants.{OutOfMemory, DisplayHelp, DisplayVersion}
-use Rattle.clap.specs.declared.parser.matches.ArgMatches.{ArgMatches}
 use Rattle.cj_budget.specs.Limits.{LimitPair}
 use Rattle.cj_stream.specs.Criteria.{everything}
 use Rattle.cj_stream.specs.Bound.{exact_peaks}
@@ -24,10 +23,9 @@ use Rattle.cj_stream.specs.declared.ending.End.TheVariants.{Complete, Refused, R
 use Rattle.cj_stream.specs.declared.output.WriteFault.{WriteFault as Unwritten}
 use Rattle.cj_stream.specs.declared.reporting.Report.{Report}
 use Rattle.cj_stream.specs.declared.running.Outcome.{Outcome}
-use Rattle.cityseq.specs.Report.{Reports, Wrote, fault_line, query_line, status_of, status_after, status_of_query}
+use Rattle.cityseq.specs.Report.{Reports, Wrote, fault_line, limit_line, no_command_line, query_line, status_of, status_after, status_of_query}
 use Rattle.cityseq.specs.Reporting.{AreReported, report_lines}
 use Rattle.cityseq.specs.Summary.{check_text, report}
-use Rattle.cityseq.specs.Words.{CannotAsk}
 use Rattle.cityseq.specs.declared.ask.Ask.{Ask}
 use Rattle.cityseq.specs.declared.ask.Ask.TheVariants.{Check, Filter, Info}
 use Rattle.cityseq.specs.declared.ask.Told.{Told}
@@ -79,11 +77,12 @@ rules_of_ask (Check limits options) = all_under limits options
 rules_of_ask (Filter limits query options) = rules_for limits query options
 rules_of_ask (Info limits options) = all_under limits options
 
--- a command takes the options that are set: a report of `info` is of valid streams alone, so it does not go on
+-- a command takes the options that are set: `filter` alone leaves out what is asked for, and a report of `info` is of valid
+-- streams alone, so it does not go on
 abbrev pub TakesOptions : Ask → Type 0
-TakesOptions (Check limits options) = Unit {0}
+TakesOptions (Check limits options) = options.exclude ≡ false
 TakesOptions (Filter limits query options) = Unit {0}
-TakesOptions (Info limits options) = options.keep_going ≡ false
+TakesOptions (Info limits options) = (options.keep_going ≡ false) × (options.exclude ≡ false)
 
 -- the run over these bytes that what is asked comes to
 abbrev pub run_of : Ask → List ℕ → Outcome → Run
@@ -171,20 +170,12 @@ TellsError kind answer old new =
     ⊎ ((kind ≢ OutOfMemory) × IsNoHelp kind × (new.out ≡ old.out) × TellsWrongWords answer old.err new.err)
     ⊎ (¬ IsNoHelp kind × TellsHelp answer old new)
 
--- what the words ask for cannot be done: of a query, since a command of some name and options refuses it so
-abbrev pub MayDecline : NoAsk → Type 0
-MayDecline (Words error) = Unit {0}
-MayDecline NoCommand = Unit {0}
-MayDecline (Limits fault) = Unit {0}
-MayDecline (Query fault) = (name : List ℕ) × (options : ArgMatches) × CannotAsk name options fault
-
--- Nothing is done with the stream, for this reason: an error of the words is told by its kind; a command that is not
--- named has no text of its own; of a limit some text is told, unless memory was refused to it; and of a query its fault.
--- But for help nothing is written to standard output, and it is not flushed.
+-- Nothing is done with the stream, for this reason: an error of the words is told by its kind; and that no command is named,
+-- the fault of a limit and that of a query each by a line of its own. But for help nothing is written to standard output, and
+-- it is not flushed.
 abbrev pub Declines : NoAsk → ℕ → Channels → Channels → Type 0
 Declines (Words error) answer old new = TellsError (kind_of error) answer old new
-Declines NoCommand answer old new = (new.out ≡ old.out) × TellsFault [] 2 answer old.err new.err
-Declines (Limits fault) answer old new =
-    (new.out ≡ old.out) × (TellsMemory answer old.err new.err ⊎ TellsWrongWords answer old.err new.err)
+Declines NoCommand answer old new = (new.out ≡ old.out) × TellsFault no_command_line 2 answer old.err new.err
+Declines (Limits fault) answer old new = (new.out ≡ old.out) × TellsFault (limit_line fault) 2 answer old.err new.err
 Declines (Query fault) answer old new =
     (new.out ≡ old.out) × TellsFault (query_line fault) (status_of_query fault) answer old.err new.err

@@ -5,6 +5,8 @@ use Rattle.cj_stream.specs.Cut.{joined}
 use Rattle.cj_stream.specs.Output.{Channel}
 use Rattle.cj_stream.specs.Sink.{AppendsPart, RisesOnErr}
 use Rattle.cityseq.specs.declared.report.Shown.{Shown}
+use Rattle.cj_budget.specs.declared.limits.LimitFault.{LimitFault}
+use Rattle.cj_budget.specs.declared.limits.LimitFault.TheVariants.{LineLimit, DepthLimit}
 use Rattle.cj_stream.specs.declared.output.WriteFault.{WriteFault as Unwritten}
 use Rattle.cj_spans.specs.Reason.{code_of, words_of}
 use Rattle.cj_stream.specs.declared.query.fault.QueryFault.{QueryFault}
@@ -58,6 +60,14 @@ status_of_query UnknownTypeName = 2
 status_of_query BadBox = 2
 status_of_query BoxRange = 2
 status_of_query EmptyBox = 2
+
+-- what stands on standard error of a limit that is out of its range, and where the words name no command; the status is 2
+abbrev pub limit_line : LimitFault → List ℕ
+limit_line LineLimit = codes "the line limit is out of range\n"
+limit_line DepthLimit = codes "the depth limit is out of range\n"
+
+abbrev pub no_command_line : List ℕ
+no_command_line = codes "no command: check, filter or info\n"
 
 -- the end that is shown of a run that ended so: a write fault where the flush after it failed
 abbrev pub shown_end : Result (Unit {0}) Unwritten → End → End

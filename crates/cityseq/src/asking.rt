@@ -1,14 +1,12 @@
 //! What the words ask for: an `Ask`, with its limits and its query, or why there is none.
-ghost use Rattle.std.specs.Prelude.{◌≡◌, ℕ, List, Some, Ok, Err, IfOk, IfErr, IsErrOf, OnOk, MatchOption};
-ghost use Rattle.clap.specs.declared.parser.matches.ArgMatches.{ArgMatches};
+ghost use Rattle.std.specs.Prelude.{◌≡◌, Some, Ok, Err, IfOk, IfErr, OnOk, MatchOption, map, string_bytes};
 ghost use Rattle.cj_stream.specs.Adding.{flags_with, no_types};
 ghost use Rattle.cj_stream.specs.BoxText.{fields};
 ghost use Rattle.cj_stream.specs.Query.{criteria};
-ghost use Rattle.cj_stream.specs.declared.query.fault.QueryFault.{QueryFault};
 ghost use Rattle.cj_stream.specs.declared.query.fault.QueryFault.TheVariants.{Memory, UnknownTypeName};
 ghost use Rattle.cityseq.specs.Options.{criteria_by, texts_of, RefusesBy};
-ghost use Rattle.cityseq.specs.Performed.{MayDecline, TakesOptions};
-ghost use Rattle.cityseq.specs.Words.{AsksBy, CannotAsk};
+ghost use Rattle.cityseq.specs.Performed.{TakesOptions};
+ghost use Rattle.cityseq.specs.Words.{AsksBy, AsksFor, MayDecline, Refuses};
 
 use crate::ask::Ask;
 use crate::words::{
@@ -38,9 +36,9 @@ pub enum NoAsk {
 ///
 /// Why nothing is to be done with the stream.
 pub fn read_ask(alloc: Global, words: &[String]) -> Result<Ask, NoAsk>
-    ensures ok { IfOk result (λ ask. (name : List ℕ) × (options : ArgMatches) × AsksBy name options ask) }
+    ensures ok { IfOk result (AsksFor (map string_bytes words.now)) }
     ensures takes { IfOk result TakesOptions }
-    ensures err { IfErr result MayDecline }
+    ensures err { IfErr result (MayDecline (map string_bytes words.now)) }
 {
     let matches = match read_words(alloc, words) {
         Ok(matches) => matches,
@@ -56,7 +54,7 @@ pub fn read_ask(alloc: Global, words: &[String]) -> Result<Ask, NoAsk>
 fn ask_of(alloc: Global, name: &str, options: &ArgMatches) -> Result<Ask, NoAsk>
     ensures ok { IfOk result (λ ask. AsksBy name.now options.now ask) }
     ensures takes { IfOk result TakesOptions }
-    ensures err { (fault : QueryFault) → IsErrOf result (NoAsk.Query fault) → CannotAsk name.now options.now fault }
+    ensures err { IfErr result (Refuses name.now options.now) }
 {
     let limits = match limits_of(options) {
         Ok(limits) => limits,

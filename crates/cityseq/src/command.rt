@@ -1,10 +1,9 @@
 //! The command line: what its words ask for is done, or declined.
-ghost use Rattle.std.specs.Prelude.{◌≡◌, ◌⊎◌, ℕ, List};
+ghost use Rattle.std.specs.Prelude.{◌≡◌, ◌⊎◌, ℕ, List, map, string_bytes};
 ghost use Rattle.std.specs.Io.KnownBytes.{Consumes, IsAtEnd};
-ghost use Rattle.clap.specs.declared.parser.matches.ArgMatches.{ArgMatches};
 ghost use Rattle.cj_stream.specs.Output.{channel};
-ghost use Rattle.cityseq.specs.Performed.{Performs, Declines, MayDecline};
-ghost use Rattle.cityseq.specs.Words.{AsksBy};
+ghost use Rattle.cityseq.specs.Performed.{Performs, Declines};
+ghost use Rattle.cityseq.specs.Words.{AsksFor, MayDecline};
 ghost use Rattle.cityseq.specs.declared.ask.Ask.{Ask};
 ghost use Rattle.cityseq.specs.declared.asking.NoAsk.{NoAsk};
 
@@ -24,12 +23,12 @@ pub fn command<R: Read, W: Write + Drop, E: Write + Drop>(
     out: &mut Output<W>,
     err: &mut Output<E>,
 ) -> u8
-    ensures { ((name : List ℕ) × (options : ArgMatches) × (ask : Ask) × AsksBy name options ask × (r : List ℕ)
+    ensures { ((ask : Ask) × AsksFor (map string_bytes words.now) ask × (r : List ℕ)
         × Consumes (R.remaining reader.old) (R.remaining reader.new) r
         × Performs ask r (IsAtEnd (R.remaining reader.new)) result
         (record { out = channel W.contents out.old; err = channel E.contents err.old })
         (record { out = channel W.contents out.new; err = channel E.contents err.new }))
-        ⊎ ((reader.new ≡ reader.old) × (why : NoAsk) × MayDecline why
+        ⊎ ((reader.new ≡ reader.old) × (why : NoAsk) × MayDecline (map string_bytes words.now) why
         × Declines why result
         (record { out = channel W.contents out.old; err = channel E.contents err.old })
         (record { out = channel W.contents out.new; err = channel E.contents err.new })) }

@@ -1,14 +1,15 @@
-//! What is told where nothing is done with the stream: the help, wrong words, or a query that cannot be asked.
-ghost use Rattle.std.specs.Prelude.{◌⊎◌};
+//! What is told where nothing is done with the stream: the help, wrong words, a limit out of its range, or a query that
+//! cannot be asked.
 ghost use Rattle.clap.specs.Words.{kind_of};
 ghost use Rattle.cj_stream.specs.Output.{channel};
-ghost use Rattle.cityseq.specs.Performed.{Declines, TellsError, TellsFault, TellsHelp, TellsMemory, TellsWrongWords};
-ghost use Rattle.cityseq.specs.Report.{query_line, status_of_query};
+ghost use Rattle.cityseq.specs.Performed.{Declines, TellsError, TellsFault, TellsHelp, TellsMemory};
+ghost use Rattle.cityseq.specs.Report.{limit_line, query_line, status_of_query};
 
 use crate::ask::end_of_writing;
 use crate::asking::NoAsk;
 use crate::report::{
-    WRONG_WORDS, query_status, show, status, write_fault_line, write_query_fault, write_text,
+    WRONG_WORDS, query_status, show, status, write_fault_line, write_limit_fault,
+    write_query_fault, write_text,
 };
 use cj_budget::LimitFault;
 use cj_stream::{End, Output, QueryFault};
@@ -30,8 +31,8 @@ pub fn decline<W: Write + Drop, E: Write + Drop>(
 {
     match why {
         NoAsk::Words(error) => tell_error(alloc, error, out, err),
-        NoAsk::NoCommand => tell_wrong_words("", err),
-        NoAsk::Limits(fault) => tell_refused_limit(alloc, *fault, err),
+        NoAsk::NoCommand => tell_wrong_words("no command: check, filter or info\n", err),
+        NoAsk::Limits(fault) => tell_refused_limit(*fault, err),
         NoAsk::Query(fault) => tell_refused_query(*fault, err),
     }
 }
@@ -82,15 +83,12 @@ fn tell_wrong_words<E: Write + Drop>(text: &str, err: &mut Output<E>) -> u8
     WRONG_WORDS
 }
 
-/// Says that a limit is out of its range.
-fn tell_refused_limit<E: Write + Drop>(alloc: Global, fault: LimitFault, err: &mut Output<E>) -> u8
-    ensures { TellsMemory result (channel E.contents err.old) (channel E.contents err.new)
-        ⊎ TellsWrongWords result (channel E.contents err.old) (channel E.contents err.new) }
+/// Says which limit is out of its range, and answers the status of that.
+fn tell_refused_limit<E: Write + Drop>(fault: LimitFault, err: &mut Output<E>) -> u8
+    ensures { TellsFault (limit_line fault) 2 result (channel E.contents err.old) (channel E.contents err.new) }
 {
-    match format!(in alloc; "{fault}\n") {
-        Ok(text) => tell_wrong_words(&text, err),
-        Err(_) => tell_no_memory(err),
-    }
+    let _ = write_limit_fault(err, fault);
+    WRONG_WORDS
 }
 
 /// Says that a query cannot be asked, and answers the status of that.

@@ -13,7 +13,7 @@
 //! - `reporting` has the sink that writes reports of refused lines to standard error as they come;
 //! - `report` has the lines that standard error is told, and the statuses.
 //!
-//! `option_laws`, `summary_laws` and `end_laws` are worked rows of the definitions, as theorems.
+//! `option_laws`, `word_laws`, `summary_laws` and `end_laws` are worked rows of the definitions, as theorems.
 #![tactic(auto)]
 
 mod ask;
@@ -28,6 +28,7 @@ mod summary;
 mod summary_laws;
 #[cfg(test)]
 mod tests;
+mod word_laws;
 mod words;
 
 use crate::command::command;

@@ -4,8 +4,9 @@ ghost use Rattle.std.specs.Io.KnownBytes.{Appends};
 ghost use Rattle.cj_stream.specs.Cut.{joined};
 ghost use Rattle.cj_stream.specs.Sink.{AppendsPart, RisesOnErr};
 ghost use Rattle.cj_stream.specs.Output.{channel, output_writer, output_failures};
-ghost use Rattle.cityseq.specs.Report.{Wrote, WroteAfter, fault_line, query_line, shown_end, status_of, status_after as due_after, status_of_query};
+ghost use Rattle.cityseq.specs.Report.{Wrote, WroteAfter, fault_line, limit_line, query_line, shown_end, status_of, status_after as due_after, status_of_query};
 
+use cj_budget::LimitFault;
 use cj_spans::Reason;
 use cj_stream::{End, Output, QueryFault, WriteFault};
 use itoa::Buffer;
@@ -145,6 +146,19 @@ pub fn write_query_fault<E: Write + Drop>(
         QueryFault::BadBox => write_text(err, "bad box\n"),
         QueryFault::BoxRange => write_text(err, "box number out of range\n"),
         QueryFault::EmptyBox => write_text(err, "empty box\n"),
+    }
+}
+
+/// Writes the line that a limit which is out of its range has on standard error.
+pub fn write_limit_fault<E: Write + Drop>(
+    err: &mut Output<E>,
+    fault: LimitFault,
+) -> Result<(), WriteFault>
+    ensures { Wrote (limit_line fault) result (channel E.contents err.old) (channel E.contents err.new) }
+{
+    match fault {
+        LimitFault::LineLimit => write_text(err, "the line limit is out of range\n"),
+        LimitFault::DepthLimit => write_text(err, "the depth limit is out of range\n"),
     }
 }
 

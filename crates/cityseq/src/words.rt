@@ -1,7 +1,10 @@
 //! The words of the command line, read by `clap`: the help, and the limits and the texts that options give.
-ghost use Rattle.std.specs.Prelude.{◌≡◌, IfOk, decimal};
+ghost use Rattle.std.specs.Prelude.{◌≡◌, IfOk, IfErr, true, codes, decimal, map, string_bytes};
+ghost use Rattle.clap.specs.Words.{App, FailsBy, fault_of, kind_of, subcommand_of, subcommand_rows_of, new_app, takes};
+ghost use Rattle.clap.specs.declared.error.kind.ErrorKind.{ErrorKind};
+ghost use Rattle.cityseq.specs.Commands.{IsOption, IsCommand, line_rule, depth_rule, flag_rule, text_rule, with_limits as limited, check_app, filter_app, info_app, program_app};
 ghost use Rattle.cityseq.specs.Options.{texts_of as texts_given};
-ghost use Rattle.cityseq.specs.Words.{texts_in, HasNumber, HasLimits, HasFlag, HasCheckOptions, HasFilterOptions, HasInfoOptions};
+ghost use Rattle.cityseq.specs.Words.{texts_in, HasNumber, HasLimits, RefusesLimits, HasFlag, HasCheckOptions, HasFilterOptions, HasInfoOptions};
 
 use cj_budget::{LimitFault, Limits, USUAL_DEPTH, USUAL_LINE};
 use cj_stream::Options;
@@ -90,25 +93,41 @@ fn usual_depth() -> &'static str
     "64"
 }
 
-/// A command with the options that all commands have: the limits.
-fn with_limits(command: Command<'_>, alloc: Global) -> Result<Command<'_>, AllocError> {
-    let line = Arg::new(alloc, LINE_LIMIT)
+/// The option of the line limit.
+fn line_limit<'a>(alloc: Global) -> Arg<'a>
+    ensures { IsOption result line_rule }
+{
+    Arg::new(alloc, LINE_LIMIT)
         .long(LINE_LIMIT)
         .value_name("BYTES")
         .value_parser(value_parser!(u64).range(1..=1_073_741_824))
         .default_value(usual_line())
-        .help("Refuse a line that is longer, from 1 to 1073741824");
-    let depth = Arg::new(alloc, DEPTH)
+        .help("Refuse a line that is longer, from 1 to 1073741824")
+}
+
+/// The option of the depth limit.
+fn depth_limit<'a>(alloc: Global) -> Arg<'a>
+    ensures { IsOption result depth_rule }
+{
+    Arg::new(alloc, DEPTH)
         .long(DEPTH)
         .value_name("LEVELS")
         .value_parser(value_parser!(u64).range(1..=1_024))
         .default_value(usual_depth())
-        .help("Refuse a line with more arrays and objects open at once, from 1 to 1024");
-    command.arg(line)?.arg(depth)
+        .help("Refuse a line with more arrays and objects open at once, from 1 to 1024")
+}
+
+/// A command with the options that all commands have: the limits.
+fn with_limits(command: Command<'_>, alloc: Global) -> Result<Command<'_>, AllocError>
+    ensures { IfOk result (λ c. (a : App) → IsCommand command.entry a → IsCommand c (limited a)) }
+{
+    command.arg(line_limit(alloc))?.arg(depth_limit(alloc))
 }
 
 /// An option that is given or not, and takes no text.
-fn flag<'a>(alloc: Global, name: &'a str, help: &'a str) -> Arg<'a> {
+fn flag<'a>(alloc: Global, name: &'a str, help: &'a str) -> Arg<'a>
+    ensures { IsOption result (flag_rule name.entry.now) }
+{
     Arg::new(alloc, name)
         .long(name)
         .action(ArgAction::SetTrue)
@@ -116,7 +135,9 @@ fn flag<'a>(alloc: Global, name: &'a str, help: &'a str) -> Arg<'a> {
 }
 
 /// The option to go on after invalid lines.
-fn keep_going<'a>(alloc: Global) -> Arg<'a> {
+fn keep_going<'a>(alloc: Global) -> Arg<'a>
+    ensures { IsOption result (flag_rule (codes "keep-going")) }
+{
     flag(
         alloc,
         KEEP_GOING,
@@ -125,7 +146,9 @@ fn keep_going<'a>(alloc: Global) -> Arg<'a> {
 }
 
 /// The option to ask for trees of city objects.
-fn tree<'a>(alloc: Global) -> Arg<'a> {
+fn tree<'a>(alloc: Global) -> Arg<'a>
+    ensures { IsOption result (flag_rule (codes "tree")) }
+{
     flag(
         alloc,
         TREE,
@@ -134,26 +157,56 @@ fn tree<'a>(alloc: Global) -> Arg<'a> {
 }
 
 /// An option of a query, which takes a text.
-fn query_option<'a>(alloc: Global, name: &'a str, value: &'a str, help: &'a str) -> Arg<'a> {
+fn query_option<'a>(alloc: Global, name: &'a str, value: &'a str, help: &'a str) -> Arg<'a>
+    ensures { IsOption result (text_rule name.entry.now) }
+{
     Arg::new(alloc, name)
         .long(name)
         .value_name(value)
         .help(help)
 }
 
-fn check_command<'a>(alloc: Global) -> Result<Command<'a>, AllocError> {
-    let command = Command::new(alloc, "check")
-        .about("Say whether a stream is valid, and count its lines and features")
-        .after_help(CHECK_EXAMPLE);
+/// A command with its texts, and with no options.
+fn described<'a>(
+    alloc: Global,
+    name: &'a str,
+    about: &'a str,
+    usage: &'a str,
+    examples: &'a str,
+) -> Command<'a>
+    ensures { IsCommand result (new_app name.entry.now) }
+{
+    Command::new(alloc, name)
+        .about(about)
+        .override_usage(usage)
+        .after_help(examples)
+}
+
+fn check_command<'a>(alloc: Global) -> Result<Command<'a>, AllocError>
+    ensures { IfOk result (λ c. IsCommand c check_app) }
+{
+    let command = described(
+        alloc,
+        "check",
+        "Say whether a stream is valid, and count its lines and features",
+        "cityseq check [OPTIONS] < FILE",
+        CHECK_EXAMPLE,
+    );
     with_limits(command, alloc)?
         .arg(keep_going(alloc))?
         .arg(tree(alloc))
 }
 
-fn filter_command<'a>(alloc: Global) -> Result<Command<'a>, AllocError> {
-    let command = Command::new(alloc, "filter")
-        .about("Copy the header and the features that are wanted")
-        .after_help(FILTER_EXAMPLE);
+fn filter_command<'a>(alloc: Global) -> Result<Command<'a>, AllocError>
+    ensures { IfOk result (λ c. IsCommand c filter_app) }
+{
+    let command = described(
+        alloc,
+        "filter",
+        "Copy the header and the features that are wanted",
+        "cityseq filter [OPTIONS] < FILE",
+        FILTER_EXAMPLE,
+    );
     with_limits(command, alloc)?
         .arg(keep_going(alloc))?
         .arg(tree(alloc))?
@@ -188,15 +241,23 @@ fn filter_command<'a>(alloc: Global) -> Result<Command<'a>, AllocError> {
         ))
 }
 
-fn info_command<'a>(alloc: Global) -> Result<Command<'a>, AllocError> {
-    let command = Command::new(alloc, "info")
-        .about("Report what is in a stream: types, LoDs, extent, and memory")
-        .after_help(INFO_EXAMPLE);
+fn info_command<'a>(alloc: Global) -> Result<Command<'a>, AllocError>
+    ensures { IfOk result (λ c. IsCommand c info_app) }
+{
+    let command = described(
+        alloc,
+        "info",
+        "Report what is in a stream: types, LoDs, extent, and memory",
+        "cityseq info [OPTIONS] < FILE",
+        INFO_EXAMPLE,
+    );
     with_limits(command, alloc)?.arg(tree(alloc))
 }
 
 /// What `clap` knows of the command line: the program with its commands, their options and all help.
-fn program<'a>(alloc: Global) -> Result<Command<'a>, AllocError> {
+fn program<'a>(alloc: Global) -> Result<Command<'a>, AllocError>
+    ensures { IfOk result (λ c. IsCommand c program_app) }
+{
     Command::new(alloc, "cityseq")
         .version(VERSION)
         .about(
@@ -215,7 +276,13 @@ fn program<'a>(alloc: Global) -> Result<Command<'a>, AllocError> {
 /// # Errors
 ///
 /// What is wrong with them, or the help that they ask for, as the text of `clap`.
-pub fn read_words<'a>(alloc: Global, words: &'a [String]) -> Result<ArgMatches<'a>, Error> {
+pub fn read_words<'a>(alloc: Global, words: &'a [String]) -> Result<ArgMatches<'a>, Error>
+    ensures ok { IfOk result (λ m. subcommand_rows_of m
+        ≡ subcommand_of program_app (map string_bytes words.entry.now)) }
+    ensures err { IfErr result (λ e. takes program_app (map string_bytes words.entry.now) ≡ true
+        → kind_of e ≡ ErrorKind.OutOfMemory) }
+    ensures kinds { FailsBy (fault_of program_app (map string_bytes words.entry.now)) result }
+{
     program(alloc)?.try_get_matches_from(words)
 }
 
@@ -232,7 +299,8 @@ fn number_of(matches: &ArgMatches, option: &str, usual: u64) -> u64
 ///
 /// The first that is out of its range.
 pub fn limits_of(matches: &ArgMatches) -> Result<Limits, LimitFault>
-    ensures { IfOk result (λ limits. HasLimits matches.now limits) }
+    ensures ok { IfOk result (λ limits. HasLimits matches.now limits) }
+    ensures err { IfErr result (λ fault. RefusesLimits matches.now fault) }
 {
     let line = number_of(matches, LINE_LIMIT, USUAL_LINE);
     let depth = number_of(matches, DEPTH, USUAL_DEPTH);

@@ -1,17 +1,18 @@
 -- What the rules say of worked headers and features.
-use Rattle.std.proofs.Common.{◌≡◌, ℕ, List, [], ◌∷◌, ◌++◌, false, None, Some, refl}
+use Rattle.std.proofs.Common.{◌≡◌, ℕ, List, [], ◌∷◌, ◌++◌, false, true, None, Some, refl}
 use Rattle.std.specs.Prelude.{codes}
 use Rattle.std.specs.Str.{chars}
-use Rattle.cj_spans.specs.declared.reason.Reason.TheVariants.{MissingMember, IdNotFound}
+use Rattle.cj_spans.specs.declared.reason.Reason.TheVariants.{MissingMember, IdNotFound, NotReached}
 use Rattle.cj_spans.specs.Finding.{least, found_at}
 use Rattle.cj_spans.specs.Json.{atom_at}
 use Rattle.cj_spans.specs.Text.{text, code_points_after, first_code_point, first_width}
 use Rattle.cj_spans.specs.Tree.{Tree, array, object, no_items, member, no_members}
 use Rattle.cj_geometry.specs.ObjectTypes.{object_types}
 use Rattle.cj_geometry.proofs.Digits.{number-zero, number-one}
-use Rattle.cj_feature.specs.Examples.{Row, row, plain_header, other_id, text as text_at}
+use Rattle.cj_feature.specs.Examples.{Row, row, plain_header, other_id, chain, part_apart, main_part, text as text_at}
 use Rattle.cj_feature.specs.Feature.{feature}
 use Rattle.cj_feature.specs.Header.{header}
+use Rattle.cj_feature.specs.Reached.{reached_from, is_reached}
 
 -- a feature of one city object
 abbrev pub plain_feature : Row
@@ -47,6 +48,23 @@ euro_feature-valid = refl
 pub other_id-refused : least None (feature plain_header other_id.tree false) ≡ Some (found_at 31 IdNotFound)
 unfolding text code_points_after first_code_point first_width chars object_types
 other_id-refused = refl
+
+-- where each city object has to be reached from the main one, and where not
+pub chain-valid : feature plain_header chain.tree true ≡ []
+unfolding text code_points_after first_code_point first_width chars object_types reached_from is_reached
+chain-valid = refl
+
+pub part_apart-refused : least None (feature plain_header part_apart.tree true) ≡ Some (found_at 78 NotReached)
+unfolding text code_points_after first_code_point first_width chars object_types reached_from is_reached
+part_apart-refused = refl
+
+pub main_part-refused : least None (feature plain_header main_part.tree true) ≡ Some (found_at 98 NotReached)
+unfolding text code_points_after first_code_point first_width chars object_types reached_from is_reached
+main_part-refused = refl
+
+pub part_apart-valid : feature plain_header part_apart.tree false ≡ []
+unfolding text code_points_after first_code_point first_width chars object_types
+part_apart-valid = refl
 
 -- neither a header nor a feature is the other
 pub feature-no_header : least None (header false plain_feature.tree) ≡ Some (found_at 0 MissingMember)

@@ -203,6 +203,46 @@ null_children =
     (λ line. member (atom_at line 50 53) (object 54 89 (member (atom_at line 55 61) (text line 62 72)
     (member (atom_at line 73 83) (scalar Null (atom_at line 84 88)) no_members))) no_members)
 
+-- ---- city objects that hang on the main one, or not
+
+-- a chain of parts that ends in the main one, so that one time over them in their order does not reach all
+abbrev pub chain : Row
+chain =
+    row (codes "\"q\":{\"type\":\"BuildingPart\",\"parents\":[\"p\"]},\"p\":{\"type\":\"BuildingPart\",\"parents\":[\"b\"],\"children\":[\"q\"]},\"b\":{\"type\":\"Building\",\"children\":[\"p\"]}")
+    (λ line. member (atom_at line 50 53) (object 54 93 (member (atom_at line 55 61) (text line 62 76)
+    (member (atom_at line 77 86) (array 87 92 (item (text line 88 91) no_items)) no_members)))
+    (member (atom_at line 94 97) (object 98 154 (member (atom_at line 99 105) (text line 106 120)
+    (member (atom_at line 121 130) (array 131 136 (item (text line 132 135) no_items))
+    (member (atom_at line 137 147) (array 148 153 (item (text line 149 152) no_items)) no_members))))
+    (member (atom_at line 155 158) (object 159 195 (member (atom_at line 160 166) (text line 167 177)
+    (member (atom_at line 178 188) (array 189 194 (item (text line 190 193) no_items)) no_members))) no_members)))
+
+-- a part that is not reached, before its parent, which is not reached either
+abbrev pub part_apart : Row
+part_apart =
+    row (codes "\"b\":{\"type\":\"Building\"},\"p\":{\"type\":\"BuildingPart\",\"parents\":[\"c\"]},\"c\":{\"type\":\"Building\",\"children\":[\"p\"]}")
+    (λ line. member (atom_at line 50 53) (object 54 73 (member (atom_at line 55 61) (text line 62 72) no_members))
+    (member (atom_at line 74 77) (object 78 117 (member (atom_at line 79 85) (text line 86 100)
+    (member (atom_at line 101 110) (array 111 116 (item (text line 112 115) no_items)) no_members)))
+    (member (atom_at line 118 121) (object 122 158 (member (atom_at line 123 129) (text line 130 140)
+    (member (atom_at line 141 151) (array 152 157 (item (text line 153 156) no_items)) no_members))) no_members)))
+
+-- a main city object of the second level, whose parent it does not list
+abbrev pub main_part : Row
+main_part =
+    row (codes "\"b\":{\"type\":\"BuildingPart\",\"parents\":[\"c\"]},\"c\":{\"type\":\"Building\",\"children\":[\"b\"]}")
+    (λ line. member (atom_at line 50 53) (object 54 93 (member (atom_at line 55 61) (text line 62 76)
+    (member (atom_at line 77 86) (array 87 92 (item (text line 88 91) no_items)) no_members)))
+    (member (atom_at line 94 97) (object 98 134 (member (atom_at line 99 105) (text line 106 116)
+    (member (atom_at line 117 127) (array 128 133 (item (text line 129 132) no_items)) no_members))) no_members))
+
+-- a number in the place of a city object that is not reached
+abbrev pub number_apart : Row
+number_apart =
+    row (codes "\"b\":{\"type\":\"Building\"},\"c\":3")
+    (λ line. member (atom_at line 50 53) (object 54 73 (member (atom_at line 55 61) (text line 62 72) no_members))
+    (member (atom_at line 74 77) (number line 78 79) no_members))
+
 -- ---- headers
 
 -- an object of no members

@@ -82,7 +82,8 @@ vertex_list t = of_kind is_array (λ u. flat_map (of_length NotThree 3 whole_num
 
 -- ---- city objects that hang on the main one
 
--- a city object among these, of which none has a finding that is reached from the id
+-- a city object among these, of which none has a finding that is reached from the id; a value that is no object counts as one,
+-- and has the finding of its kind before
 abbrev pub unreached : List (Tree × Tree) → Tree → Tree × Tree → List Finding
 unreached objects id m = cond (is_reached objects id m.0) [] (one NotReached m.1)
 

@@ -23,7 +23,8 @@ pub record IsReached (objects : List (Tree × Tree)) (id name : Tree) : Type 0 w
   pub named : text_of name ≡ Some own
   pub reached : Reached objects main own
 
--- a city object of the feature of this tree that is reached from the feature's id
+-- A city object of the feature of this tree that is reached from the feature's id. A value that is no object counts as one: its
+-- name is an id all the same, and no verdict hangs on it, as the finding of its kind comes first, at the same place.
 pub record IsReachedObject (feature object : Tree) : Type 0 where
   pub id : Tree
   pub has_id : member_of (chars (codes "id")) feature ≡ Some id

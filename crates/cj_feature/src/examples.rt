@@ -1,12 +1,12 @@
 //! The rules at worked features and headers: each contract is a theorem in which nothing runs.
-ghost use Rattle.std.specs.Prelude.{◌≡◌, ◌∷◌, [], false, Some, codes};
-ghost use Rattle.cj_spans.specs.declared.reason.Reason.TheVariants.{MissingMember, DuplicateName, WrongKind, WrongType, WrongVersion, NotEmpty, NotThree, IdNotFound, ChildNotFound, LinkNotMutual, NoParent};
+ghost use Rattle.std.specs.Prelude.{◌≡◌, ◌∷◌, [], false, true, Some, codes};
+ghost use Rattle.cj_spans.specs.declared.reason.Reason.TheVariants.{MissingMember, DuplicateName, WrongKind, WrongType, WrongVersion, NotEmpty, NotThree, IdNotFound, ChildNotFound, LinkNotMutual, NoParent, NotReached};
 ghost use Rattle.cj_spans.specs.Finding.{least, found_at};
 ghost use Rattle.cj_spans.specs.Forest.{forest};
 ghost use Rattle.cj_spans.specs.Preorder.{preorder};
 ghost use Rattle.cj_feature.specs.Header.{header};
 ghost use Rattle.cj_feature.specs.Feature.{feature};
-ghost use Rattle.cj_feature.specs.Examples.{bare, itself, lost_child, unlisted_part, unlisted_parent, lost_parent, part_alone, part_of_other, part_of_none, part_of_number, group, unlisted_member, unlisted_group, group_of_other, part_of_no_object, no_objects, doubled, escaped, same_by_escape, no_object, child_no_object, other_id, unread_names, null_children, plain_header, plain_header_line, other_type, other_type_line, other_version, other_version_line, more_digits, more_digits_line, no_scale, no_scale_line, two_scales, two_scales_line, with_objects, with_objects_line, with_vertices, with_vertices_line};
+ghost use Rattle.cj_feature.specs.Examples.{bare, itself, lost_child, unlisted_part, unlisted_parent, lost_parent, part_alone, part_of_other, part_of_none, part_of_number, group, unlisted_member, unlisted_group, group_of_other, part_of_no_object, no_objects, doubled, escaped, same_by_escape, no_object, child_no_object, other_id, unread_names, null_children, chain, part_apart, main_part, number_apart, plain_header, plain_header_line, other_type, other_type_line, other_version, other_version_line, more_digits, more_digits_line, no_scale, no_scale_line, two_scales, two_scales_line, with_objects, with_objects_line, with_vertices, with_vertices_line};
 
 /// A city object may list itself, as a child and as a parent.
 pub fn children_and_parents_of_itself()
@@ -65,6 +65,22 @@ pub fn an_id_of_no_city_object()
     ensures none { feature bare no_objects.tree false ≡ found_at 31 IdNotFound ∷ [] }
 {}
 
+/// Where each city object has to be reached from the main one, all that are not have a finding: of either level, wherever
+/// they stand, and whatever the main one is. What is reached hangs on no order.
+pub fn city_objects_that_are_not_reached()
+    ensures chain { feature bare chain.tree true ≡ [] }
+    ensures apart { feature bare part_apart.tree true ≡ found_at 78 NotReached ∷ found_at 122 NotReached ∷ [] }
+    ensures main_part { feature bare main_part.tree true ≡ found_at 98 NotReached ∷ [] }
+    ensures unasked { feature bare part_apart.tree false ≡ [] }
+    ensures unasked_part { feature bare main_part.tree false ≡ [] }
+{}
+
+/// A value that is no object is not reached either, and has the finding of its kind first, at the same place.
+pub fn a_number_that_is_not_reached()
+    ensures all { feature bare number_apart.tree true ≡ found_at 78 WrongKind ∷ found_at 78 NotReached ∷ [] }
+    ensures least { least None (feature bare number_apart.tree true) ≡ Some (found_at 78 WrongKind) }
+{}
+
 /// A header has its type and its version, whose digits are those of the version.
 pub fn types_and_versions()
     ensures plain { header false plain_header ≡ [] }
@@ -113,6 +129,10 @@ pub fn trees_of_features()
     ensures part_of_no_object { forest part_of_no_object.line (preorder part_of_no_object.tree)
         ≡ part_of_no_object.tree ∷ [] }
     ensures no_objects { forest no_objects.line (preorder no_objects.tree) ≡ no_objects.tree ∷ [] }
+    ensures chain { forest chain.line (preorder chain.tree) ≡ chain.tree ∷ [] }
+    ensures part_apart { forest part_apart.line (preorder part_apart.tree) ≡ part_apart.tree ∷ [] }
+    ensures main_part { forest main_part.line (preorder main_part.tree) ≡ main_part.tree ∷ [] }
+    ensures number_apart { forest number_apart.line (preorder number_apart.tree) ≡ number_apart.tree ∷ [] }
 {}
 
 /// And so those of headers.

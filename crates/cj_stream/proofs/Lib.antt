@@ -5,6 +5,7 @@ pub mod BoundRowLemmas
 pub mod BoxLemmas
 pub mod BoxRowLemmas
 pub mod BoxTextLemmas
+pub mod ChoiceRowLemmas
 pub mod CountReportsLemmas
 pub mod CountRowLemmas
 pub mod Counted

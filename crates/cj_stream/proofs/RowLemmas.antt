@@ -37,7 +37,7 @@ first : {A : Type 0} (x y : A) → x ∷ [] ≡ y ∷ [] → x ≡ y
 first x y e = cc
 
 -- a line whose run is known spells the tree that its tokens show
-spelled-tree : (b : List ℕ) (s : State) (us : List Token) (p : ℕ) (t : Tree) → after b (length b) ≡ Some s → settle s ≡ Some (state (between After) [] us (length b) p) → forest b (spans_of us) ≡ t ∷ [] → Json b t
+pub spelled-tree : (b : List ℕ) (s : State) (us : List Token) (p : ℕ) (t : Tree) → after b (length b) ≡ Some s → settle s ≡ Some (state (between After) [] us (length b) p) → forest b (spans_of us) ≡ t ∷ [] → Json b t
 spelled-tree b s us p t h e f =
     let z = spells_end b s us p h e in
     let spans : spans_of us ≡ preorder z.tree = ap spans_of z.tokens ∙ spans_of-flatten 0 z.tree in
@@ -50,7 +50,7 @@ module _ {b : List ℕ} {d : ℕ} (t : Tree) (json : Json b t) (shallow : nest t
   judged (broken i s m) = absurd (say_same (broken i s m) (spelled t json shallow))
   judged (sunk i s) = absurd (say_same (sunk i s) (spelled t json shallow))
 
-  by-tree : (rules : Rules) (n : ℕ) (header : Tree) (j : Judgement b d) → text_verdict rules n header j ≡ tree_verdict rules n header t
+  pub by-tree : (rules : Rules) (n : ℕ) (header : Tree) (j : Judgement b d) → text_verdict rules n header j ≡ tree_verdict rules n header t
   by-tree rules n header (spelled u k m) = ap (tree_verdict rules n header) (say_same (spelled u k m) (spelled t json shallow))
   by-tree rules n header (broken i s m) = absurd (say_same (broken i s m) (spelled t json shallow))
   by-tree rules n header (sunk i s) = absurd (say_same (sunk i s) (spelled t json shallow))
@@ -74,7 +74,7 @@ lost_json = spelled-tree lost_feature _ _ _ other_id.tree refl refl refl
 -- ---- verdicts
 
 -- where nothing is asked, each feature satisfies it
-holds-everything : (header t : Tree) → holds everything header t ≡ true
+pub holds-everything : (header t : Tree) → holds everything header t ≡ true
 unfolding holds
 holds-everything header t = refl
 
@@ -103,7 +103,7 @@ unfolding is_utf8 chars encode
 euro_text = IsUtf8-from_is_utf8 euro_feature refl
 
 -- the tree of the header
-header_tree : tree_of 64 small_header ≡ plain_header
+pub header_tree : tree_of 64 small_header ≡ plain_header
 header_tree = judged plain_header header_json (lit≤ tt) (judgement small_header 64)
 
 pub header_first : (t : Tree) → verdict_at wide_rules 1 t small_header ≡ Valid
@@ -173,7 +173,7 @@ module _ (rules : Rules) where
     first-refused l rest bad = rw bad (refl, refl)
 
     module _ (h : Line) (valid : verdict rules [] h.content ≡ Valid) where
-      second-refused : goes_on rules 2 ≡ false → (l : Line) (rest : List Line) → verdict rules (h ∷ []) l.content ≡ Refuse place reason → (ending_of rules (h ∷ l ∷ rest) ≡ Refused 2 place reason) × (written (h ∷ l ∷ rest) ≡ raw h ++ [])
+      pub second-refused : goes_on rules 2 ≡ false → (l : Line) (rest : List Line) → verdict rules (h ∷ []) l.content ≡ Refuse place reason → (ending_of rules (h ∷ l ∷ rest) ≡ Refused 2 place reason) × (written (h ∷ l ∷ rest) ≡ raw h ++ [])
       unfolding verdict_at
       second-refused on l rest bad = rw (valid, bad, on) (refl, rw valid refl)
 
@@ -183,7 +183,7 @@ module _ (rules : Rules) where
       third-refused on f l rest good bad = rw (valid, good, bad, on) (refl, rw (valid, good) refl)
 
   module _ (h : Line) (valid : verdict rules [] h.content ≡ Valid) where
-    two-good : (f : Line) → verdict rules (h ∷ []) f.content ≡ Valid → (ending_of rules (h ∷ f ∷ []) ≡ Complete) × (written (h ∷ f ∷ []) ≡ raw h ++ (raw f ++ []))
+    pub two-good : (f : Line) → verdict rules (h ∷ []) f.content ≡ Valid → (ending_of rules (h ∷ f ∷ []) ≡ Complete) × (written (h ∷ f ∷ []) ≡ raw h ++ (raw f ++ []))
     two-good f good = rw (valid, good) (refl, rw (valid, good) refl)
 
     pub blank-between : (b f : Line) → verdict rules (h ∷ []) b.content ≡ Blank → verdict rules (h ∷ b ∷ []) f.content ≡ Valid

@@ -4,6 +4,7 @@ pub mod BoundRows
 pub mod BoxRows
 pub mod BoxText
 pub mod Carrying
+pub mod ChoiceRows
 pub mod CountRows
 pub mod CountReports
 pub mod CountSink

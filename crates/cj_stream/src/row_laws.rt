@@ -2,6 +2,7 @@
 //! Each row is a theorem, proved once and for all.
 ghost use Rattle.cj_stream.specs.BoundRows.{EmptyRow as BoundOfNothing, HeaderRow as BoundOfHeader, CutRow as BoundOfLongLine, EdgeRow, ExactRow};
 ghost use Rattle.cj_stream.specs.BoxRows.{BoxRow, FieldRows, RangeRows, EmptyRow as BoxOfNothing, OrderRows};
+ghost use Rattle.cj_stream.specs.ChoiceRows.{ApartRow, ChainRow, ExcludeRow};
 ghost use Rattle.cj_stream.specs.CountRows.{RiseRows, ClassRows, LodRows as LodCounts};
 ghost use Rattle.cj_stream.specs.EndRows.{UnhinderedRow, UnreadRow};
 ghost use Rattle.cj_stream.specs.GoingRows.{BetweenRow, FirstRow as GoingFirst, LastRow};
@@ -27,6 +28,14 @@ pub fn going_rows_compute()
     ensures between { BetweenRow }
     ensures first { GoingFirst }
     ensures last { LastRow }
+{}
+
+/// How a stream ends of which each city object has to be reached, or of which what is asked for is left out, and what is
+/// written of it.
+pub fn choice_rows_compute()
+    ensures apart { ApartRow }
+    ensures chain { ChainRow }
+    ensures exclude { ExcludeRow }
 {}
 
 /// The bound on what is held, and what is held at most.

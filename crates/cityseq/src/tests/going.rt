@@ -249,6 +249,35 @@ fn a_read_fault_after_a_report(rt: HostRuntime) -> Result<(), Fail> {
     Ok(())
 }
 
+/// Checks what a reader gives that fails at its second read, after a refused line or none: nothing is said of how many lines
+/// came before.
+fn check_failing_reader(
+    rt: &impl Abort,
+    alloc: Global,
+    arguments: &[&str],
+    input: &[u8],
+    told: &[u8],
+) -> Result<(), Fail> {
+    let mut reader = SlowReader::new(input, 600);
+    reader.fails_at = 2;
+    let written = commanded(alloc, arguments, &mut reader)?;
+    check_written(rt, &written, 3, b"", told);
+    Ok(())
+}
+
+#[test]
+fn a_read_fault_leaves_nothing_to_count(rt: HostRuntime) -> Result<(), Fail> {
+    let good = joined(rt.alloc(), &[HEADER, b"\n", FEATURE, b"\n"])?;
+    let fault = b"read fault\n";
+    check_failing_reader(&rt, rt.alloc(), &["check"], &good, fault)?;
+    check_failing_reader(&rt, rt.alloc(), &["info"], &good, fault)?;
+    check_failing_reader(&rt, rt.alloc(), &["check", "--keep-going"], &good, fault)?;
+    let input = with_bad_line(rt.alloc(), BAD)?;
+    let told = joined(rt.alloc(), &[BAD_TOLD, fault])?;
+    let words = ["check", "--keep-going"];
+    check_failing_reader(&rt, rt.alloc(), &words, &input, &told)
+}
+
 /// Checks a text with a refused line, and writes what is said of it to a device that fails at this write, or, at 0, at the flush.
 fn check_failing_text(
     rt: &impl Abort,

@@ -131,6 +131,9 @@ const APART: &str = r#"
         a circle apart | "b":{"type":"Building"},"c":^{"type":"Building","children":["d"],"parents":["d"]},"d":{"type":"Building","children":["c"],"parents":["c"]} | 31 not reached from the main object
         a group apart | "b":{"type":"Building"},"g":^{"type":"CityObjectGroup","children":["b"]} | 31 not reached from the main object
         one that is in a group elsewhere | "b":{"type":"Building"},"c":^{"type":"Building","parents":["g"]} | 31 not reached from the main object
+        a part before its parent, which is apart too | "b":{"type":"Building"},"p":^{"type":"BuildingPart","parents":["c"]},"c":{"type":"Building","children":["p"]} | 31 not reached from the main object
+        the parent of a main one of the second level | "b":{"type":"BuildingPart","parents":["c"]},"c":^{"type":"Building","children":["b"]} | 31 not reached from the main object
+        a part beside a main one of the second level | "b":{"type":"BuildingPart","parents":["c"],"children":["c"]},"p":^{"type":"BuildingPart","parents":["d"]},"c":{"type":"Building","children":["b"],"parents":["b"]},"d":{"type":"Building","children":["p"]} | 31 not reached from the main object
         "#;
 
 /// Their rows without the rule.
@@ -139,6 +142,9 @@ const TOGETHER: &str = r#"
         a circle apart | "b":{"type":"Building"},"c":{"type":"Building","children":["d"],"parents":["d"]},"d":{"type":"Building","children":["c"],"parents":["c"]} | none
         a group apart | "b":{"type":"Building"},"g":{"type":"CityObjectGroup","children":["b"]} | none
         one that is in a group elsewhere | "b":{"type":"Building"},"c":{"type":"Building","parents":["g"]} | none
+        a part before its parent, which is apart too | "b":{"type":"Building"},"p":{"type":"BuildingPart","parents":["c"]},"c":{"type":"Building","children":["p"]} | none
+        the parent of a main one of the second level | "b":{"type":"BuildingPart","parents":["c"]},"c":{"type":"Building","children":["b"]} | none
+        a part beside a main one of the second level | "b":{"type":"BuildingPart","parents":["c"],"children":["c"]},"p":{"type":"BuildingPart","parents":["d"]},"c":{"type":"Building","children":["b"],"parents":["b"]},"d":{"type":"Building","children":["p"]} | none
         "#;
 
 #[test]
@@ -152,6 +158,7 @@ fn city_objects_apart(rt: HostRuntime) -> Result<(), Fail> {
 const SAME: &str = r#"
         the main one alone | "b":{"type":"Building"} | none
         a chain from the end | "q":{"type":"BuildingPart","parents":["p"]},"p":{"type":"BuildingPart","parents":["b"],"children":["q"]},"b":{"type":"Building","children":["p"]} | none
+        a main one of the second level that lists its parent | "b":{"type":"BuildingPart","parents":["c"],"children":["c"]},"c":{"type":"Building","children":["b"],"parents":["b"]} | none
         itself | "b":{"type":"Building","children":["b"],"parents":["b"]} | none
         a circle | "b":{"type":"Building","children":["c"],"parents":["c"]},"c":{"type":"Building","children":["b"],"parents":["b"]} | none
         a group of a group | "b":{"type":"CityObjectGroup","children":["g"]},"c":{"type":"Building"},"g":{"type":"CityObjectGroup","children":["c","x"]} | none

@@ -15,7 +15,7 @@ returns-in-Complete g c =
     let all = all_under c.args.limits c.args.options in
     let ends = rw c.in-Complete.is at e.3.account.ends in
     let tally = c.puts_are_tallied.ensures.runs all e.0 Complete _ _ c.new-tally.ensures (rw c.in-Complete.is at e.3.puts) in
-    let peaks = c.first_invalid_line_is_the_end.ensures.peaks all e.0 c.run-outcome.result.peaks c.requires ends.0 (e.3.account.exact c.in-Complete.is) in
+    let peaks = c.first_invalid_line_is_the_end.ensures.peaks all e.0 c.run-outcome.result.peaks c.requires.0 ends.0 (e.3.account.exact c.in-Complete.is) in
     let collected = c.reports_are_collected.ensures.runs (run_of (Info c.args.limits c.args.options) e.0 c.run-outcome.result) (g.R.Read.remaining c.run-outcome.new.reader) e.3.account
     (λ none. (c.run-outcome.ensures.memory none).0) in
     let w = c.write_report.ensures in (

@@ -28,4 +28,8 @@ returns c = record {
   group_of_other = refl;
   part_of_no_object = refl;
   no_objects = refl;
+  chain = refl;
+  part_apart = refl;
+  main_part = refl;
+  number_apart = refl;
 }

@@ -1,0 +1,102 @@
+-- Small streams of which each city object has to be reached, or of which what is asked for is left out, computed.
+use Rattle.std.proofs.Common.{◌≡◌, ℕ, ◌≤◌, List, [], ◌∷◌, ◌++◌, Bool, true, false, None, Some, length, refl, ap, ◌∙◌, lit≤}
+use Rattle.std.specs.Prelude.{IsUtf8, not, ◌&&◌, nat_lt}
+use Rattle.std.specs.List.{list_all}
+use Rattle.std.specs.Str.{is_utf8, chars}
+use Rattle.std.proofs.lemmas.Str.{IsUtf8-from_is_utf8}
+use lib.Utf8.{encode}
+use Rattle.cj_spans.specs.declared.reason.Reason.{Reason}
+use Rattle.cj_spans.specs.declared.reason.Reason.TheVariants.{NotReached}
+use Rattle.cj_spans.specs.Finding.{least, found_at}
+use Rattle.cj_spans.specs.Forest.{forest}
+use Rattle.cj_spans.specs.Json.{Json}
+use Rattle.cj_spans.specs.Tree.{Tree, nest}
+use Rattle.cj_spans.proofs.Judgements.{judgement}
+use Rattle.cj_feature.specs.Examples.{plain_header, chain, part_apart, main_part}
+use Rattle.cj_feature.specs.Feature.{feature}
+use Rattle.cj_feature.proofs.Worked.{plain_feature, plain_header-valid, plain_feature-valid, chain-valid, part_apart-valid, part_apart-refused, main_part-refused}
+use Rattle.cj_stream.specs.declared.ending.End.TheVariants.{Complete, Refused}
+use Rattle.cj_stream.specs.ChoiceRows.{choosing, behind_header, ApartRow, ChainRow, ExcludeRow}
+use Rattle.cj_stream.specs.Item.{tree_of}
+use Rattle.cj_stream.specs.Lines.{Line, raw, ended_line}
+use Rattle.cj_stream.specs.Rows.{small_header, small_feature}
+use Rattle.cj_stream.specs.Verdict.{Rules, Refuse, Unwanted, Valid, is_blank_byte, is_wanted, by_least, verdict, verdict_at, tree_verdict, ending_of}
+use Rattle.cj_stream.proofs.RowLemmas.{spelled-tree, by-tree, header_json, feature_json, header_text, feature_text, header_tree, holds-everything, written, second-refused, two-good, open_line}
+use Rattle.cj_stream.proofs.VerdictLemmas.{verdict-json, tree-valid, tree-unasked}
+
+apart_json : Json part_apart.line part_apart.tree
+unfolding forest
+apart_json = spelled-tree part_apart.line _ _ _ part_apart.tree refl refl refl
+
+main_json : Json main_part.line main_part.tree
+unfolding forest
+main_json = spelled-tree main_part.line _ _ _ main_part.tree refl refl refl
+
+chain_json : Json chain.line chain.tree
+unfolding forest
+chain_json = spelled-tree chain.line _ _ _ chain.tree refl refl refl
+
+apart_text : IsUtf8 part_apart.line
+unfolding is_utf8 chars encode
+apart_text = IsUtf8-from_is_utf8 part_apart.line refl
+
+main_text : IsUtf8 main_part.line
+unfolding is_utf8 chars encode
+main_text = IsUtf8-from_is_utf8 main_part.line refl
+
+chain_text : IsUtf8 chain.line
+unfolding is_utf8 chars encode
+chain_text = IsUtf8-from_is_utf8 chain.line refl
+
+-- ---- one line behind the header
+
+module _ (tree exclude : Bool) where
+  abbrev rules : Rules
+  rules = choosing tree exclude
+
+  header_valid : (t : Tree) → verdict_at rules 1 t small_header ≡ Valid
+  header_valid t =
+      verdict-json rules 1 t small_header (lit≤ tt) header_text refl
+      ∙ (by-tree plain_header header_json (lit≤ tt) rules 1 t (judgement small_header 64) ∙ tree-valid rules 1 t plain_header plain_header-valid refl)
+
+  module _ (c : List ℕ) (t : Tree) (json : Json c t) (shallow : nest t ≤ 64) (short : length c ≤ 8388608) (is_text : IsUtf8 c) (full : nat_lt 1 2 && list_all is_blank_byte c ≡ false) where
+    second : verdict_at rules 2 (tree_of 64 small_header) c ≡ tree_verdict rules 2 plain_header t
+    second = rw header_tree (verdict-json rules 2 plain_header c short is_text full ∙ by-tree t json shallow rules 2 plain_header (judgement c 64))
+
+    refused : (place : ℕ) → least None (feature plain_header t tree) ≡ Some (found_at place NotReached)
+        → (ending_of rules (ended_line small_header ∷ open_line c ∷ []) ≡ Refused 2 place NotReached) × (written rules (ended_line small_header ∷ open_line c ∷ []) ≡ raw (ended_line small_header) ++ [])
+    refused place least_is =
+        second-refused rules place NotReached (ended_line small_header) (header_valid _) refl (open_line c) [] (second ∙ ap (by_least (is_wanted rules 2 plain_header t)) least_is)
+
+    kept : feature plain_header t tree ≡ [] → is_wanted rules 2 plain_header t ≡ true
+        → (ending_of rules (ended_line small_header ∷ open_line c ∷ []) ≡ Complete) × (written rules (ended_line small_header ∷ open_line c ∷ []) ≡ raw (ended_line small_header) ++ (c ++ []))
+    kept valid wanted = two-good rules (ended_line small_header) (header_valid _) (open_line c) (second ∙ tree-valid rules 2 plain_header t valid wanted)
+
+    left_out : feature plain_header t tree ≡ [] → is_wanted rules 2 plain_header t ≡ false
+        → (ending_of rules (ended_line small_header ∷ open_line c ∷ []) ≡ Complete) × (written rules (ended_line small_header ∷ open_line c ∷ []) ≡ raw (ended_line small_header) ++ [])
+    left_out valid unwanted =
+        let out : verdict rules (ended_line small_header ∷ []) c ≡ Unwanted = second ∙ tree-unasked rules 2 plain_header t valid unwanted in
+        rw (header_valid _, out) (refl, rw (header_valid _, out) refl)
+
+-- ---- rows
+
+pub row_apart : ApartRow
+row_apart = (
+  kept false false part_apart.line part_apart.tree apart_json (lit≤ tt) (lit≤ tt) apart_text refl part_apart-valid (holds-everything plain_header part_apart.tree),
+  refused true false part_apart.line part_apart.tree apart_json (lit≤ tt) (lit≤ tt) apart_text refl 78 part_apart-refused,
+  refused true true part_apart.line part_apart.tree apart_json (lit≤ tt) (lit≤ tt) apart_text refl 78 part_apart-refused,
+  refused true false main_part.line main_part.tree main_json (lit≤ tt) (lit≤ tt) main_text refl 98 main_part-refused,
+  refused true true main_part.line main_part.tree main_json (lit≤ tt) (lit≤ tt) main_text refl 98 main_part-refused,
+)
+
+pub row_chain : ChainRow
+row_chain = (
+  kept true false chain.line chain.tree chain_json (lit≤ tt) (lit≤ tt) chain_text refl chain-valid (holds-everything plain_header chain.tree),
+  left_out true true chain.line chain.tree chain_json (lit≤ tt) (lit≤ tt) chain_text refl chain-valid (ap not (holds-everything plain_header chain.tree)),
+)
+
+pub row_exclude : ExcludeRow
+row_exclude = (
+  left_out false true small_feature plain_feature.tree feature_json (lit≤ tt) (lit≤ tt) feature_text refl plain_feature-valid (ap not (holds-everything plain_header plain_feature.tree)),
+  left_out false true part_apart.line part_apart.tree apart_json (lit≤ tt) (lit≤ tt) apart_text refl part_apart-valid (ap not (holds-everything plain_header part_apart.tree)),
+)
