@@ -45,7 +45,7 @@ all-written a b (x ∷ xs) h =
     }
 
 module _ {S : Type 0} (takes leaves : S → Item → S → Type 0) (rules : Rules) (pieces : List (List ℕ)) (k : ℕ) (s t : S) where
-  put-took : (e : End) → PutsPieces takes leaves rules pieces k e s t → IsUnhindered e → Took takes s (kept rules (joined pieces)) t
+  pub put-took : (e : End) → PutsPieces takes leaves rules pieces k e s t → IsUnhindered e → Took takes s (kept rules (joined pieces)) t
   put-took Complete h free = h.1
   put-took (Refused line place reason) h free = h.1
   put-took ReadFault h free = absurd h

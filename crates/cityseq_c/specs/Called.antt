@@ -10,7 +10,9 @@ use Rattle.cityseq_c.specs.Judged.{Tells}
 use Rattle.cityseq_c.specs.Query.{RefusesCall}
 use Rattle.cityseq_c.specs.Request.{IsAsked}
 use Rattle.cityseq_c.specs.Tally.{IsTally}
+use Rattle.cityseq_c.specs.Features.{HoldsRecords, spots}
 use Rattle.cityseq_c.specs.declared.answer.Answer.{Answer}
+use Rattle.cityseq_c.specs.declared.features.record_of.FeatureRecord.{FeatureRecord}
 use Rattle.cityseq_c.specs.declared.reports.Told.{Told}
 use Rattle.cityseq_c.specs.declared.request.NotJudged.{NotJudged}
 use Rattle.cityseq_c.specs.declared.request.Request.{Request}
@@ -64,3 +66,8 @@ pub record IsTalliedOf (rules : Rules) (text : List ℕ) (tally : Tally) : Type 
 abbrev pub TalliesPart : Request → List ℕ → List ℕ → Tally → List Told → List Told → Answer → Type 0
 TalliesPart r header part tally old new answer =
     Calls r header part old new (λ rules outcome. IsUnhindered outcome.ended → IsTalliedOf rules (header ++ part) tally) 0 answer
+
+-- records of features, in room that is as it was where nothing was judged
+abbrev pub Lists : Request → List ℕ → List ℕ → List FeatureRecord → List FeatureRecord → List Told → List Told → Answer → Type 0
+Lists r header part before after old new answer =
+    Calls r header part old new (λ rules outcome. IsUnhindered outcome.ended → HoldsRecords (spots rules (header ++ part)) before after) 0 answer

@@ -1,5 +1,5 @@
 //! How a stream of two pieces is judged.
-ghost use Rattle.std.specs.Prelude.{◌≡◌, ◌↔◌, ◌++◌, ◌≤◌, ◌^◌, [], ◌∷◌, IsTrue, IfOk, IfErr, OnErr, length, map};
+ghost use Rattle.std.specs.Prelude.{◌≡◌, ◌↔◌, ◌++◌, ◌≤◌, ◌^◌, [], ◌∷◌, IsTrue, IfOk, IfErr, OnErr, OnOk, length, map};
 ghost use Rattle.cj_stream.specs.Cut.{joined};
 ghost use Rattle.cj_stream.specs.Query.{rules_for};
 ghost use Rattle.cj_stream.specs.Verdict.{Rules};
@@ -113,6 +113,7 @@ pub fn judge<S: LineSink>(
 ) -> Result<Outcome, NotJudged>
     ensures ok { IfOk result (λ outcome. (rules : Rules) × IsAsked request.now rules
         × Judged S.takes S.leaves rules (header.now ∷ part.now ∷ []) outcome sink.old sink.new reports.old reports.new) }
+    ensures fit { OnOk result (IsFit request.now header.now part.now) }
     ensures refused { IfErr result (RefusesCall request.now header.now part.now) }
     ensures unread { OnErr result ((sink.new ≡ sink.old) × (reports.new ≡ reports.old)) }
 {

@@ -12,10 +12,11 @@
 #![tactic(auto)]
 
 ghost use Rattle.std.specs.Prelude.{◌≡◌, ◌++◌, take, length};
-ghost use Rattle.cityseq_c.specs.Called.{Checks, Filters, TalliesPart};
+ghost use Rattle.cityseq_c.specs.Called.{Checks, Filters, Lists, TalliesPart};
 ghost use Rattle.cityseq_c.specs.Words.{reason_words, type_words, IsCopied};
 
 mod answer;
+mod features;
 mod judging;
 mod query;
 mod reports;
@@ -28,6 +29,7 @@ mod words;
 
 use answer::Answer;
 use cj_stream::{IgnoreSink, TallySink, laws};
+use features::{FeatureRecord, Listed};
 use judging::judge;
 use reports::Told;
 use request::Request;
@@ -94,6 +96,22 @@ pub extern "C" fn cityseq_tally(
     let judged = judge(alloc, header, part, request, &mut sink, reports);
     *tally = Tally::of(&sink);
     Answer::of(judged, 0)
+}
+
+/// Judges the lines of a stream, and writes a record of each feature that is wanted to the room for them, as many as fit.
+#[unsafe(no_mangle)]
+pub extern "C" fn cityseq_features(
+    alloc: Global,
+    header: &[u8],
+    part: &[u8],
+    request: &Request<'_>,
+    records: &mut [FeatureRecord],
+    reports: &mut [Told],
+) -> Answer
+    ensures { Lists request.now header.now part.now records.old records.new reports.old reports.new result }
+{
+    let mut listed = Listed::new(part, records);
+    Answer::of(judge(alloc, header, part, request, &mut listed, reports), 0)
 }
 
 /// Writes the words of a reason as far as they fit, and answers how many bytes they have; 0 where no reason has this code.
