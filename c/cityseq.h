@@ -28,13 +28,14 @@ extern "C" {
 /* The interface that this file declares. The library tells by cityseq_interface which one it has. */
 #define CITYSEQ_INTERFACE 1
 
-/* How a call ended. */
+/* How a call ended. After CITYSEQ_BAD_REQUEST and CITYSEQ_NO_MEMORY nothing was judged: output, reports and tally are as they
+ * were, and all fields of the answer but status and code are 0. */
 enum cityseq_status {
     CITYSEQ_COMPLETE = 0,    /* all lines were read, and none was the end */
     CITYSEQ_REFUSED = 1,     /* a line is invalid: line, place and code say which, where and why */
-    CITYSEQ_BAD_REQUEST = 2, /* nothing was read: code is a cityseq_fault */
-    CITYSEQ_NO_ROOM = 4,     /* a line of the output does not fit: what was written are whole lines before it */
-    CITYSEQ_NO_MEMORY = 5    /* no memory was granted: nothing was written */
+    CITYSEQ_BAD_REQUEST = 2, /* the request cannot be asked: code is a cityseq_fault */
+    CITYSEQ_NO_ROOM = 4,     /* cityseq_filter alone: the output of the next line, which is kept, does not fit */
+    CITYSEQ_NO_MEMORY = 5    /* no memory was granted */
 };
 
 /* What is wrong with a request. */
@@ -121,7 +122,11 @@ struct cityseq_answer cityseq_check(const char *header, size_t header_length, co
                                     const struct cityseq_request *request, struct cityseq_report *reports, size_t reports_room);
 
 /* The same, and writes the header and the features that are wanted, as they came, to output. Room for as many bytes as the
- * header and the part have is always enough. */
+ * header and the part have is always enough.
+ *
+ * Where the status is CITYSEQ_NO_ROOM, what was written is the output of the first `lines` lines, whole, and counts and reports
+ * are of these. So a caller goes on after line `lines`: it calls again with the header and with what follows that line, and more
+ * room. If `lines` is 0, the header itself did not fit. */
 struct cityseq_answer cityseq_filter(const char *header, size_t header_length, const char *part, size_t part_length,
                                      const struct cityseq_request *request, char *output, size_t output_room,
                                      struct cityseq_report *reports, size_t reports_room);

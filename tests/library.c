@@ -4,15 +4,15 @@
  *     library rows                                     rows of requests that are wrong, of little room, and of many threads
  *
  * The stream is filtered and tallied as a header and one part; as a header and two parts, cut behind each LF; and as a header
- * and a part for each line. The answers of the parts, joined, have to be that of the one part. It prints that answer, the reports,
- * and the output. Its status is 0 where all is the same, and 1 with a line on standard error where something differs. */
+ * and a part for each line. The answers of the parts, joined, have to be that of the one part. It is also filtered into too little
+ * room, and gone on with from there. It prints the answer of the one part, the reports, and the output. Its status is 0 where all is the same, and 1 with a line on standard error where something differs. */
 #include "../c/cityseq.h"
 #include <pthread.h>
 #include <stdio.h>
 #include <stdlib.h>
 #include <string.h>
 
-enum { threads = 8, rounds = 50 };
+enum { threads = 8, rounds = 50, rooms = 9 };
 
 /* What came of a stream, joined of parts. */
 struct joined {
@@ -150,6 +150,61 @@ static struct joined judge_parts(struct text header, struct text rest, const siz
     return all;
 }
 
+/* Where the first lines of a header and the rest end, in the rest. */
+static size_t end_of_lines(struct text rest, uint64_t lines)
+{
+    size_t at = 0;
+    for (uint64_t line = 1; line < lines; line++) {
+        const char *end = memchr(rest.bytes + at, '\n', rest.length - at);
+        at = end ? (size_t)(end - rest.bytes) + 1 : rest.length;
+    }
+    return at;
+}
+
+/* Whether a filter with too little room tells of its first lines what a filter of these alone tells, and whether what follows
+ * them gives the rest of the output. */
+static int goes_on(struct text header, struct text rest, const struct cityseq_request *request, const struct joined *whole,
+                   const struct joined *little)
+{
+    if (little->answer.status != CITYSEQ_NO_ROOM)
+        return 0;
+    if (!little->answer.lines)
+        return !little->answer.written && !little->answer.kept && !little->answer.refused;
+    size_t end = end_of_lines(rest, little->answer.lines);
+    struct text front = {rest.bytes, end}, back = {rest.bytes + end, rest.length - end};
+    struct joined first = judge(header, front, request), next = judge(header, back, request);
+    size_t written = first.answer.written;
+    int holds = first.answer.status == CITYSEQ_COMPLETE && first.answer.lines == little->answer.lines &&
+                first.answer.kept == little->answer.kept && first.answer.refused == little->answer.refused &&
+                written == little->answer.written && !memcmp(first.output, little->output, written) &&
+                !memcmp(first.reports, little->reports, sizeof *first.reports * first.answer.refused) &&
+                written + next.answer.written - header.length == whole->answer.written &&
+                !memcmp(next.output + header.length, whole->output + written, whole->answer.written - written);
+    forget(first);
+    forget(next);
+    return holds;
+}
+
+/* Filters into room of several sizes. */
+static int try_rooms(struct text header, struct text rest, const struct cityseq_request *request, const struct joined *whole)
+{
+    int wrong = 0;
+    for (size_t i = 0; i < rooms; i++) {
+        size_t size = whole->answer.written * i / (rooms - 1);
+        struct joined little = *whole;
+        little.output = room(size);
+        little.reports = room(sizeof *little.reports * (whole->answer.refused + 1));
+        little.answer = cityseq_filter(header.bytes, header.length, rest.bytes, rest.length, request, little.output, size,
+                                       little.reports, whole->answer.refused + 1);
+        if (i + 1 < rooms && size < whole->answer.written ? !goes_on(header, rest, request, whole, &little) : !same(whole, little)) {
+            fprintf(stderr, "room for %zu bytes of output: another answer\n", size);
+            wrong++;
+        }
+        forget(little);
+    }
+    return wrong != 0;
+}
+
 static int try_cuts(struct text header, struct text rest, const struct cityseq_request *request, const struct joined *whole)
 {
     size_t *cuts = room(sizeof *cuts * (rest.length + 1)), count = 0, wrong = 0;
@@ -250,7 +305,7 @@ static int try_stream(int count, char **words)
     struct text header = {all.bytes, length}, rest = {all.bytes + length, all.length - length};
     struct joined whole = judge(header, rest, &request);
     show(&whole);
-    return try_cuts(header, rest, &request, &whole);
+    return try_cuts(header, rest, &request, &whole) | try_rooms(header, rest, &request, &whole);
 }
 
 /* ---- rows */
@@ -336,9 +391,43 @@ static void little_room(void)
     row("room for the output alone", a.written == header + good && out[header + good] == 'x' &&
                                          !memcmp(out, header_line, header) && !memcmp(out + header, good_line, good));
     a = cityseq_filter(header_line, header, part, length, &r, out, header + good - 1, reports, 1);
-    row("a byte too little", a.status == CITYSEQ_NO_ROOM && a.written == header);
+    row("a byte too little", a.status == CITYSEQ_NO_ROOM && a.written == header && a.lines == 2 && a.refused == 1);
     a = cityseq_filter(header_line, header, part, length, &r, out, 0, reports, 0);
-    row("no room", a.status == CITYSEQ_NO_ROOM && a.written == 0);
+    row("no room", a.status == CITYSEQ_NO_ROOM && a.written == 0 && a.lines == 0 && a.refused == 0);
+}
+
+/* Whether a call that judged nothing left all as it was, and tells nothing but a status and a code. */
+static int is_untouched(struct cityseq_answer answer, const char *out, size_t length, const struct cityseq_report *report,
+                        const struct cityseq_tally *tally)
+{
+    static const struct cityseq_report seven = {7, 7, 7};
+    struct cityseq_answer nothing = {0};
+    struct cityseq_tally sevens;
+    nothing.status = answer.status, nothing.code = answer.code;
+    memset(&sevens, 7, sizeof sevens);
+    for (size_t i = 0; i < length; i++)
+        if (out[i] != 'x')
+            return 0;
+    return !memcmp(&answer, &nothing, sizeof answer) && !memcmp(report, &seven, sizeof seven) &&
+           !memcmp(tally, &sevens, sizeof sevens);
+}
+
+static void nothing_judged(void)
+{
+    struct cityseq_request r = CITYSEQ_USUAL;
+    struct cityseq_report report = {7, 7, 7};
+    struct cityseq_tally tally;
+    char out[400];
+    size_t header = strlen(header_line), good = strlen(good_line);
+    memset(out, 'x', sizeof out);
+    memset(&tally, 7, sizeof tally);
+    r.line_limit = 0;
+    struct cityseq_answer a = cityseq_check(header_line, header, good_line, good, &r, &report, 1);
+    row("a check of a bad request", a.status == CITYSEQ_BAD_REQUEST && is_untouched(a, out, sizeof out, &report, &tally));
+    a = cityseq_filter(header_line, header, good_line, good, &r, out, sizeof out, &report, 1);
+    row("a filter of a bad request", a.status == CITYSEQ_BAD_REQUEST && is_untouched(a, out, sizeof out, &report, &tally));
+    a = cityseq_tally(header_line, header, good_line, good, &r, &tally, &report, 1);
+    row("a tally of a bad request", a.status == CITYSEQ_BAD_REQUEST && is_untouched(a, out, sizeof out, &report, &tally));
 }
 
 static void texts(void)
@@ -386,6 +475,7 @@ int main(int count, char **words)
     wrong_requests();
     queries();
     little_room();
+    nothing_judged();
     texts();
     at_once();
     printf("%d passed, %d failed\n", passed, failed);

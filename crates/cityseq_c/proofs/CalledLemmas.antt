@@ -1,13 +1,15 @@
 -- What a call answers, by how its stream was judged.
-use Rattle.std.proofs.Common.{◌≡◌, ℕ, List, [], ◌∷◌, ◌++◌, Result, Ok, Err, subst, sym, ap, ◌∙◌}
-use Rattle.std.specs.Prelude.{IfOk, IfErr, OnErr}
-use Rattle.std.proofs.lemmas.List.{append-nil}
+use Rattle.std.proofs.Common.{◌≡◌, ◌⊎◌, ℕ, List, ◌++◌, Result, Ok, Err, false, subst, sym, ap, refl, ◌∙◌, inl, inr, arith}
+use Rattle.std.specs.Prelude.{IfOk, IfErr, OnErr, OnOk, is_ok}
 use Rattle.cj_stream.specs.declared.running.Outcome.{Outcome}
+use Rattle.cj_stream.specs.declared.ending.End.{End}
+use Rattle.cj_stream.specs.declared.ending.End.TheVariants.{Complete, Refused, ReadFault, ReadLimit, WriteFault, Memory as NoMemory}
 use Rattle.cj_stream.specs.Item.{Item}
+use Rattle.cj_stream.specs.Sink.{HasRisen}
 use Rattle.cj_stream.specs.Verdict.{Rules}
-use Rattle.cityseq_c.specs.Answer.{answer_to}
-use Rattle.cityseq_c.specs.Called.{Copied, Filters, Goes}
-use Rattle.cityseq_c.specs.Judged.{Judged, Tells}
+use Rattle.cityseq_c.specs.Answer.{answer_to, not_judged, status_of}
+use Rattle.cityseq_c.specs.Called.{Copied, Filters, Goes, IsUnjudged}
+use Rattle.cityseq_c.specs.Judged.{IsJudged, Judged}
 use Rattle.cityseq_c.specs.Query.{RefusesCall}
 use Rattle.cityseq_c.specs.Request.{IsAsked}
 use Rattle.cityseq_c.specs.declared.answer.Answer.{Answer}
@@ -16,18 +18,50 @@ use Rattle.cityseq_c.specs.declared.request.NotJudged.{NotJudged}
 use Rattle.cityseq_c.specs.declared.request.NotJudged.TheVariants.{Fault, Memory}
 use Rattle.cityseq_c.specs.declared.request.Request.{Request}
 
-module _ {S : Type 0} (takes leaves : S → Item → S → Type 0) (r : Request) (header part : List ℕ) (s t : S) (old new : List Told) (also : Rules → Outcome → Type 0)
-    (gives : (rules : Rules) (o : Outcome) → Judged takes leaves rules (header ∷ part ∷ []) o s t old new → also rules o) where
-  pub goes : (went : Result Outcome NotJudged)
-      → IfOk went (λ o. (rules : Rules) × IsAsked r rules × Judged takes leaves rules (header ∷ part ∷ []) o s t old new)
+module _ {S : Type 0} (takes leaves : S → Item → S → Type 0) (r : Request) (header part : List ℕ) (s t : S) (old new : List Told) where
+  pub goes : (also : Rules → Outcome → Type 0) → ((rules : Rules) (o : Outcome) → Judged takes leaves rules (header ++ part) o s t old new → also rules o) → (went : Result Outcome NotJudged)
+      → IfOk went (λ o. (rules : Rules) × IsAsked r rules × Judged takes leaves rules (header ++ part) o s t old new)
       → IfErr went (RefusesCall r header part) → OnErr went ((t ≡ s) × (new ≡ old)) → Goes r header part old new also went
-  goes (Ok o) ok refused unread = (
-    ok.0,
-    ok.1,
-    subst (λ z. Tells ok.0 (header ++ z) o old new) (append-nil part) ok.2.tells,
-    gives ok.0 o ok.2,
-  )
-  goes (Err why) ok refused unread = (refused, unread.1)
+  goes also gives (Ok o) ok refused unread = (ok.0, ok.1, ok.2.tells, gives ok.0 o ok.2)
+  goes also gives (Err why) ok refused unread = (refused, unread.1)
+
+  -- the same where more is known of a call that was judged
+  pub goes-known : (Known : Type 0) (also : Rules → Outcome → Type 0) → (Known → (rules : Rules) (o : Outcome) → Judged takes leaves rules (header ++ part) o s t old new → also rules o)
+      → (went : Result Outcome NotJudged) → OnOk went Known
+      → IfOk went (λ o. (rules : Rules) × IsAsked r rules × Judged takes leaves rules (header ++ part) o s t old new)
+      → IfErr went (RefusesCall r header part) → OnErr went ((t ≡ s) × (new ≡ old)) → Goes r header part old new also went
+  goes-known Known also gives (Ok o) known ok refused unread = (ok.0, ok.1, ok.2.tells, gives known ok.0 o ok.2)
+  goes-known Known also gives (Err why) known ok refused unread = (refused, unread.1)
+
+  -- no end of a text that was judged has the status of a wrong request, or of want of memory
+  status-judged : (e : End) → IsJudged e → (status_of e ≡ 2) ⊎ (status_of e ≡ 5) → ⊥
+  status-judged Complete judged (inl is) = omega (arith, is)
+  status-judged Complete judged (inr is) = omega (arith, is)
+  status-judged (Refused line place reason) judged (inl is) = omega (arith, is)
+  status-judged (Refused line place reason) judged (inr is) = omega (arith, is)
+  status-judged ReadFault judged is = judged
+  status-judged ReadLimit judged is = judged
+  status-judged WriteFault judged (inl is) = omega (arith, is)
+  status-judged WriteFault judged (inr is) = omega (arith, is)
+  status-judged NoMemory judged is = judged
+
+  -- where nothing was judged the answer is a status and a code alone, and all is as it was
+  pub unjudged : (went : Result Outcome NotJudged) (answer : Answer) (written : ℕ) → answer ≡ answer_to went written
+      → IfOk went (λ o. (rules : Rules) × IsAsked r rules × Judged takes leaves rules (header ++ part) o s t old new) → OnErr went ((t ≡ s) × (new ≡ old))
+      → IsUnjudged answer → (answer ≡ not_judged answer.status answer.code) × (new ≡ old) × (t ≡ s)
+  unjudged (Ok o) answer written is ok unread which =
+      absurd (status-judged o.ended ok.2.tells.judged (let same : answer.status ≡ status_of o.ended = ap (λ a. a.status) is in rw same at which))
+  unjudged (Err (Fault fault)) answer written is ok unread which = (rw is refl, unread.1, unread.0)
+  unjudged (Err Memory) answer written is ok unread which = (rw is refl, unread.1, unread.0)
+
+-- what is known where a call was judged, and nothing else
+pub known-ok : (Known : Type 0) (went : Result Outcome NotJudged) → Known → OnOk went Known
+known-ok Known (Ok o) known = known
+known-ok Known (Err why) known = tt
+
+pub unknown-err : (Known : Type 0) (went : Result Outcome NotJudged) → is_ok went ≡ false → OnOk went Known
+unknown-err Known (Ok o) other = absurd (cc other)
+unknown-err Known (Err why) other = tt
 
 -- an answer tells how many bytes were written
 told-written : (went : Result Outcome NotJudged) (answer : Answer) (written : ℕ) → answer ≡ answer_to went written → answer ≡ answer_to went answer.written
@@ -50,3 +84,26 @@ filters r header part old new out written answer went is h = record {
   goes = goes-told r header part old new out written answer went is h;
   told = told-written went answer written is;
 }
+
+-- ---- a sink that never fails
+
+-- a count that stays at 0 has not risen
+no-rise : HasRisen 0 0 → ⊥
+no-rise (inl h) = omega (arith, h)
+no-rise (inr h) = absurd (omega (arith, h.0))
+
+-- the status of an output that does not fit is that of a write fault alone
+full-end : (e : End) → status_of e ≡ 4 → e ≡ WriteFault
+full-end Complete is = absurd (omega (arith, is))
+full-end (Refused line place reason) is = absurd (omega (arith, is))
+full-end ReadFault is = absurd (omega (arith, is))
+full-end ReadLimit is = absurd (omega (arith, is))
+full-end WriteFault is = refl
+full-end NoMemory is = absurd (omega (arith, is))
+
+-- so no call over it answers that an output does not fit
+pub never-full : (went : Result Outcome NotJudged) (answer : Answer) (written : ℕ) → answer ≡ answer_to went written
+    → IfOk went (λ o. o.ended ≡ WriteFault → HasRisen 0 0) → answer.status ≡ 4 → ⊥
+never-full (Ok o) answer written is cause full = no-rise (cause (full-end o.ended (sym (ap (λ a. a.status) is) ∙ full)))
+never-full (Err (Fault fault)) answer written is cause full = absurd (omega (arith, sym (ap (λ a. a.status) is) ∙ full))
+never-full (Err Memory) answer written is cause full = absurd (omega (arith, sym (ap (λ a. a.status) is) ∙ full))

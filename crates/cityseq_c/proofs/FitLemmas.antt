@@ -1,13 +1,13 @@
 -- What is written of a text is not longer than it.
-use Rattle.std.proofs.Common.{◌≡◌, ℕ, ◌+◌, ◌≤◌, List, [], ◌∷◌, ◌++◌, Bool, true, false, cond, length, Option, None, Some, sym, ap, ◌∙◌, arith}
+use Rattle.std.proofs.Common.{◌≡◌, ℕ, zero, suc, ◌+◌, ◌≤◌, List, [], ◌∷◌, ◌++◌, Bool, true, false, cond, length, take, Option, Some, ap, arith}
 use Rattle.std.specs.List.{flat_map}
-use Rattle.std.specs.Prelude.{is_some}
+use Rattle.std.specs.Prelude.{slice_get}
 use Rattle.std.proofs.lemmas.List.{length-append}
-use Rattle.cj_stream.specs.declared.ending.End.{End}
 use Rattle.cj_stream.specs.Item.{Item, raw_item}
 use Rattle.cj_stream.specs.Lines.{Line, lines, raw}
-use Rattle.cj_stream.specs.Verdict.{Rules, good, good_from, is_kept, item_after, kept_from, output, refusal_of, verdict}
+use Rattle.cj_stream.specs.Verdict.{Rules, is_kept, item_after, kept_from, verdict}
 use Rattle.cj_stream.proofs.IsLinesLemmas.{lines-are_lines}
+use Rattle.cityseq_c.specs.Called.{output_first}
 
 -- the bytes of some items, and of some lines
 abbrev item_bytes : List Item → ℕ
@@ -26,19 +26,15 @@ kept-fits rules before (l ∷ ls) = step (is_kept (verdict rules before l.conten
     step true h = omega (arith, h, length-append (raw l) (flat_map raw_item (kept_from rules (before ++ l ∷ []) ls)), length-append (raw l) (flat_map raw ls))
     step false h = omega (arith, h, length-append (raw l) (flat_map raw ls))
 
--- no more is good than there is
-good-fits : (rules : Rules) (before ls : List Line) → line_bytes (good_from rules before ls) ≤ line_bytes ls
-good-fits rules before [] = omega arith
-good-fits rules before (l ∷ ls) = step (is_some (refusal_of rules (length before + 1) (verdict rules before l.content))) (good-fits rules (before ++ l ∷ []) ls)
-  where
-    step : (ends : Bool) → line_bytes (good_from rules (before ++ l ∷ []) ls) ≤ line_bytes ls
-        → line_bytes (cond ends [] (l ∷ good_from rules (before ++ l ∷ []) ls)) ≤ line_bytes (l ∷ ls)
-    step true h = omega arith
-    step false h = omega (arith, h, length-append (raw l) (flat_map raw (good_from rules (before ++ l ∷ []) ls)), length-append (raw l) (flat_map raw ls))
+some-same : (x l : Line) → ◌≡◌ {A = Option Line} (Some x) (Some l) → x ≡ l
+some-same x l h = cc
 
--- so an output is not longer than its text
-pub output-fits : (rules : Rules) (s : List ℕ) → length (output rules s) ≤ length s
-output-fits rules s =
-    let kept = kept-fits rules [] (good rules s) in
-    let all = good-fits rules [] (lines s) in
-    omega (arith, kept, all, ap length (lines-are_lines s).joined)
+-- some lines, and the one behind them, are no more than there are
+next-fits : (ls : List Line) (n : ℕ) (l : Line) → slice_get ls n ≡ Some l → line_bytes (take n ls) + length (raw l) ≤ line_bytes ls
+next-fits [] n l h = absurd (cc h)
+next-fits (x ∷ ls) zero l h = rw (← some-same x l h) (omega (arith, length-append (raw x) (flat_map raw ls)))
+next-fits (x ∷ ls) (suc n) l h = omega (arith, next-fits ls n l h, length-append (raw x) (flat_map raw ls), length-append (raw x) (flat_map raw (take n ls)))
+
+-- so what is written of the first lines of a text, and the line behind them, is not longer than the text
+pub first-fits : (rules : Rules) (n : ℕ) (s : List ℕ) (l : Line) → slice_get (lines s) n ≡ Some l → length (output_first rules n s) + length (raw l) ≤ length s
+first-fits rules n s l h = omega (arith, kept-fits rules [] (take n (lines s)), next-fits (lines s) n l h, ap length (lines-are_lines s).joined)

@@ -1,77 +1,225 @@
--- A stream of pieces that an engine was given.
-use Rattle.std.proofs.Common.{◌≡◌, ℕ, ◌+◌, List, take, drop, sym, ap, ◌∙◌}
+-- A header and a part are one text, of which an engine was given the header, or all.
+use Rattle.std.proofs.Common.{◌≡◌, ℕ, zero, suc, ◌+◌, ◌⊎◌, inl, inr, ◌≤◌, List, [], ◌∷◌, ◌++◌, length, take, Option, Some, None, subst, sym, ap, refl, ◌∙◌, arith, append_assoc, add-one}
+use Rattle.std.specs.Prelude.{◌≢◌, slice_get}
+use Rattle.std.specs.List.{filter}
+use Rattle.std.proofs.lemmas.List.{append-nil, take-append-le}
+use Rattle.cj_budget.specs.Limits.{LimitPair}
+use Rattle.cj_budget.specs.declared.limits.Peaks.{Peaks}
 use Rattle.cj_stream.specs.declared.ending.End.{End}
 use Rattle.cj_stream.specs.declared.ending.End.TheVariants.{Complete, Refused, ReadFault, ReadLimit, WriteFault, Memory}
 use Rattle.cj_stream.specs.declared.running.Outcome.{Outcome}
 use Rattle.cj_stream.specs.Bound.{IsBounded, IsExact}
-use Rattle.cj_stream.specs.Cut.{joined, IsUnread, PutsPieces}
+use Rattle.cj_stream.specs.Cut.{joined, PutsPieces}
+use Rattle.cj_stream.specs.Engine.{Counts, Delivers, Faults}
 use Rattle.cj_stream.specs.Headline.{IsUnhindered}
-use Rattle.cj_stream.specs.Item.{Item}
-use Rattle.cj_stream.specs.Reporting.{NotesPieces}
-use Rattle.cj_stream.specs.Run.{CountsAll}
+use Rattle.cj_stream.specs.Item.{Item, is_feature}
+use Rattle.cj_stream.specs.Lines.{Line, NoLf, ended_line, lines}
+use Rattle.cj_stream.specs.Parts.{headed}
+use Rattle.cj_stream.specs.Reporting.{Notes}
+use Rattle.cj_stream.specs.Run.{CountsAll, Ends}
 use Rattle.cj_stream.specs.Sink.{Took}
-use Rattle.cj_stream.specs.Verdict.{Rules, ending, reported}
-use Rattle.cj_stream.proofs.JoinedLemmas.{joined-cut}
-use Rattle.cityseq_c.specs.Judged.{Judged}
-use Rattle.cityseq_c.specs.Reports.{count_of, noted_loan, noted_room, NotesOne}
+use Rattle.cj_stream.specs.Verdict.{Rules, ending, good, item_after, is_kept, kept, kept_from, reported, reported_first, reported_from, refusal_in, verdict}
+use Rattle.cj_stream.proofs.PartsLemmas.{first-headed, lines-headed}
+use Rattle.cityseq_c.specs.Judged.{IsJudged, Judged}
+use Rattle.cityseq_c.specs.Reports.{count_of, noted_loan, noted_room, Holds, NotesOne}
+use Rattle.cityseq_c.specs.Request.{AreCut}
 use Rattle.cityseq_c.specs.declared.reports.Noted.{Noted}
 use Rattle.cityseq_c.specs.declared.reports.Told.{Told}
 use Rattle.cityseq_c.proofs.ReportLemmas.{all-held}
 
-module _ {S : Type 0} (takes leaves : S → Item → S → Type 0) (rules : Rules) (pieces : List (List ℕ)) (k : ℕ) (s t : S) where
-  -- no such end is one that a reader makes
-  put-unread : (e : End) → PutsPieces takes leaves rules pieces k e s t → IsUnread e
-  put-unread Complete h = tt
-  put-unread (Refused line place reason) h = tt
-  put-unread ReadFault h = h
-  put-unread ReadLimit h = h
-  put-unread WriteFault h = tt
-  put-unread Memory h = tt
+take-nothing : (k : ℕ) → take {A = List ℕ} k [] ≡ []
+take-nothing zero = refl
+take-nothing (suc k) = refl
 
-  -- without a hindrance it is the ending of the whole
-  put-ends : (e : End) → PutsPieces takes leaves rules pieces k e s t → IsUnhindered e → e ≡ ending rules (joined pieces)
-  put-ends Complete h free = sym h.0
-  put-ends (Refused line place reason) h free = sym h.0
-  put-ends ReadFault h free = absurd h
-  put-ends ReadLimit h free = absurd h
-  put-ends WriteFault h free = absurd free
-  put-ends Memory h free = absurd free
+-- all was given, or a header that LF ended, behind which the part comes
+abbrev IsGiven : List ℕ → List ℕ → List ℕ → Type 0
+IsGiven header part given = (given ≡ header ++ part) ⊎ ((h : List ℕ) × NoLf h × (given ≡ headed h []) × (header ++ part ≡ headed h part))
 
--- and so are the reports
-note-all : (rules : Rules) (pieces : List (List ℕ)) (k : ℕ) (n m : Noted) (e : End) → NotesPieces NotesOne rules pieces k e n m → IsUnhindered e
-    → Took NotesOne n (reported rules (joined pieces)) m
-note-all rules pieces k n m Complete h free = h
-note-all rules pieces k n m (Refused line place reason) h free = h
-note-all rules pieces k n m ReadFault h free = absurd h
-note-all rules pieces k n m ReadLimit h free = absurd h
-note-all rules pieces k n m WriteFault h free = absurd free
-note-all rules pieces k n m Memory h free = absurd free
+pub all-joined : (header part : List ℕ) → joined (header ∷ part ∷ []) ≡ header ++ part
+all-joined header part = ap (λ z. header ++ z) (append-nil part)
 
-module _ {S : Type 0} (takes leaves : S → Item → S → Type 0) (rules : Rules) (pieces : List (List ℕ)) (k : ℕ) (s t : S) (n m : Noted) (o : Outcome) (old new : List Told)
-    (puts : PutsPieces takes leaves rules pieces k o.ended s t) (notes : NotesPieces NotesOne rules pieces k o.ended n m)
-    (counts : IsUnhindered o.ended → CountsAll rules (joined pieces) o) (bounded : IsBounded rules.limits (joined (take (k + 1) pieces)) o.peaks)
-    (exact : o.ended ≡ Complete → IsExact rules.limits (joined pieces) o.peaks) (memory : o.ended ≡ Memory → (t ≡ s) × (m ≡ n))
-    (none : count_of n ≡ 0) (lent : noted_room n ≡ old) (back : noted_loan m ≡ noted_loan n → new ≡ noted_room m) where
-  pub judged : Judged takes leaves rules pieces o s t old new
-  judged = record {
-    tells = record {
-      read = put-unread takes leaves rules pieces k s t o.ended puts;
-      ends = put-ends takes leaves rules pieces k s t o.ended puts;
-      counts = counts;
-      reports = λ free.
-          let held = all-held n m (reported rules (joined pieces)) none (note-all rules pieces k n m o.ended notes free) in
-          rw (back held.0, ← lent) held.1;
-      held = λ granted. record {
-        given = joined (take (k + 1) pieces);
-        more = joined (drop (k + 1) pieces);
-        front = sym (joined-cut (k + 1) pieces);
-        bounded = bounded;
-      };
-      exact = exact;
-      memory = λ is.
-          let same = (memory is).1 in
-          back (ap noted_loan same) ∙ (ap noted_room same ∙ lent);
-    };
-    puts = λ granted. (k, puts);
-    memory = λ is. (memory is).0;
+module _ (header part : List ℕ) (cut : AreCut header part) where
+  header-given : (given : List ℕ) → given ≡ header → IsGiven header part given
+  header-given given is = go cut
+    where
+      go : AreCut header part → IsGiven header part given
+      go (inl c) = inr (c.0, c.1, is ∙ c.2, ap (λ z. z ++ part) c.2 ∙ append_assoc c.0 (10 ∷ []) part)
+      go (inr c) = inl (is ∙ (sym (append-nil header) ∙ ap (λ z. header ++ z) (sym c.1)))
+
+  given-taken : (k : ℕ) → IsGiven header part (joined (take (k + 1) (header ∷ part ∷ [])))
+  given-taken zero = header-given _ (append-nil header)
+  given-taken (suc k) = inl (rw (add-one (suc k), take-nothing k) (all-joined header part))
+
+  -- what holds of what was given holds of the text, if it goes on from a header to a part behind it
+  over-text : (P : List ℕ → Type 0) (k : ℕ) → ((h : List ℕ) → NoLf h → P (headed h []) → P (headed h part)) → P (joined (take (k + 1) (header ∷ part ∷ []))) → P (header ++ part)
+  over-text P k step x = go (given-taken k)
+    where
+      go : IsGiven header part (joined (take (k + 1) (header ∷ part ∷ []))) → P (header ++ part)
+      go (inl e) = subst P e x
+      go (inr g) = subst P (sym g.3) (step g.0 g.1 (subst P g.2 x))
+
+-- ---- from a header to a part behind it
+
+-- what comes of the first n lines of what was given
+record OfFirst {S : Type 0} (takes leaves : S → Item → S → Type 0) (rules : Rules) (n features refusals : ℕ) (peaks : Peaks) (e : End) (s t : S) (a b : Noted) (q : List ℕ) : Type 0 where
+  bounded : IsBounded rules.limits q peaks
+  counts : Counts rules q n features refusals
+  delivers : Delivers takes leaves rules q 0 n s t (Some e)
+  noted : Took NotesOne a (reported_first rules n q) b
+
+next-same : (x l : Line) (xs : List Line) (n : ℕ) → slice_get (x ∷ []) n ≡ Some l → slice_get (x ∷ xs) n ≡ Some l
+next-same x l xs zero h = h
+next-same x l xs (suc n) h = absurd (apart h)
+  where
+    apart : ◌≡◌ {A = Option Line} None (Some l) → ⊥
+    apart h = cc
+
+module _ (rules : Rules) (h part : List ℕ) (free : NoLf h) (n : ℕ) (few : n ≤ length (lines (headed h []))) where
+  front : lines (headed h []) ≡ ended_line h ∷ []
+  front = lines-headed h [] free
+
+  all : lines (headed h part) ≡ ended_line h ∷ lines part
+  all = lines-headed h part free
+
+  first-same : take n (lines (headed h part)) ≡ take n (lines (headed h []))
+  first-same =
+      let short : n ≤ length (ended_line h ∷ []) = omega (arith, few, ap length front) in
+      ap (λ z. take n z) all ∙ (take-append-le n (ended_line h ∷ []) (lines part) short ∙ ap (λ z. take n z) (sym front))
+
+  counts-more : (f k : ℕ) → Counts rules (headed h []) n f k → Counts rules (headed h part) n f k
+  counts-more f k x = record {
+    few = omega (arith, few, ap length front, ap length all);
+    good = ap (λ z. refusal_in rules z) first-same ∙ x.good;
+    kept = x.kept ∙ ap (λ z. length (filter is_feature (kept_from rules [] z))) (sym first-same);
+    refused = x.refused ∙ ap (λ z. length (reported_from rules [] z)) (sym first-same);
   }
+
+  module _ {S : Type 0} (takes leaves : S → Item → S → Type 0) where
+    faults-more : (s t : S) (e : End) → Faults leaves rules (headed h []) n s t (Some e) → Faults leaves rules (headed h part) n s t (Some e)
+    faults-more s t Complete x = x
+    faults-more s t (Refused line place reason) x = x
+    faults-more s t ReadFault x = x
+    faults-more s t ReadLimit x = x
+    faults-more s t Memory x = x
+    faults-more s t WriteFault x = (
+      x.0,
+      ap (λ z. slice_get z n) all ∙ next-same (ended_line h) x.0 (lines part) n (ap (λ z. slice_get z n) (sym front) ∙ x.1),
+      ap (λ z. is_kept (verdict rules z x.0.content)) first-same ∙ x.2,
+      subst (λ z. leaves s (item_after rules z x.0) t) (sym first-same) x.3,
+    )
+
+    delivers-more : (s t : S) (e : End) → Delivers takes leaves rules (headed h []) 0 n s t (Some e) → Delivers takes leaves rules (headed h part) 0 n s t (Some e)
+    delivers-more s t e x = record {
+      added = x.added;
+      middle = x.middle;
+      kept = ap (λ z. kept_from rules [] z) first-same ∙ x.kept;
+      took = x.took;
+      fault = faults-more x.middle t e x.fault;
+    }
+
+bounded-more : (limits : LimitPair) (h part : List ℕ) (peaks : Peaks) → NoLf h → IsBounded limits (headed h []) peaks → IsBounded limits (headed h part) peaks
+bounded-more limits h part peaks free x =
+    let same = first-headed h [] free in
+    let more = first-headed h part free in
+    record {
+      bytes = rw more (let y = x.bytes in rw same at y);
+      tokens = rw more (let y = x.tokens in rw same at y);
+      depth = x.depth;
+    }
+
+module _ {S : Type 0} (takes leaves : S → Item → S → Type 0) (rules : Rules) (n f r : ℕ) (peaks : Peaks) (e : End) (s t : S) (a b : Noted) where
+  first-more : (h part : List ℕ) → NoLf h → OfFirst takes leaves rules n f r peaks e s t a b (headed h []) → OfFirst takes leaves rules n f r peaks e s t a b (headed h part)
+  first-more h part free x =
+      let few = x.counts.few in
+      record {
+        bounded = bounded-more rules.limits h part peaks free x.bounded;
+        counts = counts-more rules h part free n few f r x.counts;
+        delivers = delivers-more rules h part free n few takes leaves s t e x.delivers;
+        noted = subst (λ z. Took NotesOne a z b) (ap (λ z. reported_from rules [] z) (sym (first-same rules h part free n few))) x.noted;
+      }
+
+  first-text : (header part : List ℕ) → AreCut header part → (k : ℕ) → OfFirst takes leaves rules n f r peaks e s t a b (joined (take (k + 1) (header ∷ part ∷ [])))
+      → OfFirst takes leaves rules n f r peaks e s t a b (header ++ part)
+  first-text header part cut k x =
+      over-text header part cut (λ q. OfFirst takes leaves rules n f r peaks e s t a b q) k (λ h free y. first-more h part free y) x
+
+-- ---- how it ended
+
+module _ {S : Type 0} (takes leaves : S → Item → S → Type 0) (rules : Rules) (pieces : List (List ℕ)) (k : ℕ) (s t : S) where
+  -- no reader had a part in it
+  put-judged : (e : End) → e ≢ Memory → PutsPieces takes leaves rules pieces k e s t → IsJudged e
+  put-judged Complete granted h = tt
+  put-judged (Refused line place reason) granted h = tt
+  put-judged ReadFault granted h = h
+  put-judged ReadLimit granted h = h
+  put-judged WriteFault granted h = tt
+  put-judged Memory granted h = absurd (granted refl)
+
+  -- without a hindrance the end and what the sink took are those of the whole
+  put-all : (e : End) → PutsPieces takes leaves rules pieces k e s t → IsUnhindered e → (e ≡ ending rules (joined pieces)) × Took takes s (kept rules (joined pieces)) t
+  put-all Complete h free = (sym h.0, h.1)
+  put-all (Refused line place reason) h free = (sym h.0, h.1)
+  put-all ReadFault h free = absurd h
+  put-all ReadLimit h free = absurd h
+  put-all WriteFault h free = absurd free
+  put-all Memory h free = absurd free
+
+ends-all : (rules : Rules) (text : List ℕ) (n : ℕ) (e : End) → IsJudged e → (IsUnhindered e → e ≡ ending rules text) → (IsUnhindered e → n ≡ length (good rules text)) → Ends rules text n (Unit {0}) e
+ends-all rules text n Complete judged ends count = (sym (ends tt), count tt, tt)
+ends-all rules text n (Refused line place reason) judged ends count = (sym (ends tt), count tt, inl tt)
+ends-all rules text n ReadFault judged ends count = absurd judged
+ends-all rules text n ReadLimit judged ends count = absurd judged
+ends-all rules text n WriteFault judged ends count = tt
+ends-all rules text n Memory judged ends count = absurd judged
+
+module _ {S : Type 0} (takes leaves : S → Item → S → Type 0) (rules : Rules) (header part : List ℕ) (cut : AreCut header part) (k : ℕ) (s t : S) (a b : Noted) (o : Outcome) (old new : List Told)
+    (granted : o.ended ≢ Memory) (puts : PutsPieces takes leaves rules (header ∷ part ∷ []) k o.ended s t)
+    (counts_all : IsUnhindered o.ended → CountsAll rules (joined (header ∷ part ∷ [])) o)
+    (exact_all : o.ended ≡ Complete → IsExact rules.limits (joined (header ∷ part ∷ [])) o.peaks)
+    (bounded : IsBounded rules.limits (joined (take (k + 1) (header ∷ part ∷ []))) o.peaks)
+    (counts : Counts rules (joined (take (k + 1) (header ∷ part ∷ []))) o.lines o.kept o.refused)
+    (delivers : Delivers takes leaves rules (joined (take (k + 1) (header ∷ part ∷ []))) 0 o.lines s t (Some o.ended))
+    (notes : Notes NotesOne rules (joined (take (k + 1) (header ∷ part ∷ []))) 0 o.lines a b)
+    (good_reported : (r : List ℕ) (n : ℕ) → n ≡ length (good rules r) → reported_first rules n r ≡ reported rules r)
+    (none : count_of a ≡ 0) (lent : noted_room a ≡ old) (back : noted_loan b ≡ noted_loan a → new ≡ noted_room b) where
+  whole : joined (header ∷ part ∷ []) ≡ header ++ part
+  whole = all-joined header part
+
+  of_first : OfFirst takes leaves rules o.lines o.kept o.refused o.peaks o.ended s t a b (header ++ part)
+  of_first = first-text takes leaves rules o.lines o.kept o.refused o.peaks o.ended s t a b header part cut k (record {
+    bounded = bounded;
+    counts = counts;
+    delivers = delivers;
+    noted = subst (λ z. Took NotesOne a z b) (sym notes.told) notes.noted;
+  })
+
+  judged-end : IsJudged o.ended
+  judged-end = put-judged takes leaves rules (header ∷ part ∷ []) k s t o.ended granted puts
+
+  ends : IsUnhindered o.ended → o.ended ≡ ending rules (header ++ part)
+  ends free = (put-all takes leaves rules (header ∷ part ∷ []) k s t o.ended puts free).0 ∙ ap (λ z. ending rules z) whole
+
+  counted : IsUnhindered o.ended → CountsAll rules (header ++ part) o
+  counted free = subst (λ z. CountsAll rules z o) whole (counts_all free)
+
+  pub judged : Judged takes leaves rules (header ++ part) o s t old new
+  judged =
+      let first = all-held a b (reported_first rules o.lines (header ++ part)) none of_first.noted in
+      let held : Holds (reported_first rules o.lines (header ++ part)) old new = rw (back first.0, ← lent) first.1 in
+      record {
+        tells = record {
+          judged = judged-end;
+          account = record {
+            bounded = of_first.bounded;
+            exact = λ is. subst (λ z. IsExact rules.limits z o.peaks) whole (exact_all is);
+            counts = of_first.counts;
+            ends = ends-all rules (header ++ part) o.lines o.ended judged-end ends (λ free. (counted free).lines);
+          };
+          ends = ends;
+          counts = counted;
+          reports = λ free. subst (λ z. Holds z old new) (good_reported (header ++ part) o.lines (counted free).lines) held;
+          first = held;
+        };
+        took = λ free. subst (λ z. Took takes s (kept rules z) t) whole (put-all takes leaves rules (header ∷ part ∷ []) k s t o.ended puts free).1;
+        delivers = of_first.delivers;
+      }

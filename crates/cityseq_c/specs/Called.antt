@@ -1,16 +1,21 @@
 -- What the calls of C answer.
-use Rattle.std.specs.Prelude.{◌≡◌, ℕ, ◌<◌, ◌≤◌, ◌≢◌, List, ◌++◌, Result, Ok, Err, length, take}
+use Rattle.std.specs.Prelude.{◌≡◌, ◌⊎◌, ℕ, ◌+◌, ◌<◌, ◌≤◌, ◌≢◌, List, ◌++◌, Some, Result, Ok, Err, true, length, slice_get, take}
+use Rattle.std.specs.List.{flat_map}
 use Rattle.cj_stream.specs.declared.ending.End.TheVariants.{WriteFault}
 use Rattle.cj_stream.specs.declared.running.Outcome.{Outcome}
 use Rattle.cj_stream.specs.Headline.{IsUnhindered}
+use Rattle.cj_stream.specs.Item.{raw_item}
+use Rattle.cj_stream.specs.Lines.{Line, lines, raw}
 use Rattle.cj_stream.specs.TallySink.{Tally as Tallied, IsTallyOf}
-use Rattle.cj_stream.specs.Verdict.{Rules, kept, output}
+use Rattle.cj_stream.specs.Verdict.{Rules, is_kept, kept, kept_first, output, verdict}
 use Rattle.cityseq_c.specs.Answer.{answer_to}
 use Rattle.cityseq_c.specs.Judged.{Tells}
 use Rattle.cityseq_c.specs.Query.{RefusesCall}
 use Rattle.cityseq_c.specs.Request.{IsAsked}
 use Rattle.cityseq_c.specs.Tally.{IsTally}
+use Rattle.cityseq_c.specs.Features.{HoldsRecords, spots}
 use Rattle.cityseq_c.specs.declared.answer.Answer.{Answer}
+use Rattle.cityseq_c.specs.declared.features.record_of.FeatureRecord.{FeatureRecord}
 use Rattle.cityseq_c.specs.declared.reports.Told.{Told}
 use Rattle.cityseq_c.specs.declared.request.NotJudged.{NotJudged}
 use Rattle.cityseq_c.specs.declared.request.Request.{Request}
@@ -34,20 +39,28 @@ pub record Calls (r : Request) (header part : List ℕ) (old new : List Told) (a
 abbrev pub Checks : Request → List ℕ → List ℕ → List Told → List Told → Answer → Type 0
 Checks r header part old new answer = Calls r header part old new (λ rules outcome. Unit {0}) 0 answer
 
--- the output did not fit: a front of it is there
-pub record IsFull (rules : Rules) (text out : List ℕ) (written : ℕ) : Type 0 where
-  pub given : List ℕ
-  pub more : List ℕ
-  pub rest : List ℕ
-  pub front : text ≡ given ++ more
-  pub there : output rules given ≡ take written out ++ rest
-  pub full : length out < length (output rules given)
+-- these bytes were written to room, and so many they are
+pub record IsWritten (bytes out : List ℕ) (written : ℕ) : Type 0 where
+  pub count : written ≡ length bytes
+  pub there : take written out ≡ bytes
 
--- what was written of a text: its output, or a front of that where it did not fit; room for as many bytes as the text has is
--- always enough
+-- what is written of the first n lines of a text
+abbrev pub output_first : Rules → ℕ → List ℕ → List ℕ
+output_first rules n text = flat_map raw_item (kept_first rules n text)
+
+-- the output did not fit: that of the first n lines is there, and the next line, which is kept, has no room behind it
+pub record IsFull (rules : Rules) (text out : List ℕ) (written n : ℕ) : Type 0 where
+  pub first : IsWritten (output_first rules n text) out written
+  pub next : Line
+  pub at : slice_get (lines text) n ≡ Some next
+  pub kept : is_kept (verdict rules (take n (lines text)) next.content) ≡ true
+  pub full : length out < written + length (raw next)
+
+-- what was written of a text: its output, or that of the lines that were dealt with where the next one did not fit; room for as
+-- many bytes as the text has is always enough
 pub record Copied (rules : Rules) (text out : List ℕ) (written : ℕ) (outcome : Outcome) : Type 0 where
-  pub all : IsUnhindered outcome.ended → take written out ≡ output rules text
-  pub full : outcome.ended ≡ WriteFault → IsFull rules text out written
+  pub all : IsUnhindered outcome.ended → IsWritten (output rules text) out written
+  pub full : outcome.ended ≡ WriteFault → IsFull rules text out written outcome.lines
   pub enough : length text ≤ length out → outcome.ended ≢ WriteFault
 
 -- a filter, with what was lent for the output as it is then
@@ -64,3 +77,12 @@ pub record IsTalliedOf (rules : Rules) (text : List ℕ) (tally : Tally) : Type 
 abbrev pub TalliesPart : Request → List ℕ → List ℕ → Tally → List Told → List Told → Answer → Type 0
 TalliesPart r header part tally old new answer =
     Calls r header part old new (λ rules outcome. IsUnhindered outcome.ended → IsTalliedOf rules (header ++ part) tally) 0 answer
+
+-- nothing was judged: the request is wrong, or no memory was granted
+abbrev pub IsUnjudged : Answer → Type 0
+IsUnjudged answer = (answer.status ≡ 2) ⊎ (answer.status ≡ 5)
+
+-- records of features, in room that is as it was where nothing was judged
+abbrev pub Lists : Request → List ℕ → List ℕ → List FeatureRecord → List FeatureRecord → List Told → List Told → Answer → Type 0
+Lists r header part before after old new answer =
+    Calls r header part old new (λ rules outcome. IsUnhindered outcome.ended → HoldsRecords (spots rules (header ++ part)) before after) 0 answer

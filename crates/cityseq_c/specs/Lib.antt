@@ -1,5 +1,6 @@
 pub mod Answer
 pub mod Called
+pub mod Features
 pub mod Judged
 pub mod Query
 pub mod Reports

@@ -1,7 +1,7 @@
-//! How a stream of two pieces is judged.
-ghost use Rattle.std.specs.Prelude.{◌≡◌, ◌↔◌, ◌++◌, ◌≤◌, ◌^◌, [], ◌∷◌, IsTrue, IfOk, IfErr, OnErr, length, map};
-ghost use Rattle.cj_stream.specs.Cut.{joined};
-ghost use Rattle.cj_stream.specs.Query.{rules_for};
+//! How a header and a part are judged as one stream.
+ghost use Rattle.std.specs.Prelude.{◌≡◌, ◌↔◌, ◌+◌, ◌++◌, ◌≤◌, ◌^◌, IsTrue, IfOk, IfErr, OnErr, OnOk, length};
+ghost use Rattle.cj_stream.specs.Engine.{IsFresh, rules_of};
+ghost use Rattle.cj_stream.specs.Sink.{HasRisen};
 ghost use Rattle.cj_stream.specs.Verdict.{Rules};
 ghost use Rattle.cityseq_c.specs.Judged.{Judged};
 ghost use Rattle.cityseq_c.specs.Query.{RefusesCall};
@@ -10,9 +10,7 @@ ghost use Rattle.cityseq_c.specs.Request.{AreCut, IsAsked, IsFit, options_of};
 use crate::query::query_of;
 use crate::reports::{Noted, Told};
 use crate::request::{Fault, NotJudged, Request};
-use cj_stream::{
-    End, Engine, LimitFault, Limits, LineSink, NoMemory, Options, Outcome, Peaks, Query, put_pieces,
-};
+use cj_stream::{End, Engine, LimitFault, Limits, LineSink, NoMemory, Outcome, laws, put_pieces};
 use memchr::memchr;
 use std::alloc::Global;
 
@@ -51,58 +49,48 @@ fn limits_of(header: &[u8], part: &[u8], request: &Request<'_>) -> Result<Limits
     Ok(limits)
 }
 
-/// How it goes where no memory is granted for the first line.
-fn without_memory() -> Outcome
-    ensures ended { result.ended ≡ End.Memory }
-    ensures lines { result.lines ≡ 0 }
-{
-    Outcome {
-        lines: 0,
-        kept: 0,
-        refused: 0,
-        peaks: Peaks {
-            bytes: 0,
-            tokens: 0,
-            depth: 0,
-        },
-        ended: End::Memory,
-    }
-}
-
-/// Judges the pieces of a stream.
-fn judge_pieces<S: LineSink>(
-    alloc: Global,
-    pieces: &[&[u8]],
-    limits: Limits,
-    query: &Query,
-    options: Options,
+/// Gives an engine that is new a header and a part, which are one stream.
+///
+/// # Errors
+///
+/// No memory was granted. Then neither the sink nor the room for reports has changed.
+fn judge_stream<S: LineSink>(
+    engine: &mut Engine<'_>,
+    header: &[u8],
+    part: &[u8],
     sink: &mut S,
     reports: &mut [Told],
-) -> Outcome
-    requires short { length (joined (map (λ piece. piece.now) pieces.now)) ≤ 2 ^ 60 }
-    ensures { Judged S.takes S.leaves (rules_for limits query.now options) (map (λ piece. piece.now) pieces.now) result
-        sink.old sink.new reports.old reports.new }
+) -> Result<Outcome, NotJudged>
+    requires fresh { IsFresh engine.old }
+    requires cut { AreCut header.now part.now }
+    requires short { length header.now + length part.now ≤ 2 ^ 60 }
+    ensures ok { IfOk result (λ outcome. Judged S.takes S.leaves (rules_of engine.old) (header.now ++ part.now) outcome
+        sink.old sink.new reports.old reports.new) }
+    ensures cause { IfOk result (λ outcome. outcome.ended ≡ End.WriteFault → HasRisen (S.failures sink.old) (S.failures sink.new)) }
+    ensures memory { IfErr result (λ why. why ≡ NotJudged.Memory) }
+    ensures unread { OnErr result ((sink.new ≡ sink.old) × (reports.new ≡ reports.old)) }
 {
-    let mut engine = match Engine::open(alloc, limits, query, options) {
-        Ok(engine) => engine,
-        Err(NoMemory) => return without_memory(),
-    };
+    laws::good_lines_are_kept();
     let mut noted = Noted::new(reports);
-    let outcome = put_pieces(&mut engine, pieces, sink, &mut noted);
-    Outcome {
+    let outcome = put_pieces(engine, &[header, part], sink, &mut noted);
+    if let End::Memory = outcome.ended {
+        return Err(NotJudged::Memory);
+    }
+    Ok(Outcome {
         lines: engine.lines(),
         kept: engine.kept(),
         refused: engine.refused(),
         peaks: outcome.peaks,
         ended: outcome.ended,
-    }
+    })
 }
 
-/// Judges a stream of two pieces as is asked: what is kept goes to the sink, and what is reported to the room for reports.
+/// Judges a header and a part, which are one stream, as is asked. What is kept goes to the sink, and what is reported to the
+/// room for reports.
 ///
 /// # Errors
 ///
-/// What is wrong with the request, or that no memory was granted for its query. Then nothing is read.
+/// What is wrong with the request, or that no memory was granted. Then neither the sink nor the room for reports has changed.
 pub fn judge<S: LineSink>(
     alloc: Global,
     header: &[u8],
@@ -112,19 +100,17 @@ pub fn judge<S: LineSink>(
     reports: &mut [Told],
 ) -> Result<Outcome, NotJudged>
     ensures ok { IfOk result (λ outcome. (rules : Rules) × IsAsked request.now rules
-        × Judged S.takes S.leaves rules (header.now ∷ part.now ∷ []) outcome sink.old sink.new reports.old reports.new) }
+        × Judged S.takes S.leaves rules (header.now ++ part.now) outcome sink.old sink.new reports.old reports.new) }
+    ensures fit { OnOk result (IsFit request.now header.now part.now) }
+    ensures cause { IfOk result (λ outcome. outcome.ended ≡ End.WriteFault → HasRisen (S.failures sink.old) (S.failures sink.new)) }
     ensures refused { IfErr result (RefusesCall request.now header.now part.now) }
     ensures unread { OnErr result ((sink.new ≡ sink.old) × (reports.new ≡ reports.old)) }
 {
     let limits = limits_of(header, part, request)?;
     let query = query_of(alloc, request)?;
-    Ok(judge_pieces(
-        alloc,
-        &[header, part],
-        limits,
-        &query,
-        request.options(),
-        sink,
-        reports,
-    ))
+    let mut engine = match Engine::open(alloc, limits, &query, request.options()) {
+        Ok(engine) => engine,
+        Err(NoMemory) => return Err(NotJudged::Memory),
+    };
+    judge_stream(&mut engine, header, part, sink, reports)
 }

@@ -6,16 +6,18 @@
 //! kept from one call to the next, so any number of threads may call at once.
 //!
 //! - `request`: what is asked, as C spells it, and what is wrong with it; `query`: the query that its texts make;
-//! - `judging`: a stream of two pieces is judged; `answer`: what C is told of it;
+//! - `judging`: a header and a part are judged as one stream; `answer`: what C is told of it;
 //! - `room`: bytes that C lends for the output; `reports`: the room that it lends for reports; `tally`: what is tallied;
 //! - `words`: texts of reasons and names of types.
 #![tactic(auto)]
 
-ghost use Rattle.std.specs.Prelude.{◌≡◌, ◌++◌, take, length};
-ghost use Rattle.cityseq_c.specs.Called.{Checks, Filters, TalliesPart};
+ghost use Rattle.std.specs.Prelude.{◌≡◌, ◌≢◌, ◌++◌, take, length};
+ghost use Rattle.cityseq_c.specs.Answer.{not_judged};
+ghost use Rattle.cityseq_c.specs.Called.{Checks, Filters, IsUnjudged, Lists, TalliesPart};
 ghost use Rattle.cityseq_c.specs.Words.{reason_words, type_words, IsCopied};
 
 mod answer;
+mod features;
 mod judging;
 mod query;
 mod reports;
@@ -28,6 +30,7 @@ mod words;
 
 use answer::Answer;
 use cj_stream::{IgnoreSink, TallySink, laws};
+use features::{FeatureRecord, Listed};
 use judging::judge;
 use reports::Told;
 use request::Request;
@@ -52,7 +55,9 @@ pub extern "C" fn cityseq_check(
     request: &Request<'_>,
     reports: &mut [Told],
 ) -> Answer
-    ensures { Checks request.now header.now part.now reports.old reports.new result }
+    ensures checks { Checks request.now header.now part.now reports.old reports.new result }
+    ensures fits { result.status ≢ 4 }
+    ensures unjudged { IsUnjudged result → (result ≡ not_judged result.status result.code) × (reports.new ≡ reports.old) }
 {
     Answer::of(
         judge(alloc, header, part, request, &mut IgnoreSink, reports),
@@ -70,7 +75,9 @@ pub extern "C" fn cityseq_filter(
     output: &mut [u8],
     reports: &mut [Told],
 ) -> Answer
-    ensures { Filters request.now header.now part.now output.new reports.old reports.new result }
+    ensures filters { Filters request.now header.now part.now output.new reports.old reports.new result }
+    ensures unjudged { IsUnjudged result → (result ≡ not_judged result.status result.code) × (reports.new ≡ reports.old)
+        × (output.new ≡ output.old) }
 {
     let mut room = Room::new(output);
     let judged = judge(alloc, header, part, request, &mut room, reports);
@@ -87,13 +94,37 @@ pub extern "C" fn cityseq_tally(
     tally: &mut Tally,
     reports: &mut [Told],
 ) -> Answer
-    ensures { TalliesPart request.now header.now part.now tally.new reports.old reports.new result }
+    ensures tallies { TalliesPart request.now header.now part.now tally.new reports.old reports.new result }
+    ensures fits { result.status ≢ 4 }
+    ensures unjudged { IsUnjudged result → (result ≡ not_judged result.status result.code) × (reports.new ≡ reports.old)
+        × (tally.new ≡ tally.old) }
 {
     laws::puts_are_tallied();
     let mut sink = TallySink::new();
     let judged = judge(alloc, header, part, request, &mut sink, reports);
-    *tally = Tally::of(&sink);
+    if judged.is_ok() {
+        *tally = Tally::of(&sink);
+    }
     Answer::of(judged, 0)
+}
+
+/// Judges the lines of a stream, and writes a record of each feature that is wanted to the room for them, as many as fit.
+#[unsafe(no_mangle)]
+pub extern "C" fn cityseq_features(
+    alloc: Global,
+    header: &[u8],
+    part: &[u8],
+    request: &Request<'_>,
+    records: &mut [FeatureRecord],
+    reports: &mut [Told],
+) -> Answer
+    ensures lists { Lists request.now header.now part.now records.old records.new reports.old reports.new result }
+    ensures fits { result.status ≢ 4 }
+    ensures unjudged { IsUnjudged result → (result ≡ not_judged result.status result.code) × (reports.new ≡ reports.old)
+        × (records.new ≡ records.old) }
+{
+    let mut listed = Listed::new(part, records);
+    Answer::of(judge(alloc, header, part, request, &mut listed, reports), 0)
 }
 
 /// Writes the words of a reason as far as they fit, and answers how many bytes they have; 0 where no reason has this code.

@@ -28,7 +28,7 @@ pub struct Tally {
 }
 
 /// A range, as C has it.
-fn range_of(range: Option<(i64, i64)>) -> Range
+pub fn range_of(range: Option<(i64, i64)>) -> Range
     ensures { result ≡ range_told range }
 {
     match range {

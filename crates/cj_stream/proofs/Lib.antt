@@ -44,6 +44,7 @@ pub mod ReadingLemmas
 pub mod RowLemmas
 pub mod RunLemmas
 pub mod ScanningLemmas
+pub mod SelectionLemmas
 pub mod StaysLemmas
 pub mod TallyLemmas
 pub mod TallyPartsLemmas

@@ -31,7 +31,7 @@ module _ (rules : Rules) where
       rw (n_later, m_later, text-same n m header (judgement c rules.limits.depth) n_other m_other) refl
 
   -- behind a header and any other lines
-  after-same : (l : Line) (xs ys : List Line) (c : List ℕ) → verdict rules (l ∷ xs) c ≡ verdict rules (l ∷ ys) c
+  pub after-same : (l : Line) (xs ys : List Line) (c : List ℕ) → verdict rules (l ∷ xs) c ≡ verdict rules (l ∷ ys) c
   after-same l xs ys c = verdict-same (length (l ∷ xs) + 1) (length (l ∷ ys) + 1) _ c (omega arith) (omega arith)
 
   item-same : (l : Line) (xs ys : List Line) (x : Line) → item_after rules (l ∷ xs) x ≡ item_after rules (l ∷ ys) x

@@ -39,6 +39,7 @@ pub mod Reporting
 pub mod Rows
 pub mod Run
 pub mod Scanning
+pub mod Selection
 pub mod Sink
 pub mod Source
 pub mod Tallied

@@ -8,7 +8,7 @@
 //! let outcome = run(alloc, &mut reader, &mut tally, &mut NoReports, limits, &query, Options::new());
 //! laws::puts_are_tallied();                     // so the tally is that of what is kept
 //! ```
-ghost use Rattle.std.specs.Prelude.{◌≡◌, ◌≢◌, ◌+◌, ◌++◌, ℕ, List, [], Option, Some, None, true, false, drop, length, map, take};
+ghost use Rattle.std.specs.Prelude.{◌≡◌, ◌≢◌, ◌+◌, ◌++◌, ℕ, List, [], Bool, Option, Some, None, true, false, drop, length, map, take};
 ghost use Rattle.std.specs.List.{filter, flat_map};
 ghost use Rattle.std.specs.Io.KnownBytes.{IsAtEnd};
 ghost use Rattle.cj_budget.specs.Limits.{LimitPair};
@@ -22,11 +22,12 @@ ghost use Rattle.cj_stream.specs.Headline.{HeadlineOfRun};
 ghost use Rattle.cj_stream.specs.IsGood.{AreGood, EndsAfter};
 ghost use Rattle.cj_stream.specs.IsLines.{IsLines, IsWhole};
 ghost use Rattle.cj_stream.specs.Item.{is_feature};
-ghost use Rattle.cj_stream.specs.Lines.{Line, later_of, lines, whole};
+ghost use Rattle.cj_stream.specs.Lines.{Line, NoLf, ended_line, later_of, lines, whole};
 ghost use Rattle.cj_stream.specs.Output.{output_writer, output_failures, channel, WritesItem, WritesPart};
 ghost use Rattle.cj_stream.specs.Parts.{headed, IsCut, AreComplete, moved_end, moved_report, greater_peaks, JoinsTallies};
 ghost use Rattle.cj_stream.specs.Reporting.{Collects, CountsReport, Notes, NotesRun, NotesPieces};
 ghost use Rattle.cj_stream.specs.Run.{Account, Puts, Run, Runs, RunsNoting, Writes, WritesLines};
+ghost use Rattle.cj_stream.specs.Selection.{LeavesKept, all_lines, staying};
 ghost use Rattle.cj_stream.specs.Sink.{HasRisen};
 ghost use Rattle.cj_stream.specs.TallySink.{Tally, no_tally, Tallies, IsTallyOf, TalliesRun, TalliesPieces};
 ghost use Rattle.cj_stream.specs.Verdict.{Rules, refusal_in, good, kept, kept_first, reported, reported_first, output, ending};
@@ -144,6 +145,21 @@ pub fn refused_parts_are_the_end()
         → output rules (headed h (a ++ b)) ≡ output rules (headed h a) }
     ensures reported { (rules : Rules) (h a b : List ℕ) → IsCut h a → ending rules (headed h a) ≢ End.Complete
         → reported rules (headed h (a ++ b)) ≡ reported rules (headed h a) }
+{}
+
+/// Lines that are not kept can be left out of a complete stream. The rest is complete, the same is kept of it, and the same is
+/// written. So a filter over a header and some lines behind it, all kept ones among them, in their order, writes what a filter
+/// over the whole stream writes.
+pub fn lines_left_out_change_nothing()
+    ensures ending { (rules : Rules) (h a b : List ℕ) (xs : List (Line × Bool)) → NoLf h → lines a ≡ all_lines xs
+        → lines b ≡ staying xs → LeavesKept rules (ended_line h) xs → ending rules (headed h a) ≡ End.Complete
+        → ending rules (headed h b) ≡ End.Complete }
+    ensures kept { (rules : Rules) (h a b : List ℕ) (xs : List (Line × Bool)) → NoLf h → lines a ≡ all_lines xs
+        → lines b ≡ staying xs → LeavesKept rules (ended_line h) xs → ending rules (headed h a) ≡ End.Complete
+        → kept rules (headed h b) ≡ kept rules (headed h a) }
+    ensures output { (rules : Rules) (h a b : List ℕ) (xs : List (Line × Bool)) → NoLf h → lines a ≡ all_lines xs
+        → lines b ≡ staying xs → LeavesKept rules (ended_line h) xs → ending rules (headed h a) ≡ End.Complete
+        → output rules (headed h b) ≡ output rules (headed h a) }
 {}
 
 /// After as many lines as are good, what is kept of these is what is kept of all, and likewise what is reported.

@@ -76,7 +76,7 @@ fn feed_all<S: LineSink, N: ReportSink>(
 /// end is its ending, unless a step of the sink fails or memory is refused: then it took a prefix of what
 /// is kept of the pieces that were given, with all that is kept of the whole lines of those that were
 /// wholly taken. The sink of reports notes what is reported, by the same measure. Without a fault the engine's counts are of
-/// the whole stream.
+/// the whole stream. Whatever the end is, counts, sink and reports are those of the first lines, as many as the engine counts.
 pub fn put_pieces<S: LineSink, N: ReportSink>(
     engine: &mut Engine,
     pieces: &[&[u8]],
@@ -98,6 +98,14 @@ pub fn put_pieces<S: LineSink, N: ReportSink>(
         reports.old reports.new }
     ensures counts { IsUnhindered result.ended → CountsAll (rules_of engine.old)
         (joined (map (λ piece. piece.now) pieces.now)) (outcome_of engine.new result.ended) }
+    ensures runs { let given = joined (take (result.taken + 1) (map (λ piece. piece.now) pieces.now)) in
+        Runs S.takes S.leaves
+        (record { rules = rules_of engine.old; read = given; outcome = outcome_of engine.new result.ended })
+        (given ≡ joined (map (λ piece. piece.now) pieces.now)) sink.old sink.new }
+    ensures noting { let given = joined (take (result.taken + 1) (map (λ piece. piece.now) pieces.now)) in
+        RunsNoting N.notes
+        (record { rules = rules_of engine.old; read = given; outcome = outcome_of engine.new result.ended })
+        reports.old reports.new }
     ensures cause { result.ended ≡ End.WriteFault → HasRisen (S.failures sink.old) (S.failures sink.new) }
     ensures memory { result.ended ≡ End.Memory → (lines_of engine.new ≡ 0) × (sink.new ≡ sink.old)
         × (reports.new ≡ reports.old) }

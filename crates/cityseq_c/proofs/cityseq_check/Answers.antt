@@ -1,11 +1,20 @@
-use Rattle.cityseq_c.proofs.CalledLemmas.{goes}
+use Rattle.cityseq_c.proofs.CalledLemmas.{goes, never-full, unjudged}
 use Rattle.cityseq_c.proofs.cityseq_check.Goals as goal
 
-pub returns : goal.returns
-returns c =
+pub returns-clause-checks : goal.returns-clause-checks
+returns-clause-checks c =
     let j = c.judge.ensures in
     record {
       went = c.judge.result;
       goes = goes _ _ c.args.request.now c.args.header.now c.args.part.now _ _ c.args.reports.now c.judge.new.reports (λ rules o. Unit {0}) (λ rules o judged. tt) c.judge.result j.ok j.refused j.unread;
       told = c.of.ensures;
     }
+
+pub returns-clause-fits : goal.returns-clause-fits
+returns-clause-fits c = never-full c.judge.result c.of.result 0 c.of.ensures c.judge.ensures.cause
+
+pub returns-clause-unjudged : goal.returns-clause-unjudged
+returns-clause-unjudged c which =
+    let j = c.judge.ensures in
+    let same = unjudged _ _ c.args.request.now c.args.header.now c.args.part.now _ _ c.args.reports.now c.judge.new.reports c.judge.result c.of.result 0 c.of.ensures j.ok j.unread which in
+    (same.0, same.1)

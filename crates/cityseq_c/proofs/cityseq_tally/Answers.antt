@@ -1,25 +1,37 @@
-use Rattle.std.proofs.Common.{◌++◌, [], ◌∷◌, subst}
-use Rattle.std.proofs.lemmas.List.{append-nil}
+use Rattle.std.proofs.Common.{◌++◌, ◌∙◌, sym}
+use Rattle.std.specs.Prelude.{OnOk}
 use Rattle.cj_stream.specs.Headline.{IsUnhindered}
 use Rattle.cj_stream.specs.TallySink.{Tallies}
+use Rattle.cj_stream.specs.declared.ending.End.TheVariants.{Complete}
 use Rattle.cityseq_c.specs.Called.{IsTalliedOf}
-use Rattle.cityseq_c.proofs.CalledLemmas.{goes}
+use Rattle.cityseq_c.specs.Tally.{IsTally}
+use Rattle.cityseq_c.proofs.CalledLemmas.{goes-known, known-ok, never-full, unknown-err}
 use Rattle.cityseq_c.proofs.TallyLemmas.{tallied}
 use Rattle.cityseq_c.proofs.cityseq_tally.Goals as goal
+use Rattle.cityseq_c.proofs.cityseq_tally.Goals.{then-is_ok, else-is_ok}
 
-pub returns : goal.returns
-returns c =
+pub returns-clause-tallies : goal.returns-clause-tallies
+returns-clause-tallies c =
     let j = c.judge-judged.ensures in
     let header = c.args.header.now in
     let part = c.args.part.now in
-    let told = c.of.result in
+    let went = c.judge-judged.result in
+    let sink = c.judge-judged.new.sink in
+    let told = c.if-is_ok.tally in
+    let known : OnOk went (IsTally sink told) =
+    elim c.if-is_ok.branch [
+      | then-is_ok w ↦ known-ok (IsTally sink told) went (rw w.tally-is w.of.ensures)
+      | else-is_ok w ↦ unknown-err (IsTally sink told) went (sym c.is_ok.ensures.value ∙ w.if-is_ok.false)
+    ] in
     record {
-      went = c.judge-judged.result;
-      goes = goes Tallies (λ a i b. ⊥) c.args.request.now header part c.new-sink.result c.judge-judged.new.sink c.args.reports.now c.judge-judged.new.reports
-          (λ rules o. IsUnhindered o.ended → IsTalliedOf rules (header ++ part) told)
-          (λ rules o judged free. subst (λ z. IsTalliedOf rules (header ++ z) told) (append-nil part)
-          (tallied rules (header ∷ part ∷ []) o c.new-sink.result c.judge-judged.new.sink _ _ judged c.new-sink.ensures told c.of.ensures
-          (λ n e. c.puts_are_tallied.ensures.pieces rules (header ∷ part ∷ []) n e c.new-sink.result c.judge-judged.new.sink) free))
-          c.judge-judged.result j.ok j.refused j.unread;
+      went = went;
+      goes = goes-known Tallies (λ a i b. ⊥) c.args.request.now header part c.new-sink.result sink c.args.reports.now c.judge-judged.new.reports
+          (IsTally sink told) (λ rules o. IsUnhindered o.ended → IsTalliedOf rules (header ++ part) told)
+          (λ same rules o judged free. tallied rules (header ++ part) o c.new-sink.result sink c.args.reports.now c.judge-judged.new.reports judged c.new-sink.ensures told same
+          (λ fresh puts. c.puts_are_tallied.ensures.runs rules (header ++ part) Complete c.new-sink.result sink fresh puts) free)
+          went known j.ok j.refused j.unread;
       told = c.of-2.ensures;
     }
+
+pub returns-clause-fits : goal.returns-clause-fits
+returns-clause-fits c = never-full c.judge-judged.result c.of-2.result 0 c.of-2.ensures c.judge-judged.ensures.cause

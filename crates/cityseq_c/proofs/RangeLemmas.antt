@@ -1,0 +1,21 @@
+-- The ranges of a record.
+use Rattle.std.proofs.Common.{◌≡◌, ℕ, zero, suc, ◌<◌, List, [], ◌∷◌, Option, None, get_or, arith, refl}
+use Rattle.std.specs.Prelude.{ℤ}
+use Rattle.cj_stream.specs.Tallied.{IsRange}
+use Rattle.cj_stream.specs.TallySink.{no_tally}
+use Rattle.cityseq_c.specs.Tally.{range_of}
+use Rattle.cityseq_c.specs.declared.tally.Range.{Range}
+
+pub ranges-told : (rs : List (Option (ℤ × ℤ))) (a b c : Range) → a ≡ range_of (get_or rs 0 None) → b ≡ range_of (get_or rs 1 None) → c ≡ range_of (get_or rs 2 None)
+    → (axis : ℕ) → axis < 3 → get_or (a ∷ b ∷ c ∷ []) axis (range_of None) ≡ range_of (get_or rs axis None)
+ranges-told rs a b c p q r zero small = p
+ranges-told rs a b c p q r (suc zero) small = q
+ranges-told rs a b c p q r (suc (suc zero)) small = r
+ranges-told rs a b c p q r (suc (suc (suc n))) small = absurd (omega (arith, small))
+
+-- nothing has no range
+pub nothing-ranged : (axis : ℕ) → axis < 3 → IsRange [] (get_or no_tally.ranges axis None)
+nothing-ranged zero small = refl
+nothing-ranged (suc zero) small = refl
+nothing-ranged (suc (suc zero)) small = refl
+nothing-ranged (suc (suc (suc n))) small = absurd (omega (arith, small))

@@ -1,0 +1,24 @@
+-- A search for a content, line by line.
+use Rattle.std.proofs.Common.{◌≡◌, ℕ, ◌+◌, List, [], ◌∷◌, true, false, length, refl, sym, ap, ◌∙◌}
+use Rattle.std.specs.Str.{bytes_eq}
+use Rattle.cj_stream.specs.Lines.{Line, raw}
+use Rattle.cityseq_c.specs.Features.{Passes, Place, past, past_from, seek, seek_from}
+use Rattle.cityseq_c.proofs.CursorLemmas.{place}
+
+module _ (content : List ℕ) (a : Place) (c : List ℕ) (b : Place) (h : Passes a c b) where
+  here : Line
+  here = record { content = c; lf = h.lf }
+
+  -- the line at the place has it
+  pub seek-here : bytes_eq c content ≡ true → seek content a ≡ place a.line a.begin (record { content = c; lf = h.lf } ∷ b.left)
+  seek-here is = ap (λ z. seek_from content a.line a.begin z) h.left ∙ rw is refl
+
+  -- it does not
+  pub seek-on : bytes_eq c content ≡ false → seek content a ≡ seek content b
+  seek-on not =
+      let next : b ≡ place (a.line + 1) (a.begin + length (raw (record { content = c; lf = h.lf }))) b.left = h.behind ∙ ap (λ z. past_from a.line a.begin z) h.left in
+      ap (λ z. seek_from content a.line a.begin z) h.left ∙ (rw not refl ∙ sym (ap (λ z. seek content z) next))
+
+-- there is no line left
+pub seek-end : (content : List ℕ) (a : Place) → a.left ≡ [] → seek content a ≡ place a.line a.begin []
+seek-end content a none = ap (λ z. seek_from content a.line a.begin z) none

@@ -1,0 +1,67 @@
+//! A way along the lines of a part.
+//!
+//! A sink gets the content of a kept line, and not its place. The cursor finds it: it is the next line with that content.
+//! No line with the same content was passed over before it, because lines of one content get one verdict.
+ghost use Rattle.std.specs.Prelude.{◌+◌, ◌≤◌, length};
+
+use memchr::memchr;
+
+/// A place in a part at which a line begins, or the end of the part.
+#[derive(Clone, Copy)]
+pub struct Cursor<'a> {
+    part: &'a [u8],
+    at: usize,
+    line: u64,
+    ghost within: { at ≤ length part.now },
+    ghost few: { line ≤ at + 2 },
+}
+
+impl<'a> Cursor<'a> {
+    ghost use Rattle.std.specs.Prelude.{◌≡◌, ◌<◌, drop};
+    ghost use Rattle.cj_stream.specs.Lines.{lines};
+    ghost use Rattle.cityseq_c.specs.Features.{Passes, Seeks, place_of};
+
+    /// The beginning of a part, whose first line is the second of the stream.
+    pub fn new(part: &'a [u8]) -> Cursor<'a>
+        ensures { place_of result ≡ record { line = 2; begin = 0; left = lines part.now } }
+    {
+        Cursor {
+            part,
+            at: 0,
+            line: 2,
+        }
+    }
+
+    /// Takes the line that begins here, and returns its content.
+    fn next_line(&mut self) -> &'a [u8]
+        requires { self.old.at < length self.old.part.now }
+        ensures part { self.new.part ≡ self.old.part }
+        ensures on { self.old.at < self.new.at }
+        ensures passes { Passes (place_of self.old) result.now (place_of self.new) }
+    {
+        let rest = &self.part[self.at..];
+        let (length, taken) = match memchr(b'\n', rest) {
+            Some(length) => (length, length + 1),
+            None => (rest.len(), rest.len()),
+        };
+        *self = Cursor {
+            part: self.part,
+            at: self.at + taken,
+            line: self.line + 1,
+        };
+        &rest[..length]
+    }
+
+    /// Goes behind the next line with this content, and returns its number and where it begins.
+    pub fn seek(&mut self, content: &[u8]) -> Option<(u64, u64)>
+        ensures { Seeks (place_of self.old) content.now result (place_of self.new) }
+    {
+        while self.at < self.part.len() {
+            let (line, begin) = (self.line, self.at as u64);
+            if self.next_line() == content {
+                return Some((line, begin));
+            }
+        }
+        None
+    }
+}

@@ -1,0 +1,59 @@
+//! The room that C lends for records of features: the sink that writes to it.
+ghost use Rattle.std.specs.Prelude.{◌≤◌, length};
+
+use super::cursor::Cursor;
+use super::record_of::FeatureRecord;
+use cj_stream::{Feature, Header, LineSink, WriteFault};
+
+/// Room that is lent for records, and how many are in it. Records that do not fit are left out.
+#[derive(Drop)]
+pub struct Listed<'a> {
+    cursor: Cursor<'a>,
+    records: &'a mut [FeatureRecord],
+    count: usize,
+    ghost room: { count ≤ length records.now },
+}
+
+impl<'a> Listed<'a> {
+    ghost use Rattle.std.specs.Prelude.{◌≡◌};
+    ghost use Rattle.cj_stream.specs.Lines.{lines};
+    ghost use Rattle.cityseq_c.specs.Features.{listed_place, listed_room, listed_loan, listed_count};
+
+    /// Room with no record in it, for the features of a part.
+    pub fn new(part: &'a [u8], records: &'a mut [FeatureRecord]) -> Listed<'a>
+        ensures loan { listed_loan result ≡ records.entry.ghost_name }
+        ensures room { listed_room result ≡ records.old }
+        ensures count { listed_count result ≡ 0 }
+        ensures place { listed_place result ≡ record { line = 2; begin = 0; left = lines part.now } }
+    {
+        Listed {
+            cursor: Cursor::new(part),
+            records,
+            count: 0,
+        }
+    }
+}
+
+impl LineSink for Listed<'_> {
+    ghost use Rattle.cityseq_c.specs.Features.{ListsItem};
+
+    ghost takes = { ListsItem };
+
+    ghost leaves = { λ a i b. ⊥ };
+
+    ghost failures = { λ s. 0 };
+
+    fn header(&mut self, _header: &Header<'_>, _lf: bool) -> Result<(), WriteFault> {
+        Ok(())
+    }
+
+    fn put(&mut self, feature: &Feature<'_>, lf: bool) -> Result<(), WriteFault> {
+        if let Some((line, begin)) = self.cursor.seek(feature.bytes()) {
+            if self.count < self.records.len() {
+                self.records[self.count] = FeatureRecord::of(line, begin, feature, lf);
+                self.count += 1;
+            }
+        }
+        Ok(())
+    }
+}

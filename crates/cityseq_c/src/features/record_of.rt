@@ -1,0 +1,114 @@
+//! What is told of a feature: where it stands in a part, and what is in it.
+ghost use Rattle.std.specs.Prelude.{◌≡◌, ◌<◌, ◌≤◌, ℕ, get_or, length, nat_lt};
+ghost use Rattle.std.specs.List.{flat_map};
+ghost use Rattle.cj_feature.specs.View.{feature_header, feature_tree};
+ghost use Rattle.cj_feature.specs.Walks.{object_geometries};
+ghost use Rattle.cj_stream.specs.Criteria.{objects_of};
+ghost use Rattle.cj_stream.specs.Item.{feature_item};
+ghost use Rattle.cj_stream.specs.Tallied.{capped};
+ghost use Rattle.cj_stream.specs.TallySink.{TalliesFeature, no_tally};
+ghost use Rattle.cityseq_c.specs.Features.{IsRecordOf, bits};
+
+use crate::tally::{Range, range_of};
+use cj_stream::{Feature, LineSink, TallySink, WriteFault};
+
+/// What is told of a feature.
+#[repr(C)]
+#[derive(Clone, Copy, Debug)]
+pub struct FeatureRecord {
+    /// The number of its line in the header and the part, from 1.
+    pub line: u64,
+    /// Where its line begins in the part.
+    pub begin: u64,
+    /// The bytes of its line, without LF.
+    pub length: u64,
+    /// Where the string of its id begins in the line.
+    pub id_begin: u64,
+    /// The bytes of that string, with its quotes.
+    pub id_length: u64,
+    /// Its city objects.
+    pub objects: u64,
+    /// Its geometries.
+    pub geometries: u64,
+    /// Bit n is set where a city object has the type of number n.
+    pub types: u64,
+    /// Bit n is set where a geometry has an LoD of class n.
+    pub lods: u64,
+    /// The numbers of its vertices on x, y and z, as they stand there.
+    pub ranges: [Range; 3],
+}
+
+/// How many city objects a feature has. At 2^64 - 1 the count stays.
+fn count_objects(feature: &Feature) -> u64
+    ensures { result ≡ capped (length (objects_of (feature_tree feature.now))) }
+{
+    let mut count = 0u64;
+    for _object in feature.objects() {
+        count = count.saturating_add(1);
+    }
+    count
+}
+
+/// How many geometries its city objects have. At 2^64 - 1 the count stays.
+fn count_geometries(feature: &Feature) -> u64
+    ensures { result ≡ capped (length (flat_map object_geometries (objects_of (feature_tree feature.now)))) }
+{
+    let mut count = 0u64;
+    for _geometry in feature.geometries() {
+        count = count.saturating_add(1);
+    }
+    count
+}
+
+/// The number whose bit n is set where the count at n is not 0.
+fn bits_of(counts: &[u64]) -> u64
+    requires { length counts.now ≤ 63 }
+    ensures { result ≡ bits (λ n. nat_lt 0 (get_or counts.now n 0)) (length counts.now) }
+{
+    let mut bits = 0u64;
+    let mut bit = 1u64;
+    for count in counts {
+        if *count > 0 {
+            bits += bit;
+        }
+        bit *= 2;
+    }
+    bits
+}
+
+/// The tally of one feature.
+fn tally_of(feature: &Feature, lf: bool) -> TallySink
+    ensures { TalliesFeature no_tally (feature_header feature.now) (feature_tree feature.now) result }
+{
+    let mut tally = TallySink::new();
+    match tally.put(feature, lf) {
+        Ok(()) => tally,
+        Err(WriteFault) => unreachable!(),
+    }
+}
+
+impl FeatureRecord {
+    /// The record of a feature whose line has this number and begins at this byte of the part.
+    pub fn of(line: u64, begin: u64, feature: &Feature, lf: bool) -> FeatureRecord
+        ensures { IsRecordOf (record { line = line; begin = begin; item = feature_item feature.now lf }) result }
+    {
+        let tally = tally_of(feature, lf);
+        let id = feature.id();
+        FeatureRecord {
+            line,
+            begin,
+            length: feature.bytes().len() as u64,
+            id_begin: id.start(),
+            id_length: id.bytes().len() as u64,
+            objects: count_objects(feature),
+            geometries: count_geometries(feature),
+            types: bits_of(&tally.types()),
+            lods: bits_of(&tally.lods()),
+            ranges: [
+                range_of(tally.range(0)),
+                range_of(tally.range(1)),
+                range_of(tally.range(2)),
+            ],
+        }
+    }
+}
