@@ -210,8 +210,8 @@ impl<'a> Node<'a> {
     pub fn line(self) -> &'a [u8]
         ensures { result.now ≡ line_of self.entry }
     {
-        let line = self.source.line;
-        line
+        let source = self.source;
+        source.line
     }
 
     /// Where it stands in the line: where its first byte is, and where the first byte behind it is.
