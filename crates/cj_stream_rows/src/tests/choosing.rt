@@ -243,7 +243,8 @@ pub fn check_went(rt: &impl Abort, came: &Came, kept: u64, ended: End, written: 
     check_bytes(rt, &came.written, written, row, 2);
 }
 
-/// A feature with these city objects, which is valid, and refused at this place where each has to be reached.
+/// A feature with these city objects, which is valid, and refused at this place where each has to be reached, also where all
+/// features are left out.
 fn check_refused(rt: &impl Abort, alloc: Global, objects: &str, place: u64) -> Result<(), Fail> {
     let text = joined(alloc, &[FIRST, FRONT, objects.as_bytes(), BACK, b"\n"])?;
     let query = Query::all(alloc);
@@ -252,6 +253,8 @@ fn check_refused(rt: &impl Abort, alloc: Global, objects: &str, place: u64) -> R
     let tree = came_of(alloc, &text, 100, &query, trees())?;
     let end = refused(2, place, Reason::NotReached);
     check_went(rt, &tree, 0, end, FIRST, objects);
+    let others = came_of(alloc, &text, 100, &query, trees().exclude(true))?;
+    check_went(rt, &others, 0, end, FIRST, objects);
     Ok(())
 }
 
@@ -281,13 +284,21 @@ fn features_with_one_that_is_not_reached(rt: HostRuntime) -> Result<(), Fail> {
             r#""b":{"type":"Building"},"c":{"type":"Building"},"d":{"type":"Building"}"#,
             78,
         ),
+        (
+            r#""b":{"type":"Building"},"p":{"type":"BuildingPart","parents":["c"]},"c":{"type":"Building","children":["p"]}"#,
+            78,
+        ),
+        (
+            r#""b":{"type":"BuildingPart","parents":["c"]},"c":{"type":"Building","children":["b"]}"#,
+            98,
+        ),
     ] {
         check_refused(&rt, rt.alloc(), objects, place)?;
     }
     Ok(())
 }
 
-/// A feature with these city objects, which is kept in either way.
+/// A feature with these city objects, which is kept in either way, and left out where all are.
 fn check_kept(rt: &impl Abort, alloc: Global, objects: &str) -> Result<(), Fail> {
     let text = joined(alloc, &[FIRST, FRONT, objects.as_bytes(), BACK, b"\n"])?;
     let query = Query::all(alloc);
@@ -295,6 +306,8 @@ fn check_kept(rt: &impl Abort, alloc: Global, objects: &str) -> Result<(), Fail>
     check_went(rt, &usual, 1, End::Complete, &text, objects);
     let tree = came_of(alloc, &text, 100, &query, trees())?;
     check_went(rt, &tree, 1, End::Complete, &text, objects);
+    let others = came_of(alloc, &text, 100, &query, trees().exclude(true))?;
+    check_went(rt, &others, 0, End::Complete, FIRST, objects);
     Ok(())
 }
 
@@ -303,6 +316,8 @@ fn features_of_which_all_is_reached(rt: HostRuntime) -> Result<(), Fail> {
     for objects in [
         r#""b":{"type":"Building"}"#,
         r#""b":{"type":"Building","children":["b"],"parents":["b"]}"#,
+        r#""q":{"type":"BuildingPart","parents":["p"]},"p":{"type":"BuildingPart","parents":["b"],"children":["q"]},"b":{"type":"Building","children":["p"]}"#,
+        r#""b":{"type":"BuildingPart","parents":["c"],"children":["c"]},"c":{"type":"Building","children":["b"],"parents":["b"]}"#,
         r#""b":{"type":"Building","children":["c"],"parents":["c"]},"c":{"type":"Building","children":["b"],"parents":["b"]}"#,
         r#""b":{"type":"CityObjectGroup","children":["g"]},"c":{"type":"Building"},"g":{"type":"CityObjectGroup","children":["c","x"]}"#,
         r#""b":{"type":"Building","children":["\u0070"]},"\u0070":{"type":"BuildingPart","parents":["\u0062"]}"#,
