@@ -1,6 +1,8 @@
+pub mod AnswerLemmas
 pub mod AskedLemmas
 pub mod BoxLemmas
 pub mod CalledLemmas
+pub mod CuttingLemmas
 pub mod FaultLemmas
 pub mod FitLemmas
 pub mod ItemLemmas

@@ -1,5 +1,7 @@
 pub mod Answer
 pub mod Called
+pub mod Cutting
+pub mod Joined
 pub mod Judged
 pub mod Query
 pub mod Reports

@@ -62,6 +62,7 @@ impl Outcome {
     /// numbers stop at 2^64 - 1.
     pub fn then(self, next: Outcome) -> Outcome
         ensures ended { self.ended ≢ End.Complete → result ≡ self }
+        ensures complete { self.ended ≡ End.Complete → result ≡ capped_outcome (both_outcomes self next) }
         ensures account { (rules : Rules) (h a b : List ℕ) (left more : Option (List ℕ)) → IsCut h a
             → IsUnread self.ended → self.lines + next.lines < 2 ^ 64
             → Account (record { rules = rules; read = headed h a; outcome = self }) (IsAtEnd left)
