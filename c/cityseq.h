@@ -1,18 +1,27 @@
 /* cityseq: checks, filters and tallies CityJSONSeq 2.0 streams that lie in memory.
  *
- * A stream is given as two pieces, of which nothing is copied together: its header, which is the first line with its LF, and a
- * part, which is the bytes behind it, all or some. A part that is not the last one ends with an LF. Parts of one stream, each
- * with the same header, may be judged at once, by any number of threads: no call keeps anything for the next one. What comes
- * of the whole stream follows from what came of the parts:
+ * STREAMS. A call takes a stream as two pieces: its header, which is the first line with its LF, and a part, which is the bytes
+ * after it, all or some. Nothing is copied together. A part that is not the last one ends with an LF; cityseq_part_end finds
+ * where to cut. Parts of one stream, each with the same header, may be judged at once, by any number of threads. No call keeps
+ * anything for the next one.
  *
- * - the parts before the first one whose status is not CITYSEQ_COMPLETE are good, and it is the end of the stream;
- * - its line number in the stream is that in the part, and the lines of all parts before it, each less one for the header;
- * - the output is that of the first part, and then that of each later one without the header's line;
- * - lines (less one for each later header), kept, refused and all counts of a tally add up; peaks are the greatest.
+ * JOINING. What came of a stream follows from what came of its parts, in their order:
+ * - The parts before the first one whose status is not CITYSEQ_COMPLETE are valid. That one is the end of the stream.
+ * - cityseq_answer_then joins answers, and cityseq_tally_then joins tallies.
+ * - The output is that of the first part, and then that of each later part without the header's line.
+ * - The line of a report in the stream is its line in the part, plus the lines of all parts before it, less one for each of them.
  *
- * No pointer may be NULL, also where its length is 0. A bool is 0 or 1. Nothing that is given is changed, but for what is said
- * to be written, which overlaps nothing else. A call takes memory by malloc and frees it before it returns. It takes up to 1 MB of
- * the stack, and with tree up to 3 MB, as a thread has by default where the C library is glibc.
+ * POINTERS. A pointer to bytes or to reports may be NULL where their number is 0. All others point to what they say. A bool is 0
+ * or 1. A call changes only what it is said to write, which overlaps nothing else that it is given.
+ *
+ * WHAT A CALLER OWES. The proof behind the library counts on these, and no call checks them:
+ * - What a call reads does not change until it returns, neither by another thread nor by another process. A mapped file that is
+ *   cut short meanwhile ends the process with SIGBUS, so read a file that others may write to.
+ * - No call is made from a signal handler, nor in the child of a process with threads before it has called exec.
+ * - malloc, realloc and free are those of one allocator, and align a block as the C standard says. A call frees before it returns
+ *   what it has taken.
+ * - A call takes up to 1 MB of the stack, and with `tree` up to 3 MB. A thread has more by default where the C library is glibc.
+ * - The processor has x86-64-v2: SSE 4.2, SSSE3 and POPCNT.
  */
 #ifndef CITYSEQ_H
 #define CITYSEQ_H
@@ -25,8 +34,13 @@
 extern "C" {
 #endif
 
-/* The interface that this file declares. The library tells by cityseq_interface which one it has. */
-#define CITYSEQ_INTERFACE 1
+/* The interface that this file declares. cityseq_interface tells which one the library has.
+ *
+ * 2: cityseq_tally is now cityseq_info, so that in C++ the struct needs no keyword. New are the joins, cityseq_part_end,
+ *    cityseq_version, the reasons, and the sizes of a tally. NULL is allowed where there are no bytes. After CITYSEQ_NO_MEMORY all
+ *    counts are 0, and after it and CITYSEQ_BAD_REQUEST a tally is as it was.
+ * 1: the first one. */
+#define CITYSEQ_INTERFACE 2
 
 /* How a call ended. After CITYSEQ_BAD_REQUEST and CITYSEQ_NO_MEMORY nothing was judged: output, reports and tally are as they
  * were, and all fields of the answer but status and code are 0. */
@@ -51,18 +65,49 @@ enum cityseq_fault {
     CITYSEQ_TOO_LONG = 9      /* the header and the part have more than 2^60 bytes */
 };
 
-/* How lines are judged, and which features are wanted: those that satisfy each part of the query that is asked. Ids, types and
- * LoDs are texts in UTF-8 with an LF between each two, and none where the length is 0. */
+/* Why a line is invalid: the code of an answer whose status is CITYSEQ_REFUSED, and of a report. docs/REASONS.md explains each. */
+enum cityseq_reason {
+    CITYSEQ_REASON_NO_HEADER = 1,
+    CITYSEQ_REASON_LINE_TOO_LONG = 2,
+    CITYSEQ_REASON_NOT_UTF8 = 3,
+    CITYSEQ_REASON_SYNTAX = 4,
+    CITYSEQ_REASON_TOO_DEEP = 5,
+    CITYSEQ_REASON_MISSING_MEMBER = 10,
+    CITYSEQ_REASON_DUPLICATE_NAME = 11,
+    CITYSEQ_REASON_WRONG_KIND = 12,
+    CITYSEQ_REASON_NUMBER_RANGE = 13,
+    CITYSEQ_REASON_WRONG_TYPE = 14,
+    CITYSEQ_REASON_WRONG_VERSION = 15,
+    CITYSEQ_REASON_NOT_EMPTY = 16,
+    CITYSEQ_REASON_NOT_THREE = 17,
+    CITYSEQ_REASON_NOT_WHOLE = 18,
+    CITYSEQ_REASON_UNKNOWN_OBJECT_TYPE = 19,
+    CITYSEQ_REASON_ID_NOT_FOUND = 20,
+    CITYSEQ_REASON_CHILD_NOT_FOUND = 21,
+    CITYSEQ_REASON_LINK_NOT_MUTUAL = 22,
+    CITYSEQ_REASON_NO_PARENT = 23,
+    CITYSEQ_REASON_UNKNOWN_GEOMETRY_TYPE = 24,
+    CITYSEQ_REASON_VERTEX_INDEX = 25,
+    CITYSEQ_REASON_SEMANTICS_COUNT = 26,
+    CITYSEQ_REASON_SEMANTICS_INDEX = 27,
+    CITYSEQ_REASON_TEMPLATE_INDEX = 28,
+    CITYSEQ_REASON_BAD_INSTANCE = 29,
+    CITYSEQ_REASON_TRANSFORM_NOT_FIXED = 30,
+    CITYSEQ_REASON_NOT_REACHED = 31
+};
+
+/* How lines are judged, and which features are kept: those that satisfy each part of the query that is asked. Ids, types and LoDs
+ * are texts in UTF-8 with an LF between each two, and none where the length is 0. */
 struct cityseq_request {
     uint64_t line_limit;  /* the most bytes of a line without its LF: 8,388,608 is usual */
     uint64_t depth_limit; /* the most arrays and objects open at once: 64 is usual */
     bool keep_going;      /* whether an invalid line after the first is reported, and the next one read */
-    bool tree;            /* whether each city object has to be reached from the feature's main one */
+    bool tree;            /* whether each city object must be reached from the feature's main one */
     bool exclude;         /* whether the features that satisfy the query are left out, and all others kept */
-    bool asks_ids;        /* whether the id has to be one of these */
-    bool asks_types;      /* whether some city object has to have one of these types */
-    bool asks_lods;       /* whether some geometry has to have one of these LoDs, as it is spelled */
-    bool asks_box;        /* whether some vertices have to be in the box: minx,miny,maxx,maxy */
+    bool asks_ids;        /* whether the id must be one of these */
+    bool asks_types;      /* whether some city object must have one of these types */
+    bool asks_lods;       /* whether some geometry must have one of these LoDs, as it is spelled */
+    bool asks_box;        /* whether some vertices must be in the box: minx,miny,maxx,maxy */
     const char *ids;
     size_t ids_length;
     const char *types;
@@ -81,18 +126,18 @@ struct cityseq_request {
 struct cityseq_report {
     uint64_t line;  /* its number in the header and the part, from 1 */
     uint64_t place; /* the byte in the line, from 0 */
-    uint64_t code;  /* why: cityseq_reason_text has the words */
+    uint64_t code;  /* why: a cityseq_reason */
 };
 
 /* What came of a stream. */
 struct cityseq_answer {
     uint32_t status;      /* a cityseq_status */
-    uint32_t code;        /* where a line was refused, why; in a bad request, a cityseq_fault; else 0 */
-    uint64_t line;        /* where a line was refused, its number, from 1; else 0 */
-    uint64_t place;       /* where a line was refused, the byte in it, from 0; else 0 */
-    uint64_t lines;       /* the lines that were dealt with, blank ones too, and the header */
-    uint64_t kept;        /* the features that are wanted */
-    uint64_t refused;     /* the lines that were reported, whether there was room for the reports or not */
+    uint32_t code;        /* a cityseq_reason where a line is invalid, a cityseq_fault of a bad request; else 0 */
+    uint64_t line;        /* the number of the invalid line, from 1; else 0 */
+    uint64_t place;       /* the byte in it, from 0; else 0 */
+    uint64_t lines;       /* the lines that were dealt with: the header, features, blank lines, and reported ones */
+    uint64_t kept;        /* the features among them that are kept */
+    uint64_t refused;     /* the lines among them that were reported, whether there was room for the reports or not */
     uint64_t peak_bytes;  /* the most that was held: bytes of lines, */
     uint64_t peak_tokens; /* tokens, */
     uint64_t peak_depth;  /* and open arrays and objects */
@@ -106,11 +151,14 @@ struct cityseq_range {
     int64_t greatest;
 };
 
-/* What is in the features that are wanted. */
+#define CITYSEQ_TYPES 33 /* the types of city objects */
+#define CITYSEQ_LODS 6   /* the classes of LoDs */
+
+/* What is in the features that are kept. */
 struct cityseq_tally {
     uint64_t features;
-    uint64_t types[33];             /* city objects by type: cityseq_type_name has the names */
-    uint64_t lods[6];               /* geometries by the class of their LoD: 0 to 4, and other */
+    uint64_t types[CITYSEQ_TYPES];  /* city objects by type: cityseq_type_name has the names */
+    uint64_t lods[CITYSEQ_LODS];    /* geometries by the class of their LoD: 0 to 4, and other */
     struct cityseq_range ranges[3]; /* the vertices, x, y and z, as they stand in the features */
 };
 
@@ -121,8 +169,8 @@ uint32_t cityseq_interface(void);
 struct cityseq_answer cityseq_check(const char *header, size_t header_length, const char *part, size_t part_length,
                                     const struct cityseq_request *request, struct cityseq_report *reports, size_t reports_room);
 
-/* The same, and writes the header and the features that are wanted, as they came, to output. Room for as many bytes as the
- * header and the part have is always enough.
+/* The same, and writes the header and the features that are kept, as they came, to output. Room for as many bytes as the header
+ * and the part have is always enough.
  *
  * Where the status is CITYSEQ_NO_ROOM, what was written is the output of the first `lines` lines, whole, and counts and reports
  * are of these. So a caller goes on after line `lines`: it calls again with the header and with what follows that line, and more
@@ -131,18 +179,36 @@ struct cityseq_answer cityseq_filter(const char *header, size_t header_length, c
                                      const struct cityseq_request *request, char *output, size_t output_room,
                                      struct cityseq_report *reports, size_t reports_room);
 
-/* Judges the lines of a stream, and tallies the features that are wanted. The tally is that of the stream where the status is
+/* Judges the lines of a stream, and tallies the features that are kept. The tally is that of the stream where the status is
  * CITYSEQ_COMPLETE or CITYSEQ_REFUSED. */
-struct cityseq_answer cityseq_tally(const char *header, size_t header_length, const char *part, size_t part_length,
-                                    const struct cityseq_request *request, struct cityseq_tally *tally,
-                                    struct cityseq_report *reports, size_t reports_room);
+struct cityseq_answer cityseq_info(const char *header, size_t header_length, const char *part, size_t part_length,
+                                   const struct cityseq_request *request, struct cityseq_tally *tally,
+                                   struct cityseq_report *reports, size_t reports_room);
+
+/* The answer for a header with the lines of two parts, by those for the header with each. The first part ends with an LF.
+ * header_length is that of the calls: the output's length counts the header once. If the first answer is not CITYSEQ_COMPLETE it
+ * is the answer for both. If nothing of the next part was judged, the answer has its status and code, with the counts of the
+ * first. Counts stop at 2^64 - 1. */
+struct cityseq_answer cityseq_answer_then(const struct cityseq_answer *first, const struct cityseq_answer *next,
+                                          size_t header_length);
+
+/* The tally for a header with the lines of two parts, by those for the header with each, of which the first is complete. A tally
+ * of zeros joined with another is that other. Counts stop at 2^64 - 1. */
+struct cityseq_tally cityseq_tally_then(const struct cityseq_tally *first, const struct cityseq_tally *next);
+
+/* Where to cut a part of about `wanted` bytes from what follows a header: after the last LF among the first `wanted` bytes; else
+ * after the first LF; else 0, as no line ends. */
+size_t cityseq_part_end(const char *part, size_t length, size_t wanted);
 
 /* Writes the words of a reason, in ASCII and without a NUL, as far as they fit, and answers how many bytes they have: 0 where no
  * reason has this code. */
 size_t cityseq_reason_text(uint64_t code, char *text, size_t room);
 
-/* Writes the name of a type of city objects, by its number from 0 to 32, in the same way. */
+/* Writes the name of a type of city objects, by its number from 0 to CITYSEQ_TYPES - 1, in the same way. */
 size_t cityseq_type_name(uint64_t number, char *text, size_t room);
+
+/* Writes the version of the library, as 1.2.3, in the same way. */
+size_t cityseq_version(char *text, size_t room);
 
 #ifdef __cplusplus
 }

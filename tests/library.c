@@ -35,31 +35,6 @@ static void *room(size_t size)
     return found;
 }
 
-static uint64_t greater(uint64_t a, uint64_t b) { return a > b ? a : b; }
-
-static void widen(struct cityseq_range *range, struct cityseq_range next)
-{
-    if (!next.some)
-        return;
-    if (!range->some) {
-        *range = next;
-        return;
-    }
-    range->least = next.least < range->least ? next.least : range->least;
-    range->greatest = next.greatest > range->greatest ? next.greatest : range->greatest;
-}
-
-static void add_tally(struct cityseq_tally *tally, const struct cityseq_tally *next)
-{
-    tally->features += next->features;
-    for (int i = 0; i < 33; i++)
-        tally->types[i] += next->types[i];
-    for (int i = 0; i < 6; i++)
-        tally->lods[i] += next->lods[i];
-    for (int i = 0; i < 3; i++)
-        widen(&tally->ranges[i], next->ranges[i]);
-}
-
 /* The answer for a header and one part. */
 static struct joined judge(struct text header, struct text part, const struct cityseq_request *request)
 {
@@ -74,7 +49,7 @@ static struct joined judge(struct text header, struct text part, const struct ci
                                   found.reports, lines);
     struct cityseq_report none;
     struct cityseq_answer tallied =
-        cityseq_tally(header.bytes, header.length, part.bytes, part.length, request, &found.tally, &none, 0);
+        cityseq_info(header.bytes, header.length, part.bytes, part.length, request, &found.tally, &none, 0);
     tallied.written = found.answer.written;
     struct cityseq_answer checked =
         cityseq_check(header.bytes, header.length, part.bytes, part.length, request, &none, 0);
@@ -86,32 +61,22 @@ static struct joined judge(struct text header, struct text part, const struct ci
     return found;
 }
 
-/* Joins what came of the parts so far with what came of the next one, by the law of parts. */
+/* Joins what came of the parts so far with what came of the next one. */
 static void join(struct joined *all, struct joined next, size_t header)
 {
-    struct cityseq_answer *a = &all->answer, b = next.answer;
-    uint64_t before = a->lines - 1;
-    all->reports = realloc(all->reports, sizeof *all->reports * (a->refused + b.refused + 1));
-    all->output = realloc(all->output, a->written + b.written + 1);
+    uint64_t before = all->answer.lines - 1, reports = all->answer.refused, written = all->answer.written;
+    all->answer = cityseq_answer_then(&all->answer, &next.answer, header);
+    all->tally = cityseq_tally_then(&all->tally, &next.tally);
+    all->reports = realloc(all->reports, sizeof *all->reports * (all->answer.refused + 1));
+    all->output = realloc(all->output, all->answer.written + 1);
     if (!all->reports || !all->output)
         exit(3);
-    for (uint64_t i = 0; i < b.refused; i++) {
-        all->reports[a->refused + i] = next.reports[i];
-        all->reports[a->refused + i].line += before;
+    for (uint64_t i = 0; i < next.answer.refused; i++) {
+        all->reports[reports + i] = next.reports[i];
+        all->reports[reports + i].line += before;
     }
-    memcpy(all->output + a->written, next.output + header, b.written - header);
-    add_tally(&all->tally, &next.tally);
-    a->written += b.written - header;
-    a->status = b.status;
-    a->code = b.code;
-    a->line = b.status == CITYSEQ_REFUSED ? b.line + before : b.line;
-    a->place = b.place;
-    a->lines += b.lines - 1;
-    a->kept += b.kept;
-    a->refused += b.refused;
-    a->peak_bytes = greater(a->peak_bytes, b.peak_bytes);
-    a->peak_tokens = greater(a->peak_tokens, b.peak_tokens);
-    a->peak_depth = greater(a->peak_depth, b.peak_depth);
+    if (next.answer.written)
+        memcpy(all->output + written, next.output + header, next.answer.written - header);
     free(next.reports);
     free(next.output);
 }
@@ -426,21 +391,147 @@ static void nothing_judged(void)
     row("a check of a bad request", a.status == CITYSEQ_BAD_REQUEST && is_untouched(a, out, sizeof out, &report, &tally));
     a = cityseq_filter(header_line, header, good_line, good, &r, out, sizeof out, &report, 1);
     row("a filter of a bad request", a.status == CITYSEQ_BAD_REQUEST && is_untouched(a, out, sizeof out, &report, &tally));
-    a = cityseq_tally(header_line, header, good_line, good, &r, &tally, &report, 1);
+    a = cityseq_info(header_line, header, good_line, good, &r, &tally, &report, 1);
     row("a tally of a bad request", a.status == CITYSEQ_BAD_REQUEST && is_untouched(a, out, sizeof out, &report, &tally));
+}
+
+static int are_same(struct cityseq_answer a, struct cityseq_answer b) { return !memcmp(&a, &b, sizeof a); }
+
+/* Joins where the next part ends before it was judged, or before its header was written. */
+static void joins(void)
+{
+    struct cityseq_request r = CITYSEQ_USUAL;
+    struct cityseq_report none;
+    char out[400];
+    size_t header = strlen(header_line), good = strlen(good_line);
+    struct cityseq_answer first = cityseq_filter(header_line, header, good_line, good, &r, out, sizeof out, &none, 0), next, all;
+    next = cityseq_filter(header_line, header, good_line, good, &r, out, header - 1, &none, 0);
+    all = cityseq_answer_then(&first, &next, header);
+    next = first, next.status = CITYSEQ_NO_ROOM;
+    row("a part whose header does not fit", are_same(all, next) && first.lines == 2 && first.written == header + good);
+    r.depth_limit = 0, next = ask(&r, header_line, good_line), all = cityseq_answer_then(&first, &next, header);
+    next = first, next.status = CITYSEQ_BAD_REQUEST, next.code = CITYSEQ_DEPTH_LIMIT;
+    row("a bad request", are_same(all, next));
+    memset(&next, 0, sizeof next), next.status = CITYSEQ_NO_MEMORY, all = cityseq_answer_then(&first, &next, header);
+    next = first, next.status = CITYSEQ_NO_MEMORY;
+    row("a part without memory", are_same(all, next));
+    row("nothing after that", are_same(cityseq_answer_then(&all, &first, header), all));
+    r.depth_limit = 64, next = ask(&r, header_line, "{\n"), all = cityseq_answer_then(&first, &next, header);
+    row("a part with an invalid line", all.status == CITYSEQ_REFUSED && all.line == 3 && all.place == 1 && all.code == 4 &&
+                                           all.lines == 2 && all.kept == 1 && all.written == header + good);
+    row("nothing after that either", are_same(cityseq_answer_then(&all, &first, header), all));
+}
+
+/* Where a part ends, byte by byte. */
+static size_t slow_part_end(const char *part, size_t length, size_t wanted)
+{
+    size_t first = 0, last = 0;
+    for (size_t i = 0; i < length; i++)
+        if (part[i] == '\n') {
+            first = first ? first : i + 1;
+            last = i < wanted ? i + 1 : last;
+        }
+    return last ? last : first;
+}
+
+/* All texts of up to ten bytes, each an LF or none. */
+static void part_ends(void)
+{
+    char part[10];
+    int wrong = 0;
+    for (size_t length = 0; length <= sizeof part; length++)
+        for (unsigned bits = 0; bits < 1u << length; bits++) {
+            for (size_t i = 0; i < length; i++)
+                part[i] = bits >> i & 1 ? '\n' : 'x';
+            for (size_t wanted = 0; wanted <= length + 1; wanted++)
+                wrong += cityseq_part_end(part, length, wanted) != slow_part_end(part, length, wanted);
+        }
+    row("ends of parts", !wrong && cityseq_part_end("\n", 1, SIZE_MAX) == 1);
+}
+
+/* Pointers that are NULL, where there is nothing at them. */
+static void nulls(void)
+{
+    struct cityseq_request r = CITYSEQ_USUAL;
+    struct cityseq_answer a = cityseq_check(NULL, 0, NULL, 0, &r, NULL, 0);
+    row("no header, no part", a.status == CITYSEQ_REFUSED && a.code == CITYSEQ_REASON_NO_HEADER && a.line == 1);
+    a = cityseq_check(header_line, strlen(header_line), NULL, 0, &r, NULL, 0);
+    row("no part", a.status == CITYSEQ_COMPLETE && a.lines == 1);
+    a = cityseq_check(NULL, 0, good_line, strlen(good_line), &r, NULL, 0);
+    row("a part without a header", a.status == CITYSEQ_BAD_REQUEST && a.code == CITYSEQ_NO_LINE);
+    a = cityseq_filter(header_line, strlen(header_line), NULL, 0, &r, NULL, 0, NULL, 0);
+    row("no output", a.status == CITYSEQ_NO_ROOM && a.lines == 0 && a.written == 0);
+    r.keep_going = 1, a = cityseq_check(header_line, strlen(header_line), "{\n", 2, &r, NULL, 0);
+    row("a report for no room", a.status == CITYSEQ_COMPLETE && a.refused == 1);
+    r.ids = r.types = r.lods = r.box = NULL;
+    row("texts that are not asked", ask(&r, header_line, good_line).kept == 1);
+    r.asks_ids = 1;
+    row("no id at all", ask(&r, header_line, good_line).kept == 0);
+    r.asks_ids = 0, r.asks_types = r.asks_lods = r.exclude = 1;
+    row("no type and no LoD, left out", ask(&r, header_line, good_line).kept == 1);
+    r.asks_box = 1, a = ask(&r, header_line, good_line);
+    row("no box at all", a.status == CITYSEQ_BAD_REQUEST && a.code == CITYSEQ_BAD_BOX);
+    row("no end", cityseq_part_end(NULL, 0, 0) == 0 && cityseq_part_end(NULL, 0, 9) == 0);
+    row("no text", cityseq_reason_text(4, NULL, 0) == 6 && cityseq_type_name(1, NULL, 0) == 8 && cityseq_version(NULL, 0) == 5);
+}
+
+/* The reasons, as docs/REASONS.md has them. */
+static const struct {
+    enum cityseq_reason code;
+    const char *text;
+} reasons[] = {
+    {CITYSEQ_REASON_NO_HEADER, "no header line"},
+    {CITYSEQ_REASON_LINE_TOO_LONG, "line too long"},
+    {CITYSEQ_REASON_NOT_UTF8, "not UTF-8"},
+    {CITYSEQ_REASON_SYNTAX, "syntax"},
+    {CITYSEQ_REASON_TOO_DEEP, "nested too deep"},
+    {CITYSEQ_REASON_MISSING_MEMBER, "member missing"},
+    {CITYSEQ_REASON_DUPLICATE_NAME, "duplicate name"},
+    {CITYSEQ_REASON_WRONG_KIND, "wrong kind"},
+    {CITYSEQ_REASON_NUMBER_RANGE, "number out of range"},
+    {CITYSEQ_REASON_WRONG_TYPE, "wrong type"},
+    {CITYSEQ_REASON_WRONG_VERSION, "wrong version"},
+    {CITYSEQ_REASON_NOT_EMPTY, "not empty"},
+    {CITYSEQ_REASON_NOT_THREE, "not three items"},
+    {CITYSEQ_REASON_NOT_WHOLE, "not a whole number"},
+    {CITYSEQ_REASON_UNKNOWN_OBJECT_TYPE, "unknown object type"},
+    {CITYSEQ_REASON_ID_NOT_FOUND, "id not among the city objects"},
+    {CITYSEQ_REASON_CHILD_NOT_FOUND, "child not found"},
+    {CITYSEQ_REASON_LINK_NOT_MUTUAL, "link not mutual"},
+    {CITYSEQ_REASON_NO_PARENT, "no parent in the feature"},
+    {CITYSEQ_REASON_UNKNOWN_GEOMETRY_TYPE, "unknown geometry type"},
+    {CITYSEQ_REASON_VERTEX_INDEX, "vertex index out of range"},
+    {CITYSEQ_REASON_SEMANTICS_COUNT, "semantics count"},
+    {CITYSEQ_REASON_SEMANTICS_INDEX, "semantics index out of range"},
+    {CITYSEQ_REASON_TEMPLATE_INDEX, "template index out of range"},
+    {CITYSEQ_REASON_BAD_INSTANCE, "bad instance"},
+    {CITYSEQ_REASON_TRANSFORM_NOT_FIXED, "transform not fixed"},
+    {CITYSEQ_REASON_NOT_REACHED, "not reached from the main object"},
+};
+
+static void reason_texts(void)
+{
+    char text[64];
+    unsigned known = 0;
+    for (size_t i = 0; i < sizeof reasons / sizeof *reasons; i++) {
+        size_t length = cityseq_reason_text(reasons[i].code, text, sizeof text);
+        row(reasons[i].text, length == strlen(reasons[i].text) && !memcmp(text, reasons[i].text, length));
+    }
+    for (uint64_t code = 0; code < 1000; code++)
+        known += cityseq_reason_text(code, text, sizeof text) != 0;
+    row("no other reason", known == sizeof reasons / sizeof *reasons);
 }
 
 static void texts(void)
 {
     char text[64];
-    row("a reason", cityseq_reason_text(25, text, sizeof text) == 25 && !memcmp(text, "vertex index out of range", 25));
-    row("the first letters", cityseq_reason_text(4, text, 3) == 6 && !memcmp(text, "syntex index", 12));
-    row("the last reason", cityseq_reason_text(31, text, sizeof text) == 32);
-    row("no reason", cityseq_reason_text(6, text, sizeof text) == 0 && cityseq_reason_text(32, text, 9) == 0);
+    memset(text, '.', sizeof text);
+    row("the first letters", cityseq_reason_text(CITYSEQ_REASON_SYNTAX, text, 3) == 6 && !memcmp(text, "syn...", 6));
     row("a type", cityseq_type_name(1, text, sizeof text) == 8 && !memcmp(text, "Building", 8));
     row("the last type", cityseq_type_name(32, text, sizeof text) == 10 && !memcmp(text, "TunnelPart", 10));
     row("the interface", cityseq_interface() == CITYSEQ_INTERFACE);
-    row("no type", cityseq_type_name(33, text, sizeof text) == 0);
+    row("the version", cityseq_version(text, sizeof text) == 5 && !memcmp(text, "0.2.0", 5));
+    row("no type", cityseq_type_name(CITYSEQ_TYPES, text, sizeof text) == 0);
 }
 
 static void *call_often(void *unused)
@@ -476,6 +567,10 @@ int main(int count, char **words)
     queries();
     little_room();
     nothing_judged();
+    joins();
+    part_ends();
+    nulls();
+    reason_texts();
     texts();
     at_once();
     printf("%d passed, %d failed\n", passed, failed);

@@ -57,11 +57,14 @@ row 'the example is compiled' "$compiler" $strict c/example.c c/out/libcityseq.a
 row 'the tests are compiled' "$compiler" $strict tests/library.c c/out/libcityseq.a -pthread -o "$scratch/library"
 row 'the tests are compiled over the shared library' \
   "$compiler" $strict tests/library.c -Lc/out -lcityseq -Wl,-rpath,"$PWD/c/out" -pthread -o "$scratch/shared"
-if command -v c++ > "$scratch/unread"; then
-  row 'the header is one of C++ too' c++ -Wall -Wextra -Werror -fsyntax-only -x c++ c/cityseq.h
-else
-  echo 'left out: the header as one of C++, for want of a compiler'
-fi
+for language in gcc:c:c99 gcc:c:c11 g++:c++:c++11 clang:c:c99 clang:c:c11 clang++:c++:c++11; do
+  IFS=: read -r by of standard <<< "$language"
+  if command -v "$by" > "$scratch/unread"; then
+    row "the header by $by as $standard" "$by" "-std=$standard" -Wall -Wextra -Wpedantic -Werror -fsyntax-only -x "$of" c/cityseq.h
+  else
+    echo "left out: the header by $by as $standard, for want of the compiler"
+  fi
+done
 for stream in examples/*.city.jsonl vectors/byte-order-mark.jsonl; do
   row "the example on $stream" example_agrees "$stream"
 done

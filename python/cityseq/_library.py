@@ -9,7 +9,7 @@ from typing import Any, Iterable, Optional, Tuple, Union
 
 from .faults import LibraryMissing
 
-INTERFACE = 1
+INTERFACE = 2
 COMPLETE, REFUSED, BAD_REQUEST, NO_ROOM, NO_MEMORY = 0, 1, 2, 4, 5
 LINE_LIMITS, DEPTH_LIMITS = (1, 1_073_741_824), (1, 1_024)
 USUAL_LINE, USUAL_DEPTH = 8_388_608, 64
@@ -74,7 +74,7 @@ _CALLS = {
     "cityseq_interface": (c_uint32, []),
     "cityseq_check": (RawAnswer, _COMMON + _ROOM),
     "cityseq_filter": (RawAnswer, _COMMON + [c_char_p, c_size_t] + _ROOM),
-    "cityseq_tally": (RawAnswer, _COMMON + [POINTER(RawTally)] + _ROOM),
+    "cityseq_info": (RawAnswer, _COMMON + [POINTER(RawTally)] + _ROOM),
     "cityseq_reason_text": (c_size_t, [c_uint64, c_char_p, c_size_t]),
     "cityseq_type_name": (c_size_t, [c_uint64, c_char_p, c_size_t]),
 }
@@ -113,7 +113,7 @@ class Library:
         """The same as `check`, and what is in the features that are wanted is the third."""
         reports, tally = (RawReport * max(room, 1))(), RawTally()
         given = self._given(header, part, request)
-        answer = self._calls.cityseq_tally(*given, ctypes.byref(tally), reports, room)
+        answer = self._calls.cityseq_info(*given, ctypes.byref(tally), reports, room)
         return answer, reports, tally
 
     def reason_text(self, code: int) -> str:

@@ -1,8 +1,10 @@
+pub mod AnswerLemmas
 pub mod AskedLemmas
 pub mod BitLemmas
 pub mod BoxLemmas
 pub mod CalledLemmas
 pub mod CursorLemmas
+pub mod CuttingLemmas
 pub mod FaultLemmas
 pub mod FeatureLemmas
 pub mod FitLemmas

@@ -1,6 +1,8 @@
 pub mod Answer
 pub mod Called
+pub mod Cutting
 pub mod Features
+pub mod Joined
 pub mod Judged
 pub mod Query
 pub mod Reports

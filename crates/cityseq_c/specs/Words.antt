@@ -1,5 +1,5 @@
 -- The texts of reasons and the names of types, by their numbers.
-use Rattle.std.specs.Prelude.{◌≡◌, ℕ, List, [], ◌∷◌, ◌++◌, length, take, drop, min, nat_eq, if◌then◌else◌}
+use Rattle.std.specs.Prelude.{◌≡◌, ℕ, List, [], ◌∷◌, ◌++◌, Option, None, Some, length, take, drop, min, nat_eq, if◌then◌else◌}
 use Rattle.cj_geometry.specs.ObjectTypes.{ObjectRow, object_types}
 use Rattle.cj_spans.specs.Reason.{code_of, words_of}
 use Rattle.cj_spans.specs.declared.reason.Reason.{Reason}
@@ -12,13 +12,21 @@ reasons =
     ∷ NotWhole ∷ UnknownObjectType ∷ IdNotFound ∷ ChildNotFound ∷ LinkNotMutual ∷ NoParent ∷ UnknownGeometryType ∷ VertexIndex ∷ SemanticsCount ∷ SemanticsIndex
     ∷ TemplateIndex ∷ BadInstance ∷ TransformNotFixed ∷ NotReached ∷ []
 
--- the text of the first of these that has a code; empty where none has
-abbrev pub words_in : ℕ → List Reason → List ℕ
-words_in code [] = []
-words_in code (r ∷ rs) = if nat_eq (code_of r) code then words_of r else words_in code rs
+-- the first of these that has a code, if one has
+abbrev pub reason_in : ℕ → List Reason → Option Reason
+reason_in code [] = None
+reason_in code (r ∷ rs) = if nat_eq (code_of r) code then Some r else reason_in code rs
+
+abbrev pub reason_with : ℕ → Option Reason
+reason_with code = reason_in code reasons
+
+-- the text of a reason; empty where there is none
+abbrev pub words_by : Option Reason → List ℕ
+words_by None = []
+words_by (Some r) = words_of r
 
 abbrev pub reason_words : ℕ → List ℕ
-reason_words code = words_in code reasons
+reason_words code = words_by (reason_with code)
 
 -- the name of the first of these that has a number; empty where none has
 abbrev pub name_in : ℕ → List ObjectRow → List ℕ

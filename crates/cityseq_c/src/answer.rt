@@ -1,9 +1,10 @@
-//! What C is told of a stream.
+//! What C is told of a stream, and of a stream by its parts.
 ghost use Rattle.std.specs.Prelude.{◌≡◌, Result};
 ghost use Rattle.cityseq_c.specs.Answer.{answer_of, answer_to, not_judged};
 
 use crate::request::NotJudged;
-use cj_stream::{End, Outcome};
+use crate::words::reason_of;
+use cj_stream::{End, Outcome, Peaks};
 
 /// What came of a stream, as C has it.
 #[repr(C)]
@@ -51,7 +52,7 @@ fn answer_without_lines(status: u32, code: u32) -> Answer
 }
 
 /// What C is told of an outcome.
-fn answer_of_outcome(outcome: Outcome, written: usize) -> Answer
+fn answer_of_outcome(outcome: Outcome, written: u64) -> Answer
     ensures { result ≡ answer_of outcome written }
 {
     let (status, code, line, place) = match outcome.ended {
@@ -76,19 +77,92 @@ fn answer_of_outcome(outcome: Outcome, written: usize) -> Answer
         peak_bytes: outcome.peaks.bytes,
         peak_tokens: outcome.peaks.tokens,
         peak_depth: outcome.peaks.depth,
-        written: written as u64,
+        written,
     }
 }
 
 impl Answer {
+    ghost use Rattle.std.specs.Prelude.{◌≢◌, ◌+◌, ◌-◌, ◌<◌, ◌^◌, ◌++◌, ℕ, List};
+    ghost use Rattle.cj_stream.specs.Parts.{headed, IsCut};
+    ghost use Rattle.cj_stream.specs.Tallied.{capped};
+    ghost use Rattle.cj_stream.specs.Verdict.{Rules};
+    ghost use Rattle.cityseq_c.specs.Called.{IsUnjudged};
+    ghost use Rattle.cityseq_c.specs.Joined.{ended_by, outcome_by, IsAnswerOf};
+
     /// What C is told, by how it went.
     pub fn of(judged: Result<Outcome, NotJudged>, written: usize) -> Answer
         ensures { result ≡ answer_to judged written }
     {
         match judged {
-            Ok(outcome) => answer_of_outcome(outcome, written),
+            Ok(outcome) => answer_of_outcome(outcome, written as u64),
             Err(NotJudged::Fault(fault)) => answer_without_lines(2, fault.code()),
             Err(NotJudged::Memory) => answer_without_lines(5, 0),
+        }
+    }
+
+    /// How a text that was judged ended; none where nothing was judged, or no call answers so.
+    fn ended(&self) -> Option<End>
+        ensures { result ≡ ended_by self.now }
+    {
+        match self.status {
+            0 => Some(End::Complete),
+            1 => match reason_of(self.code as u64) {
+                Some(reason) => Some(End::Refused {
+                    line: self.line,
+                    place: self.place,
+                    reason,
+                }),
+                None => None,
+            },
+            4 => Some(End::WriteFault),
+            _ => None,
+        }
+    }
+
+    /// How a text went that ended so.
+    fn outcome(&self, ended: End) -> Outcome
+        ensures { result ≡ outcome_by self.now ended }
+    {
+        Outcome {
+            lines: self.lines,
+            kept: self.kept,
+            refused: self.refused,
+            peaks: Peaks {
+                bytes: self.peak_bytes,
+                tokens: self.peak_tokens,
+                depth: self.peak_depth,
+            },
+            ended,
+        }
+    }
+
+    /// What is told of a header with the lines of two parts, by this, what is told of the header with the lines of the first,
+    /// and by `next`, of the header with what follows these. Where the first is not complete it stands for both; where nothing
+    /// of the next one was judged, its status and code go with all that is told of the first. Counts stop at 2^64 - 1.
+    pub fn then(&self, next: &Answer, header_length: usize) -> Answer
+        ensures ended { self.now.status ≢ 0 → result ≡ self.now }
+        ensures unjudged { self.now.status ≡ 0 → IsUnjudged next.now
+            → result ≡ record self.now { status = next.now.status; code = next.now.code } }
+        ensures account { (rules : Rules) (h a b : List ℕ) → IsCut h a → self.now.lines + next.now.lines < 2 ^ 64
+            → IsAnswerOf rules (headed h a) self.now → IsAnswerOf rules (headed h b) next.now
+            → IsAnswerOf rules (headed h (a ++ b)) result }
+        ensures written { (rules : Rules) (s : List ℕ) → self.now.status ≡ 0 → IsAnswerOf rules s next.now
+            → result.written ≡ capped (self.now.written + (next.now.written - header_length)) }
+    {
+        if self.status != 0 {
+            return *self;
+        }
+        match next.ended() {
+            Some(ended) => answer_of_outcome(
+                self.outcome(End::Complete).then(next.outcome(ended)),
+                self.written
+                    .saturating_add(next.written.saturating_sub(header_length as u64)),
+            ),
+            None => Answer {
+                status: next.status,
+                code: next.code,
+                ..*self
+            },
         }
     }
 }

@@ -6,17 +6,26 @@
 //! kept from one call to the next, so any number of threads may call at once.
 //!
 //! - `request`: what is asked, as C spells it, and what is wrong with it; `query`: the query that its texts make;
-//! - `judging`: a header and a part are judged as one stream; `answer`: what C is told of it;
+//! - `judging`: a header and a part are judged as one stream; `answer`: what C is told of it, and of parts as one;
+//! - `cutting`: where a part ends;
 //! - `room`: bytes that C lends for the output; `reports`: the room that it lends for reports; `tally`: what is tallied;
 //! - `words`: texts of reasons and names of types.
 #![tactic(auto)]
 
-ghost use Rattle.std.specs.Prelude.{◌≡◌, ◌≢◌, ◌++◌, take, length};
+ghost use Rattle.std.specs.Prelude.{◌≡◌, ◌≢◌, ◌+◌, ◌-◌, ◌<◌, ◌^◌, ◌++◌, ℕ, List, take, length};
+ghost use Rattle.cj_stream.specs.Lines.{whole};
+ghost use Rattle.cj_stream.specs.Parts.{headed, IsCut};
+ghost use Rattle.cj_stream.specs.Tallied.{capped};
+ghost use Rattle.cj_stream.specs.Verdict.{Rules, ending};
+ghost use Rattle.cj_stream.specs.declared.ending.End.{End};
 ghost use Rattle.cityseq_c.specs.Answer.{not_judged};
-ghost use Rattle.cityseq_c.specs.Called.{Checks, Filters, IsUnjudged, Lists, TalliesPart};
+ghost use Rattle.cityseq_c.specs.Called.{Checks, Filters, IsTalliedOf, IsUnjudged, Lists, TalliesPart};
+ghost use Rattle.cityseq_c.specs.Cutting.{part_end};
+ghost use Rattle.cityseq_c.specs.Joined.{IsAnswerOf};
 ghost use Rattle.cityseq_c.specs.Words.{reason_words, type_words, IsCopied};
 
 mod answer;
+mod cutting;
 mod features;
 mod judging;
 mod query;
@@ -38,12 +47,15 @@ use room::Room;
 use std::alloc::Global;
 use tally::Tally;
 
+/// The version of the library.
+const VERSION: &str = "0.2.0";
+
 /// The number of this interface: another one where what `c/cityseq.h` declares has changed.
 #[unsafe(no_mangle)]
 pub extern "C" fn cityseq_interface() -> u32
-    ensures { result ≡ 1 }
+    ensures { result ≡ 2 }
 {
-    1
+    2
 }
 
 /// Judges the lines of a stream. The first reports are written to the room for them, as many as fit.
@@ -86,7 +98,7 @@ pub extern "C" fn cityseq_filter(
 
 /// Judges the lines of a stream, and tallies the features that are wanted.
 #[unsafe(no_mangle)]
-pub extern "C" fn cityseq_tally(
+pub extern "C" fn cityseq_info(
     alloc: Global,
     header: &[u8],
     part: &[u8],
@@ -127,6 +139,43 @@ pub extern "C" fn cityseq_features(
     Answer::of(judge(alloc, header, part, request, &mut listed, reports), 0)
 }
 
+/// What is told of a header with the lines of two parts, by what is told of the header with each. Where the first is not complete
+/// it stands for both.
+#[unsafe(no_mangle)]
+pub extern "C" fn cityseq_answer_then(first: &Answer, next: &Answer, header_length: usize) -> Answer
+    ensures ended { first.now.status ≢ 0 → result ≡ first.now }
+    ensures unjudged { first.now.status ≡ 0 → IsUnjudged next.now
+        → result ≡ record first.now { status = next.now.status; code = next.now.code } }
+    ensures account { (rules : Rules) (h a b : List ℕ) → IsCut h a → first.now.lines + next.now.lines < 2 ^ 64
+        → IsAnswerOf rules (headed h a) first.now → IsAnswerOf rules (headed h b) next.now
+        → IsAnswerOf rules (headed h (a ++ b)) result }
+    ensures written { (rules : Rules) (s : List ℕ) → first.now.status ≡ 0 → IsAnswerOf rules s next.now
+        → result.written ≡ capped (first.now.written + (next.now.written - header_length)) }
+{
+    first.then(next, header_length)
+}
+
+/// What is tallied of a header with the lines of two parts, by what is tallied of the header with each, of which the first is
+/// complete.
+#[unsafe(no_mangle)]
+pub extern "C" fn cityseq_tally_then(first: &Tally, next: &Tally) -> Tally
+    ensures { (rules : Rules) (h a b : List ℕ) → IsCut h a → ending rules (headed h a) ≡ End.Complete
+        → IsTalliedOf rules (headed h a) first.now → IsTalliedOf rules (headed h b) next.now
+        → IsTalliedOf rules (headed h (a ++ b)) result }
+{
+    first.then(next)
+}
+
+/// Where a part ends that is to have about so many bytes: behind the last LF among them, else behind the first LF, and 0 where
+/// there is none.
+#[unsafe(no_mangle)]
+pub extern "C" fn cityseq_part_end(part: &[u8], wanted: usize) -> usize
+    ensures end { result ≡ part_end part.now wanted }
+    ensures whole { whole (take result part.now) ≡ take result part.now }
+{
+    cutting::part_end(part, wanted)
+}
+
 /// Writes the words of a reason as far as they fit, and answers how many bytes they have; 0 where no reason has this code.
 #[unsafe(no_mangle)]
 pub extern "C" fn cityseq_reason_text(code: u64, text: &mut [u8]) -> usize
@@ -141,4 +190,12 @@ pub extern "C" fn cityseq_type_name(number: u64, text: &mut [u8]) -> usize
     ensures { IsCopied (type_words number) text.old text.new result }
 {
     words::copy(words::type_name(number), text)
+}
+
+/// Writes the version of the library in the same way.
+#[unsafe(no_mangle)]
+pub extern "C" fn cityseq_version(text: &mut [u8]) -> usize
+    ensures { IsCopied VERSION.now text.old text.new result }
+{
+    words::copy(VERSION, text)
 }

@@ -1,8 +1,8 @@
-//! What is tallied, as C has it.
+//! What is tallied, as C has it, and of a stream by its parts.
 ghost use Rattle.std.specs.Prelude.{◌≡◌};
-ghost use Rattle.cityseq_c.specs.Tally.{IsTally, range_of as range_told};
+ghost use Rattle.cityseq_c.specs.Tally.{IsTally, range_of as range_told, range_by};
 
-use cj_stream::TallySink;
+use cj_stream::{TallySink, laws};
 
 /// The least and the greatest number on an axis.
 #[repr(C)]
@@ -45,7 +45,26 @@ pub fn range_of(range: Option<(i64, i64)>) -> Range
     }
 }
 
+/// A range that C has.
+fn range_in(range: Range) -> Option<(i64, i64)>
+    ensures { result ≡ range_by range }
+{
+    if range.some == 0 {
+        None
+    } else {
+        Some((range.least, range.greatest))
+    }
+}
+
 impl Tally {
+    ghost use Rattle.std.specs.Prelude.{◌++◌, ℕ, List};
+    ghost use Rattle.cj_stream.specs.Parts.{headed, IsCut};
+    ghost use Rattle.cj_stream.specs.Verdict.{Rules, ending};
+    ghost use Rattle.cj_stream.specs.declared.ending.End.{End};
+    ghost use Rattle.cj_stream.specs.TallySink.{Tally as Tallied};
+    ghost use Rattle.cityseq_c.specs.Called.{IsTalliedOf};
+    ghost use Rattle.cityseq_c.specs.Tally.{HasCounts};
+
     /// What a sink has tallied.
     pub fn of(sink: &TallySink) -> Tally
         ensures { IsTally sink.now result }
@@ -60,5 +79,29 @@ impl Tally {
                 range_of(sink.range(2)),
             ],
         }
+    }
+
+    /// A sink that has tallied this.
+    fn sink(&self) -> TallySink
+        ensures { (tallied : Tallied) → IsTally tallied self.now → HasCounts tallied result }
+    {
+        let [x, y, z] = self.ranges;
+        TallySink::of_counts(
+            self.features,
+            self.types,
+            self.lods,
+            [range_in(x), range_in(y), range_in(z)],
+        )
+    }
+
+    /// What is tallied of a header with the lines of two parts, by this, what is tallied of the header with the lines of the
+    /// first, which is complete, and by `next`, of the header with what follows these. Counts stop at 2^64 - 1.
+    pub fn then(&self, next: &Tally) -> Tally
+        ensures { (rules : Rules) (h a b : List ℕ) → IsCut h a → ending rules (headed h a) ≡ End.Complete
+            → IsTalliedOf rules (headed h a) self.now → IsTalliedOf rules (headed h b) next.now
+            → IsTalliedOf rules (headed h (a ++ b)) result }
+    {
+        laws::parts_are_joined();
+        Tally::of(&self.sink().then(&next.sink()))
     }
 }

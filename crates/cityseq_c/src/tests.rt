@@ -3,8 +3,8 @@ use crate::reports::Told;
 use crate::request::Request;
 use crate::tally::{Range, Tally};
 use crate::{
-    Answer, cityseq_check, cityseq_filter, cityseq_interface, cityseq_reason_text, cityseq_tally,
-    cityseq_type_name,
+    Answer, cityseq_answer_then, cityseq_check, cityseq_filter, cityseq_info, cityseq_interface,
+    cityseq_part_end, cityseq_reason_text, cityseq_tally_then, cityseq_type_name, cityseq_version,
 };
 use std::process::Abort;
 use std::test::Fail;
@@ -128,7 +128,7 @@ fn no_tally() -> Tally {
 #[test]
 fn a_feature_is_tallied(rt: HostRuntime) -> Result<(), Fail> {
     let mut tally = no_tally();
-    let answer = cityseq_tally(rt.alloc(), HEADER, FEATURE, &usual(), &mut tally, &mut []);
+    let answer = cityseq_info(rt.alloc(), HEADER, FEATURE, &usual(), &mut tally, &mut []);
     check_ended(&rt, answer, (0, 0, 0, 0));
     assert_eq!(rt; (tally.features, tally.types[1], tally.lods[2]), (1, 1, 1));
     let x = tally.ranges[0];
@@ -179,6 +179,37 @@ fn an_unknown_type_is_told(rt: HostRuntime) -> Result<(), Fail> {
     Ok(())
 }
 
+#[test]
+fn two_parts_are_told_as_one(rt: HostRuntime) -> Result<(), Fail> {
+    let mut output = [0u8; 352];
+    let first = cityseq_filter(rt.alloc(), HEADER, FEATURE, &usual(), &mut output, &mut []);
+    let next = cityseq_check(rt.alloc(), HEADER, BROKEN, &usual(), &mut []);
+    let both = cityseq_answer_then(&first, &first, HEADER.len());
+    check_counts(&rt, both, (3, 2, 0, 563));
+    let broken = cityseq_answer_then(&first, &next, HEADER.len());
+    check_ended(&rt, broken, (1, 25, 3, 144));
+    check_counts(&rt, broken, (2, 1, 0, 352));
+    Ok(())
+}
+
+#[test]
+fn two_tallies_are_joined(rt: HostRuntime) -> Result<(), Fail> {
+    let mut tally = no_tally();
+    let _ = cityseq_info(rt.alloc(), HEADER, FEATURE, &usual(), &mut tally, &mut []);
+    let both = cityseq_tally_then(&tally, &tally);
+    assert_eq!(rt; (both.features, both.types[1], both.lods[2]), (2, 2, 2));
+    assert_eq!(rt; both.ranges[0], tally.ranges[0]);
+    Ok(())
+}
+
+#[test]
+fn a_part_is_cut(rt: HostRuntime) -> Result<(), Fail> {
+    assert_eq!(rt; cityseq_part_end(b"ab\nc\nd", 6), 5);
+    assert_eq!(rt; cityseq_part_end(b"ab\nc\nd", 2), 3);
+    assert_eq!(rt; cityseq_part_end(b"ab", 2), 0);
+    Ok(())
+}
+
 /// Compares bytes.
 fn check_text(rt: &impl Abort, got: &[u8], wanted: &[u8]) {
     assert_eq!(rt; got, wanted);
@@ -191,11 +222,13 @@ fn words_are_copied(rt: HostRuntime) -> Result<(), Fail> {
     check_text(&rt, &text, b"syntax....");
     assert_eq!(rt; cityseq_type_name(1, &mut text), 8);
     check_text(&rt, &text, b"Building..");
+    assert_eq!(rt; cityseq_version(&mut text), 5);
+    check_text(&rt, &text, b"0.2.0ing..");
     Ok(())
 }
 
 #[test]
 fn the_interface_has_its_number(rt: HostRuntime) -> Result<(), Fail> {
-    assert_eq!(rt; cityseq_interface(), 1);
+    assert_eq!(rt; cityseq_interface(), 2);
     Ok(())
 }

@@ -1,6 +1,6 @@
 //! Texts of reasons and names of types, by their numbers.
 ghost use Rattle.std.specs.Prelude.{◌≡◌, length};
-ghost use Rattle.cityseq_c.specs.Words.{IsCopied, reason_words, reasons, type_words};
+ghost use Rattle.cityseq_c.specs.Words.{IsCopied, reason_with, reason_words, reasons, type_words};
 
 use cj_geometry::ObjectType;
 use cj_stream::Reason;
@@ -40,16 +40,26 @@ fn all_reasons() -> [Reason; 27]
     ]
 }
 
+/// The reason of a code, if there is one.
+pub fn reason_of(code: u64) -> Option<Reason>
+    ensures { result ≡ reason_with code }
+{
+    for reason in all_reasons() {
+        if reason.code() as u64 == code {
+            return Some(reason);
+        }
+    }
+    None
+}
+
 /// The text of the reason of a code; empty where there is none.
 pub fn reason_text(code: u64) -> &'static str
     ensures { result.now ≡ reason_words code }
 {
-    for reason in all_reasons() {
-        if reason.code() as u64 == code {
-            return reason.text();
-        }
+    match reason_of(code) {
+        Some(reason) => reason.text(),
+        None => "",
     }
-    ""
 }
 
 /// The name of the type of a number; empty where there is none.

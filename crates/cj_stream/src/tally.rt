@@ -73,6 +73,32 @@ impl TallySink {
         }
     }
 
+    /// A sink with these counts and ranges, and no header: as if a tally of features were gone on with that was kept elsewhere.
+    pub fn of_counts(
+        features: u64,
+        types: [u64; 33],
+        lods: [u64; CLASSES],
+        ranges: [Option<(i64, i64)>; 3],
+    ) -> TallySink
+        ensures { result ≡ record {
+          features = features;
+          types = types;
+          lods = lods;
+          ranges = ranges;
+          scale = None;
+          translate = None;
+        } }
+    {
+        TallySink {
+            features,
+            types,
+            lods,
+            ranges,
+            scale: None,
+            translate: None,
+        }
+    }
+
     /// How many features it took.
     pub fn features(&self) -> u64
         ensures { result ≡ self.now.features }

@@ -7,8 +7,8 @@ use Rattle.cityseq_c.specs.Called.{IsTalliedOf}
 use Rattle.cityseq_c.specs.Tally.{IsTally}
 use Rattle.cityseq_c.proofs.CalledLemmas.{goes-known, known-ok, never-full, unknown-err}
 use Rattle.cityseq_c.proofs.TallyLemmas.{tallied}
-use Rattle.cityseq_c.proofs.cityseq_tally.Goals as goal
-use Rattle.cityseq_c.proofs.cityseq_tally.Goals.{then-is_ok, else-is_ok}
+use Rattle.cityseq_c.proofs.cityseq_info.Goals as goal
+use Rattle.cityseq_c.proofs.cityseq_info.Goals.{then-is_ok, else-is_ok}
 
 pub returns-clause-tallies : goal.returns-clause-tallies
 returns-clause-tallies c =
