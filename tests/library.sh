@@ -1,5 +1,6 @@
 #!/usr/bin/env bash
-# Tries the library for C: builds it, and runs the example and the tests in C over it, under valgrind too where it is there.
+# Tries the library for C: builds it, and runs the example and the tests in C and in C++ over it, under valgrind and sanitizers too
+# where these are there.
 #
 #     tests/library.sh [PROGRAM [--after-gate]]
 #
@@ -71,6 +72,20 @@ done
 row 'the example on no file' eval '! "$scratch/example" "$scratch/none"'
 count "$scratch/library" rows
 count "$scratch/shared" rows
+cpp_compiler=${CXX:-c++}
+strict_cpp='-std=c++17 -Wall -Wextra -Wpedantic -Werror -O1 -g'
+if ! command -v "$cpp_compiler" > "$scratch/unread"; then
+  echo 'left out: streams of C++, for want of a compiler'
+else
+  sanitizers='-fsanitize=address,undefined -fno-sanitize-recover=all'
+  echo 'int main() {}' | "$cpp_compiler" $sanitizers -x c++ - -o "$scratch/sanitized" 2> "$scratch/unread" || {
+    sanitizers=
+    echo 'left out: sanitizers, which the compiler does not have'
+  }
+  row 'the tests of streams are compiled' \
+    "$cpp_compiler" $strict_cpp $sanitizers tests/library_stream.cpp c/out/libcityseq.a -o "$scratch/stream"
+  count "$scratch/stream" vectors examples
+fi
 if command -v valgrind > "$scratch/unread"; then
   row 'rows under valgrind' valgrind -q --error-exitcode=9 --leak-check=full "$scratch/library" rows
   row 'the example under valgrind' valgrind -q --error-exitcode=9 --leak-check=full "$scratch/example" examples/town.city.jsonl
