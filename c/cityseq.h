@@ -36,8 +36,8 @@ extern "C" {
 
 /* The interface that this file declares. cityseq_interface tells which one the library has.
  *
- * 2: cityseq_tally is now cityseq_info, so that in C++ the struct needs no keyword. New are the joins, cityseq_part_end,
- *    cityseq_version, the reasons, and the sizes of a tally. NULL is allowed where there are no bytes. After CITYSEQ_NO_MEMORY all
+ * 2: cityseq_tally is now cityseq_info, so that in C++ the struct needs no keyword. New are cityseq_features, the joins,
+ *    cityseq_part_end, cityseq_version, the reasons, and the sizes of a tally. NULL is allowed where there are no bytes. After CITYSEQ_NO_MEMORY all
  *    counts are 0, and after it and CITYSEQ_BAD_REQUEST a tally is as it was.
  * 1: the first one. */
 #define CITYSEQ_INTERFACE 2
@@ -162,6 +162,20 @@ struct cityseq_tally {
     struct cityseq_range ranges[3]; /* the vertices, x, y and z, as they stand in the features */
 };
 
+/* What is told of a kept feature. The content of its line is `length` bytes from `begin` of the part on. */
+struct cityseq_feature {
+    uint64_t line;                  /* the number of its line in header and part, from 1 */
+    uint64_t begin;                 /* where its line begins in the part, in bytes from 0 */
+    uint64_t length;                /* the bytes of the line, without LF */
+    uint64_t id_begin;              /* where the string of its id begins in the line, in bytes from 0 */
+    uint64_t id_length;             /* the bytes of that string, with quotes and escapes */
+    uint64_t objects;               /* its city objects */
+    uint64_t geometries;            /* their geometries */
+    uint64_t types;                 /* bit n is set if a city object has the type of number n */
+    uint64_t lods;                  /* bit n is set if a geometry has an LoD of class n: 0 to 4, and 5 for any other */
+    struct cityseq_range ranges[3]; /* its vertices, x, y and z, as they stand in the feature */
+};
+
 /* The number of the library's interface: CITYSEQ_INTERFACE where it fits this file. */
 uint32_t cityseq_interface(void);
 
@@ -184,6 +198,12 @@ struct cityseq_answer cityseq_filter(const char *header, size_t header_length, c
 struct cityseq_answer cityseq_info(const char *header, size_t header_length, const char *part, size_t part_length,
                                    const struct cityseq_request *request, struct cityseq_tally *tally,
                                    struct cityseq_report *reports, size_t reports_room);
+
+/* Judges the lines of a stream, and writes a record of each kept feature, in order, as many as fit. `kept` counts all of them, also
+ * those that did not fit. After CITYSEQ_BAD_REQUEST and CITYSEQ_NO_MEMORY the records are as they were. */
+struct cityseq_answer cityseq_features(const char *header, size_t header_length, const char *part, size_t part_length,
+                                       const struct cityseq_request *request, struct cityseq_feature *features,
+                                       size_t features_room, struct cityseq_report *reports, size_t reports_room);
 
 /* The answer for a header with the lines of two parts, by those for the header with each. The first part ends with an LF.
  * header_length is that of the calls: the output's length counts the header once. If the first answer is not CITYSEQ_COMPLETE it

@@ -93,5 +93,6 @@ else
   echo 'left out: rows under valgrind, which is not here'
 fi
 count python3 tests/library.py "$scratch/library" "$program"
+count python3 tests/library_features.py c/out/libcityseq.so "$program"
 echo "$passed passed, $failed failed"
 [ "$failed" = 0 ]
