@@ -1,8 +1,8 @@
 #!/usr/bin/env python3
 """Tries the records of features of the library for C: tests/library_features.py LIBRARY PROGRAM
 
-The records of each vector and of random streams are compared with those that Python's own JSON reader gives. Which features are
-kept is what the program's `filter` writes. The last line is 'N passed, M failed'."""
+Compares the records of each vector and of random streams with those that Python's own JSON reader
+gives. The program's `filter` says which features are kept. The last line is 'N passed, M failed'."""
 import ctypes
 import json
 import os
@@ -20,6 +20,7 @@ from table import rows, run  # noqa: E402
 FLAGS = ("keep_going", "tree", "exclude", "asks_ids", "asks_types", "asks_lods", "asks_box")
 TEXTS = ("ids", "types", "lods", "box")
 NUMBERS = ("line", "begin", "length", "id_begin", "id_length", "objects", "geometries", "types", "lods")
+COUNTS = ("line", "place", "lines", "kept", "refused", "bytes", "tokens", "depth", "written")
 COMPLETE, REFUSED = 0, 1
 ROOM = 64
 
@@ -29,7 +30,8 @@ class Request(ctypes.Structure):
 
     _fields_ = [("line_limit", ctypes.c_uint64), ("depth_limit", ctypes.c_uint64)]
     _fields_ += [(flag, ctypes.c_bool) for flag in FLAGS]
-    _fields_ += [field for text in TEXTS for field in ((text, ctypes.c_char_p), (text + "_length", ctypes.c_size_t))]
+    for text in TEXTS:
+        _fields_ += [(text, ctypes.c_char_p), (text + "_length", ctypes.c_size_t)]
 
 
 class Range(ctypes.Structure):
@@ -48,7 +50,7 @@ class Answer(ctypes.Structure):
     """struct cityseq_answer."""
 
     _fields_ = [("status", ctypes.c_uint32), ("code", ctypes.c_uint32)]
-    _fields_ += [(name, ctypes.c_uint64) for name in ("line", "place", "lines", "kept", "refused", "bytes", "tokens", "depth", "written")]
+    _fields_ += [(count, ctypes.c_uint64) for count in COUNTS]
 
 
 class Told(NamedTuple):
@@ -79,16 +81,25 @@ def request_of(options: list[str], line_limit: int, depth: int) -> Request:
 def type_numbers(library: ctypes.CDLL) -> dict[str, int]:
     """The numbers of the types of city objects, by their names."""
     text = ctypes.create_string_buffer(64)
-    return {text.raw[:library.cityseq_type_name(ctypes.c_uint64(n), text, ctypes.c_size_t(64))].decode(): n for n in range(33)}
+    numbers = {}
+    for number in range(33):
+        length = library.cityseq_type_name(ctypes.c_uint64(number), text, ctypes.c_size_t(64))
+        numbers[text.raw[:length].decode()] = number
+    return numbers
+
+
+def past(line: str, at: int, skipped: str) -> int:
+    """The first place from here on that has none of these characters."""
+    return len(line) - len(line[at:].lstrip(skipped))
 
 
 def members_of(line: str) -> Iterator[tuple[str, int, Any, int]]:
     """The members of an object: the name, where its value begins and stops, and the value."""
     decoder, at = json.JSONDecoder(), line.index("{") + 1
-    while (at := at + len(line[at:]) - len(line[at:].lstrip(" \t\r\n,"))) < len(line) and line[at] == '"':
+    while (at := past(line, at, " \t\r\n,")) < len(line) and line[at] == '"':
         name, at = scanstring(line, at + 1, False)
         at = line.index(":", at) + 1
-        at += len(line[at:]) - len(line[at:].lstrip(" \t\r\n"))
+        at = past(line, at, " \t\r\n")
         value, stop = decoder.raw_decode(line, at)
         yield name, at, value, stop
         at = stop
@@ -98,11 +109,12 @@ def lod_class(geometry: dict[str, Any], header: dict[str, Any]) -> int:
     """The class of a geometry's LoD; an instance has that of its template."""
     if geometry["type"] == "GeometryInstance":
         geometry = header["geometry-templates"]["templates"][int(geometry["template"])]
-    first = str(geometry.get("lod") or "x")[0] if isinstance(geometry.get("lod"), str) else "x"
-    return int(first) if first in "01234" else 5
+    lod = geometry.get("lod")
+    return int(lod[0]) if isinstance(lod, str) and lod[:1] in tuple("01234") else 5
 
 
-def told_of(line: bytes, number: int, begin: int, header: dict[str, Any], types: dict[str, int]) -> Told:
+def told_of(line: bytes, number: int, begin: int, header: dict[str, Any],
+            types: dict[str, int]) -> Told:
     """What the record of a feature has to say."""
     text = line.decode()
     first: dict[str, tuple[int, Any, int]] = {}
@@ -112,9 +124,10 @@ def told_of(line: bytes, number: int, begin: int, header: dict[str, Any], types:
     objects = list(first["CityObjects"][1].values())
     geometries = [geometry for each in objects for geometry in each.get("geometry", [])]
     vertices = first["vertices"][1]
-    numbers = (number, begin, len(line), len(text[:start].encode()), len(text[start:stop].encode()), len(objects), len(geometries),
-               sum(1 << n for n in {types[each["type"]] for each in objects}),
-               sum(1 << n for n in {lod_class(each, header) for each in geometries}))
+    place = (number, begin, len(line), len(text[:start].encode()), len(text[start:stop].encode()))
+    numbers = place + (len(objects), len(geometries),
+                       sum(1 << n for n in {types[each["type"]] for each in objects}),
+                       sum(1 << n for n in {lod_class(each, header) for each in geometries}))
     axes = [[int(vertex[axis]) for vertex in vertices] for axis in range(3)]
     return Told(numbers, tuple((min(axis), max(axis)) if axis else None for axis in axes))
 
@@ -134,21 +147,28 @@ def wanted_of(text: bytes, kept: list[bytes], types: dict[str, int]) -> list[Tol
     return wanted
 
 
-def records_of(library: ctypes.CDLL, text: bytes, request: Request, room: int) -> tuple[Answer, list[Told]]:
+def told_by(record: Record) -> Told:
+    """What a record says."""
+    return Told(tuple(getattr(record, name) for name in NUMBERS),
+                tuple((axis.least, axis.greatest) if axis.some else None for axis in record.ranges))
+
+
+def records_of(library: ctypes.CDLL, text: bytes, request: Request,
+               room: int) -> tuple[Answer, list[Told]]:
     """The answer of the library, and the records that it wrote."""
     head, lf, part = text.partition(b"\n")
     records = (Record * room)()
-    answer = library.cityseq_features(head + lf, ctypes.c_size_t(len(head + lf)), part, ctypes.c_size_t(len(part)), ctypes.byref(request),
-                                      records, ctypes.c_size_t(room), None, ctypes.c_size_t(0))
-    told = [Told(tuple(getattr(each, name) for name in NUMBERS),
-                 tuple((axis.least, axis.greatest) if axis.some else None for axis in each.ranges))
-            for each in records[:min(answer.kept, room)]]
-    return answer, told
+    size = ctypes.c_size_t
+    answer = library.cityseq_features(head + lf, size(len(head + lf)), part, size(len(part)),
+                                      ctypes.byref(request), records, size(room), None, size(0))
+    return answer, [told_by(record) for record in records[:min(answer.kept, room)]]
 
 
-def try_stream(library: ctypes.CDLL, program: str, text: bytes, options: list[str], limits: tuple[int, int]) -> list[str]:
+def try_stream(library: ctypes.CDLL, program: str, text: bytes, options: list[str],
+               limits: tuple[int, int]) -> list[str]:
     """What the records of a stream say otherwise."""
-    output, _, status = run([program, "filter", "--line-limit", str(limits[0]), "--depth", str(limits[1]), *options], text)
+    words = ["--line-limit", str(limits[0]), "--depth", str(limits[1]), *options]
+    output, _, status = run([program, "filter", *words], text)
     if status not in (COMPLETE, REFUSED):
         return []
     kept = [line for line in output.split(b"\n")[1:] if line]
@@ -156,7 +176,8 @@ def try_stream(library: ctypes.CDLL, program: str, text: bytes, options: list[st
     wrong = []
     for room in (ROOM, 1):
         answer, told = records_of(library, text, request_of(options, *limits), room)
-        if answer.status not in (COMPLETE, REFUSED) or answer.kept != len(wanted) or told != wanted[:room]:
+        judged = answer.status in (COMPLETE, REFUSED)
+        if not judged or answer.kept != len(wanted) or told != wanted[:room]:
             wrong.append(f"{answer.status} {answer.kept} {told}, not {wanted[:room]}")
     return wrong
 
@@ -169,11 +190,13 @@ def main(path: str, program: str) -> int:
     tried = []
     for row in rows():
         query = [] if row["query"] == "-" else row["query"].split(" ")
-        tried.append((row["name"], try_stream(library, program, row["text"], query, (int(row["line limit"]), int(row["depth"])))))
+        limits = (int(row["line limit"]), int(row["depth"]))
+        tried.append((row["name"], try_stream(library, program, row["text"], query, limits)))
     for number in range(STREAMS):
         chance = random.Random(number)
         text, options = random_stream(chance), chance.choice(OPTIONS)
-        tried.append((f"random stream {number}", try_stream(library, program, text, options, (8388608, 64))))
+        wrong = try_stream(library, program, text, options, (8388608, 64))
+        tried.append((f"random stream {number}", wrong))
     for name, wrong in tried:
         for difference in wrong:
             print(f"{name}: {difference}")
