@@ -2,7 +2,8 @@
 """Tries the records of features of the library for C: tests/library_features.py LIBRARY PROGRAM
 
 Compares the records of each vector and of random streams with those that Python's own JSON reader
-gives. The program's `filter` says which features are kept. The last line is 'N passed, M failed'."""
+gives. The program's `filter` says which features are kept. The last line is 'N passed, M failed'.
+"""
 import ctypes
 import json
 import os
@@ -19,7 +20,8 @@ from table import rows, run  # noqa: E402
 
 FLAGS = ("keep_going", "tree", "exclude", "asks_ids", "asks_types", "asks_lods", "asks_box")
 TEXTS = ("ids", "types", "lods", "box")
-NUMBERS = ("line", "begin", "length", "id_begin", "id_length", "objects", "geometries", "types", "lods")
+NUMBERS = ("line", "begin", "length", "id_begin", "id_length", "objects", "geometries",
+           "types", "lods")
 COUNTS = ("line", "place", "lines", "kept", "refused", "bytes", "tokens", "depth", "written")
 COMPLETE, REFUSED = 0, 1
 ROOM = 64
@@ -54,7 +56,7 @@ class Answer(ctypes.Structure):
 
 
 class Told(NamedTuple):
-    """What a record says: its numbers, and the least and greatest vertex on each axis, if there is one."""
+    """What a record says: its numbers, and the least and greatest vertex on each axis, if any."""
 
     numbers: tuple[int, ...]
     ranges: tuple[tuple[int, int] | None, ...]
@@ -133,7 +135,7 @@ def told_of(line: bytes, number: int, begin: int, header: dict[str, Any],
 
 
 def wanted_of(text: bytes, kept: list[bytes], types: dict[str, int]) -> list[Told]:
-    """The records of the lines that are kept, one after another: each is the next line of its content."""
+    """The records of the kept lines, in order: each is the next line of its content."""
     head, _, part = text.partition(b"\n")
     wanted: list[Told] = []
     number, begin, left = 2, 0, part
