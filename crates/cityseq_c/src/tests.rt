@@ -1,10 +1,12 @@
 //! Each export, run with ample memory: on a header and a feature, on lines that are invalid, and on requests that are wrong.
+use crate::features::FeatureRecord;
 use crate::reports::Told;
 use crate::request::Request;
 use crate::tally::{Range, Tally};
 use crate::{
-    Answer, cityseq_answer_then, cityseq_check, cityseq_filter, cityseq_info, cityseq_interface,
-    cityseq_part_end, cityseq_reason_text, cityseq_tally_then, cityseq_type_name, cityseq_version,
+    Answer, cityseq_answer_then, cityseq_check, cityseq_features, cityseq_filter, cityseq_info,
+    cityseq_interface, cityseq_part_end, cityseq_reason_text, cityseq_tally_then,
+    cityseq_type_name, cityseq_version,
 };
 use std::process::Abort;
 use std::test::Fail;
@@ -133,6 +135,46 @@ fn a_feature_is_tallied(rt: HostRuntime) -> Result<(), Fail> {
     assert_eq!(rt; (tally.features, tally.types[1], tally.lods[2]), (1, 1, 1));
     let x = tally.ranges[0];
     assert_eq!(rt; (x.some, x.least, x.greatest), (1, 0, 1000));
+    Ok(())
+}
+
+/// A record of nothing.
+const NO_RECORD: FeatureRecord = FeatureRecord {
+    line: 0,
+    begin: 0,
+    length: 0,
+    id_begin: 0,
+    id_length: 0,
+    objects: 0,
+    geometries: 0,
+    types: 0,
+    lods: 0,
+    ranges: [Range {
+        some: 0,
+        least: 0,
+        greatest: 0,
+    }; 3],
+};
+
+#[test]
+fn a_feature_is_listed(rt: HostRuntime) -> Result<(), Fail> {
+    let mut records = [NO_RECORD; 2];
+    let answer = cityseq_features(rt.alloc(), HEADER, FEATURE, &usual(), &mut records, &mut []);
+    check_ended(&rt, answer, (0, 0, 0, 0));
+    let record = records[0];
+    let place = (
+        record.line,
+        record.begin,
+        record.length,
+        record.id_begin,
+        record.id_length,
+    );
+    assert_eq!(rt; place, (2, 0, 210, 31, 4));
+    let counts = (record.objects, record.geometries, record.types, record.lods);
+    assert_eq!(rt; counts, (1, 1, 2, 4));
+    let x = record.ranges[0];
+    assert_eq!(rt; (x.some, x.least, x.greatest), (1, 0, 1000));
+    assert_eq!(rt; records[1].line, 0);
     Ok(())
 }
 
