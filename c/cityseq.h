@@ -28,6 +28,9 @@ extern "C" {
 /* The interface that this file declares. The library tells by cityseq_interface which one it has. */
 #define CITYSEQ_INTERFACE 1
 
+/* The version of cityseq that this file belongs to. */
+#define CITYSEQ_VERSION "0.2.0"
+
 /* How a call ended. */
 enum cityseq_status {
     CITYSEQ_COMPLETE = 0,    /* all lines were read, and none was the end */
