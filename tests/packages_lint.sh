@@ -1,0 +1,202 @@
+#!/usr/bin/env bash
+# Looks at what packages are made of, in some seconds: versions, manual pages, completions, headers, 'make', and an installation
+# into a folder with a space. It installs nothing, and says what it leaves out for want of a tool.
+#
+#     tests/packages_lint.sh [PROGRAM]      (crates/cityseq/out/cityseq if left out; the library is that in c/out)
+#
+# The last line is 'N passed, M failed', and the status is 0 where none failed.
+set -u
+program=$(realpath -m -- "${1:-$(dirname "$0")/../crates/cityseq/out/cityseq}")
+cd "$(dirname "$0")/.." || exit
+scratch=$(mktemp -d) || exit
+trap 'rm -rf "$scratch"' EXIT
+version=$(cat VERSION)
+passed=0 failed=0
+
+# Counts a command as passed if its status is 0, and shows what it printed else.
+row() {
+  local name=$1
+  shift
+  if "$@" > "$scratch/printed" 2>&1; then
+    passed=$((passed + 1))
+  else
+    failed=$((failed + 1))
+    echo "$name: failed"
+    tail -n 20 "$scratch/printed"
+  fi
+}
+
+# Whether a command is there; else says that something is left out.
+have() {
+  command -v "$1" > "$scratch/unread" && return
+  echo "left out: $2, for want of $1"
+  return 1
+}
+
+# ---- one version
+
+program_has_version() { [ "$("$program" --version)" = "cityseq $version" ]; }
+package_has_version() { [ "$(PYTHONPATH=python python3 -B -m cityseq --version)" = "cityseq-run $version" ]; }
+
+# The library answers its version where it has the call.
+library_has_version() {
+  python3 - c/out/libcityseq.so "$version" <<'PY'
+import ctypes
+import sys
+
+library = ctypes.CDLL(sys.argv[1])
+if hasattr(library, "cityseq_version"):
+    library.cityseq_version.restype = ctypes.c_char_p
+    sys.exit(library.cityseq_version().decode() != sys.argv[2])
+PY
+}
+
+debian_has_version() {
+  mkdir -p "$scratch/tree/debian" &&
+    SOURCE_DATE_EPOCH=0 packaging/debian.py "$scratch/tree" 'Nobody <nobody@example.org>' 7 &&
+    head -n 1 "$scratch/tree/debian/changelog" | grep -qF "cityseq ($version)" &&
+    grep -qx 'Package: libcityseq7' "$scratch/tree/debian/control" && ! grep -q '@[A-Z]*@' "$scratch/tree/debian/control"
+}
+
+row 'all files name one version' packaging/version.py
+row 'a version that differs is found' bash -c "cp -r VERSION README.md CHANGELOG.md c crates packaging python tests '$scratch/' 2>&1 &&
+  echo 9.9.9 > '$scratch/VERSION' && ! '$scratch/packaging/version.py'"
+row 'the program has it' program_has_version
+row 'the package has it' package_has_version
+row 'the library has it' library_has_version
+row 'the Debian packages have it' debian_has_version
+
+# ---- manual pages and completions
+
+# The options that a help names, one a line.
+options_of() { grep -oE '(^|[ ,[(|])--?[a-zA-Z][a-z-]*' | sed 's/^[^-]*//' | grep -vx -- '--bbox' | sort -u; }
+
+help_of_program() { for word in '' check filter info; do "$program" $word --help; done; }
+help_of_package() { for word in '' check filter info explain; do PYTHONPATH=python python3 -B -m cityseq $word --help; done; }
+
+# Whether each option of a help is in a manual page and in the completions, and the page has no other: NAME HELP.
+documents_options() {
+  local page=packaging/man/$1.1 folder=packaging/completions option
+  { "$2" 2>&1 | options_of; echo --bbox; } | sort > "$scratch/options"
+  [ "$(wc -l < "$scratch/options")" -gt 9 ] || { echo 'the help has too few options'; return 1; }
+  grep '^\.It Fl' "$page" | grep -oE 'Fl [^ ]+' | sed 's/^Fl \\-/--/; s/^Fl \(.\)$/-\1/' | sort -u > "$scratch/paged"
+  while read -r option; do
+    grep -qwF -e "$option" "$folder/$1.bash" || echo "$1.bash has no $option"
+    grep -qF -e "$option" "$folder/_$1" || echo "_$1 has no $option"
+    grep -qE -e " -[sl] ${option##*-}( |$)| -l ${option#--}( |$)" "$folder/$1.fish" || echo "$1.fish has no $option"
+  done < "$scratch/options" > "$scratch/missing"
+  diff "$scratch/options" "$scratch/paged" || echo "$page has other options than the help" >> "$scratch/missing"
+  cat "$scratch/missing"
+  [ ! -s "$scratch/missing" ]
+}
+
+pages_pass_lint() {
+  # what is not said on a system that lacks the pages that are referred to
+  mandoc -Tlint packaging/man/* 2>&1 | grep -v -e 'referenced manual not found' -e 'outdated mandoc.db' > "$scratch/lint"
+  [ ! -s "$scratch/lint" ] || { cat "$scratch/lint"; false; }
+}
+
+# Whether each completion has the types of city objects, in the order of their table.
+have_all_types() {
+  local file
+  sed -n 's/.*ObjectType::\([A-Za-z]*\) => "\1".*/\1/p' crates/cj_geometry/src/object_type.rt > "$scratch/types"
+  [ "$(wc -l < "$scratch/types")" -ge 33 ] || return
+  for file in packaging/completions/*; do
+    grep -oE '\b(Bridge|Building|[A-Z][A-Za-z]+)\b' "$file" | grep -xFf "$scratch/types" | diff - "$scratch/types" || return
+  done
+}
+
+row 'the program has the options of its page' documents_options cityseq help_of_program
+row 'the package has the options of its page' documents_options cityseq-run help_of_package
+row 'completions have all types' have_all_types
+have mandoc 'the layout of manual pages' && row 'manual pages pass mandoc -Tlint' pages_pass_lint
+
+# Prints how a shell completes each line of standard input.
+in_bash() {
+  bash -c 'for file in packaging/completions/*.bash; do . "$file"; done
+    while IFS= read -r line; do
+      IFS=" " read -ra COMP_WORDS <<< "$line"
+      [[ $line != *" " ]] || COMP_WORDS+=("")
+      COMP_CWORD=$((${#COMP_WORDS[@]} - 1)) COMPREPLY=()
+      "_${COMP_WORDS[0]//-/_}"
+      printf "%s\n" "${COMPREPLY[*]}"
+    done'
+}
+in_fish() {
+  fish --no-config -c 'for file in packaging/completions/*.fish; source $file; end
+    while read -l line; set -l found (complete -C $line | string replace -r "\t.*" ""); echo "$found"; end'
+}
+in_zsh() { tests/complete.zsh packaging/completions | sed 's/^.*[ ]\([^ ]\)/\1/; s/,* *$//'; }
+
+# Whether a shell completes these lines so.
+completes() {
+  printf '%s\n' 'cityseq che' 'cityseq filter --ke' 'cityseq info --lin' 'cityseq filter --type Road,TINR' 'cityseq help fil' \
+    'cityseq-run exp' 'cityseq-run info --no-l' 'cityseq-run filter --output-d' 'cityseq-run filter --type Railw' > "$scratch/lines"
+  printf '%s\n' check --keep-going --line-limit Road,TINRelief filter explain --no-lods --output-dir Railway > "$scratch/wanted"
+  "$1" < "$scratch/lines" > "$scratch/completed" && diff "$scratch/wanted" "$scratch/completed"
+}
+
+row 'bash completes' completes in_bash
+have fish 'completion in fish' && row 'fish completes' completes in_fish
+have zsh 'completion in zsh' && row 'zsh completes' completes in_zsh
+
+# ---- headers
+
+for compiler in gcc clang; do
+  have "$compiler" "the headers by $compiler" || continue
+  for standard in c99 c11; do
+    row "cityseq.h as $standard by $compiler" "$compiler" -std=$standard -Wall -Wextra -Wpedantic -Werror -fsyntax-only -x c c/cityseq.h
+  done
+  row "cityseq.h as C++11 by $compiler" "$compiler" -std=c++11 -Wall -Wextra -Wpedantic -Werror -fsyntax-only -x c++ c/cityseq.h
+  [ ! -f c/cityseq.hpp ] ||
+    row "cityseq.hpp as C++17 by $compiler" "$compiler" -std=c++17 -Wall -Wextra -Wpedantic -Werror -fsyntax-only -x c++ c/cityseq.hpp
+done
+
+# ---- make, and installation
+
+# Whether a command fails with this text in one line.
+fails_with() {
+  local text=$1
+  shift
+  "$@" > "$scratch/said" 2> "$scratch/wrong" && return 1
+  grep -v '^make' "$scratch/wrong" > "$scratch/lines"
+  cat "$scratch/lines"
+  [ "$(wc -l < "$scratch/lines")" = 1 ] && grep -qF -- "$text" "$scratch/lines"
+}
+
+help_names_all_targets() {
+  make > "$scratch/help" || return
+  for target in build check quick install uninstall deb wheel dist bench help; do
+    grep -q "^$target  *[a-z]" "$scratch/help" || { echo "no $target"; return 1; }
+  done
+}
+
+installs_and_removes() {
+  make -s install PREFIX="$scratch/a folder/usr" && "$scratch/a folder/usr/bin/cityseq" --version &&
+    PKG_CONFIG_PATH="$scratch/a folder/usr/lib/pkgconfig" pkg-config --modversion cityseq | grep -qx "$version" &&
+    eval "${CC:-cc} c/example.c -o '$scratch/example' $(PKG_CONFIG_PATH="$scratch/a folder/usr/lib/pkgconfig" pkg-config --cflags --libs cityseq)" &&
+    LD_LIBRARY_PATH="$scratch/a folder/usr/lib" "$scratch/example" examples/town.city.jsonl | grep -qx 'valid lines=5 features=4' &&
+    make -s uninstall PREFIX="$scratch/a folder/usr" && [ -z "$(find "$scratch/a folder" ! -type d)" ]
+}
+
+# A copy of the tree that has nothing built.
+mkdir "$scratch/bare"
+cp -r Makefile VERSION packaging debian python "$scratch/bare/"
+rm -f "$scratch/bare/python/cityseq/libcityseq.so"
+mkdir "$scratch/bare/c" && cp c/*.h "$scratch/bare/c/"
+# all commands but some of Debian's and that of the toolchain
+mkdir "$scratch/few" && ln -s /usr/bin/* "$scratch/few/" 2> "$scratch/unread"
+rm -f "$scratch"/few/{dpkg-buildpackage,dh,objdump,rt}
+
+row 'make alone shows its targets' help_names_all_targets
+if have pkg-config 'an installation'; then row 'an installation into a folder with a space' installs_and_removes; fi
+row 'no rights to install' fails_with 'set PREFIX' make -s install PREFIX=/proc/cityseq
+row 'no build to install' fails_with "run 'make build'" make -s -C "$scratch/bare" install PREFIX="$scratch/none"
+for target in deb wheel dist; do
+  row "no build for $target" fails_with "'make build'" make -s -C "$scratch/bare" "$target" SOURCE_DATE_EPOCH=0
+done
+row 'no tool for deb' fails_with 'dpkg-dev' env PATH="$scratch/few" make -s deb
+row 'no tool for wheel' fails_with 'binutils' env PATH="$scratch/few" make -s wheel
+row 'no toolchain to build' fails_with 'rt is missing' env PATH="$scratch/few" make -s -C "$scratch/bare" build
+echo "$passed passed, $failed failed"
+[ "$failed" = 0 ]
