@@ -142,14 +142,20 @@ have zsh 'completion in zsh' && row 'zsh completes' completes in_zsh
 
 # ---- headers
 
+# Whether a program that includes a header, twice, is compiled without a warning: is_clean COMPILER STANDARD HEADER.
+is_clean() {
+  local language=c
+  [[ $2 != *++* ]] || language=c++
+  printf '#include "%s"\n#include "%s"\n' "$3" "$3" |
+    "$1" -std="$2" -x $language -Wall -Wextra -Wpedantic -Werror -fsyntax-only -Ic -
+}
+
 for compiler in gcc clang; do
   have "$compiler" "the headers by $compiler" || continue
-  for standard in c99 c11; do
-    row "cityseq.h as $standard by $compiler" "$compiler" -std=$standard -Wall -Wextra -Wpedantic -Werror -fsyntax-only -x c c/cityseq.h
+  for standard in c99 c11 c++11; do
+    row "cityseq.h as $standard by $compiler" is_clean "$compiler" "$standard" cityseq.h
   done
-  row "cityseq.h as C++11 by $compiler" "$compiler" -std=c++11 -Wall -Wextra -Wpedantic -Werror -fsyntax-only -x c++ c/cityseq.h
-  [ ! -f c/cityseq.hpp ] ||
-    row "cityseq.hpp as C++17 by $compiler" "$compiler" -std=c++17 -Wall -Wextra -Wpedantic -Werror -fsyntax-only -x c++ c/cityseq.hpp
+  [ ! -f c/cityseq.hpp ] || row "cityseq.hpp as c++17 by $compiler" is_clean "$compiler" c++17 cityseq.hpp
 done
 
 # ---- make, and installation

@@ -90,7 +90,7 @@ by_pkg_config='
   c++ -std=c++11 check.cpp -o check $(pkg-config --cflags --libs cityseq)
   objdump -p loader | grep -q "NEEDED *$shared"
   for header in $(pkg-config --variable=includedir cityseq)/cityseq.h*; do
-    c++ -std=c++17 -Wall -Wextra -Wpedantic -Werror -fsyntax-only -x c++ "$header"
+    echo "#include \"$header\"" | c++ -std=c++17 -Wall -Wextra -Wpedantic -Werror -fsyntax-only -x c++ -
   done
   ./loader town.city.jsonl | grep -qx "valid lines=5 features=4"
   ./check < town.city.jsonl | grep -qx "$version lines=5 line=0"
