@@ -17,6 +17,8 @@ NUMBER = r"(\d+\.\d+\.\d+)"
 PLACES = [
     ("crates/*/src/**/*.rt", rf'const VERSION: &(?:\'static )?(?:str|\[u8\]) = b?"{NUMBER}', 1),
     ("crates/cityseq/src/tests/*.rt", rf'b"cityseq {NUMBER}\\n"', 1),
+    ("crates/cityseq_c/src/tests.rt", rf'b"{NUMBER}', 0),
+    ("tests/library.c", rf'"{NUMBER}"', 0),
     ("tests/program.sh", rf"lines 'cityseq {NUMBER}'", 1),
     ("c/cityseq.h", rf'#define CITYSEQ_VERSION "{NUMBER}"', 1),
     ("python/cityseq/__init__.py", rf'^__version__ = "{NUMBER}"', 1),

@@ -46,8 +46,9 @@ import sys
 
 library = ctypes.CDLL(sys.argv[1])
 if hasattr(library, "cityseq_version"):
-    library.cityseq_version.restype = ctypes.c_char_p
-    sys.exit(library.cityseq_version().decode() != sys.argv[2])
+    text = ctypes.create_string_buffer(64)
+    length = library.cityseq_version(text, ctypes.c_size_t(64))
+    sys.exit(text.raw[:length].decode() != sys.argv[2])
 PY
 }
 
@@ -68,47 +69,13 @@ row 'the Debian packages have it' debian_has_version
 
 # ---- manual pages and completions
 
-# The options that a help names, one a line.
-options_of() { grep -oE '(^|[ ,[(|])--?[a-zA-Z][a-z-]*' | sed 's/^[^-]*//' | grep -vx -- '--bbox' | sort -u; }
-
-help_of_program() { for word in '' check filter info; do "$program" $word --help; done; }
-help_of_package() { for word in '' check filter info explain; do PYTHONPATH=python python3 -B -m cityseq $word --help; done; }
-
-# Whether each option of a help is in a manual page and in the completions, and the page has no other: NAME HELP.
-documents_options() {
-  local page=packaging/man/$1.1 folder=packaging/completions option
-  { "$2" 2>&1 | options_of; echo --bbox; } | sort > "$scratch/options"
-  [ "$(wc -l < "$scratch/options")" -gt 9 ] || { echo 'the help has too few options'; return 1; }
-  grep '^\.It Fl' "$page" | grep -oE 'Fl [^ ]+' | sed 's/^Fl \\-/--/; s/^Fl \(.\)$/-\1/' | sort -u > "$scratch/paged"
-  while read -r option; do
-    grep -qwF -e "$option" "$folder/$1.bash" || echo "$1.bash has no $option"
-    grep -qF -e "$option" "$folder/_$1" || echo "_$1 has no $option"
-    grep -qE -e " -[sl] ${option##*-}( |$)| -l ${option#--}( |$)" "$folder/$1.fish" || echo "$1.fish has no $option"
-  done < "$scratch/options" > "$scratch/missing"
-  diff "$scratch/options" "$scratch/paged" || echo "$page has other options than the help" >> "$scratch/missing"
-  cat "$scratch/missing"
-  [ ! -s "$scratch/missing" ]
-}
-
 pages_pass_lint() {
   # what is not said on a system that lacks the pages that are referred to
   mandoc -Tlint packaging/man/* 2>&1 | grep -v -e 'referenced manual not found' -e 'outdated mandoc.db' > "$scratch/lint"
   [ ! -s "$scratch/lint" ] || { cat "$scratch/lint"; false; }
 }
 
-# Whether each completion has the types of city objects, in the order of their table.
-have_all_types() {
-  local file
-  sed -n 's/.*ObjectType::\([A-Za-z]*\) => "\1".*/\1/p' crates/cj_geometry/src/object_type.rt > "$scratch/types"
-  [ "$(wc -l < "$scratch/types")" -ge 33 ] || return
-  for file in packaging/completions/*; do
-    grep -oE '\b(Bridge|Building|[A-Z][A-Za-z]+)\b' "$file" | grep -xFf "$scratch/types" | diff - "$scratch/types" || return
-  done
-}
-
-row 'the program has the options of its page' documents_options cityseq help_of_program
-row 'the package has the options of its page' documents_options cityseq-run help_of_package
-row 'completions have all types' have_all_types
+row 'pages and completions have the options that the help has' packaging/options.py "$program"
 have mandoc 'the layout of manual pages' && row 'manual pages pass mandoc -Tlint' pages_pass_lint
 
 # Prints how a shell completes each line of standard input.

@@ -1,24 +1,23 @@
-# Completion of cityseq-run for bash.
+# Completion of cityseq-run for bash. packaging/options.py writes this file.
 
 _cityseq_run() {
-  local current=${COMP_WORDS[COMP_CWORD]} command=${COMP_WORDS[1]} types
+  local current=${COMP_WORDS[COMP_CWORD]} before='' options='' files='' types
   types='
-    Bridge Building CityFurniture CityObjectGroup GenericCityObject LandUse
-    OtherConstruction PlantCover Railway Road SolitaryVegetationObject TINRelief
-    TransportSquare Tunnel WaterBody Waterway BridgeConstructiveElement BridgeFurniture
-    BridgeInstallation BridgePart BridgeRoom BuildingConstructiveElement BuildingFurniture
-    BuildingInstallation BuildingPart BuildingRoom BuildingStorey BuildingUnit
-    TunnelConstructiveElement TunnelFurniture TunnelHollowSpace TunnelInstallation
-    TunnelPart'
+    Bridge Building CityFurniture CityObjectGroup GenericCityObject LandUse OtherConstruction
+    PlantCover Railway Road SolitaryVegetationObject TINRelief TransportSquare Tunnel WaterBody
+    Waterway BridgeConstructiveElement BridgeFurniture BridgeInstallation BridgePart BridgeRoom
+    BuildingConstructiveElement BuildingFurniture BuildingInstallation BuildingPart BuildingRoom
+    BuildingStorey BuildingUnit TunnelConstructiveElement TunnelFurniture TunnelHollowSpace
+    TunnelInstallation TunnelPart'
   COMPREPLY=()
   if [ "$COMP_CWORD" = 1 ]; then
-    mapfile -t COMPREPLY < <(compgen -W 'check filter info explain -h --help --version --explain' -- "$current")
+    options='check filter info explain -h --help --version --explain'
+    mapfile -t COMPREPLY < <(compgen -W "$options" -- "$current")
     return
   fi
   case ${COMP_WORDS[COMP_CWORD - 1]} in
     --type)
       # the last item of a list with commas
-      local before=
       [[ $current != *,* ]] || before=${current%,*},
       mapfile -t COMPREPLY < <(compgen -P "$before" -W "$types" -- "${current##*,}")
       return
@@ -31,21 +30,38 @@ _cityseq_run() {
       mapfile -t COMPREPLY < <(compgen -f -- "$current")
       return
       ;;
-    --id | --lod | --bbox | --line-limit | --depth | --jobs | --part-size | --explain) return ;;
+    --explain | --line-limit | --depth | --jobs | --part-size | --id | --lod | --bbox) return ;;
   esac
-  local options='-h --help --line-limit --depth --keep-going --tree --jobs --part-size --json --progress'
-  case $command in
-    check) ;;
-    filter) options+=' --exclude --id --ids-from --type --lod --bbox --output --output-dir' ;;
-    info) options+=' --no-lods' ;;
-    explain) options='-h --help' ;;
-    *) return ;;
+  case ${COMP_WORDS[1]} in
+    check)
+      options='
+        -h --help --line-limit --depth --keep-going --tree --jobs --part-size --json --progress'
+      files=yes
+      ;;
+    filter)
+      options='
+        -h --help --line-limit --depth --keep-going --tree --jobs --part-size --json --progress
+        --exclude --id --type --lod --ids-from --bbox --output --output-dir'
+      files=yes
+      ;;
+    info)
+      options='
+        -h --help --line-limit --depth --keep-going --tree --jobs --part-size --json --progress
+        --no-lods'
+      files=yes
+      ;;
+    explain)
+      options='
+        -h --help'
+      files=
+      ;;
+    help) options='check filter info explain' ;;
   esac
-  if [[ $current == -* ]]; then
-    mapfile -t COMPREPLY < <(compgen -W "$options" -- "$current")
-  elif [ "$command" != explain ]; then
+  if [ -n "$files" ] && [[ $current != -* ]]; then
     mapfile -t COMPREPLY < <(compgen -f -- "$current")
+  else
+    mapfile -t COMPREPLY < <(compgen -W "$options" -- "$current")
   fi
 }
 
-complete -o filenames -F _cityseq_run cityseq-run
+complete -o default -o filenames -F _cityseq_run cityseq-run

@@ -1,39 +1,52 @@
-# Completion of cityseq for bash.
+# Completion of cityseq for bash. packaging/options.py writes this file.
 
 _cityseq() {
-  local current=${COMP_WORDS[COMP_CWORD]} command=${COMP_WORDS[1]} types
+  local current=${COMP_WORDS[COMP_CWORD]} before='' options='' files='' types
   types='
-    Bridge Building CityFurniture CityObjectGroup GenericCityObject LandUse
-    OtherConstruction PlantCover Railway Road SolitaryVegetationObject TINRelief
-    TransportSquare Tunnel WaterBody Waterway BridgeConstructiveElement BridgeFurniture
-    BridgeInstallation BridgePart BridgeRoom BuildingConstructiveElement BuildingFurniture
-    BuildingInstallation BuildingPart BuildingRoom BuildingStorey BuildingUnit
-    TunnelConstructiveElement TunnelFurniture TunnelHollowSpace TunnelInstallation
-    TunnelPart'
+    Bridge Building CityFurniture CityObjectGroup GenericCityObject LandUse OtherConstruction
+    PlantCover Railway Road SolitaryVegetationObject TINRelief TransportSquare Tunnel WaterBody
+    Waterway BridgeConstructiveElement BridgeFurniture BridgeInstallation BridgePart BridgeRoom
+    BuildingConstructiveElement BuildingFurniture BuildingInstallation BuildingPart BuildingRoom
+    BuildingStorey BuildingUnit TunnelConstructiveElement TunnelFurniture TunnelHollowSpace
+    TunnelInstallation TunnelPart'
   COMPREPLY=()
   if [ "$COMP_CWORD" = 1 ]; then
-    mapfile -t COMPREPLY < <(compgen -W 'check filter info help -h --help -V --version' -- "$current")
+    options='check filter info help -h --help -V --version'
+    mapfile -t COMPREPLY < <(compgen -W "$options" -- "$current")
     return
   fi
   case ${COMP_WORDS[COMP_CWORD - 1]} in
     --type)
       # the last item of a list with commas
-      local before=
       [[ $current != *,* ]] || before=${current%,*},
       mapfile -t COMPREPLY < <(compgen -P "$before" -W "$types" -- "${current##*,}")
       return
       ;;
-    --id | --lod | --bbox | --line-limit | --depth) return ;;
+    --line-limit | --depth | --id | --lod | --bbox) return ;;
   esac
-  local options='-h --help --line-limit --depth --tree'
-  case $command in
-    check) options+=' --keep-going' ;;
-    filter) options+=' --keep-going --exclude --id --type --lod --bbox' ;;
-    info) ;;
-    help) options='check filter info help' ;;
-    *) return ;;
+  case ${COMP_WORDS[1]} in
+    check)
+      options='
+        --line-limit --depth --keep-going --tree -h --help'
+      files=
+      ;;
+    filter)
+      options='
+        --line-limit --depth --keep-going --tree --exclude --id --type --lod --bbox -h --help'
+      files=
+      ;;
+    info)
+      options='
+        --line-limit --depth --tree -h --help'
+      files=
+      ;;
+    help) options='check filter info' ;;
   esac
-  mapfile -t COMPREPLY < <(compgen -W "$options" -- "$current")
+  if [ -n "$files" ] && [[ $current != -* ]]; then
+    mapfile -t COMPREPLY < <(compgen -f -- "$current")
+  else
+    mapfile -t COMPREPLY < <(compgen -W "$options" -- "$current")
+  fi
 }
 
 complete -o default -F _cityseq cityseq
