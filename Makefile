@@ -1,4 +1,5 @@
-# Each target calls a script that is there for itself; './test' is the gate. PREFIX and DESTDIR say where to install.
+# Each target calls a script that is there for itself; './test' is the gate. PREFIX and DESTDIR say
+# where to install.
 PREFIX ?= /usr/local
 export PREFIX DESTDIR
 

@@ -1,5 +1,5 @@
 # shellcheck shell=bash disable=SC2034
-# Read by the scripts of this folder. It moves to the top of the tree, and defines what they all need.
+# Read by the scripts of this folder. It moves to the top of the tree, and defines what they need.
 cd "$(dirname "${BASH_SOURCE[0]}")/.." || exit
 version=$(cat VERSION)
 # The one place of the interface's number is the header. The name of the shared library has it.
@@ -12,16 +12,22 @@ stop() {
   exit 1
 }
 
-# Stops unless a command is there: need COMMAND PACKAGE, where PACKAGE is the Debian package that has it.
+# Stops unless a command is there: need COMMAND PACKAGE, where PACKAGE is the Debian package that
+# has it.
 need() {
   command -v "$1" > /dev/null || stop "$1 is missing: install it, on Debian by 'apt-get install $2'"
+}
+
+# Stops unless the command of Rattle's toolchain is there.
+need_rt() {
+  command -v rt > /dev/null || stop "rt is missing: it comes with Rattle's toolchain"
 }
 
 # Stops unless the files are there, which 'make build' makes.
 need_built() {
   local file
   for file; do
-    [ -f "$file" ] || stop "$file is missing: run 'make build' first, which needs Rattle's toolchain"
+    [ -f "$file" ] || stop "$file is missing: run 'make build' first, which needs Rattle's kit"
   done
 }
 
@@ -33,7 +39,8 @@ need_library() {
     stop "c/out/libcityseq.so is not $shared, which c/cityseq.h declares: run 'make build' again"
 }
 
-# A line of the last commit: its time, or its author. A source tarball has them in a file, which 'git archive' fills in.
+# A line of the last commit: its time, or its author. A source tarball has them in a file, which
+# 'git archive' fills in.
 commit_line() {
   if [ -e .git ]; then
     git log -1 --format='%ct%n%an <%ae>'
@@ -45,7 +52,8 @@ commit_line() {
 # All times in packages are that of the last commit, so that two builds of it are the same bytes.
 set_epoch() {
   SOURCE_DATE_EPOCH=${SOURCE_DATE_EPOCH:-$(commit_line 1)}
-  [[ $SOURCE_DATE_EPOCH =~ ^[0-9]+$ ]] || stop 'no commit is known: set SOURCE_DATE_EPOCH to a time in seconds'
+  [[ $SOURCE_DATE_EPOCH =~ ^[0-9]+$ ]] ||
+    stop 'no commit is known: set SOURCE_DATE_EPOCH to a time in seconds'
   export SOURCE_DATE_EPOCH
 }
 
@@ -66,6 +74,6 @@ settle() {
 
 # Writes a tarball whose bytes hang on its files alone: pack FOLDER NAME TARBALL packs FOLDER/NAME.
 pack() {
-  tar -C "$1" --sort=name --owner=0 --group=0 --numeric-owner --format=gnu --mtime="@$SOURCE_DATE_EPOCH" -cf - "$2" |
-    gzip -9n > "$3"
+  tar -C "$1" --sort=name --owner=0 --group=0 --numeric-owner --format=gnu \
+    --mtime="@$SOURCE_DATE_EPOCH" -cf - "$2" | gzip -9n > "$3"
 }

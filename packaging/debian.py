@@ -3,8 +3,8 @@
 
     packaging/debian.py FOLDER MAINTAINER INTERFACE
 
-The changelog is that of CHANGELOG.md. A version that is not released has the time of SOURCE_DATE_EPOCH. INTERFACE is the number
-in the library's name.
+The changelog is that of CHANGELOG.md. A version that is not released has the time of
+SOURCE_DATE_EPOCH. INTERFACE is the number in the library's name.
 """
 import os
 import re
@@ -26,13 +26,14 @@ def read(name):
 
 def recommends():
     """The packages that the extras of pyproject.toml ask for."""
-    extras = re.search(r"^\[project\.optional-dependencies\]\n(.*?)(?=^\[|\Z)", read("python/pyproject.toml"), re.M | re.S)
-    return ", ".join(DEBIAN[name] for name in re.findall(r'"(\w+)', extras.group(1)))
+    section = read("python/pyproject.toml").split("[project.optional-dependencies]\n")[1]
+    return ", ".join(DEBIAN[name] for name in re.findall(r'"(\w+)', section.split("\n[")[0]))
 
 
 def control(maintainer, interface):
     text = read("debian/control.in")
-    for name, value in (("MAINTAINER", maintainer), ("INTERFACE", interface), ("RECOMMENDS", recommends())):
+    values = {"MAINTAINER": maintainer, "INTERFACE": interface, "RECOMMENDS": recommends()}
+    for name, value in values.items():
         text = text.replace(f"@{name}@", value)
     return text
 
@@ -41,14 +42,18 @@ def time_of(date):
     """The time of a version, as Debian writes it."""
     if re.fullmatch(r"\d{4}-\d\d-\d\d", date):
         return format_datetime(datetime.fromisoformat(date).replace(tzinfo=timezone.utc))
-    return format_datetime(datetime.fromtimestamp(int(os.environ["SOURCE_DATE_EPOCH"]), timezone.utc))
+    epoch = int(os.environ["SOURCE_DATE_EPOCH"])
+    return format_datetime(datetime.fromtimestamp(epoch, timezone.utc))
 
 
 def entry(version, date, body, maintainer):
     """A version of the changelog, as Debian writes it."""
-    items = [re.sub(r"[`\[\]]|\(\S+\)", "", " ".join(item.split())) for item in re.findall(r"^- (.*(?:\n  .*)*)", body, re.M)]
-    lines = [textwrap.fill(item, 76, initial_indent="  * ", subsequent_indent="    ", break_on_hyphens=False) for item in items]
-    return f"cityseq ({version}) unstable; urgency=medium\n\n" + "\n".join(lines) + f"\n\n -- {maintainer}  {time_of(date)}\n"
+    items = [re.sub(r"[`\[\]]|\(\S+\)", "", " ".join(item.split()))
+             for item in re.findall(r"^- (.*(?:\n  .*)*)", body, re.M)]
+    lines = "\n".join(textwrap.fill(item, 76, initial_indent="  * ", subsequent_indent="    ",
+                                    break_on_hyphens=False) for item in items)
+    head = f"cityseq ({version}) unstable; urgency=medium"
+    return f"{head}\n\n{lines}\n\n -- {maintainer}  {time_of(date)}\n"
 
 
 def changelog(maintainer):

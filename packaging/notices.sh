@@ -1,8 +1,9 @@
 #!/usr/bin/env bash
-# Writes out/NOTICES: the terms of the crates that are compiled into the program and the library, as the toolchain has them.
+# Writes out/NOTICES: the terms of the crates that are compiled into the program and the library, as
+# the toolchain has them.
 set -eu
 . "$(dirname "$0")/common.sh"
-command -v rt > /dev/null || stop 'rt is missing: it comes with Rattle'\''s toolchain'
+need_rt
 crates=$(dirname "$(rt doc)")/rattle
 
 # The toolchain's crates that those of this repository use.
@@ -15,7 +16,8 @@ used() {
 
 mkdir -p out
 {
-  echo 'The program and the library contain code of these crates, as they were ported to Rattle, under these terms.'
+  echo 'The program and the library contain code of these crates, as they were ported to Rattle,'
+  echo 'under these terms.'
   for crate in $(used); do
     terms=$(find "$crates/$crate" -maxdepth 1 -name LICENSE-MIT | head -n 1)
     terms=${terms:-$crates/$crate/LICENSE}

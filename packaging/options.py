@@ -1,11 +1,12 @@
 #!/usr/bin/env python3
-"""Writes the options of both commands into their manual pages, and their completions, from what their help says.
+"""Writes the options of both commands into manual pages and completions, from what help says.
 
     packaging/options.py [--write] [PROGRAM]
 
-PROGRAM is the built program, crates/cityseq/out/cityseq if left out. Without --write it looks whether all is as it would be
-written, prints what differs, and its last line is 'N passed, M failed'. In a manual page it writes what is between the lines
-'.\\" commands', '.\\" options' and '.\\" end'.
+PROGRAM is the built program, crates/cityseq/out/cityseq if left out. Without --write it looks
+whether all is as it would be written, prints what differs, and its last line is 'N passed, M
+failed'. In a manual page it writes what is between the lines '.\\" commands', '.\\" options' and
+'.\\" end'.
 """
 import os
 import re
@@ -18,9 +19,16 @@ from typing import Dict, List, Optional
 
 ROOT = Path(__file__).resolve().parent.parent
 MAN, COMPLETIONS = ROOT / "packaging" / "man", ROOT / "packaging" / "completions"
-FILES = {"FILE", "LIST", "OUTPUT", "INDEX", "RECORD"}  # values that are files; a FOLDER is one, and TYPES are types
-OPTION = re.compile(r"^ +(?:(-\w), )?(--[a-z][a-z0-9-]*)(?:[ =]<?([A-Z][A-Z,]*)>?)?(?: {2,}(.*))?$")
 COMMAND = re.compile(r"^ {2,4}([a-z][a-z-]*) {2,}(.*)$")
+OPTION = re.compile(
+    r"^ +(?:(-\w), )?(--[a-z][a-z0-9-]*)(?:[ =]<?([A-Z][A-Z,]*)>?)?(?: {2,}(.*))?$")
+COMMAND_TITLES = ("Commands:", "positional arguments:")
+OPTION_TITLES = ("Options:", "options:", "optional arguments:")
+WRITTEN_BY = "packaging/options.py writes this file."
+
+# What completes the value of an option; all other values are texts.
+KINDS = {"TYPES": "types", "FOLDER": "folders",
+         **dict.fromkeys(("FILE", "LIST", "OUTPUT", "INDEX", "RECORD"), "files")}
 
 
 @dataclass(frozen=True)
@@ -32,6 +40,15 @@ class Option:
     value: Optional[str]
     about: str
 
+    @property
+    def names(self):
+        return [name for name in (self.short, self.name) if name]
+
+    @property
+    def kind(self):
+        """What completes its value; none where it takes no value."""
+        return None if self.value is None else KINDS.get(self.value, "texts")
+
 
 @dataclass
 class Help:
@@ -40,6 +57,10 @@ class Help:
     commands: Dict[str, str]
     options: List[Option]
     takes_files: bool
+
+    @property
+    def names(self):
+        return [name for option in self.options for name in option.names]
 
 
 @dataclass
@@ -50,12 +71,21 @@ class Command:
     top: Help
     helps: Dict[str, Help]
 
+    @property
+    def all_helps(self):
+        return [("", self.top), *self.helps.items()]
+
+
+# ---- help
+
 
 def sentences(text):
     """A line of help as sentences."""
-    text, default = re.sub(r" \[default: ([^\]]*)\]$", "", text), re.search(r" \[default: ([^\]]*)\]$", text)
+    default = re.search(r" \[default: ([^\]]*)\]$", text)
+    if default:
+        text = text[:default.start()]
     text = text[:1].upper() + text[1:].rstrip(".") + "."
-    return text + (f" The default is {default.group(1)}." if default else "")
+    return f"{text} The default is {default.group(1)}." if default else text
 
 
 def rows(text, pattern, titles):
@@ -74,21 +104,27 @@ def rows(text, pattern, titles):
 
 
 def parsed(text):
-    commands = {name: sentences(about) for name, about in rows(text, COMMAND, ("Commands:", "positional arguments:"))}
+    commands = {name: sentences(about) for name, about in rows(text, COMMAND, COMMAND_TITLES)}
     options = [Option(short, name, value, sentences(about or ""))
-               for short, name, value, about in rows(text, OPTION, ("Options:", "options:", "optional arguments:"))]
-    return Help(commands, options, bool(re.search(r"^ *(usage|Usage): .*\bFILE\b", text, re.M)))
+               for short, name, value, about in rows(text, OPTION, OPTION_TITLES)]
+    return Help(commands, options, bool(re.search(r"^ *(?:usage|Usage): .*\bFILE\b", text, re.M)))
 
 
 def read(name, words):
     """The program and its commands, by their help."""
+    settings = {"COLUMNS": "1000", "PYTHONPATH": str(ROOT / "python")}
+
     def help_on(*more):
-        environment = dict(os.environ, COLUMNS="1000", PYTHONPATH=str(ROOT / "python"), PYTHONDONTWRITEBYTECODE="1")
-        ran = subprocess.run([*words, *more, "--help"], stdout=subprocess.PIPE, env=environment, check=True)
+        ran = subprocess.run([*words, *more, "--help"], stdout=subprocess.PIPE, check=True,
+                             env={**os.environ, **settings})
         return parsed(ran.stdout.decode("utf-8"))
 
     top = help_on()
-    return Command(name, top, {name: help_on(name) for name in top.commands if name != "help"})
+    command = Command(name, top, {each: help_on(each) for each in top.commands if each != "help"})
+    readers = [each for each in command.helps.values() if each.takes_files] or [top]
+    if len(command.helps) < 3 or any(len(each.options) < 2 for each in readers):
+        sys.exit(f"options.py: the help of {name} is not understood")
+    return command
 
 
 def types():
@@ -99,103 +135,97 @@ def types():
 
 # ---- manual pages
 
+
 def roff(text):
     """Sentences as lines of a manual page."""
-    text = text.replace("\\", "\\e")
-    lines = [line for each in re.split(r"(?<=[.;]) (?=[A-Z])", text)
+    lines = [line for each in re.split(r"(?<=[.;]) (?=[A-Z])", text.replace("\\", "\\e"))
              for line in textwrap.wrap(each, 76, break_on_hyphens=False, break_long_words=False)]
-    return "\n".join(("\\&" if line[0] in ".'" else "") + re.sub(r"(?<![\w\\])-(?=[-\w])", r"\\-", line) for line in lines)
+    hyphens = re.compile(r"(?<![\w\\])-(?=[-\w])")
+    return "\n".join(("\\&" if line[0] in ".'" else "") + hyphens.sub(r"\\-", line)
+                     for line in lines)
 
 
 def item(option):
-    head = (f"{option.short.lstrip('-')} , Fl " if option.short else "") + "\\-" + option.name[2:]
-    value = option.value.lower() if option.value else None
-    shown = "" if value is None else f" Ns = Ns Ar {value}" if option.name == "--bbox" else f" Ar {value}"
-    return f".It Fl {head}{shown}\n{roff(option.about)}"
+    """An option as an item of a list. A box is written with '=', as it may begin with a minus."""
+    head = f"{option.short[1:]} , Fl " if option.short else ""
+    shown = "" if option.value is None else f" Ar {option.value.lower()}"
+    if option.name == "--bbox":
+        shown = " Ns = Ns" + shown
+    return f".It Fl {head}\\-{option.name[2:]}{shown}\n{roff(option.about)}"
 
 
 def title(names):
-    if names == [""]:
+    if names == ("",):
         return "Options without a command"
-    return "Options of " + (names[0] if len(names) == 1 else ", ".join(names[:-1]) + " and " + names[-1])
+    return "Options of " + " and ".join(filter(None, [", ".join(names[:-1]), names[-1]]))
+
+
+def listed(items):
+    return "\n".join([".Bl -tag -width Ds", *items, ".El"])
 
 
 def option_text(command):
     """The options, those together that the same commands have."""
-    groups = {}
-    owners = {}
-    for name, help_on in [("", command.top), *command.helps.items()]:
+    owners, groups = {}, {}
+    for name, help_on in command.all_helps:
         for option in help_on.options:
             if option.name != "--help" or name == "":
                 owners.setdefault(option, []).append(name)
     for option, names in owners.items():
         groups.setdefault(tuple(names), []).append(option)
-    return "\n".join(f".Ss {title(list(names))}\n.Bl -tag -width Ds\n" + "\n".join(map(item, options)) + "\n.El"
-                     for names, options in sorted(groups.items(), key=lambda group: group[0] == ("",)))
+    ordered = sorted(groups.items(), key=lambda group: group[0] == ("",))
+    return "\n".join(f".Ss {title(names)}\n{listed(map(item, options))}"
+                     for names, options in ordered)
 
 
 def page(command):
     """The manual page, with its commands and options as they are."""
     text = (MAN / f"{command.name}.1").read_text(encoding="utf-8")
-    commands = ".Bl -tag -width Ds\n" + "\n".join(f".It Cm {name}\n{roff(about)}" for name, about in command.top.commands.items()) + "\n.El"
-    for mark, body in (("commands", commands), ("options", option_text(command))):
-        text = re.sub(rf'(?s)(\.\\" {mark}\n).*?(\.\\" end\n)', lambda found: found.group(1) + body + "\n" + found.group(2), text)
+    items = [f".It Cm {name}\n{roff(about)}" for name, about in command.top.commands.items()]
+    for mark, body in (("commands", listed(items)), ("options", option_text(command))):
+        before, rest = text.split(f'.\\" {mark}\n', 1)
+        text = f'{before}.\\" {mark}\n{body}\n.\\" end\n' + rest.split('.\\" end\n', 1)[1]
     return text
 
 
 # ---- completions
 
-def kinds(command):
-    """The options that take a value, by what completes it."""
-    found = {"types": [], "folders": [], "files": [], "texts": []}
-    for option in {option.name: option for help_on in (command.top, *command.helps.values()) for option in help_on.options}.values():
-        if option.value is not None:
-            kind = "types" if option.value == "TYPES" else "folders" if option.value == "FOLDER" else \
-                "files" if option.value in FILES else "texts"
-            found[kind].append(option.name)
-    return found
-
-
-def names_of(help_on):
-    return [name for option in help_on.options for name in (option.short, option.name) if name]
-
 
 def wrapped(words, indent):
-    return textwrap.fill(" ".join(words), 100, initial_indent=indent, subsequent_indent=indent, break_on_hyphens=False)
+    return textwrap.fill(" ".join(words), 96, initial_indent=indent, subsequent_indent=indent,
+                         break_on_hyphens=False)
 
 
-def bash(command):
-    kind, helps = kinds(command), command.helps
-    function = "_" + command.name.replace("-", "_")
-    cases = "\n".join(f"    {name})\n      options='\n{wrapped(names_of(help_on), '        ')}'\n"
-                      f"      files={'yes' if help_on.takes_files else ''}\n      ;;" for name, help_on in helps.items())
-    values = "".join(f"    {' | '.join(kind[name])})\n      mapfile -t COMPREPLY < <(compgen -{letter} -- \"$current\")\n      return\n      ;;\n"
-                     for name, letter in (("folders", "d"), ("files", "f")) if kind[name])
-    told = " | ".join(kind["texts"])
-    return f"""# Completion of {command.name} for bash. packaging/options.py writes this file.
+def brief(text):
+    """The first part of a sentence, for a line of a list."""
+    return re.split(r"[.;,:] |\.$", text)[0].translate(str.maketrans("[]", "()", "'"))
+
+
+BASH = """\
+# Completion of {name} for bash. {written}
 
 {function}() {{
   local current=${{COMP_WORDS[COMP_CWORD]}} before='' options='' files='' types
   types='
-{wrapped(types(), '    ')}'
+{types}'
   COMPREPLY=()
   if [ "$COMP_CWORD" = 1 ]; then
-    options='{' '.join([*command.top.commands, *names_of(command.top)])}'
+    options='{top}'
     mapfile -t COMPREPLY < <(compgen -W "$options" -- "$current")
     return
   fi
   case ${{COMP_WORDS[COMP_CWORD - 1]}} in
-    {' | '.join(kind['types'])})
+    --type)
       # the last item of a list with commas
       [[ $current != *,* ]] || before=${{current%,*}},
       mapfile -t COMPREPLY < <(compgen -P "$before" -W "$types" -- "${{current##*,}}")
       return
       ;;
-{values}    {told}) return ;;
+{values}
   esac
   case ${{COMP_WORDS[1]}} in
 {cases}
-    help) options='{' '.join(helps)}' ;;
+    help) options='{commands}' ;;
   esac
   if [ -n "$files" ] && [[ $current != -* ]]; then
     mapfile -t COMPREPLY < <(compgen -f -- "$current")
@@ -204,44 +234,50 @@ def bash(command):
   fi
 }}
 
-complete -o default{' -o filenames' if any(each.takes_files for each in helps.values()) else ''} -F {function} {command.name}
+complete -o default{filenames} -F {function} {name}
 """
 
 
-def brief(text):
-    """The first sentence, short, for a line of a list."""
-    return re.split(r"[.;,:] |\.$", text)[0].replace("'", "").replace("[", "(").replace("]", ")")
+def bash_values(command):
+    """The cases of options that take a value, by what completes it."""
+    kinds = {}
+    for _, help_on in command.all_helps:
+        for option in help_on.options:
+            if option.name not in kinds.setdefault(option.kind, []):
+                kinds[option.kind].append(option.name)
+    for kind, done in (("folders", 'mapfile -t COMPREPLY < <(compgen -d -- "$current")'),
+                       ("files", 'mapfile -t COMPREPLY < <(compgen -f -- "$current")'),
+                       ("texts", None)):
+        if kind in kinds:
+            steps = f"      {done}\n      return" if done else "      return"
+            yield f"    {' | '.join(kinds[kind])})\n{steps}\n      ;;"
 
 
-def zsh(command):
-    def argument(option):
-        label = (option.value or "").lower().replace(",", " ")
-        action = "" if option.value is None else f":{label}:" + (
-            "_values -s , type $types" if option.value == "TYPES" else "_files -/" if option.value == "FOLDER" else
-            "_files" if option.value in FILES else "")
-        name = option.name + ("=" if option.name == "--bbox" else "")
-        about = f"[{brief(option.about)}]{action}'"
-        return f"    '({option.short} {name})'{{{option.short},{name}}}'{about}" if option.short else f"    '{name}{about}"
+def bash(command):
+    cases = [f"    {name})\n      options='\n{wrapped(help_on.names, '        ')}'\n"
+             f"      files={'yes' if help_on.takes_files else ''}\n      ;;"
+             for name, help_on in command.helps.items()]
+    takes_files = any(help_on.takes_files for help_on in command.helps.values())
+    return BASH.format(
+        name=command.name, written=WRITTEN_BY, function="_" + command.name.replace("-", "_"),
+        types=wrapped(types(), "    "), top=" ".join([*command.top.commands, *command.top.names]),
+        values="\n".join(bash_values(command)), cases="\n".join(cases),
+        commands=" ".join(command.helps), filenames=" -o filenames" if takes_files else "")
 
-    def case(name, help_on):
-        arguments = [argument(option) for option in help_on.options] + (["    '*:stream:_files'"] if help_on.takes_files else [])
-        return f"  {name})\n    arguments=(\n" + "\n".join("  " + each for each in arguments) + "\n    )\n    ;;"
 
-    listed = "\n".join(f"  '{name}:{brief(about)}'" for name, about in command.top.commands.items())
-    tops = "\n".join(f"  '{name}:{brief(option.about)}'" for option in command.top.options for name in (option.short, option.name) if name)
-    cases = "\n".join(case(name, help_on) for name, help_on in command.helps.items())
-    return f"""#compdef {command.name}
-# Completion of {command.name} for zsh. packaging/options.py writes this file.
+ZSH = """\
+#compdef {name}
+# Completion of {name} for zsh. {written}
 
 local -a commands options arguments types
 commands=(
-{listed}
+{commands}
 )
 options=(
-{tops}
+{options}
 )
 types=(
-{wrapped(types(), '  ')}
+{types}
 )
 
 if (( CURRENT == 2 )); then
@@ -263,32 +299,67 @@ shift words
 (( CURRENT-- ))
 _arguments -s $arguments
 """
+ZSH_ACTIONS = {"types": "_values -s , type $types", "folders": "_files -/", "files": "_files",
+               "texts": ""}
+
+
+def zsh_argument(option):
+    name = option.name + ("=" if option.name == "--bbox" else "")
+    about = f"[{brief(option.about)}]"
+    if option.kind:
+        about += f":{option.value.lower().replace(',', ' ')}:{ZSH_ACTIONS[option.kind]}"
+    if option.short:
+        return f"'({option.short} {name})'{{{option.short},{name}}}'{about}'"
+    return f"'{name}{about}'"
+
+
+def zsh_case(name, help_on):
+    arguments = [zsh_argument(option) for option in help_on.options]
+    if help_on.takes_files:
+        arguments.append("'*:stream:_files'")
+    body = "\n".join(f"      {argument}" for argument in arguments)
+    return f"  {name})\n    arguments=(\n{body}\n    )\n    ;;"
+
+
+def zsh(command):
+    commands = [f"  '{name}:{brief(about)}'" for name, about in command.top.commands.items()]
+    options = [f"  '{name}:{brief(option.about)}'"
+               for option in command.top.options for name in option.names]
+    cases = [zsh_case(name, help_on) for name, help_on in command.helps.items()]
+    return ZSH.format(
+        name=command.name, written=WRITTEN_BY, commands="\n".join(commands),
+        options="\n".join(options), types=wrapped(types(), "  "), cases="\n".join(cases))
+
+
+def fish_option(start, option, variable):
+    values = {"types": f" -x -a '(__fish_complete_list , \"string join \\n ${variable}\")'",
+              "folders": " -x -a '(__fish_complete_directories)'", "files": " -r -F",
+              "texts": " -x", None: ""}
+    short = f" -s {option.short[1:]}" if option.short else ""
+    name = f"{short} -l {option.name[2:]}"
+    return f"{start}{name}{values[option.kind]} -d '{brief(option.about)}'"
 
 
 def fish(command):
-    start, variable = f"complete -c {command.name}", f"__{command.name.replace('-', '_')}_types"
-    lines = [f"# Completion of {command.name} for fish. packaging/options.py writes this file.", "",
+    start = f"complete -c {command.name}"
+    variable = f"__{command.name.replace('-', '_')}_types"
+    without = f'{start} -n "not __fish_seen_subcommand_from $commands"'
+    lines = [f"# Completion of {command.name} for fish. {WRITTEN_BY}", "",
              f"set -l commands {' '.join(command.top.commands)}",
-             f"set -g {variable} \\\n" + wrapped(types(), "    ").replace("\n", " \\\n"), ""]
-    without = '-n "not __fish_seen_subcommand_from $commands"'
-    lines.append(f"{start} {without} -f")
-    lines += [f"{start} {without} -a {name} -d '{brief(about)}'" for name, about in command.top.commands.items()]
-    lines += [fish_option(f"{start} {without}", option, variable) for option in command.top.options]
+             f"set -g {variable} \\", wrapped(types(), "    ").replace("\n", " \\\n"), "",
+             f"{without} -f"]
+    lines += [f"{without} -a {name} -d '{brief(about)}'"
+              for name, about in command.top.commands.items()]
+    lines += [fish_option(without, option, variable) for option in command.top.options]
     for name, help_on in command.helps.items():
         within = f"{start} -n '__fish_seen_subcommand_from {name}'"
         lines += ["", f"{within} {'-F' if help_on.takes_files else '-f'}"]
         lines += [fish_option(within, option, variable) for option in help_on.options]
-    if "help" in command.top.commands:
-        lines += ["", f"{start} -n '__fish_seen_subcommand_from help' -f -a '{' '.join(command.helps)}'"]
-    return "\n".join(lines) + "\n"
+    within = f"{start} -n '__fish_seen_subcommand_from help'"
+    return "\n".join([*lines, "", f"{within} -f -a '{' '.join(command.helps)}'"]) + "\n"
 
 
-def fish_option(start, option, variable):
-    short = f" -s {option.short[1:]}" if option.short else ""
-    value = "" if option.value is None else " -r -F" if option.value in FILES else \
-        " -x -a '(__fish_complete_directories)'" if option.value == "FOLDER" else \
-        f" -x -a '(__fish_complete_list , \"string join \\n ${variable}\")'" if option.value == "TYPES" else " -x"
-    return f"{start}{short} -l {option.name[2:]}{value} -d '{brief(option.about)}'"
+# ---- files
 
 
 def files(command):
@@ -302,18 +373,16 @@ def files(command):
 def main():
     words = [word for word in sys.argv[1:] if word != "--write"]
     program = os.path.abspath(words[0]) if words else str(ROOT / "crates/cityseq/out/cityseq")
+    commands = read("cityseq", [program]), read("cityseq-run", [sys.executable, "-B", "-m", "cityseq"])
     passed = failed = 0
-    for command in (read("cityseq", [program]), read("cityseq-run", [sys.executable, "-m", "cityseq"])):
-        if len(command.helps) < 3 or any(len(help_on.options) < 3 for name, help_on in command.helps.items() if help_on.takes_files):
-            sys.exit(f"options.py: the help of {command.name} is not understood")
-        for path, text in files(command):
-            if "--write" in sys.argv:
-                path.write_text(text, encoding="utf-8")
-            if path.is_file() and path.read_text(encoding="utf-8") == text:
-                passed += 1
-            else:
-                failed += 1
-                print(f"{path.relative_to(ROOT)} is not as the help says: run packaging/options.py --write")
+    for path, text in [file for command in commands for file in files(command)]:
+        if "--write" in sys.argv:
+            path.write_text(text, encoding="utf-8")
+        if path.is_file() and path.read_text(encoding="utf-8") == text:
+            passed += 1
+        else:
+            failed += 1
+            print(f"{path.relative_to(ROOT)} differs from help: run packaging/options.py --write")
     print(f"{passed} passed, {failed} failed")
     sys.exit(1 if failed else 0)
 

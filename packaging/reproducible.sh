@@ -1,6 +1,7 @@
 #!/usr/bin/env bash
-# Builds all packages twice from one commit, and compares them byte by byte. The second time differs in its folder, its time
-# and its umask. With --compile the program and the library are compiled twice too, which needs Rattle's toolchain.
+# Builds all packages twice from one commit, and compares them byte by byte. The second time differs
+# in its folder, its time and its umask. With --compile the program and the library are compiled
+# twice too, which needs Rattle's toolchain.
 #
 #     packaging/reproducible.sh [--compile]
 #
@@ -11,15 +12,15 @@ passed=0 failed=0
 
 # Copies the tree with what is built: the packages are made in copies.
 copy_tree() {
-  mkdir -p "$1" && cp -a .git VERSION [A-Z]*.md .gitignore .gitattributes .editorconfig crates.txt Makefile test debian packaging docs \
-    examples python c tests "$1/" &&
-    cp -a --parents out/NOTICES "$1/" && mkdir -p "$1/crates/cityseq/out" && cp -p crates/cityseq/out/cityseq "$1/crates/cityseq/out/"
+  mkdir -p "$1" && cp -a .git VERSION ./*.md .gitignore .gitattributes .editorconfig crates.txt \
+    Makefile test debian packaging docs examples python c tests "$1/" &&
+    cp -a --parents out/NOTICES crates/cityseq/out/cityseq "$1/"
 }
 
 # Makes all packages of a copy: make_packages FOLDER OUTPUT
 make_packages() {
-  (cd "$1" && packaging/deb.sh "$2" && packaging/wheel.sh "$2" && packaging/dist.sh "$2") > "$scratch/said" 2>&1 ||
-    { tail -n 20 "$scratch/said"; stop 'the packages were not built'; }
+  (cd "$1" && packaging/deb.sh "$2" && packaging/wheel.sh "$2" && packaging/dist.sh "$2") \
+    > "$scratch/said" 2>&1 || { tail -n 20 "$scratch/said"; stop 'the packages were not built'; }
 }
 
 # Counts two files as passed if they are the same bytes.
@@ -41,10 +42,11 @@ for file in "$scratch"/a/*.deb "$scratch"/a/*.whl "$scratch"/a/*.tar.gz "$scratc
 done
 
 if [ "${1:-}" = --compile ]; then
-  command -v rt > /dev/null || stop 'rt is missing: it comes with Rattle'\''s toolchain'
+  need_rt
   cp crates/cityseq/out/cityseq c/out/libcityseq.a c/out/"$shared" "$scratch/"
-  rm -f crates/cityseq/out/cityseq crates/cityseq_c/out/libcityseq_c.a c/out/libcityseq.a
-  packaging/build.sh > "$scratch/said" 2>&1 || { tail -n 20 "$scratch/said"; stop 'the program and the library were not built'; }
+  rm -f crates/cityseq/out/cityseq{,.o,.stamp} crates/cityseq_c/out/libcityseq_c.* c/out/*
+  packaging/build.sh > "$scratch/said" 2>&1 ||
+    { tail -n 20 "$scratch/said"; stop 'the program and the library were not built'; }
   same "$scratch/cityseq" crates/cityseq/out/cityseq
   same "$scratch/libcityseq.a" c/out/libcityseq.a
   same "$scratch/$shared" "c/out/$shared"

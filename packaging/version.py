@@ -3,8 +3,8 @@
 
     packaging/version.py [--write]
 
-It prints each file that names another one, and its last line is 'N passed, M failed'. With --write it puts the version of VERSION
-into these files; CHANGELOG.md is then still written by hand.
+It prints each file that names another one, and its last line is 'N passed, M failed'. With --write
+it puts the version of VERSION into these files; CHANGELOG.md is then still written by hand.
 """
 import re
 import sys
@@ -27,7 +27,7 @@ PLACES = [
 
 
 def places():
-    """Each place's files with the pattern of the version in them; the least count is for all files of a place together."""
+    """Each place's files with the pattern of the version; the count is for all of them together."""
     for pattern, text, least in PLACES:
         yield sorted(ROOT.glob(pattern)), pattern, re.compile(text, re.MULTILINE), least
 
@@ -35,12 +35,14 @@ def places():
 def other_versions(wanted):
     """The places that do not name this version: a line for each place, empty where it does."""
     for files, pattern, text, least in places():
-        found = [(file, version) for file in files for version in text.findall(file.read_text(encoding="utf-8"))]
+        found = [(file.relative_to(ROOT), version) for file in files
+                 for version in text.findall(file.read_text(encoding="utf-8"))]
         if len(found) < least:
             yield f"{pattern}: the version is not there, as {text.pattern}"
         else:
-            yield "; ".join(f"{file.relative_to(ROOT)} has {version}" for file, version in found if version != wanted)
-    heads = re.findall(r"^## \[([^\]]*)\]", (ROOT / "CHANGELOG.md").read_text(encoding="utf-8"), re.MULTILINE)
+            yield "; ".join(f"{file} has {version}" for file, version in found if version != wanted)
+    changes = (ROOT / "CHANGELOG.md").read_text(encoding="utf-8")
+    heads = re.findall(r"^## \[([^\]]*)\]", changes, re.MULTILINE)
     yield "" if heads[:1] == [wanted] else f"CHANGELOG.md begins with {heads[:1]}"
 
 

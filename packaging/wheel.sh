@@ -1,5 +1,6 @@
 #!/usr/bin/env bash
-# Builds the wheel and the source distribution of the Python package, over the library that is built.
+# Builds the wheel and the source distribution of the Python package, over the library that is
+# built.
 #
 #     packaging/wheel.sh [FOLDER]      (out/wheel if left out)
 #
@@ -22,15 +23,19 @@ builder() {
 # The tag of the platform: the newest version of a symbol that the library takes from glibc.
 platform() {
   local other newest
-  other=$(objdump -p c/out/libcityseq.so | awk '$1 == "NEEDED" && $2 !~ /^lib(c|m)\.so\.6$/ { print $2 }')
-  [ -z "$other" ] || stop "libcityseq.so needs ${other//$'\n'/, }, so that it runs on some systems alone"
-  newest=$(objdump -T c/out/libcityseq.so | sed -n 's/.*GLIBC_2\.\([0-9][0-9]*\).*/\1/p' | sort -n | tail -n 1)
+  other=$(objdump -p c/out/libcityseq.so |
+    awk '$1 == "NEEDED" && $2 !~ /^lib(c|m)\.so\.6$/ { print $2 }')
+  [ -z "$other" ] || stop "libcityseq.so needs ${other//$'\n'/, }, which not every system has"
+  newest=$(objdump -T c/out/libcityseq.so | sed -n 's/.*GLIBC_2\.\([0-9][0-9]*\).*/\1/p' |
+    sort -n | tail -n 1)
   echo "manylinux_2_${newest:-17}_x86_64"
 }
 
-python=$(builder) || stop "no Python has setuptools and wheel: on Debian 'apt-get install python3-setuptools python3-wheel'"
+python=$(builder) ||
+  stop "setuptools or wheel is missing: 'apt-get install python3-setuptools python3-wheel'"
 mkdir -p "$scratch/python" "$folder"
-cp -r python/cityseq python/tests python/setup.py python/pyproject.toml python/MANIFEST.in python/README.md "$scratch/python/"
+cp -r python/cityseq python/tests python/*.py python/pyproject.toml python/MANIFEST.in \
+  python/README.md "$scratch/python/"
 rm -f "$scratch/python/cityseq/libcityseq.so"
 find "$scratch/python" -name __pycache__ -prune -exec rm -r {} +
 settle "$scratch/python"

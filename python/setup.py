@@ -1,6 +1,7 @@
-"""Builds the wheel, which has the library inside: it is for any Python 3 on Linux with x86-64. pyproject.toml has the rest.
+"""Builds the wheel, which has the library inside: it is for any Python 3 on Linux with x86-64.
 
-CITYSEQ_LIBRARY names a library to take where cityseq/libcityseq.so is not there, and CITYSEQ_PLATFORM another tag of the platform."""
+pyproject.toml has the rest. CITYSEQ_LIBRARY names a library to take where cityseq/libcityseq.so is
+not there, and CITYSEQ_PLATFORM another tag of the platform."""
 import os
 import shutil
 import sys
@@ -30,7 +31,8 @@ class BuildPy(build_py):
     def run(self):
         given = os.environ.get("CITYSEQ_LIBRARY")
         if given is None and not os.path.isfile(LIBRARY):
-            sys.exit("cityseq: this source has no libcityseq.so: set CITYSEQ_LIBRARY to the path of one, or install the wheel")
+            sys.exit("cityseq: this source has no libcityseq.so: "
+                     "set CITYSEQ_LIBRARY to the path of one, or install the wheel")
         super().run()
         if given is not None:
             target = os.path.join(self.build_lib, LIBRARY)

@@ -1,5 +1,6 @@
 #!/usr/bin/env -S zsh -f
-# Completes each line of standard input in an interactive zsh, and prints it with all matches put in.
+# Completes each line of standard input in an interactive zsh, and prints it with all matches put
+# in.
 #
 #     tests/complete.zsh FOLDER < LINES      (FOLDER has the completions)
 zmodload zsh/zpty || exit
@@ -13,7 +14,12 @@ PS1= PS2= RPS1=
 unsetopt list_beep prompt_cr
 put_all() { _main_complete; compstate[insert]=all compstate[list]= }
 zle -C put-all complete-word put_all
-show() { zle put-all; print -r -- "\$BUFFER" > $scratch/line; mv $scratch/line $scratch/shown; BUFFER= }
+show() {
+  zle put-all
+  print -r -- "\$BUFFER" > $scratch/line
+  mv $scratch/line $scratch/shown
+  BUFFER=
+}
 zle -N show
 bindkey '^T' show
 : > $scratch/ready

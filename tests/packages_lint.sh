@@ -1,9 +1,11 @@
 #!/usr/bin/env bash
-# Looks at what packages are made of, in some seconds: versions, manual pages, completions, headers, 'make', and an installation
-# into a folder with a space. It installs nothing, and says what it leaves out for want of a tool.
+# Looks at what packages are made of, in some seconds: versions, manual pages, completions, headers,
+# 'make', and an installation into a folder with a space. It installs nothing, and says what it
+# leaves out for want of a tool.
 #
-#     tests/packages_lint.sh [PROGRAM]      (crates/cityseq/out/cityseq if left out; the library is that in c/out)
+#     tests/packages_lint.sh [PROGRAM]      (crates/cityseq/out/cityseq if left out)
 #
+# The library is that in c/out.
 # The last line is 'N passed, M failed', and the status is 0 where none failed.
 set -u
 program=$(realpath -m -- "${1:-$(dirname "$0")/../crates/cityseq/out/cityseq}")
@@ -36,7 +38,9 @@ have() {
 # ---- one version
 
 program_has_version() { [ "$("$program" --version)" = "cityseq $version" ]; }
-package_has_version() { [ "$(PYTHONPATH=python python3 -B -m cityseq --version)" = "cityseq-run $version" ]; }
+package_has_version() {
+  [ "$(PYTHONPATH=python python3 -B -m cityseq --version)" = "cityseq-run $version" ]
+}
 
 # The library answers its version where it has the call.
 library_has_version() {
@@ -56,12 +60,19 @@ debian_has_version() {
   mkdir -p "$scratch/tree/debian" &&
     SOURCE_DATE_EPOCH=0 packaging/debian.py "$scratch/tree" 'Nobody <nobody@example.org>' 7 &&
     head -n 1 "$scratch/tree/debian/changelog" | grep -qF "cityseq ($version)" &&
-    grep -qx 'Package: libcityseq7' "$scratch/tree/debian/control" && ! grep -q '@[A-Z]*@' "$scratch/tree/debian/control"
+    grep -qx 'Package: libcityseq7' "$scratch/tree/debian/control" &&
+    ! grep -q '@[A-Z]*@' "$scratch/tree/debian/control"
+}
+
+# Whether a copy of the tree with another version is refused.
+finds_another_version() {
+  cp --parents -r README.md CHANGELOG.md c/*.h crates/*/src packaging python/cityseq/*.py \
+    tests/*.sh tests/library.c "$scratch/" && echo 9.9.9 > "$scratch/VERSION" || return
+  ! "$scratch/packaging/version.py" > "$scratch/said" && grep -q 'words.rt has' "$scratch/said"
 }
 
 row 'all files name one version' packaging/version.py
-row 'a version that differs is found' bash -c "cp -r VERSION README.md CHANGELOG.md c crates packaging python tests '$scratch/' 2>&1 &&
-  echo 9.9.9 > '$scratch/VERSION' && ! '$scratch/packaging/version.py'"
+row 'a version that differs is found' finds_another_version
 row 'the program has it' program_has_version
 row 'the package has it' package_has_version
 row 'the library has it' library_has_version
@@ -71,7 +82,8 @@ row 'the Debian packages have it' debian_has_version
 
 pages_pass_lint() {
   # what is not said on a system that lacks the pages that are referred to
-  mandoc -Tlint packaging/man/* 2>&1 | grep -v -e 'referenced manual not found' -e 'outdated mandoc.db' > "$scratch/lint"
+  mandoc -Tlint packaging/man/* 2>&1 |
+    grep -v -e 'referenced manual not found' -e 'outdated mandoc.db' > "$scratch/lint"
   [ ! -s "$scratch/lint" ] || { cat "$scratch/lint"; false; }
 }
 
@@ -91,15 +103,20 @@ in_bash() {
 }
 in_fish() {
   fish --no-config -c 'for file in packaging/completions/*.fish; source $file; end
-    while read -l line; set -l found (complete -C $line | string replace -r "\t.*" ""); echo "$found"; end'
+    while read -l line
+      set -l found (complete -C $line | string replace -r "\t.*" "")
+      echo "$found"
+    end'
 }
 in_zsh() { tests/complete.zsh packaging/completions | sed 's/^.*[ ]\([^ ]\)/\1/; s/,* *$//'; }
 
 # Whether a shell completes these lines so.
 completes() {
-  printf '%s\n' 'cityseq che' 'cityseq filter --ke' 'cityseq info --lin' 'cityseq filter --type Road,TINR' 'cityseq help fil' \
-    'cityseq-run exp' 'cityseq-run info --no-l' 'cityseq-run filter --output-d' 'cityseq-run filter --type Railw' > "$scratch/lines"
-  printf '%s\n' check --keep-going --line-limit Road,TINRelief filter explain --no-lods --output-dir Railway > "$scratch/wanted"
+  printf '%s\n' 'cityseq che' 'cityseq filter --ke' 'cityseq info --lin' 'cityseq help fil' \
+    'cityseq filter --type Road,TINR' 'cityseq-run exp' 'cityseq-run info --no-l' \
+    'cityseq-run filter --output-d' 'cityseq-run filter --type Railw' > "$scratch/lines"
+  printf '%s\n' check --keep-going --line-limit filter Road,TINRelief explain --no-lods \
+    --output-dir Railway > "$scratch/wanted"
   "$1" < "$scratch/lines" > "$scratch/completed" && diff "$scratch/wanted" "$scratch/completed"
 }
 
@@ -109,7 +126,8 @@ have zsh 'completion in zsh' && row 'zsh completes' completes in_zsh
 
 # ---- headers
 
-# Whether a program that includes a header, twice, is compiled without a warning: is_clean COMPILER STANDARD HEADER.
+# Whether a program that includes a header, twice, is compiled without a warning: is_clean COMPILER
+# STANDARD HEADER.
 is_clean() {
   local language=c
   [[ $2 != *++* ]] || language=c++
@@ -122,7 +140,8 @@ for compiler in gcc clang; do
   for standard in c99 c11 c++11; do
     row "cityseq.h as $standard by $compiler" is_clean "$compiler" "$standard" cityseq.h
   done
-  [ ! -f c/cityseq.hpp ] || row "cityseq.hpp as c++17 by $compiler" is_clean "$compiler" c++17 cityseq.hpp
+  [ ! -f c/cityseq.hpp ] ||
+    row "cityseq.hpp as c++17 by $compiler" is_clean "$compiler" c++17 cityseq.hpp
 done
 
 # ---- make, and installation
@@ -145,11 +164,15 @@ help_names_all_targets() {
 }
 
 installs_and_removes() {
-  make -s install PREFIX="$scratch/a folder/usr" && "$scratch/a folder/usr/bin/cityseq" --version &&
-    PKG_CONFIG_PATH="$scratch/a folder/usr/lib/pkgconfig" pkg-config --modversion cityseq | grep -qx "$version" &&
-    eval "${CC:-cc} c/example.c -o '$scratch/example' $(PKG_CONFIG_PATH="$scratch/a folder/usr/lib/pkgconfig" pkg-config --cflags --libs cityseq)" &&
-    LD_LIBRARY_PATH="$scratch/a folder/usr/lib" "$scratch/example" examples/town.city.jsonl | grep -qx 'valid lines=5 features=4' &&
-    make -s uninstall PREFIX="$scratch/a folder/usr" && [ -z "$(find "$scratch/a folder" ! -type d)" ]
+  local folder="$scratch/a folder" flags
+  local -x PKG_CONFIG_PATH="$folder/lib/pkgconfig"
+  make -s install PREFIX="$folder" &&
+    [ "$("$folder/bin/cityseq" --version)" = "cityseq $version" ] &&
+    flags=$(pkg-config --cflags --libs "cityseq = $version") &&
+    eval "${CC:-cc} c/example.c -o '$scratch/example' $flags" &&
+    LD_LIBRARY_PATH="$folder/lib" "$scratch/example" examples/town.city.jsonl |
+    grep -qx 'valid lines=5 features=4' &&
+    make -s uninstall PREFIX="$folder" && [ -z "$(find "$folder" ! -type d)" ]
 }
 
 # A copy of the tree that has nothing built.
@@ -162,14 +185,15 @@ mkdir "$scratch/few" && ln -s /usr/bin/* "$scratch/few/" 2> "$scratch/unread"
 rm -f "$scratch"/few/{dpkg-buildpackage,dh,objdump,rt}
 
 row 'make alone shows its targets' help_names_all_targets
-if have pkg-config 'an installation'; then row 'an installation into a folder with a space' installs_and_removes; fi
+have pkg-config 'an installation' && row 'a folder with a space' installs_and_removes
 row 'no rights to install' fails_with 'set PREFIX' make -s install PREFIX=/proc/cityseq
-row 'no build to install' fails_with "run 'make build'" make -s -C "$scratch/bare" install PREFIX="$scratch/none"
-for target in deb wheel dist; do
-  row "no build for $target" fails_with "'make build'" make -s -C "$scratch/bare" "$target" SOURCE_DATE_EPOCH=0
+for target in install deb wheel dist; do
+  row "no build for $target" fails_with "run 'make build'" \
+    make -s -C "$scratch/bare" "$target" PREFIX="$scratch/none"
 done
-row 'no tool for deb' fails_with 'dpkg-dev' env PATH="$scratch/few" make -s deb
-row 'no tool for wheel' fails_with 'binutils' env PATH="$scratch/few" make -s wheel
-row 'no toolchain to build' fails_with 'rt is missing' env PATH="$scratch/few" make -s -C "$scratch/bare" build
+few=(env PATH="$scratch/few" make -s)
+row 'no tool for deb' fails_with 'dpkg-dev' "${few[@]}" deb
+row 'no tool for wheel' fails_with 'binutils' "${few[@]}" wheel
+row 'no toolchain to build' fails_with 'rt is missing' "${few[@]}" -C "$scratch/bare" build
 echo "$passed passed, $failed failed"
 [ "$failed" = 0 ]

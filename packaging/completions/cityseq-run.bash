@@ -30,7 +30,9 @@ _cityseq_run() {
       mapfile -t COMPREPLY < <(compgen -f -- "$current")
       return
       ;;
-    --explain | --line-limit | --depth | --jobs | --part-size | --id | --lod | --bbox) return ;;
+    --explain | --line-limit | --depth | --jobs | --part-size | --id | --lod | --bbox)
+      return
+      ;;
   esac
   case ${COMP_WORDS[1]} in
     check)

@@ -62,3 +62,5 @@ complete -c cityseq-run -n '__fish_seen_subcommand_from info' -l no-lods -d 'Do 
 
 complete -c cityseq-run -n '__fish_seen_subcommand_from explain' -f
 complete -c cityseq-run -n '__fish_seen_subcommand_from explain' -s h -l help -d 'Show this help message and exit'
+
+complete -c cityseq-run -n '__fish_seen_subcommand_from help' -f -a 'check filter info explain'

@@ -22,7 +22,9 @@ _cityseq() {
       mapfile -t COMPREPLY < <(compgen -P "$before" -W "$types" -- "${current##*,}")
       return
       ;;
-    --line-limit | --depth | --id | --lod | --bbox) return ;;
+    --line-limit | --depth | --id | --lod | --bbox)
+      return
+      ;;
   esac
   case ${COMP_WORDS[1]} in
     check)

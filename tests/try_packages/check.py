@@ -8,7 +8,8 @@ folder = sys.argv[1]
 town = os.path.join(folder, "town.city.jsonl")
 sample = os.path.join(folder, "sample.city.jsonl")
 broken = cityseq.check(os.path.join(folder, "broken.city.jsonl"))
-assert (broken.status, str(broken.end)) == (1, "line 3, byte 144: 25 vertex index out of range"), broken
+assert broken.status == 1, broken
+assert str(broken.end) == "line 3, byte 144: 25 vertex index out of range", broken
 assert broken.end.id == "b2", broken.end
 assert cityseq.info(town).box == "995,1990,1050,2005"
 kept = cityseq.filter(sample, "copy.city.jsonl", jobs=2)
