@@ -373,7 +373,8 @@ def files(command):
 def main():
     words = [word for word in sys.argv[1:] if word != "--write"]
     program = os.path.abspath(words[0]) if words else str(ROOT / "crates/cityseq/out/cityseq")
-    commands = read("cityseq", [program]), read("cityseq-run", [sys.executable, "-B", "-m", "cityseq"])
+    package = [sys.executable, "-B", "-m", "cityseq"]
+    commands = read("cityseq", [program]), read("cityseq-run", package)
     passed = failed = 0
     for path, text in [file for command in commands for file in files(command)]:
         if "--write" in sys.argv:

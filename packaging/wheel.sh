@@ -9,6 +9,7 @@ set -eu
 folder=$(realpath -m -- "${1:-$(dirname "$0")/../out/wheel}")
 . "$(dirname "$0")/common.sh"
 need_library
+need_built out/NOTICES
 set_epoch
 
 # The first Python that can build a wheel.
@@ -35,7 +36,7 @@ python=$(builder) ||
   stop "setuptools or wheel is missing: 'apt-get install python3-setuptools python3-wheel'"
 mkdir -p "$scratch/python" "$folder"
 cp -r python/cityseq python/tests python/*.py python/pyproject.toml python/MANIFEST.in \
-  python/README.md "$scratch/python/"
+  python/README.md out/NOTICES "$scratch/python/"
 rm -f "$scratch/python/cityseq/libcityseq.so"
 find "$scratch/python" -name __pycache__ -prune -exec rm -r {} +
 settle "$scratch/python"
