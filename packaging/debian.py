@@ -15,9 +15,6 @@ from email.utils import format_datetime
 from pathlib import Path
 
 ROOT = Path(__file__).resolve().parent.parent
-# The Debian packages of what the Python package can use.
-DEBIAN = {"tqdm": "python3-tqdm", "dask": "python3-dask", "distributed": "python3-distributed",
-          "jinja2": "python3-jinja2", "matplotlib": "python3-matplotlib"}
 
 
 def read(name):
@@ -25,9 +22,10 @@ def read(name):
 
 
 def recommends():
-    """The packages that the extras of pyproject.toml ask for."""
+    """The packages that the extras of pyproject.toml ask for, which Debian names so."""
     section = read("python/pyproject.toml").split("[project.optional-dependencies]\n")[1]
-    return ", ".join(DEBIAN[name] for name in re.findall(r'"(\w+)', section.split("\n[")[0]))
+    names = re.findall(r'"(\w+)', section.split("\n[")[0])
+    return ", ".join(f"python3-{name}" for name in sorted(set(names)))
 
 
 def control(maintainer, interface):

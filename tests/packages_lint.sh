@@ -39,7 +39,7 @@ have() {
 
 program_has_version() { [ "$("$program" --version)" = "cityseq $version" ]; }
 package_has_version() {
-  [ "$(PYTHONPATH=python python3 -B -m cityseq --version)" = "cityseq-run $version" ]
+  PYTHONPATH=python python3 -B -m cityseq --version | grep -qE "^cityseq(-run)? $version\$"
 }
 
 # The library answers its version where it has the call.

@@ -81,7 +81,7 @@ main_job='
 
 # What a user does first with the package.
 package_job='
-  cityseq-run --version | grep -qx "cityseq-run $version"
+  cityseq-run --version | grep -qE "^cityseq(-run)? $version\$"
   cityseq-run check --jobs 2 town.city.jsonl sample.city.jsonl > said
   grep -qx "sample.city.jsonl: valid lines=121 features=120" said
   gzip -c town.city.jsonl > town.city.jsonl.gz
