@@ -40,8 +40,13 @@ fi
 mkdir -p c/out
 system=$kit/c/liblibc_c.a
 printf 'CREATE c/out/libcityseq.a\nADDLIB %s\nADDLIB %s\nSAVE\nEND\n' "$built" "$system" | ar -M
-"${CC:-cc}" -shared -o c/out/libcityseq.so -Wl,-soname,libcityseq.so -Wl,--version-script=c/cityseq.map \
+# named by the number of the interface, so that a program never runs over another one than it was built for
+interface=$(sed -n 's/^#define CITYSEQ_INTERFACE \([0-9][0-9]*\).*/\1/p' c/cityseq.h)
+shared=libcityseq.so.$interface
+rm -f c/out/libcityseq.so*
+"${CC:-cc}" -shared -o "c/out/$shared" -Wl,-soname,"$shared" -Wl,-z,relro,-z,now,-z,defs -Wl,--version-script=c/cityseq.map \
   -Wl,--whole-archive "$built" -Wl,--no-whole-archive "$system"
+ln -s "$shared" c/out/libcityseq.so
 mkdir -p python/cityseq
 # as a new file, since one that is written over takes the library from under a process that has it
 cp --remove-destination c/out/libcityseq.so python/cityseq/libcityseq.so

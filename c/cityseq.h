@@ -37,10 +37,14 @@ extern "C" {
 /* The interface that this file declares. cityseq_interface tells which one the library has.
  *
  * 2: cityseq_tally is now cityseq_info, so that in C++ the struct needs no keyword. New are cityseq_features, the joins,
- *    cityseq_part_end, cityseq_version, the reasons, and the sizes of a tally. NULL is allowed where there are no bytes. After CITYSEQ_NO_MEMORY all
+ *    cityseq_part_end, cityseq_version, the reasons, and the sizes of a tally. NULL is allowed where there are no bytes. After
+ *    CITYSEQ_NO_MEMORY all
  *    counts are 0, and after it and CITYSEQ_BAD_REQUEST a tally is as it was.
  * 1: the first one. */
 #define CITYSEQ_INTERFACE 2
+
+/* The version of cityseq that this file belongs to. */
+#define CITYSEQ_VERSION "0.2.0"
 
 /* How a call ended. After CITYSEQ_BAD_REQUEST and CITYSEQ_NO_MEMORY nothing was judged: output, reports and tally are as they
  * were, and all fields of the answer but status and code are 0. */

@@ -540,7 +540,7 @@ row_all_but_what_is_asked_for() {
 
 row_the_version() {
   run --version < /dev/null
-  lines 'cityseq 0.1.0' | answered 0 ''
+  lines 'cityseq 0.2.0' | answered 0 ''
 }
 
 # The help itself is shown in the guide.

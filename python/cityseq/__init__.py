@@ -29,7 +29,7 @@ __all__ = [
     "CityseqError", "Explanation", "Info", "LibraryMissing", "MemoryFault", "ReadFault", "Report", "RequestError", "Result",
     "WriteFault", "check", "check_files", "explain", "filter", "info",
 ]
-__version__ = "0.1.0"
+__version__ = "0.2.0"
 
 OnReport = Optional[Callable[[Report], None]]
 Progress = Optional[Callable[[int], None]]

@@ -12,7 +12,7 @@ use clap::{Arg, ArgAction, ArgMatches, Command, Error, value_parser};
 use std::alloc::{AllocError, Global};
 
 /// As `--version` tells it.
-const VERSION: &str = "0.1.0";
+const VERSION: &str = "0.2.0";
 
 /// The options, by the names that `clap` knows them by.
 const LINE_LIMIT: &str = "line-limit";

@@ -315,7 +315,7 @@ fn limits_out_of_range_are_refused_unread(rt: HostRuntime) -> Result<(), Fail> {
 fn help_is_written_and_nothing_read(rt: HostRuntime) -> Result<(), Fail> {
     let mut reader = SlowReader::new(HEADER, 10);
     let written = commanded(rt.alloc(), &["--version"], &mut reader)?;
-    check_written(&rt, &written, 0, b"cityseq 0.1.0\n", b"");
+    check_written(&rt, &written, 0, b"cityseq 0.2.0\n", b"");
     check_number(&rt, reader.reads, 0, "reads", 0);
     Ok(())
 }
