@@ -38,8 +38,7 @@ extern "C" {
  *
  * 2: cityseq_tally is now cityseq_info, so that in C++ the struct needs no keyword. New are cityseq_features, the joins,
  *    cityseq_part_end, cityseq_version, the reasons, and the sizes of a tally. NULL is allowed where there are no bytes. After
- *    CITYSEQ_NO_MEMORY all
- *    counts are 0, and after it and CITYSEQ_BAD_REQUEST a tally is as it was.
+ *    CITYSEQ_NO_MEMORY all counts are 0, and after it and CITYSEQ_BAD_REQUEST a tally is as it was.
  * 1: the first one. */
 #define CITYSEQ_INTERFACE 2
 
