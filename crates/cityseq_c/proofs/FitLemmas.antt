@@ -5,9 +5,8 @@ use Rattle.std.specs.Prelude.{slice_get}
 use Rattle.std.proofs.lemmas.List.{length-append}
 use Rattle.cj_stream.specs.Item.{Item, raw_item}
 use Rattle.cj_stream.specs.Lines.{Line, lines, raw}
-use Rattle.cj_stream.specs.Verdict.{Rules, is_kept, item_after, kept_from, verdict}
+use Rattle.cj_stream.specs.Verdict.{Rules, is_kept, item_after, kept_from, output_first, verdict}
 use Rattle.cj_stream.proofs.IsLinesLemmas.{lines-are_lines}
-use Rattle.cityseq_c.specs.Called.{output_first}
 
 -- the bytes of some items, and of some lines
 abbrev item_bytes : List Item → ℕ

@@ -1,13 +1,11 @@
 -- What the calls of C answer.
 use Rattle.std.specs.Prelude.{◌≡◌, ◌⊎◌, ℕ, ◌+◌, ◌<◌, ◌≤◌, ◌≢◌, List, ◌++◌, Some, Result, Ok, Err, true, length, slice_get, take}
-use Rattle.std.specs.List.{flat_map}
 use Rattle.cj_stream.specs.declared.ending.End.TheVariants.{WriteFault}
 use Rattle.cj_stream.specs.declared.running.Outcome.{Outcome}
 use Rattle.cj_stream.specs.Headline.{IsUnhindered}
-use Rattle.cj_stream.specs.Item.{raw_item}
 use Rattle.cj_stream.specs.Lines.{Line, lines, raw}
 use Rattle.cj_stream.specs.TallySink.{Tally as Tallied, IsTallyOf}
-use Rattle.cj_stream.specs.Verdict.{Rules, is_kept, kept, kept_first, output, verdict}
+use Rattle.cj_stream.specs.Verdict.{Rules, is_kept, kept, output, output_first, verdict}
 use Rattle.cityseq_c.specs.Answer.{answer_to}
 use Rattle.cityseq_c.specs.Judged.{Tells}
 use Rattle.cityseq_c.specs.Query.{RefusesCall}
@@ -43,10 +41,6 @@ Checks r header part old new answer = Calls r header part old new (λ rules outc
 pub record IsWritten (bytes out : List ℕ) (written : ℕ) : Type 0 where
   pub count : written ≡ length bytes
   pub there : take written out ≡ bytes
-
--- what is written of the first n lines of a text
-abbrev pub output_first : Rules → ℕ → List ℕ → List ℕ
-output_first rules n text = flat_map raw_item (kept_first rules n text)
 
 -- the output did not fit: that of the first n lines is there, and the next line, which is kept, has no room behind it
 pub record IsFull (rules : Rules) (text out : List ℕ) (written n : ℕ) : Type 0 where

@@ -98,14 +98,6 @@ pub fn put_pieces<S: LineSink, N: ReportSink>(
         reports.old reports.new }
     ensures counts { IsUnhindered result.ended → CountsAll (rules_of engine.old)
         (joined (map (λ piece. piece.now) pieces.now)) (outcome_of engine.new result.ended) }
-    ensures runs { let given = joined (take (result.taken + 1) (map (λ piece. piece.now) pieces.now)) in
-        Runs S.takes S.leaves
-        (record { rules = rules_of engine.old; read = given; outcome = outcome_of engine.new result.ended })
-        (given ≡ joined (map (λ piece. piece.now) pieces.now)) sink.old sink.new }
-    ensures noting { let given = joined (take (result.taken + 1) (map (λ piece. piece.now) pieces.now)) in
-        RunsNoting N.notes
-        (record { rules = rules_of engine.old; read = given; outcome = outcome_of engine.new result.ended })
-        reports.old reports.new }
     ensures cause { result.ended ≡ End.WriteFault → HasRisen (S.failures sink.old) (S.failures sink.new) }
     ensures memory { result.ended ≡ End.Memory → (lines_of engine.new ≡ 0) × (sink.new ≡ sink.old)
         × (reports.new ≡ reports.old) }

@@ -14,7 +14,7 @@ returns g c =
       ok = judged g.S.LineSink.takes g.S.LineSink.leaves rules c.args.header.now c.args.part.now c.requires.cut put.taken c.args.sink.now c.put_pieces-outcome.new.sink
           c.new-noted.result c.put_pieces-outcome.new.reports o c.args.reports.now c.reports-1.given.0
           c.in_default.not-Memory e.puts (λ free. rw (c.lines.ensures, c.kept.ensures, c.refused.ensures, e.fed.peaks) (e.counts free)) e.fed.exact e.fed.bounded
-          (rw (c.lines.ensures, c.kept.ensures, c.refused.ensures) e.runs.account.counts) (rw c.lines.ensures e.runs.sink) (rw c.lines.ensures e.noting.reports)
+          (rw (c.lines.ensures, c.kept.ensures, c.refused.ensures) e.fed.counts) (rw c.lines.ensures e.sink) (rw c.lines.ensures e.reports)
           (λ r n all. c.good_lines_are_kept.ensures.reported rules r n all)
           c.new-noted.ensures.count c.new-noted.ensures.room (λ loan. c.reports-1.given.1.1 (sym c.new-noted.ensures.loan ∙ sym loan));
       cause = e.cause;
