@@ -5,12 +5,14 @@ import argparse
 import json
 import os
 import sys
-from contextlib import closing, suppress
+import traceback
+from contextlib import closing
 from dataclasses import asdict
 from typing import Any, Callable, Iterator, List, Optional, Sequence
 
 from . import __version__
 from ._library import USUAL_DEPTH, USUAL_LINE, keep_room
+from .console import flush, put, say
 from .faults import CityseqError, MemoryFault, RequestError, WriteFault
 from .progress import Bar
 from .query import Work, asked
@@ -18,45 +20,22 @@ from .reports import Report, explain
 from .running import Info, Result, Stream, threaded
 from .sources import Writer, is_same_file, size_of, why
 
+INTERRUPTED, UNEXPECTED = 130, 70
+WHERE = "to those who gave you cityseq"  # where a failure is reported that nobody expected
 STATUSES = """\
 Exit status, the greatest over all files: 0 valid up to the end; 1 a line is not valid; 2 the command line is wrong; 3 a read
 failed; 4 a write failed; 5 no memory was granted. FILE - is standard input. A FILE that ends in .gz is unpacked."""
-
-
-def _complain(words: str) -> None:
-    """Says something on standard error. Where it takes nothing, the status alone tells of it."""
-    with suppress(OSError, ValueError):
-        print(words, file=sys.stderr, flush=True)
-
-
-def _print(text: str) -> None:
-    """Writes a line to standard output."""
-    try:
-        if sys.stdout is None:
-            raise OSError("standard output is closed")
-        print(text)
-    except (OSError, ValueError) as fault:
-        raise WriteFault(f"write fault: {why(fault)}") from fault
-
-
-def _flush() -> None:
-    """Flushes what was written to standard output."""
-    try:
-        if sys.stdout is not None:
-            sys.stdout.flush()
-    except (OSError, ValueError) as fault:
-        raise WriteFault(f"write fault: {why(fault)}") from fault
 
 
 class Parser(argparse.ArgumentParser):
     """Reads the words. What it says where they are wrong, or help that is asked for, may meet an output that is full."""
 
     def _print_message(self, message: str, file: Any = None) -> None:
-        if file is sys.stderr:
-            _complain(message.rstrip("\n"))
+        if file is sys.stdout and sys.stdout is not sys.stderr:
+            put(message.rstrip("\n"))
+            flush()
         else:
-            _print(message.rstrip("\n"))
-            _flush()
+            say(message.rstrip("\n"))
 
 
 class Once(argparse.Action):
@@ -173,11 +152,11 @@ class Printer:
     def __init__(self, options: argparse.Namespace, bar: Bar) -> None:
         self._options, self._bar = options, bar
         to_output = options.command == "filter" and options.output == "-" and options.output_dir is None
-        self._json = _complain if to_output else _print
+        self._json = say if to_output else put
 
-    def _say(self, text: str, say: Callable[[str], None] = _complain) -> None:
+    def _say(self, text: str, to: Callable[[str], None] = say) -> None:
         self._bar.clear()
-        say(text.encode("utf-8", "backslashreplace").decode("utf-8"))
+        to(text.encode("utf-8", "backslashreplace").decode("utf-8"))
 
     def report(self, report: Report) -> None:
         """Tells of an invalid line: by the program's words, and below them of which feature, where in it, and how to fix it."""
@@ -203,11 +182,11 @@ class Printer:
             self._say(f"{result.file}: {result.fault}")
         elif self._options.command == "info" and isinstance(result, Info) and result.end is None:
             before = f"{result.file}: " if len(self._options.files) > 1 else ""
-            self._say("\n".join(before + line for line in info_lines(result)), _print)
+            self._say("\n".join(before + line for line in info_lines(result)), put)
         elif self._options.command == "check" and result.end is None:
             refused = f" refused={result.refused}" if result.refused else ""
             words = f"{'invalid' if refused else 'valid'} lines={result.lines} features={result.features}{refused}"
-            self._say(f"{result.file}: {words}", _print)
+            self._say(f"{result.file}: {words}", put)
 
 
 def info_lines(info: Info) -> Iterator[str]:
@@ -257,7 +236,7 @@ def _explain(code: int) -> int:
         told = explain(code)
     except KeyError:
         raise RequestError(f"no reason has the code {code}") from None
-    _print(f"{code} {told.text}\n\n{told.meaning}\n\nFix: {told.fix}")
+    put(f"{code} {told.text}\n\n{told.meaning}\n\nFix: {told.fix}")
     return 0
 
 
@@ -269,8 +248,15 @@ def _done(words: Optional[Sequence[str]]) -> int:
         parser.print_help(sys.stderr)
         return RequestError.status
     status = _explain(options.explain) if options.explain is not None else _run(options)
-    _flush()
+    flush()
     return status
+
+
+def _traced(fault: Exception) -> str:
+    """What a fault that nobody expected is, and where it came up, in one line."""
+    calls = traceback.extract_tb(fault.__traceback__)
+    place = f" in {os.path.basename(calls[-1].filename)}, line {calls[-1].lineno}" if calls else ""
+    return " ".join(f"{type(fault).__name__}: {fault}".split()) + place
 
 
 def main(words: Optional[Sequence[str]] = None) -> int:
@@ -278,12 +264,16 @@ def main(words: Optional[Sequence[str]] = None) -> int:
     try:
         return _done(words)
     except CityseqError as fault:
-        _complain(fault.words)
+        say(fault.words)
         if fault.status == WriteFault.status and sys.stdout is not None:
             os.dup2(os.open(os.devnull, os.O_WRONLY), 1)  # what is still in the buffer has nowhere to go
         return fault.status
     except MemoryError:
-        _complain("out of memory")
+        say("out of memory")
         return MemoryFault.status
     except KeyboardInterrupt:
-        return 130
+        say("interrupted")
+        return INTERRUPTED
+    except Exception as fault:
+        say(f"unexpected failure: {_traced(fault)}. This is a fault of cityseq: please report this line and the command {WHERE}")
+        return UNEXPECTED

@@ -3,8 +3,9 @@ from __future__ import annotations
 
 import sys
 import time
-from contextlib import suppress
 from typing import Any, Optional
+
+from .console import say
 
 EACH = 0.5  # seconds between two counts
 
@@ -13,9 +14,9 @@ class Bar:
     """Shows how many bytes are done, of so many if that is known, or nothing where it is not wanted."""
 
     def __init__(self, total: Optional[int], shown: bool) -> None:
-        self._total, self._shown, self._done, self._last = total, shown, 0, 0.0
+        self._total, self._shown, self._done, self._last = total, shown and sys.stderr is not None, 0, 0.0
         self._bar: Any = None
-        if shown:
+        if self._shown:
             try:
                 from tqdm import tqdm
             except ImportError:
@@ -45,10 +46,8 @@ class Bar:
         if self._bar is not None:
             self._bar.clear()
         elif self._shown:
-            with suppress(OSError, ValueError):
-                print("\r", end="", file=sys.stderr)
+            say("\r", end="")
 
     def _count(self, end: str) -> None:
         share = f" of {self._total / 1e6:.0f}" if self._total else ""
-        with suppress(OSError, ValueError):
-            print(f"\r{self._done / 1e6:.0f}{share} MB", end=end, file=sys.stderr, flush=True)
+        say(f"\r{self._done / 1e6:.0f}{share} MB", end=end)

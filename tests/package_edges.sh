@@ -1,0 +1,73 @@
+#!/usr/bin/env bash
+# The edges of the package's command: descriptors that are closed, memory and threads that are refused, outputs that would destroy
+# what is read, files that change, and signals. A row is a function named row_*; one that fails prints its name, what is wanted and
+# what came. The last line is 'N passed, M failed', and the status is 0 where all passed.
+#
+#     tests/package_edges.sh [PYTHON [ROW..]]      (python3, and all rows)
+set -u
+python=$(command -v "${1:-python3}") || exit
+shift $(($# < 1 ? $# : 1))
+cd "$(dirname "$0")/.." || exit
+export PYTHONPATH=$PWD/python PYTHONDONTWRITEBYTECODE=1
+examples=$PWD/examples
+
+scratch=$(mktemp -d) # the files of one row
+trap 'rm -rf "$scratch"' EXIT
+
+header='{"type":"CityJSON","version":"2.0","transform":{"scale":[1,1,1],"translate":[0,0,0]},"CityObjects":{},"vertices":[]}'
+feature='{"type":"CityJSONFeature","id":"b","CityObjects":{"b":{"type":"Building"}},"vertices":[]}'
+report='line 3, byte 144: 25 vertex index out of range'
+
+# Runs the command, on the caller's standard input and output.
+cityseq() { timeout 60 "$python" -W ignore -m cityseq "$@"; }
+
+# Prints lines.
+lines() { printf '%s\n' "$@"; }
+
+# Prints the header, and so many features.
+stream() {
+  lines "$header"
+  yes "$feature" | head -n "$1"
+}
+
+# Whether what came is what is wanted.
+same() {
+  [ "$1" = "$2" ] && return
+  printf '%s: wanted %q, got %q\n' "$row" "$1" "$2"
+  false
+}
+
+# ---- descriptors that are closed
+
+row_reports_and_a_closed_standard_error() {
+  cityseq filter --keep-going "$examples/delivery.city.jsonl" 2> /dev/null > "$scratch/wanted"
+  cityseq filter --keep-going "$examples/delivery.city.jsonl" 2>&- > "$scratch/out"
+  same 1 $? && same "$(cat "$scratch/wanted")" "$(cat "$scratch/out")"
+}
+
+row_help_progress_and_a_closed_standard_error() {
+  same '' "$(cityseq check --progress "$examples/broken.city.jsonl" 2>&-)" &&
+    same '' "$(cityseq 2>&-)" && same '' "$(cityseq check --depth x - 2>&- < /dev/null)"
+}
+
+row_no_file_gets_the_number_of_standard_error() {
+  local found
+  found=$("$python" -c 'import os
+from cityseq.console import hold_descriptors
+hold_descriptors()
+print(os.open("/dev/null", os.O_RDONLY) > 2)' 0>&- 2>&-)
+  same True "$found"
+}
+
+# Runs a row, and counts it.
+try() {
+  row=${1#row_}
+  rm -rf "${scratch:?}"/*
+  if "$1"; then passed=$((passed + 1)); else echo "$row: FAILED" && failed=$((failed + 1)); fi
+}
+
+passed=0 failed=0
+[ $# -gt 0 ] || set -- $(compgen -A function row_)
+for tried in "$@"; do try "$tried"; done
+echo "$passed passed, $failed failed"
+[ "$failed" = 0 ]
