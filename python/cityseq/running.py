@@ -17,6 +17,7 @@ from .query import Work
 from .reports import Report
 from .sources import Reader, Source, Writer, is_path, name_of, opened
 from .tally import Range, Tally
+from .threads import Crew
 
 if TYPE_CHECKING:
     from decimal import Decimal
@@ -299,11 +300,9 @@ def threaded(streams: Iterable[Stream], jobs: Optional[int]) -> Results:
     jobs = usual_jobs() if jobs is None else jobs
     if isinstance(jobs, bool) or not isinstance(jobs, int) or jobs < 1:
         raise RequestError(f"jobs are a whole number from 1: {jobs!r}")
-    return in_turn(streams) if jobs == 1 else _pooled(streams, jobs)
+    return in_turn(streams) if jobs == 1 else _by_crew(streams, jobs)
 
 
-def _pooled(streams: Iterable[Stream], jobs: int) -> Results:
-    from concurrent.futures import ThreadPoolExecutor  # which one thread does not wait for
-
-    with ThreadPoolExecutor(jobs) as pool:
-        yield from results(streams, pool.submit, jobs + AHEAD)
+def _by_crew(streams: Iterable[Stream], jobs: int) -> Results:
+    with Crew(jobs) as crew:
+        yield from results(streams, crew.submit, jobs + AHEAD)
