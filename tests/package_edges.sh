@@ -59,6 +59,62 @@ print(os.open("/dev/null", os.O_RDONLY) > 2)' 0>&- 2>&-)
   same True "$found"
 }
 
+# ---- threads, their stacks, and memory
+
+# Whether a run came to its end, or said in one line that no memory was granted.
+ended_well() {
+  [ "$1" = 0 ] && return
+  same 5 "$1" && same 'out of memory' "$(sed 's/^.*: //' "$scratch/said")"
+}
+
+row_little_memory_and_many_threads() {
+  local n
+  stream 50000 > "$scratch/stream"
+  (ulimit -v 250000 && cityseq check --jobs 8 --part-size 100000 "$scratch/stream" > "$scratch/out" 2> "$scratch/said")
+  ended_well $? || return
+  for n in {1..8}; do
+    (ulimit -v 300000 && timeout 20 "$python" -m cityseq check --jobs 64 --part-size 20000 "$scratch/stream" \
+      > "$scratch/out" 2> "$scratch/said")
+    ended_well $? || return
+  done
+}
+
+row_memory_for_four_threads_is_enough_for_eight() {
+  stream 50000 > "$scratch/stream"
+  (ulimit -v 250000 && cityseq check --jobs 8 --part-size 100000 "$scratch/stream" > "$scratch/out" 2> "$scratch/said")
+  same 0 $?
+}
+
+row_what_nobody_expected() {
+  "$python" -c 'import sys
+from cityseq import commands
+def asked(*_, **__): raise KeyError("x")
+commands.asked = asked
+sys.exit(commands.main(["check", "-"]))' > "$scratch/out" 2> "$scratch/said" < /dev/null
+  same 70 $? && same 1 "$(wc -l < "$scratch/said")" && grep -q 'KeyError.*please report' "$scratch/said"
+}
+
+# Prints a header and a feature of 5,000 linked city objects.
+many_objects() {
+  lines "$header"
+  "$python" -c 'names = [f"c{n}" for n in range(5000)]
+parts = ",".join(f"\"{name}\":{{\"type\":\"BuildingPart\",\"parents\":[\"b\"]}}" for name in names)
+children = ",".join(f"\"{name}\"" for name in names)
+objects = f"\"b\":{{\"type\":\"Building\",\"children\":[{children}]}},{parts}"
+print(f"{{\"type\":\"CityJSONFeature\",\"id\":\"b\",\"CityObjects\":{{{objects}}},\"vertices\":[]}}")'
+}
+
+row_trees_and_any_limit_of_the_stack() {
+  local size jobs
+  many_objects > "$scratch/stream"
+  for size in unlimited 2048 512; do
+    for jobs in 1 4; do
+      (ulimit -s $size && cityseq check --tree --jobs $jobs "$scratch/stream" > "$scratch/out" 2> "$scratch/said")
+      same "0 $scratch/stream: valid lines=2 features=1" "$? $(cat "$scratch/out")" || return
+    done
+  done
+}
+
 # Runs a row, and counts it.
 try() {
   row=${1#row_}

@@ -3,7 +3,7 @@ import os
 import sys
 from contextlib import suppress
 
-from .commands import main
+from .commands import end_by_signals, main
 from .console import hold_descriptors
 
 
@@ -12,6 +12,7 @@ def run() -> None:
 
     Nothing is open any more then, so it ends at once: Python would take itself down piece by piece, in a sixth of a short run's time."""
     hold_descriptors()
+    end_by_signals()
     status = main()
     with suppress(OSError, ValueError):  # the status tells of a fault, and where there was none all has been flushed
         for output in (sys.stdout, sys.stderr):

@@ -4,27 +4,49 @@ from __future__ import annotations
 import argparse
 import json
 import os
+import signal
 import sys
-import traceback
 from contextlib import closing
 from dataclasses import asdict
-from typing import Any, Callable, Iterator, List, Optional, Sequence
+from typing import Any, Callable, Iterator, List, NoReturn, Optional, Sequence
 
 from . import __version__
 from ._library import USUAL_DEPTH, USUAL_LINE, keep_room
 from .console import flush, put, say
-from .faults import CityseqError, MemoryFault, RequestError, WriteFault
+from .faults import CityseqError, MemoryFault, RequestError, WriteFault, write_fault
 from .progress import Bar
 from .query import Work, asked
 from .reports import Report, explain
 from .running import Info, Result, Stream, threaded
-from .sources import Writer, is_same_file, size_of, why
+from .outputs import Writer
+from .same import refuse_same
+from .sources import size_of
 
-INTERRUPTED, UNEXPECTED = 130, 70
+UNEXPECTED = 70
+STOPPED = 128  # and the number of the signal
 WHERE = "to those who gave you cityseq"  # where a failure is reported that nobody expected
 STATUSES = """\
 Exit status, the greatest over all files: 0 valid up to the end; 1 a line is not valid; 2 the command line is wrong; 3 a read
 failed; 4 a write failed; 5 no memory was granted. FILE - is standard input. A FILE that ends in .gz is unpacked."""
+
+
+class Stopped(BaseException):
+    """A signal that asks the process to end."""
+
+    def __init__(self, number: int) -> None:
+        super().__init__(number)
+        self.name, self.value = signal.Signals(number).name, number
+
+
+def _stop(number: int, _frame: Any) -> None:
+    raise Stopped(number)
+
+
+def end_by_signals() -> None:
+    """Has the signals that ask a process to end do so by an exception, so that nothing is left that is not whole."""
+    for number in (signal.SIGTERM, signal.SIGHUP):
+        if signal.getsignal(number) == signal.SIG_DFL:
+            signal.signal(number, _stop)
 
 
 class Parser(argparse.ArgumentParser):
@@ -36,6 +58,11 @@ class Parser(argparse.ArgumentParser):
             flush()
         else:
             say(message.rstrip("\n"))
+
+
+    def error(self, message: str) -> NoReturn:
+        say(f"{self.format_usage()}{self.prog}: error: {message}")
+        raise SystemExit(RequestError.status)
 
 
 class Once(argparse.Action):
@@ -73,6 +100,7 @@ def _add_query(command: argparse.ArgumentParser) -> None:
     option("--bbox", metavar="MINX,MINY,MAXX,MAXY", action=Once,
            help="keep a feature that reaches into this box; written --bbox=-5,0,5,9 where it begins with a minus")
     option("--output", metavar="OUTPUT", default="-", action=Once, help="where to write, packed where it ends in .gz")
+    option("--keep-partial", action="store_true", help="leave what was kept as OUTPUT.part where the run does not end well")
     option("--output-dir", metavar="FOLDER", action=Once, help="write what is kept of each FILE to a file of its name in here")
 
 
@@ -131,19 +159,26 @@ def _outputs(options: argparse.Namespace) -> List[Optional[str]]:
         outputs = [options.output]
     else:
         outputs = [os.path.join(options.output_dir, os.path.basename(file)) for file in options.files]
-        if options.output != "-" or "-" in options.files or len(set(outputs)) < len(outputs):
+        if options.output != "-" or "-" in options.files or len(set(map(os.path.realpath, outputs))) < len(outputs):
             raise RequestError("with --output-dir each FILE has a name of its own, and there is no --output")
-    for file, output in zip(options.files, outputs):
-        if is_same_file(file, output):
-            raise RequestError(f"{file}: the output is the stream that is read")
     return outputs
+
+
+def _refuse_same(options: argparse.Namespace, outputs: List[Optional[str]]) -> None:
+    """Refuses to write to what is read, be it by standard output or standard error."""
+    listed = options.ids_from if options.command == "filter" else None
+    refuse_same([*options.files, listed or b""], [output for output in [*outputs, "-", sys.stderr] if output is not None])
 
 
 def _make_folder(path: str) -> None:
     try:
         os.makedirs(path, exist_ok=True)
     except OSError as fault:
-        raise WriteFault(f"{path}: write fault: {why(fault)}") from fault
+        raise write_fault(fault, path) from fault
+
+
+def _writer(options: argparse.Namespace, output: Optional[str]) -> Optional[Writer]:
+    return None if output is None else Writer(output, options.keep_partial)
 
 
 class Printer:
@@ -152,7 +187,9 @@ class Printer:
     def __init__(self, options: argparse.Namespace, bar: Bar) -> None:
         self._options, self._bar = options, bar
         to_output = options.command == "filter" and options.output == "-" and options.output_dir is None
-        self._json = say if to_output else put
+        self._json: Callable[[str], None] = put
+        if to_output:
+            self._json = say
 
     def _say(self, text: str, to: Callable[[str], None] = say) -> None:
         self._bar.clear()
@@ -179,7 +216,7 @@ class Printer:
         for hint in result.hints:
             self._say(f"{result.file}: {hint}")
         if result.fault is not None:
-            self._say(f"{result.file}: {result.fault}")
+            self._say(f"{result.fault_file or result.file}: {result.fault}")
         elif self._options.command == "info" and isinstance(result, Info) and result.end is None:
             before = f"{result.file}: " if len(self._options.files) > 1 else ""
             self._say("\n".join(before + line for line in info_lines(result)), put)
@@ -218,11 +255,12 @@ def _run(options: argparse.Namespace) -> int:
         raise RequestError("a part has one byte or more")
     if options.command == "filter" and options.output_dir is not None:
         _make_folder(options.output_dir)
+    _refuse_same(options, outputs)
     keep_room()
     sizes = [size_of(file) for file in options.files]
     with Bar(None if None in sizes else sum(filter(None, sizes)), options.progress) as bar:
         printer = Printer(options, bar)
-        streams = (Stream(file, work, options.part_size, None if output is None else Writer(output), printer.report, bar.add)
+        streams = (Stream(file, work, options.part_size, _writer(options, output), printer.report, bar.add)
                    for file, output in zip(options.files, outputs))
         with closing(threaded(streams, options.jobs)) as results:
             for result in results:
@@ -245,7 +283,7 @@ def _done(words: Optional[Sequence[str]]) -> int:
     parser = _parser()
     options = parser.parse_args(words)
     if options.command is None and options.explain is None:
-        parser.print_help(sys.stderr)
+        say(parser.format_help().rstrip("\n"))
         return RequestError.status
     status = _explain(options.explain) if options.explain is not None else _run(options)
     flush()
@@ -254,6 +292,8 @@ def _done(words: Optional[Sequence[str]]) -> int:
 
 def _traced(fault: Exception) -> str:
     """What a fault that nobody expected is, and where it came up, in one line."""
+    import traceback  # which is wanted least often of all
+
     calls = traceback.extract_tb(fault.__traceback__)
     place = f" in {os.path.basename(calls[-1].filename)}, line {calls[-1].lineno}" if calls else ""
     return " ".join(f"{type(fault).__name__}: {fault}".split()) + place
@@ -264,7 +304,7 @@ def main(words: Optional[Sequence[str]] = None) -> int:
     try:
         return _done(words)
     except CityseqError as fault:
-        say(fault.words)
+        say(str(fault))
         if fault.status == WriteFault.status and sys.stdout is not None:
             os.dup2(os.open(os.devnull, os.O_WRONLY), 1)  # what is still in the buffer has nowhere to go
         return fault.status
@@ -273,7 +313,10 @@ def main(words: Optional[Sequence[str]] = None) -> int:
         return MemoryFault.status
     except KeyboardInterrupt:
         say("interrupted")
-        return INTERRUPTED
+        return STOPPED + signal.SIGINT
+    except Stopped as stop:
+        say(f"stopped by {stop.name}")
+        return STOPPED + stop.value
     except Exception as fault:
         say(f"unexpected failure: {_traced(fault)}. This is a fault of cityseq: please report this line and the command {WHERE}")
         return UNEXPECTED

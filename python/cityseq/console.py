@@ -5,8 +5,7 @@ import os
 import sys
 from contextlib import suppress
 
-from .faults import WriteFault
-from .sources import why
+from .faults import write_fault
 
 
 def hold_descriptors() -> None:
@@ -34,7 +33,7 @@ def put(text: str) -> None:
             raise OSError("standard output is closed")
         print(text)
     except (OSError, ValueError) as fault:
-        raise WriteFault(f"write fault: {why(fault)}") from fault
+        raise write_fault(fault, None) from fault
 
 
 def flush() -> None:
@@ -43,4 +42,4 @@ def flush() -> None:
         if sys.stdout is not None:
             sys.stdout.flush()
     except (OSError, ValueError) as fault:
-        raise WriteFault(f"write fault: {why(fault)}") from fault
+        raise write_fault(fault, None) from fault

@@ -15,13 +15,16 @@ from itertools import islice
 from typing import Any, Callable, Iterable, Iterator, List, Optional
 
 from ._library import USUAL_DEPTH, USUAL_LINE
-from .faults import CityseqError, ReadFault, RequestError
+from .faults import CityseqError, RequestError
 from .parts import Answer
 from .query import Box, Texts, Work, asked
 from .ranges import Seen, cut, judge_range, judge_whole, look
 from .reports import Report
 from .running import HEADERS, Info, Result, Stream, Tasks, results
-from .sources import Target, Writer, is_path, is_same_file
+from .outputs import Target, Writer
+from .same import refuse_same
+from .sources import is_path
+from .threads import in_thread
 
 PART = 32 << 20  # how long the parts of tasks are
 LOOKED_AT = 64  # of so many files the beginnings are looked at together
@@ -43,7 +46,7 @@ class _Ranged(Stream):
         seen = self._seen
         self.heads(seen.header, seen.behind)
         if seen.fault is not None and not seen.header.endswith(b"\n"):
-            self.fail(ReadFault(seen.fault))
+            self.fail(seen.fault)
             return
         if seen.size is None:
             yield partial(judge_whole, self.work, self._path)
@@ -51,10 +54,10 @@ class _Ranged(Stream):
         begin = len(seen.header)
         first = True
         for left, right in cut(begin, seen.size, max(self._each, HEADERS * begin)) if seen.header.endswith(b"\n") else ():
-            yield partial(judge_range, self.work, self._path, left, right, first)
+            yield partial(judge_range, self.work, self._path, left, right, first, seen.state)
             first = False
         if first:
-            yield partial(judge_range, self.work, self._path, begin, begin, True)
+            yield partial(judge_range, self.work, self._path, begin, begin, True, seen.state)
 
 
 def _streams(client: Any, paths: Iterable[str], work: Work, size: int, output: Optional[Writer], tell: OnReport) -> Iterator[Stream]:
@@ -83,7 +86,7 @@ def _run(client: Any, paths: Any, work: Work, size: int, output: Optional[Writer
             raise RequestError(f"the workers open files by their paths: {path!r} is none")
 
     def submit(task: Callable[[], Answer]) -> Any:
-        return client.submit(task, pure=False, retries=RETRIES)
+        return client.submit(in_thread, task, pure=False, retries=RETRIES)
 
     threads: Any = client.nthreads()  # type: ignore[no-untyped-call]
     ahead = AHEAD * max(sum(threads.values()), 1)
@@ -106,14 +109,14 @@ def info(client: Any, paths: Any, *, exact_lods: bool = True, line_limit: int = 
 
 def filter(client: Any, path: Any, output: Target, *, ids: Optional[Texts] = None, types: Optional[Texts] = None,
            lods: Optional[Texts] = None, box: Optional[Box] = None, exclude: bool = False, line_limit: int = USUAL_LINE,
-           depth: int = USUAL_DEPTH, keep_going: bool = False, tree: bool = False, on_report: OnReport = None,
-           part_size: int = PART) -> Result:
-    """Copies the header and the features of a file that are wanted to an output, which is written where this is called."""
+           depth: int = USUAL_DEPTH, keep_going: bool = False, tree: bool = False, keep_partial: bool = False,
+           on_report: OnReport = None, part_size: int = PART) -> Result:
+    """Copies the header and the features of a file that are wanted to an output, which is written where this is called, as
+    `cityseq.filter` does."""
     work = asked("filter", ids=ids, types=types, lods=lods, box=box, exclude=exclude,
                  line_limit=line_limit, depth=depth, keep_going=keep_going, tree=tree)
     if str(path).endswith(".gz"):
         raise RequestError("a packed file has no parts: unpack it, or filter it by threads")
-    if is_same_file(path, output):
-        raise RequestError("the output is the stream that is read")
-    found: List[Result] = list(_run(client, [path], work, part_size, Writer(output), on_report))
-    return found[0].raised()
+    refuse_same([path], [output])
+    found: List[Result] = list(_run(client, [path], work, part_size, Writer(output, keep_partial), on_report))
+    return found[0].raised_if_invalid(keep_going)

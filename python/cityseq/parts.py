@@ -9,7 +9,7 @@ from itertools import islice
 from typing import Callable, Iterable, Iterator, Optional, Tuple, Union
 
 from ._library import COMPLETE, NO_MEMORY, REFUSED, RawAnswer, RawReports, Text, library
-from .faults import CityseqError
+from .faults import CityseqError, ReadFault
 from .query import Work
 from .reports import Report, describe
 from .sources import PIECE, Reader
@@ -114,7 +114,7 @@ class Answer:
     output: Text = b""
     tally: Optional[Tally] = None
     size: int = 0
-    fault: Optional[str] = None  # of a read behind the part
+    fault: Optional[ReadFault] = None  # of a read behind the part
     parts: int = 1
 
     def add(self, answer: "Answer", tell: Callable[[Report], None]) -> None:

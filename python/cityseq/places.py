@@ -13,13 +13,14 @@ from functools import partial
 from typing import Any, Callable, Iterator, Optional, Tuple
 
 from ._library import COMPLETE, NO_MEMORY, Text, library
+from .faults import read_fault
 from .parts import Answer, judge
 from .query import Work
-from .sources import PIECE, why
+from .sources import PIECE
 
 LOOK = 1 << 16  # how many bytes before a part's end are looked at first
 SMALL = 1 << 19  # how long parts are that one thread reads in turn: what it has read is still near the processor when it is judged
-Read = Callable[[], Tuple[Text, Optional[str]]]  # the bytes of a part, and why a read behind them failed, if one did
+Read = Callable[[], Tuple[Text, Optional[OSError]]]  # the bytes of a part, and why a read behind them failed, if one did
 
 
 class Room(threading.local):
@@ -55,7 +56,7 @@ class Placed:
         except OSError:
             return None
 
-    def fill(self, room: memoryview, begin: int) -> Tuple[int, Optional[str]]:
+    def fill(self, room: memoryview, begin: int) -> Tuple[int, Optional[OSError]]:
         """Reads to a room from a place on: how many bytes there are, and why a read behind them failed, if one did."""
         count = 0
         try:
@@ -65,10 +66,10 @@ class Placed:
                     break
                 count += read
         except OSError as error:
-            return count, why(error)
+            return count, error
         return count, None
 
-    def read(self, begin: int, end: int) -> Tuple[memoryview, Optional[str]]:
+    def read(self, begin: int, end: int) -> Tuple[memoryview, Optional[OSError]]:
         """The bytes from one place up to another, or as many as there are, and why a read behind them failed, if one did. They are
         there until this thread reads again."""
         room = _room.of(end - begin)
@@ -142,7 +143,7 @@ class Turns:
         self._size, self._room = min(size, end - begin), bytearray()
         self.begin = begin  # of what is left
 
-    def _next(self) -> Tuple[memoryview, Optional[str]]:
+    def _next(self) -> Tuple[memoryview, Optional[OSError]]:
         """The next part, which is empty where it is left; or, where a read fails, what is there before that, and why it failed."""
         while True:
             if len(self._room) < self._size:
@@ -184,7 +185,7 @@ class Turns:
         return answer if answer.parts else None
 
 
-def given(part: Text, fault: Optional[str] = None) -> Tuple[Text, Optional[str]]:
+def given(part: Text, fault: Optional[OSError] = None) -> Tuple[Text, Optional[OSError]]:
     """What is given for a part that has been read."""
     return part, fault
 
@@ -198,7 +199,7 @@ def judge_read(work: Work, file: str, header: bytes, read: Read, first: bool) ->
     if fault is None:
         return judge(work, file, header, part, first)
     answer = judge(work, file, header, part[:bytes(part).rfind(b"\n") + 1], first)
-    return replace(answer, fault=f"read fault: {fault}") if answer.status == COMPLETE else answer
+    return replace(answer, fault=read_fault(fault, file)) if answer.status == COMPLETE else answer
 
 
 def judge_placed(work: Work, file: str, header: bytes, source: Placed, ends: Tuple[int, int], size: int, first: bool) -> Answer:

@@ -3,7 +3,10 @@ from __future__ import annotations
 
 import sys
 import time
-from typing import Any, Optional
+from contextlib import suppress
+from functools import partial
+from importlib import import_module
+from typing import Any, Callable, Optional
 
 from .console import say
 
@@ -18,17 +21,18 @@ class Bar:
         self._bar: Any = None
         if self._shown:
             try:
-                from tqdm import tqdm
+                tqdm = import_module("tqdm")
             except ImportError:
                 return
-            self._bar = tqdm(total=total, unit="B", unit_scale=True, file=sys.stderr)
+            with suppress(OSError, ValueError):
+                self._bar = tqdm.tqdm(total=total, unit="B", unit_scale=True, file=sys.stderr)
 
     def __enter__(self) -> "Bar":
         return self
 
     def __exit__(self, *_: Any) -> None:
         if self._bar is not None:
-            self._bar.close()
+            self._have(self._bar.close)
         elif self._shown:
             self._count("\n")
 
@@ -36,7 +40,7 @@ class Bar:
         """Counts so many bytes more."""
         self._done += size
         if self._bar is not None:
-            self._bar.update(size)
+            self._have(partial(self._bar.update, size))
         elif self._shown and time.monotonic() - self._last > EACH:
             self._last = time.monotonic()
             self._count("")
@@ -44,9 +48,16 @@ class Bar:
     def clear(self) -> None:
         """Makes room for a line on standard error."""
         if self._bar is not None:
-            self._bar.clear()
+            self._have(self._bar.clear)
         elif self._shown:
             say("\r", end="")
+
+    def _have(self, call: Callable[[], Any]) -> None:
+        """Has the bar do something. Where standard error takes nothing, it is shown no more."""
+        try:
+            call()
+        except (OSError, ValueError):
+            self._bar, self._shown = None, False
 
     def _count(self, end: str) -> None:
         share = f" of {self._total / 1e6:.0f}" if self._total else ""

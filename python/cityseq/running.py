@@ -8,14 +8,15 @@ from dataclasses import asdict, dataclass, field, replace
 from functools import partial
 from typing import TYPE_CHECKING, Any, Callable, Deque, Dict, Generator, Iterable, Iterator, List, Optional, Tuple, Type
 
-from ._library import NO_MEMORY, REFUSED
-from .faults import CityseqError, MemoryFault, ReadFault, RequestError, WriteFault
+from ._library import COMPLETE, NO_MEMORY, REFUSED
+from .faults import CityseqError, InvalidStream, MemoryFault, ReadFault, RequestError, WriteFault
 from .hints import HEAD, hints_for
 from .parts import PART, Answer, Cutter, read_header
 from .places import SMALL, Placed, Places, Turns, given, judge_placed, judge_read, placed
 from .query import Work
 from .reports import Report
-from .sources import Reader, Source, Writer, is_path, name_of, opened
+from .outputs import Writer
+from .sources import CHANGED, Reader, Source, Watch, is_path, name_of, opened
 from .tally import Range, Tally
 from .threads import Crew
 
@@ -30,12 +31,12 @@ Task = Callable[[], Answer]
 Judged = Callable[[bool], Answer]  # what judges a part, and takes whether that is the first
 Tasks = Generator[Task, None, None]
 Results = Generator["Result", None, None]
-FAULTS = {fault.status: fault for fault in (ReadFault, WriteFault, MemoryFault)}
 
 
 @dataclass
 class Result:
-    """What came of a stream. `status` is that of the program: 0 valid, 1 some line is invalid, 3 to 5 a fault, told by `fault`.
+    """What came of a stream. `status` is that of the program: 0 valid, 1 some line is invalid, 3 to 5 a fault, told by `fault`, which is
+    of the stream's file, or of the one that `fault_file` names.
 
     `reports` are the invalid lines that were told, in order: the first one, or, told to go on, all. `end` is the one that ended
     the run, if one did. `features` are those that are wanted. Lines up to the end are counted, blank ones and the header too."""
@@ -52,6 +53,8 @@ class Result:
     reports: List[Report] = field(default_factory=list)
     fault: Optional[str] = None
     hints: List[str] = field(default_factory=list)
+    fault_file: Optional[str] = None
+    raises: Optional[CityseqError] = field(default=None, repr=False, compare=False)  # the fault, as an exception
 
     @property
     def valid(self) -> bool:
@@ -60,14 +63,22 @@ class Result:
 
     def raised(self) -> "Result":
         """The same. Raises the fault that ended the run, if one did, with this result."""
-        if self.fault is not None:
-            raise FAULTS[self.status](self.fault, self)
+        if self.raises is not None:
+            self.raises.result = self
+            raise self.raises
+        return self
+
+    def raised_if_invalid(self, keep_going: bool) -> "Result":
+        """The same. Raises `InvalidStream` too, where the stream is not valid, unless it was to go on after invalid lines."""
+        self.raised()
+        if self.status == InvalidStream.status and not keep_going:
+            raise InvalidStream(str(self.end), self, self.file)
         return self
 
     def summary(self) -> Dict[str, Any]:
         """All but the reports, as JSON may have it."""
-        told = asdict(self)
-        del told["reports"]
+        told = asdict(replace(self, reports=[], raises=None))
+        del told["reports"], told["raises"]
         return told
 
 
@@ -106,8 +117,9 @@ class Stream:
         self._tell: Tell = self._reports.append if tell is None else tell
         self._joined = Answer(parts=0)
         self._header, self._head = b"", b""
-        self._fault: Optional[Tuple[int, str]] = None
-        self._late: Optional[Tuple[int, str]] = None
+        self._fault: Optional[CityseqError] = None
+        self._late: Optional[CityseqError] = None
+        self._watch: Optional[Watch] = None
 
     @property
     def ended(self) -> bool:
@@ -127,14 +139,15 @@ class Stream:
         except ReadFault as fault:
             self.fail(fault)
         except MemoryError:
-            self.fail(MemoryFault("out of memory"))
+            self.fail(MemoryFault("out of memory", None, self.file))
 
     def fail(self, fault: CityseqError) -> None:
         """Notes a fault that counts where no part ends the stream before it."""
-        self._late = fault.status, fault.words
+        self._late = fault
 
     def _tasks(self, reader: Reader) -> Tasks:
         limit = self.work.line_limit
+        self._watch = Watch.of(reader.file)
         header, rest = read_header(reader, limit)
         self.heads(header, bytes(rest[:HEAD]))
         is_line = header.endswith(b"\n")
@@ -146,7 +159,7 @@ class Stream:
             if first:
                 yield partial(judge_read, self.work, self.file, header, partial(given, b""), True)
         if reader.fault is not None:
-            raise ReadFault(f"read fault: {reader.fault}")
+            raise reader.fault
 
     def _parts(self, reader: Reader, header: bytes, rest: bytearray) -> Iterator[Judged]:
         """What judges each part behind the header: those of a file are read where they are judged, but for its end."""
@@ -186,51 +199,58 @@ class Stream:
     def heads(self, header: bytes, behind: bytes) -> None:
         """Notes the stream's first line, and some of what follows it."""
         self._header, self._head = header, header[:HEAD] + behind
-        if self._progress is not None:
-            self._progress(len(header))
 
     def add(self, answer: Answer) -> None:
         """Joins the answer of the next part."""
+        size = answer.size + (0 if self._joined.parts else len(self._header))
         self._joined.add(answer, self._tell)
         if answer.status == NO_MEMORY:
-            self._fault = MemoryFault.status, "out of memory"
+            self._fault = MemoryFault("out of memory", None, self.file)
         if self._output is not None and self._fault is None:
-            self._write(lambda: self._output.write(answer.output))  # type: ignore[union-attr]
+            self._write(partial(self._output.write, answer.output))
         if answer.fault is not None and self._fault is None:
-            self._fault = ReadFault.status, answer.fault
+            self._fault = answer.fault
         if self._progress is not None:
-            self._progress(answer.size)
+            self._progress(size)
 
     def _write(self, call: Callable[[], None]) -> None:
+        """Writes something. The first fault counts."""
         try:
             call()
         except WriteFault as fault:
-            self._fault = fault.status, fault.words
+            self._fault = self._fault or fault
 
     def answer(self) -> Answer:
         """What came of the stream, as that of one part."""
         fault = self._fault or self._late
         reports = self._reports[:-1] if self._joined.end is not None else self._reports
-        return replace(self._joined, reports=reports, fault=fault and fault[1], parts=1)
+        return replace(self._joined, reports=reports, fault=fault, parts=1)
 
     def finish(self) -> Result:
         """What came of the stream, when all its parts were added."""
         joined = self._joined
         if not self.ended:
             self._fault = self._late
-        if self._output is not None and joined.parts:
-            before = self._fault
-            self._write(self._output.close)
-            self._fault = before or self._fault
+        if self._watch is not None and self._watch.is_changed():
+            self._fault = ReadFault(f"read fault: {CHANGED}", None, self.file)
         refused = joined.status == REFUSED or joined.refused > 0
-        status, fault = self._fault or (int(refused), None)
+        if self._output is not None:
+            whole = self._fault is None and joined.end is None and (not refused or self.work.keep_going)
+            self._write(partial(self._output.close, whole))
         hints = hints_for(joined.end, self._head) if joined.end is not None else []
         made: Type[Result] = Info if self.work.kind == "info" else Result
-        result = made(self.file, status, joined.lines, joined.kept, joined.refused, *joined.peaks, end=joined.end,
-                      reports=self._reports, fault=fault, hints=hints)
+        result = made(self.file, int(refused), joined.lines, joined.kept, joined.refused, *joined.peaks, end=joined.end,
+                      reports=self._reports, hints=hints, raises=self._fault)
+        if self._fault is not None:
+            result.status, result.fault, result.fault_file = self._fault.status, self._fault.words, self._fault.file
         if isinstance(result, Info) and not self.ended and joined.tally is not None:
             self._inform(result, joined.tally)
         return result
+
+    def abandon(self) -> None:
+        """Leaves nothing half done of a stream that is not finished."""
+        if self._output is not None:
+            self._output.discard()
 
     def _inform(self, info: Info, tally: Tally) -> None:
         from .world import box_of, transform_of  # `info` alone needs it
@@ -252,6 +272,7 @@ def results(streams: Iterable[Stream], submit: Callable[[Task], Any], ahead: int
     """What comes of each stream, in order. `submit` begins a task and answers its future; so many are begun before the first is
     waited for. What was begun of a stream after its end is cancelled."""
     waiting: Deque[Tuple[Stream, Any]] = deque()
+    last: Optional[Stream] = None
 
     def taken(most: int) -> Results:
         while waiting and (len(waiting) > most or waiting[0][1] is None or waiting[0][1].done()):
@@ -265,6 +286,7 @@ def results(streams: Iterable[Stream], submit: Callable[[Task], Any], ahead: int
 
     try:
         for stream in streams:
+            last = stream
             with contextlib.closing(stream.tasks()) as tasks:
                 for task in tasks:
                     waiting.append((stream, submit(task)))
@@ -274,20 +296,41 @@ def results(streams: Iterable[Stream], submit: Callable[[Task], Any], ahead: int
             waiting.append((stream, None))
         yield from taken(0)
     finally:
-        for _, future in waiting:
+        for stream, future in waiting:
+            stream.abandon()
             if future is not None:
                 future.cancel()
+        if last is not None:
+            last.abandon()
 
 
-def in_turn(streams: Iterable[Stream]) -> Results:
-    """What comes of each stream, in order, by the thread that asks for it."""
+def in_turn(streams: Iterable[Stream], call: Callable[[Callable[[], List[Answer]]], List[Answer]] = lambda made: made()) -> Results:
+    """What comes of each stream, in order. Its parts are read and judged one after another, by the calls that are given to `call`."""
     for stream in map(Stream.read_in_turn, streams):
-        with contextlib.closing(stream.tasks()) as tasks:
-            for task in tasks:
-                stream.add(task())
-                if stream.ended:
-                    break
-        yield stream.finish()
+        try:
+            with contextlib.closing(stream.tasks()) as tasks:
+                while not stream.ended:
+                    answers = call(partial(_next_answers, tasks))
+                    if not answers:
+                        break
+                    for answer in answers:
+                        stream.add(answer)
+            yield stream.finish()
+        finally:
+            stream.abandon()
+
+
+def _next_answers(tasks: Tasks) -> List[Answer]:
+    """What comes of the next parts, of so many that it is worth while to hand it on; nothing at the end."""
+    answers: List[Answer] = []
+    size = 0
+    for task in tasks:
+        answer = task()
+        answers.append(answer)
+        size += answer.size
+        if size >= PART or answer.status != COMPLETE or answer.fault is not None:
+            break
+    return answers
 
 
 def usual_jobs() -> int:
@@ -300,9 +343,12 @@ def threaded(streams: Iterable[Stream], jobs: Optional[int]) -> Results:
     jobs = usual_jobs() if jobs is None else jobs
     if isinstance(jobs, bool) or not isinstance(jobs, int) or jobs < 1:
         raise RequestError(f"jobs are a whole number from 1: {jobs!r}")
-    return in_turn(streams) if jobs == 1 else _by_crew(streams, jobs)
+    return _by_crew(streams, jobs)
 
 
 def _by_crew(streams: Iterable[Stream], jobs: int) -> Results:
     with Crew(jobs) as crew:
-        yield from results(streams, crew.submit, jobs + AHEAD)
+        if jobs > 1:
+            yield from results(streams, crew.submit, jobs + AHEAD)
+        else:
+            yield from in_turn(streams, lambda made: crew.submit(made).result())

@@ -100,8 +100,8 @@ class Crew:
     def __exit__(self, *_: Any) -> None:
         for _end in self._ends:
             self._jobs.put(None)
-        for end in self._ends:
-            end.acquire()
+        while self._ends:
+            self._ends.pop().acquire()
 
     def has_threads(self) -> bool:
         """Whether some thread is there."""

@@ -28,7 +28,10 @@ def parts_of(text, size, line_limit=1_000, keep_going=False, piece=7):
 def filtered(text, **options):
     """What a filter writes of a stream, and its result."""
     output = io.BytesIO()
-    result = cityseq.filter(text, output, **options)
+    try:
+        result = cityseq.filter(text, output, **options)
+    except cityseq.InvalidStream as fault:
+        result = fault.result
     return output.getvalue(), result
 
 
@@ -96,7 +99,7 @@ class Cuts(unittest.TestCase):
         reader = Reader(support.Slow(b"h\na\nbbb\n", 3, 6))
         header, rest = read_header(reader, 100)
         self.assertEqual([bytes(part) for part in Cutter(reader, rest, 100, 100, False).parts()], [b"a\n"])
-        self.assertEqual((header, reader.fault), (b"h\n", "Input/output error"))
+        self.assertEqual((header, str(reader.fault)), (b"h\n", "<stream>: read fault: Input/output error"))
 
 
 class Vectors(unittest.TestCase):

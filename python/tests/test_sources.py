@@ -52,7 +52,7 @@ class Sources(InFolder):
         wanted = HEADER + feature("b", "Road")
         self.assertEqual([path.read_bytes(), gzip.decompress(packed.read_bytes()), memory.getvalue()], [wanted] * 3)
         with open(path, "wb", buffering=0) as raw:
-            cityseq.filter(BROKEN, raw)
+            self.assertRaises(cityseq.InvalidStream, cityseq.filter, BROKEN, raw)
         self.assertEqual(path.read_bytes(), HEADER + feature("a"))
 
     def test_an_archive_that_is_cut_short(self):
@@ -75,6 +75,21 @@ class Sources(InFolder):
         with self.assertRaises(cityseq.ReadFault) as caught:
             cityseq.check(support.Slow(BROKEN, 11, len(BROKEN)), keep_going=True)
         self.assertEqual(numbered(caught.exception.result.reports), [(3, 142, 25)])
+
+    def test_a_file_that_changes_while_it_is_read(self):
+        text = HEADER + PLAIN * 1_000
+        for name, change in (("emptied", lambda path: os.truncate(path, 0)), ("longer", lambda path: path.open("ab").write(PLAIN)),
+                             ("touched", lambda path: os.utime(path, (1, 1)))):
+            for jobs, file in ((1, "a.jsonl"), (3, "a.jsonl"), (3, "a.jsonl.gz")):
+                path, output = self.file(text, file), self.folder / "out"
+                for call in (cityseq.check, lambda source, **options: cityseq.filter(source, output, **options)):
+                    once = iter((change,))
+                    with self.subTest(name, jobs=jobs, file=file), self.assertRaises(cityseq.ReadFault) as caught:
+                        call(path, jobs=jobs, part_size=900, progress=lambda _: next(once, lambda _: None)(path))
+                    self.assertEqual(str(caught.exception), f"{path}: read fault: changed while it was read")
+                    self.assertFalse(output.exists())
+                    self.file(text, file)
+        self.assertEqual(cityseq.check(self.file(text)).status, 0)
 
     def test_what_cannot_be_read(self):
         with open(self.file(GOOD)) as text:
