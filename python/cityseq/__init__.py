@@ -92,13 +92,14 @@ def filter(source: Source, output: Target, *, ids: Optional[Texts] = None, types
 
 
 def info(source: Source, *, exact_lods: bool = True, jobs: Optional[int] = None, line_limit: int = USUAL_LINE,
-         depth: int = USUAL_DEPTH, keep_going: bool = False, tree: bool = False, on_report: OnReport = None,
-         progress: Progress = None, part_size: Optional[int] = None) -> Info:
+         depth: int = USUAL_DEPTH, tree: bool = False, on_report: OnReport = None, progress: Progress = None,
+         part_size: Optional[int] = None) -> Info:
     """Reports what is in a stream: transform, types, LoDs, ranges of vertices, and their box in world coordinates.
 
     `exact_lods` asks for each text of an LoD with how many features have it, which takes as long again for each text. The other
-    options are those of `check`. Where a stream is not valid to its end, all of the report is empty."""
-    work = asked("info", exact_lods=exact_lods, line_limit=line_limit, depth=depth, keep_going=keep_going, tree=tree)
+    options are those of `check`, which has one more: what is valid in a stream that is not would be taken for what is in
+    the stream. Where a stream is not valid, all of the report is empty."""
+    work = asked("info", exact_lods=exact_lods, line_limit=line_limit, depth=depth, tree=tree)
     stream = Stream(source, work, _part_size(part_size), tell=on_report, progress=progress)
     result = _only(stream, jobs).raised()
     assert isinstance(result, Info)

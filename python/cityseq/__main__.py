@@ -4,7 +4,7 @@ import sys
 from contextlib import suppress
 
 from .commands import end_by_signals, main
-from .console import hold_descriptors
+from .console import escape_what_lacks, hold_descriptors
 
 
 def run() -> None:
@@ -12,6 +12,7 @@ def run() -> None:
 
     Nothing is open any more then, so it ends at once: Python would take itself down piece by piece, in a sixth of a short run's time."""
     hold_descriptors()
+    escape_what_lacks()
     end_by_signals()
     status = main()
     with suppress(OSError, ValueError):  # the status tells of a fault, and where there was none all has been flushed

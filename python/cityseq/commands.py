@@ -12,7 +12,7 @@ from typing import Any, Callable, Iterator, List, NoReturn, Optional, Sequence
 
 from . import __version__
 from ._library import USUAL_DEPTH, USUAL_LINE, keep_room
-from .console import flush, put, say
+from .console import encoding, flush, put, say
 from .faults import CityseqError, MemoryFault, RequestError, WriteFault, write_fault
 from .progress import Bar
 from .query import Work, asked
@@ -20,6 +20,7 @@ from .reports import Report, explain
 from .running import Info, Result, Stream, threaded
 from .outputs import Writer
 from .same import refuse_same
+from .shown import fitting, quoted, shown
 from .sources import size_of
 
 UNEXPECTED = 70
@@ -81,7 +82,6 @@ def _add_common(command: argparse.ArgumentParser) -> None:
     option("--line-limit", metavar="BYTES", type=int, default=USUAL_LINE, action=Once, help="refuse a line that is longer")
     option("--depth", metavar="LEVELS", type=int, default=USUAL_DEPTH, action=Once,
            help="refuse a line with more arrays and objects open at once")
-    option("--keep-going", action="store_true", help="report each line that is not valid, and go on with the next")
     option("--tree", action="store_true", help="refuse a feature of which a city object is not reached from the main one")
     option("--jobs", metavar="N", type=int, action=Once, help="judge so many parts at once (the number of processors)")
     option("--part-size", metavar="BYTES", type=int, action=Once, help="how long parts are (4 MiB or less)")
@@ -115,6 +115,10 @@ def _parser() -> Parser:
                         ("info", "report what is in a stream: types, LoDs, extent, and memory")):
         command = commands.add_parser(name, help=about, description=about, epilog=STATUSES, allow_abbrev=False)
         _add_common(command)
+        if name == "info":
+            command.set_defaults(keep_going=False)
+        else:
+            command.add_argument("--keep-going", action="store_true", help="report each line that is not valid, and go on with the next")
         if name == "filter":
             _add_query(command)
         if name == "info":
@@ -193,18 +197,20 @@ class Printer:
 
     def _say(self, text: str, to: Callable[[str], None] = say) -> None:
         self._bar.clear()
-        to(text.encode("utf-8", "backslashreplace").decode("utf-8"))
+        to(text)
 
     def report(self, report: Report) -> None:
         """Tells of an invalid line: by the program's words, and below them of which feature, where in it, and how to fix it."""
         if self._options.json:
             self._say(json.dumps(asdict(report)), self._json)
             return
-        told = [f"{report.file}: {report}"]
+        told = [f"{shown(report.file)}: {report}"]
         if report.id is not None:
-            told.append(f"    feature {json.dumps(report.id, ensure_ascii=False)}")
+            told.append(f"    feature {quoted(report.id)}")
         if report.excerpt:
-            told += ["    " + line for line in report.caret().split("\n")]
+            told += ["    " + fitting(line, encoding()) for line in report.caret().split("\n")]
+        if report.met is not None:
+            told.append(f"    Hint: {report.met}.")
         told.append(f"    Fix: {explain(report.code).fix.split('. ')[0].rstrip('.')}.")
         self._say("\n".join(told))
 
@@ -214,16 +220,16 @@ class Printer:
             self._say(json.dumps(result.summary(), default=str), self._json)
             return
         for hint in result.hints:
-            self._say(f"{result.file}: {hint}")
+            self._say(f"{shown(result.file)}: {hint}")
         if result.fault is not None:
-            self._say(f"{result.fault_file or result.file}: {result.fault}")
+            self._say(f"{shown(result.fault_file or result.file)}: {result.fault}")
         elif self._options.command == "info" and isinstance(result, Info) and result.end is None:
-            before = f"{result.file}: " if len(self._options.files) > 1 else ""
+            before = f"{shown(result.file)}: " if len(self._options.files) > 1 else ""
             self._say("\n".join(before + line for line in info_lines(result)), put)
         elif self._options.command == "check" and result.end is None:
             refused = f" refused={result.refused}" if result.refused else ""
             words = f"{'invalid' if refused else 'valid'} lines={result.lines} features={result.features}{refused}"
-            self._say(f"{result.file}: {words}", put)
+            self._say(f"{shown(result.file)}: {words}", put)
 
 
 def info_lines(info: Info) -> Iterator[str]:
@@ -243,9 +249,9 @@ def info_lines(info: Info) -> Iterator[str]:
     if info.box is not None:
         yield f"bbox {info.box}"
     for text, count in sorted((info.lods or {}).items()):
-        yield f"features with lod {json.dumps(text, ensure_ascii=False)} {count}"
+        yield f"features with lod {quoted(text)} {count}"
     for text in info.unasked:
-        yield f"features with lod {json.dumps(text)} unknown"
+        yield f"features with lod {quoted(text)} unknown"
 
 
 def _run(options: argparse.Namespace) -> int:
@@ -304,7 +310,7 @@ def main(words: Optional[Sequence[str]] = None) -> int:
     try:
         return _done(words)
     except CityseqError as fault:
-        say(str(fault))
+        say(shown(str(fault)))
         if fault.status == WriteFault.status and sys.stdout is not None:
             os.dup2(os.open(os.devnull, os.O_WRONLY), 1)  # what is still in the buffer has nowhere to go
         return fault.status
@@ -318,5 +324,5 @@ def main(words: Optional[Sequence[str]] = None) -> int:
         say(f"stopped by {stop.name}")
         return STOPPED + stop.value
     except Exception as fault:
-        say(f"unexpected failure: {_traced(fault)}. This is a fault of cityseq: please report this line and the command {WHERE}")
+        say(f"unexpected failure: {shown(_traced(fault))}. This is a fault of cityseq: please report this line and the command {WHERE}")
         return UNEXPECTED

@@ -1,6 +1,7 @@
 """Standard output and standard error of the command, of which each may be closed, full, or a terminal."""
 from __future__ import annotations
 
+import io
 import os
 import sys
 from contextlib import suppress
@@ -16,6 +17,18 @@ def hold_descriptors() -> None:
     while opened <= 2:
         opened = os.dup(opened)
     os.close(opened)
+
+
+def escape_what_lacks() -> None:
+    """Has both outputs escape the letters that their encoding lacks."""
+    for output in (sys.stdout, sys.stderr):
+        if isinstance(output, io.TextIOWrapper):
+            output.reconfigure(errors="backslashreplace")
+
+
+def encoding() -> str:
+    """The encoding of standard error."""
+    return getattr(sys.stderr, "encoding", None) or "utf-8"
 
 
 def say(words: str, end: str = "\n") -> None:

@@ -10,12 +10,14 @@ package and the files.
 A worker that dies has its tasks done by others. Answers are joined in order, as those of threads are."""
 from __future__ import annotations
 
+import os
 from functools import partial
 from itertools import islice
 from typing import Any, Callable, Iterable, Iterator, List, Optional
 
 from ._library import USUAL_DEPTH, USUAL_LINE
 from .faults import CityseqError, RequestError
+from .packed import packing_by_name
 from .parts import Answer
 from .query import Box, Texts, Work, asked
 from .ranges import Seen, cut, judge_range, judge_whole, look
@@ -23,7 +25,7 @@ from .reports import Report
 from .running import HEADERS, Info, Result, Stream, Tasks, results
 from .outputs import Target, Writer
 from .same import refuse_same
-from .sources import is_path
+from .sources import is_packed, is_path
 from .threads import in_thread
 
 PART = 32 << 20  # how long the parts of tasks are
@@ -90,7 +92,7 @@ def _run(client: Any, paths: Any, work: Work, size: int, output: Optional[Writer
 
     threads: Any = client.nthreads()  # type: ignore[no-untyped-call]
     ahead = AHEAD * max(sum(threads.values()), 1)
-    return results(_streams(client, list(map(str, paths)), work, size, output, tell), submit, ahead)
+    return results(_streams(client, list(map(os.fsdecode, paths)), work, size, output, tell), submit, ahead)
 
 
 def check(client: Any, paths: Any, *, line_limit: int = USUAL_LINE, depth: int = USUAL_DEPTH, keep_going: bool = False,
@@ -101,9 +103,9 @@ def check(client: Any, paths: Any, *, line_limit: int = USUAL_LINE, depth: int =
 
 
 def info(client: Any, paths: Any, *, exact_lods: bool = True, line_limit: int = USUAL_LINE, depth: int = USUAL_DEPTH,
-         keep_going: bool = False, tree: bool = False, on_report: OnReport = None, part_size: int = PART) -> Iterator[Info]:
+         tree: bool = False, on_report: OnReport = None, part_size: int = PART) -> Iterator[Info]:
     """Reports what is in files, of which there may be one, in order. A fault is told by the result."""
-    work = asked("info", exact_lods=exact_lods, line_limit=line_limit, depth=depth, keep_going=keep_going, tree=tree)
+    work = asked("info", exact_lods=exact_lods, line_limit=line_limit, depth=depth, tree=tree)
     return _run(client, paths, work, part_size, None, on_report)  # type: ignore[return-value]
 
 
@@ -115,7 +117,7 @@ def filter(client: Any, path: Any, output: Target, *, ids: Optional[Texts] = Non
     `cityseq.filter` does."""
     work = asked("filter", ids=ids, types=types, lods=lods, box=box, exclude=exclude,
                  line_limit=line_limit, depth=depth, keep_going=keep_going, tree=tree)
-    if str(path).endswith(".gz"):
+    if packing_by_name(os.fsdecode(path)) is not None or is_packed(path):
         raise RequestError("a packed file has no parts: unpack it, or filter it by threads")
     refuse_same([path], [output])
     found: List[Result] = list(_run(client, [path], work, part_size, Writer(output, keep_partial), on_report))

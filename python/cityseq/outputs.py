@@ -9,7 +9,8 @@ from contextlib import suppress
 from typing import IO, Any, Optional, Union
 
 from .faults import RequestError, write_fault
-from .sources import is_path, name_of, packing
+from .packed import Packer, Packing, packing_by_name, require
+from .sources import is_path, name_of
 
 Target = Union[str, bytes, "os.PathLike[Any]", IO[bytes]]
 
@@ -41,9 +42,26 @@ class Writer:
         self._part: Optional[str] = None  # where the path is written, as long as it is not whole
         self._file: Any = target if hasattr(target, "write") else None
         self._keep_partial = keep_partial
+        if self.packing is not None:
+            try:
+                require(self.packing)
+            except OSError as fault:
+                raise write_fault(fault, self.name) from fault
+
+    @property
+    def packing(self) -> Optional[Packing]:
+        """How what is written is packed, if it is."""
+        return None if self._path is None else packing_by_name(self._path)
+
+    def write_packed(self, text: bytes) -> None:
+        """Writes what has been packed."""
+        try:
+            self._opened().write_packed(text)
+        except (OSError, ValueError) as fault:
+            raise write_fault(fault, self.name) from fault
 
     def write(self, text: Union[bytes, bytearray, memoryview]) -> None:
-        """Writes all of these bytes."""
+        """Writes all of these bytes, or packs them where the output is packed."""
         rest = memoryview(text)
         try:
             file = self._opened()
@@ -60,7 +78,9 @@ class Writer:
         try:
             if whole or self._file is not None:
                 file = self._opened()
-                if hasattr(file, "flush"):
+                if isinstance(file, Packer):
+                    file.finish()
+                elif hasattr(file, "flush"):
                     file.flush()
                 if self._path is not None:
                     file.close()
@@ -89,8 +109,9 @@ class Writer:
         elif self._file is None:
             assert self._path is not None
             part = part_of(self._path)
-            self._file = packing(part or self._path, self._path)
+            file = open(part or self._path, "wb")
             self._part = part
+            self._file = file if self.packing is None else Packer(file, self.packing)
             if part is not None:
                 _hand_mode_on(self._path, part)
         return self._file

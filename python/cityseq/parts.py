@@ -112,6 +112,7 @@ class Answer:
     end: Optional[Report] = None
     reports: Iterable[Report] = ()
     output: Text = b""
+    is_packed: bool = False  # the output
     tally: Optional[Tally] = None
     size: int = 0
     fault: Optional[ReadFault] = None  # of a read behind the part

@@ -93,6 +93,8 @@ def asked(
     box: Optional[Box] = None, exact_lods: bool = False,
 ) -> Work:
     """The work of these options. Raises `RequestError` where it cannot be asked."""
+    if kind == "info" and keep_going:
+        raise RequestError("what is in a stream is told of a valid one: filter it first, with keep_going")
     work = Work(
         kind, _limit(line_limit, *LINE_LIMITS, "line limit"), _limit(depth, *DEPTH_LIMITS, "depth"),
         bool(keep_going), bool(tree), bool(exclude),

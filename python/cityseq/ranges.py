@@ -6,6 +6,7 @@ from typing import IO, Iterator, Optional, Tuple
 
 from .faults import ReadFault, read_fault
 from .hints import HEAD
+from .packed import Unpacker
 from .parts import Answer, judge, read_header
 from .query import Work
 from .running import Stream, in_turn
@@ -29,7 +30,7 @@ def look(path: str, line_limit: int) -> Seen:
     """Looks how a file begins."""
     try:
         with opened(path) as reader:
-            size = size_of(path)
+            size = None if isinstance(reader.file, Unpacker) else size_of(path)
             state = None if size is None else state_of(reader.file.fileno())
             header, rest = read_header(reader, line_limit)
             return Seen(header, bytes(rest[:HEAD]), size, state, reader.fault)

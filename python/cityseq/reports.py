@@ -9,6 +9,8 @@ import unicodedata
 from dataclasses import dataclass, replace
 from typing import Any, Dict, Iterable, Iterator, Optional, Tuple, Union
 
+from .met import met
+
 Text = Union[bytes, bytearray]
 
 TOO_LONG = 2
@@ -44,7 +46,8 @@ def explain(code: int) -> Explanation:
 
 @dataclass(frozen=True)
 class Report:
-    """An invalid line: its number from 1, the byte in it from 0, and why. `id` is that of the feature where it can be read.
+    """An invalid line: its number from 1, the byte in it from 0, and why. `id` is that of the feature where it can be read, and `met` says
+    what stands at the place, as far as Python can read it: both are hints.
 
     The excerpt is what stands round the place, and `column` is where it stands in the excerpt, in columns of a terminal."""
 
@@ -56,6 +59,7 @@ class Report:
     id: Optional[str] = None
     excerpt: str = ""
     column: int = 0
+    met: Optional[str] = None
 
     def __str__(self) -> str:
         """The program's own words."""
@@ -118,7 +122,8 @@ def describe(raws: Iterable[Any], header: Text, part: Text, file: str) -> Iterat
         stop = left + raw.place + 1 if raw.code == TOO_LONG else right if right >= 0 else len(text)
         line = bytes(text[left:stop])
         excerpt, column = excerpt_of(line, raw.place)
-        yield Report(file, raw.line, raw.place, raw.code, _text_of(raw.code), find_id(line) if raw.line > 1 else None, excerpt, column)
+        yield Report(file, raw.line, raw.place, raw.code, _text_of(raw.code), find_id(line) if raw.line > 1 else None, excerpt, column,
+                     met(line, raw.place, raw.code, raw.line == 1))
 
 
 def _text_of(code: int) -> str:

@@ -6,19 +6,22 @@ import os
 from collections import deque
 from dataclasses import asdict, dataclass, field, replace
 from functools import partial
-from typing import TYPE_CHECKING, Any, Callable, Deque, Dict, Generator, Iterable, Iterator, List, Optional, Tuple, Type
+from itertools import chain, islice
+from typing import TYPE_CHECKING, Any, Callable, Deque, Dict, Generator, Iterable, Iterator, List, Optional, Tuple, Type, Union
 
 from ._library import COMPLETE, NO_MEMORY, REFUSED
 from .faults import CityseqError, InvalidStream, MemoryFault, ReadFault, RequestError, WriteFault
 from .hints import HEAD, hints_for
+from .outputs import Writer
+from .packed import BLOCK, Packing, Unpacker, pack
 from .parts import PART, Answer, Cutter, read_header
 from .places import SMALL, Placed, Places, Turns, given, judge_placed, judge_read, placed
 from .query import Work
 from .reports import Report
-from .outputs import Writer
-from .sources import CHANGED, Reader, Source, Watch, is_path, name_of, opened
+from .sources import CHANGED, Reader, Source, Watch, is_packed, is_path, name_of, opened
 from .tally import Range, Tally
 from .threads import Crew
+from .whole import Whole
 
 if TYPE_CHECKING:
     from decimal import Decimal
@@ -27,6 +30,7 @@ HEADERS = 4  # a usual part is at least so many times as long as the header
 AHEAD = 2  # how many parts wait beside those that are judged
 AT_ONCE = 64 << 20  # of so many bytes, or a part more, what came of parts in turn is told together
 Tell = Callable[[Report], None]
+Progress = Callable[[int], None]
 Task = Callable[[], Answer]
 Judged = Callable[[bool], Answer]  # what judges a part, and takes whether that is the first
 Tasks = Generator[Task, None, None]
@@ -109,17 +113,20 @@ class Stream:
     """One stream on its way: what is still to be judged of it, and what came of its parts so far."""
 
     def __init__(self, source: Source, work: Work, size: Optional[int] = None, output: Optional[Writer] = None,
-                 tell: Optional[Tell] = None, progress: Optional[Callable[[int], None]] = None) -> None:
+                 tell: Optional[Tell] = None, progress: Optional[Progress] = None) -> None:
         self.source, self.work, self.size, self.file = source, work, size, name_of(source)
         self._in_turn = False
         self._output, self._progress = output, progress
         self._reports: List[Report] = []
+        self._told_to = tell
         self._tell: Tell = self._reports.append if tell is None else tell
         self._joined = Answer(parts=0)
         self._header, self._head = b"", b""
         self._fault: Optional[CityseqError] = None
         self._late: Optional[CityseqError] = None
         self._watch: Optional[Watch] = None
+        self._unpacker: Optional[Unpacker] = None
+        self._taken = 0
 
     @property
     def ended(self) -> bool:
@@ -130,6 +137,14 @@ class Stream:
         """The same, where what judges a part is called before the next is asked for."""
         self._in_turn = True
         return self
+
+    def relayed(self, tell: Tell, progress: Progress) -> Tuple[Optional[Tell], Optional[Progress]]:
+        """Has others be told of reports and of progress, and answers who was."""
+        before = self._told_to, self._progress
+        if self._told_to is not None:
+            self._tell = tell
+        self._progress = progress
+        return before
 
     def tasks(self) -> Tasks:
         """What is to be called for each part, in order. A read that fails, or memory that is refused, is told after them."""
@@ -148,18 +163,26 @@ class Stream:
     def _tasks(self, reader: Reader) -> Tasks:
         limit = self.work.line_limit
         self._watch = Watch.of(reader.file)
+        self._unpacker = reader.file if isinstance(reader.file, Unpacker) else None
         header, rest = read_header(reader, limit)
         self.heads(header, bytes(rest[:HEAD]))
         is_line = header.endswith(b"\n")
         if is_line or reader.fault is None or len(header) > limit:
             first = True
             for judged in self._parts(reader, header, rest) if is_line else ():
-                yield partial(judged, first)
+                yield self._packing(partial(judged, first))
                 first = False
             if first:
                 yield partial(judge_read, self.work, self.file, header, partial(given, b""), True)
         if reader.fault is not None:
             raise reader.fault
+
+    def _packing(self, task: Task) -> Task:
+        """The same, which packs what is kept where the output is packed: so many threads pack at once."""
+        how = None if self._output is None else self._output.packing
+        if how is None:
+            return task
+        return partial(_packed, task, how)
 
     def _parts(self, reader: Reader, header: bytes, rest: bytearray) -> Iterator[Judged]:
         """What judges each part behind the header: those of a file are read where they are judged, but for its end."""
@@ -202,16 +225,23 @@ class Stream:
 
     def add(self, answer: Answer) -> None:
         """Joins the answer of the next part."""
-        size = answer.size + (0 if self._joined.parts else len(self._header))
+        size = self._done(answer)
         self._joined.add(answer, self._tell)
         if answer.status == NO_MEMORY:
             self._fault = MemoryFault("out of memory", None, self.file)
         if self._output is not None and self._fault is None:
-            self._write(partial(self._output.write, answer.output))
+            self._write(partial(self._output.write_packed if answer.is_packed else self._output.write, answer.output))
         if answer.fault is not None and self._fault is None:
             self._fault = answer.fault
         if self._progress is not None:
             self._progress(size)
+
+    def _done(self, answer: Answer) -> int:
+        """How many bytes more of the source have been dealt with, packed where they are packed."""
+        if self._unpacker is None:
+            return answer.size + (0 if self._joined.parts else len(self._header))
+        before, self._taken = self._taken, self._unpacker.taken
+        return self._taken - before
 
     def _write(self, call: Callable[[], None]) -> None:
         """Writes something. The first fault counts."""
@@ -263,21 +293,31 @@ class Stream:
         info.lods, info.unasked = tally.lods, tuple(sorted(tally.unasked))
 
 
+def _packed(task: Task, how: Packing) -> Answer:
+    """The answer of a task, with its output packed unless that is short."""
+    answer = task()
+    if len(answer.output) >= BLOCK:
+        answer.output, answer.is_packed = pack(answer.output, how), True
+    return answer
+
+
 def _told(answer: Answer, _: bool) -> Answer:
     """The answer of parts that have been judged."""
     return answer
 
 
-def results(streams: Iterable[Stream], submit: Callable[[Task], Any], ahead: int) -> Results:
+def results(streams: Iterable[Union[Stream, Whole]], submit: Callable[[Task], Any], ahead: int) -> Results:
     """What comes of each stream, in order. `submit` begins a task and answers its future; so many are begun before the first is
     waited for. What was begun of a stream after its end is cancelled."""
-    waiting: Deque[Tuple[Stream, Any]] = deque()
+    waiting: Deque[Tuple[Union[Stream, Whole], Any]] = deque()
     last: Optional[Stream] = None
 
     def taken(most: int) -> Results:
         while waiting and (len(waiting) > most or waiting[0][1] is None or waiting[0][1].done()):
             stream, future = waiting.popleft()
-            if future is None:
+            if isinstance(stream, Whole):
+                yield stream.result()
+            elif future is None:
                 yield stream.finish()
             elif stream.ended:
                 future.cancel()
@@ -286,6 +326,10 @@ def results(streams: Iterable[Stream], submit: Callable[[Task], Any], ahead: int
 
     try:
         for stream in streams:
+            if isinstance(stream, Whole):
+                waiting.append((stream, stream))
+                yield from taken(ahead)
+                continue
             last = stream
             with contextlib.closing(stream.tasks()) as tasks:
                 for task in tasks:
@@ -349,6 +393,22 @@ def threaded(streams: Iterable[Stream], jobs: Optional[int]) -> Results:
 def _by_crew(streams: Iterable[Stream], jobs: int) -> Results:
     with Crew(jobs) as crew:
         if jobs > 1:
-            yield from results(streams, crew.submit, jobs + AHEAD)
+            yield from results(_shared_out(streams, crew), crew.submit, jobs + AHEAD)
         else:
             yield from in_turn(streams, lambda made: crew.submit(made).result())
+
+
+def _shared_out(streams: Iterable[Stream], crew: Crew) -> Iterator[Union[Stream, Whole]]:
+    """The streams; each that is packed is judged whole by a thread, unless it is the only one, so that many are unpacked at once."""
+    ahead = iter(streams)
+    begun = list(islice(ahead, 2))
+    for stream in chain(begun, ahead):
+        if len(begun) > 1 and is_packed(stream.source) and crew.start():
+            yield Whole(stream, crew, _judged_whole)
+        else:
+            yield stream
+
+
+def _judged_whole(stream: Stream) -> Result:
+    result, = in_turn([stream])
+    return result

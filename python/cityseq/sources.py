@@ -1,4 +1,4 @@
-"""Where streams come from: paths, `-`, bytes and file objects, packed by gzip where the name ends in `.gz`."""
+"""Where streams come from: paths, of files that may be packed, `-`, bytes and file objects."""
 from __future__ import annotations
 
 import contextlib
@@ -6,18 +6,17 @@ import io
 import os
 import stat
 import sys
-import zlib
 from typing import IO, Any, Iterator, Optional, Tuple, Union
 
 from .faults import ReadFault, RequestError, read_fault
+from .packed import Packing, Unpacker, packing_of
 
 Source = Union[str, "os.PathLike[Any]", bytes, bytearray, memoryview, IO[bytes]]
 
 State = Tuple[int, int]  # of a file
 CHANGED = "changed while it was read"
 PIECE = 1 << 20  # the most bytes of one read
-# What a read may fail by: gzip tells of archives that are cut short or broken by some of its own.
-READ_FAULTS = (OSError, EOFError, zlib.error, ValueError)
+READ_FAULTS = (OSError, EOFError, ValueError)  # what a read may fail by
 
 
 def is_path(source: Any) -> bool:
@@ -36,12 +35,10 @@ def name_of(source: Any) -> str:
 
 
 def size_of(source: Any) -> Optional[int]:
-    """How many bytes a source has, where that can be known before it is read."""
+    """How many bytes a source has, packed where it is packed, if that can be known before it is read."""
     if isinstance(source, (bytes, bytearray, memoryview)):
         return memoryview(source).nbytes
-    if is_path(source) and not os.fsdecode(source).endswith(".gz") and os.path.isfile(source):
-        return os.path.getsize(source)
-    return None
+    return os.path.getsize(source) if is_path(source) and os.path.isfile(source) else None
 
 
 class Reader:
@@ -74,20 +71,15 @@ class Reader:
         self.fault, self._read = read_fault(cause, self.name), io.BytesIO().read
 
 
-def _unpacking(path: str) -> Any:
-    """The file object that unpacks a path."""
-    import gzip  # few runs need it
-
-    return gzip.open(path, "rb")
-
-
-def packing(path: str, name: str) -> Any:
-    """The file object that writes to a path what is packed as this name says."""
-    if not name.endswith(".gz"):
-        return open(path, "wb")
-    import gzip
-
-    return gzip.open(path, "wb", 6)
+def _open_path(path: str) -> Any:
+    """The file object of a path, which unpacks what is packed."""
+    file = open(path, "rb")
+    try:
+        packing = packing_of(file.peek(len(Packing.ZSTD.mark)), path)
+        return file if packing is None else Unpacker(file, packing)
+    except BaseException:
+        file.close()
+        raise
 
 
 def _open(source: Source) -> Any:
@@ -95,9 +87,19 @@ def _open(source: Source) -> Any:
     if isinstance(source, (bytes, bytearray, memoryview)):
         return io.BytesIO(source)
     if isinstance(source, (str, os.PathLike)):
-        path = os.fsdecode(source)
-        return _unpacking(path) if path.endswith(".gz") else open(path, "rb")
+        return _open_path(os.fsdecode(source))
     raise RequestError(f"a source is a path, bytes or a binary file, and no {type(source).__name__}")
+
+
+def is_packed(source: Any) -> bool:
+    """Whether a source is a path of a file that is packed."""
+    try:
+        if not is_path(source) or not os.path.isfile(source):
+            return False
+        with open(source, "rb") as file:
+            return packing_of(file.peek(len(Packing.ZSTD.mark)), os.fsdecode(source)) is not None
+    except OSError:
+        return False
 
 
 def state_of(descriptor: int) -> State:

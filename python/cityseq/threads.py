@@ -47,10 +47,10 @@ class Job(Generic[T]):
         self._taken, self._open = _thread.allocate_lock(), _thread.allocate_lock()
         self._open.acquire()
 
-    def run(self) -> None:
-        """Makes the call, unless some thread has begun it."""
+    def run(self) -> bool:
+        """Makes the call. False where some thread has begun it."""
         if not self._taken.acquire(False):
-            return
+            return False
         try:
             if self._call is not None:
                 self._value = self._call()
@@ -59,6 +59,7 @@ class Job(Generic[T]):
         finally:
             self._call = None
             self._open.release()
+        return True
 
     def cancel(self) -> None:
         """Has no thread begin the call any more."""
@@ -80,9 +81,8 @@ class Job(Generic[T]):
         return value
 
     def _run_here(self) -> None:
-        if not _has_stack():
-            raise MemoryError("no thread could be started")
-        self.run()
+        if not _has_stack() or not self.run():
+            raise MemoryError("no thread is there")
 
 
 class Crew:
@@ -92,6 +92,7 @@ class Crew:
     def __init__(self, most: int) -> None:
         self._most = most
         self._jobs: "SimpleQueue[Optional[Job[Any]]]" = SimpleQueue()
+        self._submitted = 0
         self._ends: List[Any] = []  # a lock for each thread that has begun, which it holds as long as it is there
 
     def __enter__(self) -> "Crew":
@@ -107,12 +108,22 @@ class Crew:
         """Whether some thread is there."""
         return any(end.locked() for end in self._ends)
 
+    def start(self) -> bool:
+        """Starts the first thread, if there is none yet. Whether some thread is there then."""
+        self._have(1)
+        return self.has_threads()
+
+    def _have(self, wanted: int) -> None:
+        """Starts one more thread, if so many are wanted and may be there."""
+        if len(self._ends) < min(self._most, wanted) and not self._add():
+            self._most = len(self._ends)
+
     def submit(self, call: Callable[[], T]) -> "Job[T]":
         """Has some thread make the call."""
         job = Job(call, self)
         self._jobs.put(job)
-        if len(self._ends) < self._most and not self._add():
-            self._most = len(self._ends)
+        self._submitted += 1
+        self._have(self._submitted)
         return job
 
     def _add(self) -> bool:

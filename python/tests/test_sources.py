@@ -2,33 +2,17 @@
 import gzip
 import io
 import os
-import pathlib
 import subprocess
 import sys
-import tempfile
 import unittest
 
 from . import support
-from .support import HEADER, PLAIN, feature, numbered
+from .support import HEADER, PLAIN, InFolder, feature, numbered
 
 import cityseq
 
 GOOD = HEADER + feature("a") + feature("b", "Road")
 BROKEN = HEADER + feature("a") + feature("b", last=4) + feature("c")
-
-
-class InFolder(unittest.TestCase):
-    """Tests that have a folder of their own."""
-
-    def setUp(self):
-        folder = tempfile.TemporaryDirectory()
-        self.addCleanup(folder.cleanup)
-        self.folder = pathlib.Path(folder.name)
-
-    def file(self, text, name="stream.city.jsonl"):
-        path = self.folder / name
-        path.write_bytes(gzip.compress(text) if name.endswith(".gz") else text)
-        return path
 
 
 class Sources(InFolder):
