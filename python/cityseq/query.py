@@ -7,6 +7,7 @@ from typing import TYPE_CHECKING, Iterable, Optional, Union
 
 from ._library import BAD_REQUEST, DEPTH_LIMITS, FAULTS, LINE_LIMITS, USUAL_DEPTH, USUAL_LINE, RawRequest, Text, library
 from .faults import RequestError
+from .ids import ids_for
 
 if TYPE_CHECKING:
     from decimal import Decimal
@@ -17,8 +18,9 @@ Box = Union[str, Iterable[Union[int, float, str, "Decimal"]]]
 
 def lines_of(texts: Iterable[str]) -> bytes:
     """Texts as the library takes them, one a line. The empty one comes first, so that the last line is not empty and needs no LF."""
-    listed = sorted(texts, key=bool)
-    return ("\n".join(listed) or "\n" * len(listed)).encode("utf-8")
+    listed = list(texts)
+    empty = listed.count("")
+    return ("\n" * empty + "\n".join(filter(None, listed))).encode("utf-8")
 
 
 def _asked_lines(texts: Optional[Texts], what: str) -> Optional[bytes]:
@@ -27,10 +29,9 @@ def _asked_lines(texts: Optional[Texts], what: str) -> Optional[bytes]:
         return None
     listed = [texts] if isinstance(texts, str) else list(texts)
     for text in listed:
-        if not isinstance(text, str):
-            raise RequestError(f"{what} are texts: {text!r} is none")
-        if "\n" in text:
-            raise RequestError(f"no text with a line's end in it can be asked for among {what}: {text!r}")
+        if not isinstance(text, str) or "\n" in text:
+            raise RequestError(f"no text with a line's end in it can be asked for among {what}: {text!r}" if isinstance(text, str)
+                               else f"{what} are texts: {text!r} is none")
     try:
         return lines_of(listed)
     except UnicodeEncodeError as fault:
@@ -75,13 +76,14 @@ class Work:
     def request(self, header: bytes, part: Text) -> RawRequest:
         """The same, as the library takes it with a header and a part: room is asked for lines of less than twice as much as these have."""
         longest = max(len(header), len(part), LINE_LIMITS[0])
-        return _request(self, min(self.line_limit, 1 << (longest - 1).bit_length()))
+        ids = None if self.ids is None else ids_for(self.ids, part)
+        return _request(self, ids, min(self.line_limit, 1 << (longest - 1).bit_length()))
 
 
 @lru_cache(maxsize=8)
-def _request(work: Work, line_limit: int) -> RawRequest:
+def _request(work: Work, ids: Optional[bytes], line_limit: int) -> RawRequest:
     """A request, which is made once for many parts."""
-    texts = (work.ids, work.types, work.lods, work.box)
+    texts = (ids, work.types, work.lods, work.box)
     return RawRequest(
         line_limit, work.depth, work.keep_going, work.tree, work.exclude, *(text is not None for text in texts),
         *(given for text in texts for given in (text or b"", len(text or b""))))
