@@ -40,10 +40,18 @@ class Cutter:
     def __init__(self, reader: Reader, rest: bytearray, size: int, line_limit: int, keep_going: bool) -> None:
         self._reader, self._rest, self._size = reader, rest, size
         self._line_limit, self._keep_going = line_limit, keep_going
+        self._is_waiting = False
 
-    def _fill(self, size: int) -> bool:
-        """Reads until so many bytes are there. False where the input ends before."""
+    def _is_idle(self, size: int) -> bool:
+        """Whether fewer bytes are there, and nothing has come for some time. It is said once before each read."""
+        self._is_waiting = len(self._rest) < size and not self._is_waiting and self._reader.is_idle()
+        return self._is_waiting
+
+    def _fill(self, size: int, stops: bool = False) -> bool:
+        """Reads until so many bytes are there, or, if it stops, until nothing comes for some time. False where the input ends before."""
         while len(self._rest) < size:
+            if stops and self._is_idle(size):
+                return True
             piece = self._reader.read(min(PIECE, size - len(self._rest)))
             if not piece:
                 return False
@@ -87,11 +95,17 @@ class Cutter:
                 return (part if self._reader.fault is None else bytearray()), False
 
     def parts(self) -> Iterator[bytearray]:
-        """The parts, in order."""
+        """The parts, in order. An empty one says that nothing more has come for some time; the whole lines that are there came before."""
         more = True
         while more:
-            if not self._fill(self._size):
+            if not self._fill(self._size, True):
                 part, more = self._take_last(), False
+            elif self._is_waiting:
+                part = self._take(self._rest.rfind(b"\n") + 1)
+                yield part
+                if part:
+                    yield bytearray()
+                continue
             else:
                 end = self._rest.rfind(b"\n", 0, self._size) + 1
                 part, more = (self._take(end), True) if end else self._take_long_line()

@@ -3,7 +3,7 @@ from __future__ import annotations
 
 from dataclasses import dataclass
 from functools import lru_cache
-from typing import TYPE_CHECKING, Iterable, Optional, Union
+from typing import TYPE_CHECKING, Any, Iterable, Optional, Union
 
 from ._library import BAD_REQUEST, DEPTH_LIMITS, FAULTS, LINE_LIMITS, USUAL_DEPTH, USUAL_LINE, RawRequest, Text, library
 from .faults import RequestError
@@ -12,6 +12,7 @@ from .ids import ids_for
 if TYPE_CHECKING:
     from decimal import Decimal
 
+UNKNOWN_TYPE = 5  # the fault of a request for a type that there is not
 Texts = Union[str, Iterable[str]]
 Box = Union[str, Iterable[Union[int, float, str, "Decimal"]]]
 
@@ -103,12 +104,26 @@ def asked(
         _asked_lines(ids, "ids"), _asked_lines(types, "types"), _asked_lines(lods, "LoDs"), _box_of(box), bool(exact_lods))
     answer = library().check(b"", b"", work.request(b"", b""), 0)[0]
     if answer.status == BAD_REQUEST:
-        raise RequestError(FAULTS.get(answer.code, f"bad request {answer.code}") + _which(work, answer.code))
+        words = FAULTS.get(answer.code, f"bad request {answer.code}")
+        raise UnknownType(words, work) if answer.code == UNKNOWN_TYPE else RequestError(words)
     return work
 
 
-def _which(work: Work, code: int) -> str:
-    """Which of the types is unknown, where that is the fault."""
-    if code != 5 or work.types is None:
-        return ""
-    return ": " + next((name for name in work.types.decode().split("\n") if name not in library().type_names()), "")
+class UnknownType(RequestError):
+    """A type of city objects that is asked for, and that there is not. `brief` are the program's words for it."""
+
+    def __init__(self, brief: str, work: Work) -> None:
+        names = (work.types or b"").decode().split("\n")
+        self.brief, self.name = brief, next((name for name in names if name not in library().type_names()), "")
+        super().__init__(f"{brief}: {self.name}")
+
+    def __reduce__(self) -> Any:
+        return RequestError, (self.words,)
+
+    def alike(self) -> Optional[str]:
+        """The type that may be meant."""
+        from difflib import get_close_matches  # which mistakes alone need
+
+        names = {name.lower(): name for name in library().type_names()}
+        near = get_close_matches(self.name.lower(), names, 1)
+        return names[near[0]] if near else None

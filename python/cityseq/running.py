@@ -33,7 +33,7 @@ Tell = Callable[[Report], None]
 Progress = Callable[[int], None]
 Task = Callable[[], Answer]
 Judged = Callable[[bool], Answer]  # what judges a part, and takes whether that is the first
-Tasks = Generator[Task, None, None]
+Tasks = Generator[Optional[Task], None, None]  # none, where nothing more has come for some time
 Results = Generator["Result", None, None]
 
 
@@ -170,8 +170,8 @@ class Stream:
         if is_line or reader.fault is None or len(header) > limit:
             first = True
             for judged in self._parts(reader, header, rest) if is_line else ():
-                yield self._packing(partial(judged, first))
-                first = False
+                yield None if judged is None else self._packing(partial(judged, first))
+                first = first and judged is None
             if first:
                 yield partial(judge_read, self.work, self.file, header, partial(given, b""), True)
         if reader.fault is not None:
@@ -184,7 +184,7 @@ class Stream:
             return task
         return partial(_packed, task, how)
 
-    def _parts(self, reader: Reader, header: bytes, rest: bytearray) -> Iterator[Judged]:
+    def _parts(self, reader: Reader, header: bytes, rest: bytearray) -> Iterator[Optional[Judged]]:
         """What judges each part behind the header: those of a file are read where they are judged, but for its end."""
         file = placed(reader.file) if is_path(self.source) else None
         if file is not None:
@@ -193,7 +193,7 @@ class Stream:
                 reader.go_to(begin)
                 rest = bytearray()
         for part in Cutter(reader, rest, self._part_size(PART, header), self.work.line_limit, self.work.keep_going).parts():
-            yield partial(judge_read, self.work, self.file, header, partial(given, part))
+            yield partial(judge_read, self.work, self.file, header, partial(given, part)) if part else None
 
     def _parts_at_once(self, file: Placed, header: bytes) -> Generator[Judged, None, int]:
         """What judges parts of a file, by any thread. It answers where what is left begins."""
@@ -333,8 +333,9 @@ def results(streams: Iterable[Union[Stream, Whole]], submit: Callable[[Task], An
             last = stream
             with contextlib.closing(stream.tasks()) as tasks:
                 for task in tasks:
-                    waiting.append((stream, submit(task)))
-                    yield from taken(ahead)
+                    if task is not None:
+                        waiting.append((stream, submit(task)))
+                    yield from taken(0 if task is None else ahead)
                     if stream.ended:
                         break
             waiting.append((stream, None))
@@ -369,6 +370,10 @@ def _next_answers(tasks: Tasks) -> List[Answer]:
     answers: List[Answer] = []
     size = 0
     for task in tasks:
+        if task is None:
+            if answers:
+                break
+            continue
         answer = task()
         answers.append(answer)
         size += answer.size

@@ -4,6 +4,7 @@ from __future__ import annotations
 import contextlib
 import io
 import os
+import select
 import stat
 import sys
 from typing import IO, Any, Iterator, Optional, Tuple, Union
@@ -16,6 +17,7 @@ Source = Union[str, "os.PathLike[Any]", bytes, bytearray, memoryview, IO[bytes]]
 State = Tuple[int, int]  # of a file
 CHANGED = "changed while it was read"
 PIECE = 1 << 20  # the most bytes of one read
+IDLE = 50  # milliseconds after which what is there is not waited with
 READ_FAULTS = (OSError, EOFError, ValueError)  # what a read may fail by
 
 
@@ -41,6 +43,20 @@ def size_of(source: Any) -> Optional[int]:
     return os.path.getsize(source) if is_path(source) and os.path.isfile(source) else None
 
 
+def _poll_of(file: Any) -> Any:
+    """What tells whether something has come by a pipe or the like; nothing of other files."""
+    try:
+        descriptor = file.fileno()
+        mode = os.fstat(descriptor).st_mode
+    except (AttributeError, OSError, ValueError):
+        return None
+    if isinstance(file, Unpacker) or not (stat.S_ISFIFO(mode) or stat.S_ISSOCK(mode) or stat.S_ISCHR(mode)):
+        return None
+    poll = select.poll()
+    poll.register(descriptor, select.POLLIN)
+    return poll
+
+
 class Reader:
     """Reads a file object. A read that fails is kept as `fault`, and is the end of the input."""
 
@@ -48,6 +64,16 @@ class Reader:
         self.file, self.name = file, name
         self._read: Any = getattr(file, "read1", None) or file.read
         self.fault: Optional[ReadFault] = None
+        self._poll = _poll_of(file)
+
+    def is_idle(self) -> bool:
+        """Whether nothing has come for some time where it comes bit by bit, as by a pipe."""
+        if self._poll is None:
+            return False
+        try:
+            return not self._poll.poll(IDLE)
+        except (OSError, ValueError):
+            return False
 
     def go_to(self, place: int) -> None:
         """Goes on from this byte of the file."""

@@ -8,8 +8,7 @@ import time
 import unittest
 
 from . import support
-from .support import HEADER, feature, numbered
-from .test_sources import InFolder
+from .support import HEADER, InFolder, feature, numbered
 
 import cityseq
 

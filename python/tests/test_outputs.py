@@ -9,8 +9,8 @@ import time
 import unittest
 
 from . import support
-from .support import HEADER, PLAIN, command, feature
-from .test_sources import BROKEN, GOOD, InFolder
+from .support import HEADER, PLAIN, InFolder, command, feature
+from .test_sources import BROKEN, GOOD
 
 import cityseq
 from cityseq.outputs import Writer

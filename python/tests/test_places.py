@@ -7,8 +7,7 @@ from dataclasses import replace
 from unittest import mock
 
 from . import support
-from .support import HEADER, PLAIN, feature, numbered
-from .test_sources import InFolder
+from .support import HEADER, PLAIN, InFolder, feature, numbered
 
 import cityseq
 from cityseq.parts import read_header

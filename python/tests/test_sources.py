@@ -134,7 +134,7 @@ class Sources(InFolder):
             print(cityseq.check(%r).status)"""
         ran = subprocess.run([sys.executable, "-c", script % (GOOD, GOOD)], stdout=subprocess.PIPE, timeout=60,
                              env={**os.environ, "PYTHONPATH": os.path.join(support.ROOT, "python")})
-        self.assertEqual(ran.stdout.decode(), "out of memory 5 3\nout of memory 5 3\n0\n")
+        self.assertEqual(ran.stdout.decode(), "<bytes>: out of memory 5 3\n<bytes>: out of memory 5 3\n0\n")
 
 
 class Requests(unittest.TestCase):

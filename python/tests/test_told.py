@@ -120,7 +120,7 @@ class Met(unittest.TestCase):
                 (2, b'"type":"Building",', b"", 10, 'the city object "house-1" has no "type"'),
                 (2, b'"vertices"', b'"vertexes"', 10, 'the feature has no "vertices"'),
                 (2, b'"values":[0]', b'"value":[0]', 10, 'the semantics has no "values"'),
-                (3, b'"parents":["house-2"],', b"", 10, 'the city object "house-2-a" has no "parents"'),
+                (5, b'"type":"Road"', b'"type":"BuildingPart"', 10, 'the city object "road-1" has no "parents"'),
                 (4, b'"template":0,', b"", 10, 'the instance has no "template"'),
                 (1, b'"scale"', b'"scales"', 10, 'transform has no "scale"'),
                 (1, b'"CityObjects":{},', b"", 10, 'the header has no "CityObjects"'),
