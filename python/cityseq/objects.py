@@ -12,6 +12,7 @@ if TYPE_CHECKING:
 
 VERSION = 1  # of the objects: it changes where a member is renamed, goes or means something else
 VERDICTS = {0: "valid", 1: "invalid"}
+LONGEST, MOST = 40, 1 << 53  # digits before or behind the point of a number that is written out, and the greatest whole double
 Object = Dict[str, Any]
 
 
@@ -25,13 +26,13 @@ def exact(number: "Decimal") -> Union[int, float, str]:
 
     from .world import plain
 
-    if number == number.to_integral_value() and abs(number) <= 1 << 53:
-        return int(number)
-    try:
-        near = float(number)
-    except OverflowError:
+    if number == 0:
+        return 0
+    if abs(number.adjusted()) > LONGEST:
         return str(number)
-    return near if abs(near) < 1e16 and Decimal(near) == number else plain(number) if abs(number.adjusted()) < 40 else str(number)
+    if number == number.to_integral_value():
+        return int(number) if abs(number) <= MOST else plain(number)
+    return float(number) if Decimal(float(number)) == number else plain(number)
 
 
 def report_object(report: Report) -> Object:
