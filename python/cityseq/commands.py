@@ -6,7 +6,7 @@ import signal
 import sys
 from collections import deque
 from contextlib import closing
-from typing import Any, Deque, Dict, Iterable, List, NoReturn, Optional, Sequence, Tuple
+from typing import Any, Deque, Dict, Iterable, List, NoReturn, Optional, Sequence, Tuple, Union
 
 from . import __version__
 from ._library import keep_room
@@ -50,8 +50,8 @@ def end_by_signals() -> None:
 
 # ---- what is asked for
 
-def _listed(path: str, what: str) -> List[bytes]:
-    """The texts of a list, one a line, or with a NUL behind each. Empty ones are passed over."""
+def _listed(path: str, what: str) -> bytes:
+    """The texts of a list, one a line. In the list they may have a NUL behind each; empty ones are passed over."""
     try:
         if path == "-":
             if sys.stdin is None:
@@ -63,14 +63,15 @@ def _listed(path: str, what: str) -> List[bytes]:
     except OSError as fault:
         raise RequestError(f"{path}: {what}: {fault.strerror or fault}") from fault
     text = text[3:] if text.startswith(b"\xef\xbb\xbf") else text
-    lines = text.split(b"\0") if b"\0" in text else text.replace(b"\r\n", b"\n").split(b"\n")
-    return [line for line in lines if line]
+    text = text.replace(b"\0", b"\n") if b"\0" in text else text.replace(b"\r\n", b"\n")
+    return text.strip(b"\n") if b"\n\n" not in text else b"\n".join(filter(None, text.split(b"\n")))
 
 
 def _files(wanted: Asked) -> Tuple[str, ...]:
     """The files that are read."""
-    listed = [] if wanted.files_from is None else _listed(wanted.files_from, "a list of files")
-    files = (*wanted.files, *map(os.fsdecode, listed)) or (() if wanted.files_from is not None else ("-",))
+    listed = b"" if wanted.files_from is None else _listed(wanted.files_from, "a list of files")
+    named = (*wanted.files, *(map(os.fsdecode, listed.split(b"\n")) if listed else ()))
+    files = named or (() if wanted.files_from is not None else ("-",))
     if (*files, wanted.ids_from, wanted.files_from).count("-") > 1:
         raise RequestError("standard input is read once: - is given for more than one thing")
     return files
@@ -80,15 +81,18 @@ def _texts(text: Optional[str]) -> Optional[List[str]]:
     return None if text is None else text.split(",")
 
 
-def _ids(wanted: Asked) -> Optional[List[str]]:
-    """The ids that are asked for, by the option and by the list."""
+def _ids(wanted: Asked) -> Union[List[str], bytes, None]:
+    """The ids that are asked for, by the option and by the list, of which there may be very many."""
     if wanted.ids_from is None:
         return _texts(wanted.id)
+    listed = _listed(wanted.ids_from, "a list of ids")
     try:
-        listed = b"\n".join(_listed(wanted.ids_from, "a list of ids")).decode("utf-8")
+        listed.decode("utf-8")
     except UnicodeDecodeError as fault:
         raise RequestError(f"{wanted.ids_from}: a list of ids: {fault}") from fault
-    return (listed.split("\n") if listed else []) + (_texts(wanted.id) or [])
+    if wanted.id is None:
+        return listed
+    return (listed.decode("utf-8").split("\n") if listed else []) + wanted.id.split(",")
 
 
 def _work(wanted: Asked) -> Work:

@@ -24,10 +24,10 @@ def lines_of(texts: Iterable[str]) -> bytes:
     return ("\n" * empty + "\n".join(filter(None, listed))).encode("utf-8")
 
 
-def _asked_lines(texts: Optional[Texts], what: str) -> Optional[bytes]:
-    """The texts that are asked for, of which one may come alone."""
-    if texts is None:
-        return None
+def _asked_lines(texts: Union[Texts, bytes, None], what: str) -> Optional[bytes]:
+    """The texts that are asked for, of which one may come alone; or all in UTF-8, one a line, where that is what is at hand."""
+    if texts is None or isinstance(texts, bytes):
+        return texts
     listed = [texts] if isinstance(texts, str) else list(texts)
     for text in listed:
         if not isinstance(text, str) or "\n" in text:
@@ -92,7 +92,7 @@ def _request(work: Work, ids: Optional[bytes], line_limit: int) -> RawRequest:
 
 def asked(
     kind: str, *, line_limit: int = USUAL_LINE, depth: int = USUAL_DEPTH, keep_going: bool = False, tree: bool = False,
-    exclude: bool = False, ids: Optional[Texts] = None, types: Optional[Texts] = None, lods: Optional[Texts] = None,
+    exclude: bool = False, ids: Union[Texts, bytes, None] = None, types: Optional[Texts] = None, lods: Optional[Texts] = None,
     box: Optional[Box] = None, exact_lods: bool = False,
 ) -> Work:
     """The work of these options. Raises `RequestError` where it cannot be asked."""

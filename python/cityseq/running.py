@@ -12,6 +12,7 @@ from typing import TYPE_CHECKING, Any, Callable, Deque, Dict, Generator, Iterabl
 from ._library import COMPLETE, NO_MEMORY, REFUSED
 from .faults import CityseqError, InvalidStream, MemoryFault, ReadFault, RequestError, WriteFault
 from .hints import HEAD, hints_for
+from .ids import part_size_for
 from .outputs import Writer
 from .packed import BLOCK, Packing, Unpacker, pack
 from .parts import PART, Answer, Cutter, read_header
@@ -216,8 +217,10 @@ class Stream:
         return turns.begin
 
     def _part_size(self, usual: int, header: bytes) -> int:
-        """How long parts are. A long header is judged again with each, so that they are longer then."""
-        return self.size or max(usual, HEADERS * len(header))
+        """How long parts are. A long header is judged again with each, and a query for very many ids is made ready again, so that they
+        are longer then."""
+        for_ids = 0 if self.work.ids is None else part_size_for(self.work.ids, self._head[len(header):])
+        return self.size or max(usual, HEADERS * len(header), for_ids)
 
     def heads(self, header: bytes, behind: bytes) -> None:
         """Notes the stream's first line, and some of what follows it."""

@@ -8,8 +8,8 @@ from . import support
 from .support import HEADER, PLAIN, feature
 
 import cityseq
-from cityseq import ids
-from cityseq.ids import MANY, ids_for
+from cityseq import ids as ids_of
+from cityseq.ids import MANY, ids_for, part_size_for
 
 FEW = [f"other-{number:05}" for number in range(MANY // 8)]  # that are in no stream here
 LINES = (  # each with the text of its id
@@ -31,7 +31,7 @@ class Subsets(unittest.TestCase):
         for line, name in LINES:
             for part in (line, line[:-1], PLAIN + line, line + PLAIN, b"{\n" + line, b'{"type":"CityJSONFeature","id":"cut\n' + line):
                 for text in (part, bytearray(part), memoryview(bytearray(part))):
-                    found = self.asked([name or "none", "never"], text)
+                    found = self.asked([name or "none", "never", "cut"], text)
                     self.assertEqual((name is None or name.encode() in found, b"never" in found), (True, False), part)
 
     def test_few_are_asked_for_as_they_are(self):
@@ -63,9 +63,24 @@ class Filters(unittest.TestCase):
                 with mock.patch("cityseq.ids.MANY", 1 << 40):
                     self.assertEqual(found, self.kept(text, **options))
 
-    def test_the_query_is_made_ready_once(self):
-        """Of a part no more ids are asked for than it has lines, however many the query has."""
-        asked, prepare = [], ids.ids_for
+    def test_parts_are_as_long_as_the_query_asks(self):
+        many = b"x" * 100_000
+        for ids, head, size in ((many, PLAIN * 9, 3_200_000), (many, b"y" * 9_000 + b"\n", 0), (many, b"", 0), (b"x" * 99, PLAIN, 0),
+                                (b"x" * (64 << 20), PLAIN * 9, 256 << 20)):
+            self.assertEqual(part_size_for(ids, head), size)
+        wanted, whole, prepare = [f"b{number}" for number in range(100_000)], [], ids_of.ids_for
+
+        def noted(texts, part):
+            whole.append(part and prepare(texts, part) is texts)
+            return prepare(texts, part)
+
+        text = HEADER + b"".join(feature(f"b{number}") for number in range(100_000))
+        with mock.patch("cityseq.query.ids_for", noted):
+            self.assertEqual(self.kept(text, ids=wanted)[1], 100_000)
+        self.assertEqual((len(whole) < 5, whole.count(True)), (True, 1), whole)
+
+    def test_of_a_part_no_more_ids_are_asked_for_than_it_has_lines(self):
+        asked, prepare = [], ids_of.ids_for
 
         def noted(texts, part):
             asked.append(len(prepare(texts, part)))
