@@ -12,6 +12,7 @@ export PYTHONPATH=$PWD/python
 examples=$PWD/examples
 
 scratch=$(mktemp -d) # the files of one row
+unset PYTHONDONTWRITEBYTECODE
 export PYTHONPYCACHEPREFIX=$scratch-compiled
 trap 'rm -rf "$scratch" "$scratch-compiled"' EXIT
 

@@ -46,9 +46,9 @@ trap 'rm -rf "$scratch" "$tools"' EXIT
 # Prints the path of the program, built if it is not given; of a script that runs the package's command.
 find_program() {
   if [ "${1:-}" = --package ]; then
-    printf '#!%s\nimport sys\nsys.pycache_prefix = "%s/compiled"\nsys.path.insert(0, "%s/python")\n' \
-      "$(command -v "${2:-python3}")" "$tools" "$PWD" > "$tools/command"
-    lines 'from cityseq.__main__ import run' 'run()' >> "$tools/command"
+    lines "#!$(command -v "${2:-python3}")" 'import sys' 'sys.dont_write_bytecode = False' \
+      "sys.pycache_prefix = '$tools/compiled'" "sys.path.insert(0, '$PWD/python')" \
+      'from cityseq.__main__ import run' 'run()' > "$tools/command"
     chmod +x "$tools/command"
     echo "$tools/command"
     return

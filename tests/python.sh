@@ -12,6 +12,10 @@ scratch=$(mktemp -d)
 trap 'rm -rf "$scratch"' EXIT
 passed=0 failed=0
 
+# each run of the command would compile the package anew
+unset PYTHONDONTWRITEBYTECODE
+export PYTHONPYCACHEPREFIX=$scratch/compiled
+
 own_tests() { cd python && exec "$python" -B -W ignore -m tests; }
 
 edges() { exec tests/package_edges.sh "$python"; }

@@ -10,10 +10,10 @@
     >>> cityseq.info("examples/town.city.jsonl").box
     '995,1990,1050,2005'
 
-A source is a path, `-` for standard input, bytes or a binary file; a path that ends in `.gz` is unpacked. `jobs` says how many threads
-judge parts of it at once; None is as many as there are processors. `part_size` is how long parts are; None is 4 MiB or less.
-`progress` is called with how many bytes more are done, as `tqdm.update` may be, and `on_report` with each report as it comes, instead of
-their list."""
+A source is a path, `-` for standard input, bytes, which are the stream itself, or a binary file; a path of a file that is packed by gzip or
+Zstandard is unpacked. `jobs` says how many threads judge parts of it at once; None is as many as there are processors. `part_size` is how
+long parts are; None is 4 MiB or less. `progress` is called with how many bytes more are done, packed where they are packed, and
+`on_report` with each report as it comes, instead of their list."""
 from __future__ import annotations
 
 from typing import Callable, Iterable, Iterator, Optional

@@ -1,4 +1,5 @@
-"""The command `cityseq`, also `cityseq-run` and `python3 -m cityseq`: the program's words, lines and statuses, over files on many cores."""
+"""The command `cityseq`, also `cityseq-run` and `python3 -m cityseq`: the program's words, lines
+and statuses, over files on many cores."""
 from __future__ import annotations
 
 import os
@@ -20,7 +21,7 @@ from .running import Result, Stream, threaded
 from .same import refuse_same
 from .shown import shown
 from .sources import is_path, size_of
-from .telling import Teller, brief, is_terminal, teller_of
+from .telling import brief, is_terminal, teller_of
 from .words import Asked, Mistake, Told, read_words
 
 UNEXPECTED = 70
@@ -42,7 +43,8 @@ def _stop(number: int, _frame: Any) -> NoReturn:
 
 
 def end_by_signals() -> None:
-    """Has the signals that ask a process to end do so by an exception, so that nothing is left that is not whole."""
+    """Has the signals that ask a process to end do so by an exception, so that nothing is left that
+    is not whole."""
     for number in (signal.SIGTERM, signal.SIGHUP):
         if signal.getsignal(number) == signal.SIG_DFL:
             signal.signal(number, _stop)
@@ -50,8 +52,10 @@ def end_by_signals() -> None:
 
 # ---- what is asked for
 
+
 def _listed(path: str, what: str) -> bytes:
-    """The texts of a list, one a line. In the list they may have a NUL behind each; empty ones are passed over."""
+    """The texts of a list, one a line. In the list they may have a NUL behind each; empty ones are
+    passed over."""
     try:
         if path == "-":
             if sys.stdin is None:
@@ -82,7 +86,8 @@ def _texts(text: Optional[str]) -> Optional[List[str]]:
 
 
 def _ids(wanted: Asked) -> Union[List[str], bytes, None]:
-    """The ids that are asked for, by the option and by the list, of which there may be very many."""
+    """The ids that are asked for, by the option and by the list, of which there may be very
+    many."""
     if wanted.ids_from is None:
         return _texts(wanted.id)
     listed = _listed(wanted.ids_from, "a list of ids")
@@ -97,11 +102,27 @@ def _ids(wanted: Asked) -> Union[List[str], bytes, None]:
 
 def _work(wanted: Asked) -> Work:
     """What is asked, checked."""
-    common: Dict[str, Any] = dict(line_limit=wanted.line_limit, depth=wanted.depth, keep_going=wanted.keep_going, tree=wanted.tree)
+    common: Dict[str, Any] = dict(
+        line_limit=wanted.line_limit,
+        depth=wanted.depth,
+        keep_going=wanted.keep_going,
+        tree=wanted.tree,
+    )
     if wanted.command == "filter":
-        return asked("filter", exclude=wanted.exclude, ids=_ids(wanted), types=_texts(wanted.type), lods=_texts(wanted.lod),
-                     box=wanted.bbox, **common)
-    return asked(wanted.command, exact_lods=wanted.command == "info" and wanted.lods and not wanted.is_plain, **common)
+        return asked(
+            "filter",
+            exclude=wanted.exclude,
+            ids=_ids(wanted),
+            types=_texts(wanted.type),
+            lods=_texts(wanted.lod),
+            box=wanted.bbox,
+            **common,
+        )
+    return asked(
+        wanted.command,
+        exact_lods=wanted.command == "info" and wanted.lods and not wanted.is_plain,
+        **common,
+    )
 
 
 def _outputs(wanted: Asked, files: Sequence[str]) -> List[Optional[str]]:
@@ -110,18 +131,29 @@ def _outputs(wanted: Asked, files: Sequence[str]) -> List[Optional[str]]:
         return [None] * len(files)
     if wanted.output_dir is None:
         if len(files) > 1:
-            raise RequestError("each file's output has its own header: name a folder by --output-dir")
+            raise RequestError(
+                "each file's output has its own header: name a folder by --output-dir"
+            )
         return [wanted.output] * len(files)
     outputs = [os.path.join(wanted.output_dir, os.path.basename(file)) for file in files]
-    if wanted.output != "-" or "-" in files or len({os.path.realpath(output) for output in outputs}) < len(outputs):
-        raise RequestError("with --output-dir each FILE has a name of its own, and there is no --output")
+    if (
+        wanted.output != "-"
+        or "-" in files
+        or len({os.path.realpath(output) for output in outputs}) < len(outputs)
+    ):
+        raise RequestError(
+            "with --output-dir each FILE has a name of its own, and there is no --output"
+        )
     return list(outputs)
 
 
 def _refuse_same(wanted: Asked, files: Iterable[str], outputs: Iterable[Optional[str]]) -> None:
     """Refuses to write to what is read, be it by standard output or standard error."""
     read = [*files, *filter(None, (wanted.ids_from, wanted.files_from))]
-    refuse_same(read, [output for output in (*outputs, wanted.record, "-", sys.stderr) if output is not None])
+    refuse_same(
+        read,
+        [output for output in (*outputs, wanted.record, "-", sys.stderr) if output is not None],
+    )
 
 
 def _make_folder(path: str) -> None:
@@ -133,13 +165,15 @@ def _make_folder(path: str) -> None:
 
 # ---- what is done
 
+
 class Run:
     """A run over files: what is known of each beside what comes of it."""
 
     def __init__(self, wanted: Asked, files: Sequence[str], bar: Bar) -> None:
         self._wanted, self._bar = wanted, bar
         self._teller = teller_of(wanted, bar, len(files) > 1)
-        self._states: Deque[Tuple[Any, Any]] = deque()  # of the files that are read, in order, each with its digest
+        # of the files that are read, in order: what each is now, and its digest
+        self._states: Deque[Tuple[Any, Any]] = deque()
         self._hashes: Any = None
         self._record: Any = None
         if wanted.sha256 or wanted.record is not None:
@@ -155,13 +189,16 @@ class Run:
         return self
 
     def __exit__(self, kind: Any, *_: Any) -> None:
-        if self._hashes is not None and kind is None:  # else the process ends, and nobody waits for a long file
+        if (
+            self._hashes is not None and kind is None
+        ):  # else the process ends, and nobody waits for a long file
             self._hashes.__exit__()
         if self._record is not None:
             self._record.close()
 
     def skip(self, files: Sequence[str]) -> Tuple[List[str], int]:
-        """The files that are to be read, and the greatest status of those that the record has as they are now."""
+        """The files that are to be read, and the greatest status of those that the record has as
+        they are now."""
         if not self._wanted.resume:
             return list(files), 0
         left, worst = [], 0
@@ -182,7 +219,14 @@ class Run:
             digest = self._hashes.submit(lambda: sha256_of(file)) if is_path(file) else None
             self._states.append((state_now(file), digest))
         writer = None if output is None else Writer(output, self._wanted.keep_partial)
-        return Stream(file, work, self._wanted.part_size, writer, self._teller.report, lambda size: self._bar.add(file, size))
+        return Stream(
+            file,
+            work,
+            self._wanted.part_size,
+            writer,
+            self._teller.report,
+            lambda size: self._bar.add(file, size),
+        )
 
     def take(self, result: Result) -> int:
         """Says what came of a file, and records it. It answers its status."""
@@ -193,14 +237,22 @@ class Run:
             from .objects import record_object
             from .record import time_now
 
-            told = record_object(result, self._wanted, __version__, {**state, "sha256": sha256, "time": time_now()})
+            told = record_object(
+                result, self._wanted, __version__, {**state, "sha256": sha256, "time": time_now()}
+            )
             self._record.append({**told, "file": os.path.abspath(result.file)})
         return result.status
 
     def _object(self, result: Result, sha256: Optional[str]) -> Dict[str, Any]:
         from .objects import result_object
 
-        return result_object(result, self._wanted, __version__, size_of(result.file), sha256 if self._wanted.sha256 else None)
+        return result_object(
+            result,
+            self._wanted,
+            __version__,
+            size_of(result.file),
+            sha256 if self._wanted.sha256 else None,
+        )
 
     def close(self) -> None:
         """Says what is said of all files together."""
@@ -222,9 +274,13 @@ def _run(wanted: Asked) -> int:
         say("reading standard input; it ends with Ctrl-D")
     keep_room()
     sizes = [size_of(file) for file in files] if wanted.progress else []
-    with Bar(None if None in sizes else sum(filter(None, sizes)), wanted.progress) as bar, Run(wanted, files, bar) as run:
+    with Bar(None if None in sizes else sum(filter(None, sizes)), wanted.progress) as bar, Run(
+        wanted, files, bar
+    ) as run:
         left, worst = run.skip(files)
-        streams = (run.stream(file, work, output) for file, output in zip(left, _outputs(wanted, left)))
+        streams = (
+            run.stream(file, work, output) for file, output in zip(left, _outputs(wanted, left))
+        )
         with closing(threaded(streams, wanted.jobs)) as results:
             for result in results:
                 worst = max(worst, run.take(result))
@@ -234,7 +290,7 @@ def _run(wanted: Asked) -> int:
 
 def _explain(words: Sequence[str]) -> int:
     try:
-        code, = map(int, words)
+        (code,) = map(int, words)
         told = explain(code)
     except ValueError:
         raise RequestError("explain takes a code, as explain 25") from None
@@ -246,6 +302,7 @@ def _explain(words: Sequence[str]) -> int:
 
 # ---- how it ends
 
+
 def _program() -> str:
     """The name that the command is called by."""
     name = os.path.basename(sys.argv[0])
@@ -253,7 +310,8 @@ def _program() -> str:
 
 
 def _refused(fault: CityseqError, wanted: Optional[Asked]) -> None:
-    """Says what ended the run: of standard input alone, and where nothing was asked yet, in the program's words."""
+    """Says what ended the run: of standard input alone, and where nothing was asked yet, in the
+    program's words."""
     is_plain = wanted is None or wanted.is_plain
     if isinstance(fault, Mistake):
         if fault.words:
@@ -264,7 +322,11 @@ def _refused(fault: CityseqError, wanted: Optional[Asked]) -> None:
         if near is not None and not is_plain:
             say(f"  tip: a similar type exists: '{near}'")
     else:
-        say(brief(fault.words) if is_plain and fault.status != RequestError.status else shown(str(fault)))
+        say(
+            brief(fault.words)
+            if is_plain and fault.status != RequestError.status
+            else shown(str(fault))
+        )
 
 
 def _traced(fault: Exception) -> str:
@@ -309,5 +371,8 @@ def main(words: Optional[Sequence[str]] = None) -> int:
         say(f"stopped by {stop.name}")
         return STOPPED + stop.value
     except Exception as fault:
-        say(f"unexpected failure: {_traced(fault)}. This is a fault of cityseq: please report this line and the command {WHERE}")
+        say(
+            f"unexpected failure: {_traced(fault)}. This is a fault of cityseq: please report this"
+            f" line and the command {WHERE}"
+        )
         return UNEXPECTED

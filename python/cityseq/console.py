@@ -1,4 +1,5 @@
-"""Standard output and standard error of the command, of which each may be closed, full, or a terminal."""
+"""Standard output and standard error of the command, of which each may be closed, full, or a
+terminal."""
 from __future__ import annotations
 
 import io
@@ -10,9 +11,11 @@ from .faults import write_fault
 
 
 def hold_descriptors() -> None:
-    """Opens what is closed of the first three descriptors, so that no file that is opened later gets the number of standard error.
+    """Opens what is closed of the first three descriptors, so that no file that is opened later
+    gets the number of standard error.
 
-    What Python has found closed at its start stays closed: `sys.stdout` is None, and a write to it is a fault."""
+    What Python has found closed at its start stays closed: `sys.stdout` is None, and a write to it
+    is a fault."""
     opened = os.open(os.devnull, os.O_RDWR)
     while opened <= 2:
         opened = os.dup(opened)
@@ -32,7 +35,8 @@ def encoding() -> str:
 
 
 def say(words: str, end: str = "\n") -> None:
-    """Says something on standard error. Where it is closed or takes nothing, the status alone tells of it."""
+    """Says something on standard error. Where it is closed or takes nothing, the status alone tells
+    of it."""
     if sys.stderr is None:  # `print` takes None for standard output
         return
     with suppress(OSError, ValueError):
@@ -40,11 +44,11 @@ def say(words: str, end: str = "\n") -> None:
 
 
 def put(text: str) -> None:
-    """Writes a line to standard output."""
+    """Writes a line to standard output, all at once: a reader may go away behind its end."""
     try:
         if sys.stdout is None:
             raise OSError("standard output is closed")
-        print(text)
+        sys.stdout.write(f"{text}\n")
     except (OSError, ValueError) as fault:
         raise write_fault(fault, None) from fault
 

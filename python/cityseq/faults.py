@@ -1,4 +1,5 @@
-"""What ends a run without a verdict, or without a valid stream. Each fault has the status that the program `cityseq` ends with."""
+"""What ends a run without a verdict, or without a valid stream. Each fault has the status that the
+program `cityseq` ends with."""
 from __future__ import annotations
 
 from typing import Any, Optional, Type, TypeVar
@@ -7,12 +8,15 @@ Fault = TypeVar("Fault", bound="CityseqError")
 
 
 class CityseqError(Exception):
-    """Any fault of this package. `words` say what it is, `file` names the file that it is of, where there is one, and `result` is
-    what came of the stream before it. `__cause__` is the error of the system that it came from, where it came from one."""
+    """Any fault of this package. `words` say what it is, `file` names the file that it is of, where
+    there is one, and `result` is what came of the stream before it. `__cause__` is the error of the
+    system that it came from, where it came from one."""
 
     status = 2
 
-    def __init__(self, words: str, result: Optional[Any] = None, file: Optional[str] = None) -> None:
+    def __init__(
+        self, words: str, result: Optional[Any] = None, file: Optional[str] = None
+    ) -> None:
         super().__init__(words)
         self.words, self.result, self.file = words, result, file
 
@@ -41,7 +45,8 @@ class LibraryMissing(CityseqError, ImportError):
 
 
 class InvalidStream(CityseqError, ValueError):
-    """A stream that was to be filtered is not valid, so that no output was made of it. `result.end` says where and why."""
+    """A stream that was to be filtered is not valid, so that no output was made of it. `result.end`
+    says where and why."""
 
     status = 1
 

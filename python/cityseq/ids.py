@@ -1,8 +1,9 @@
-"""Queries for very many ids. The library makes a query ready for each call, which for a million ids takes longer than a part.
+"""Queries for very many ids. The library makes a query ready for each call, which for a million ids
+takes longer than a part.
 
-Where lines are short, parts are as long as the query asks for. Where they are long, or there is no room for that, those ids alone are
-asked for that may stand in a part: Python reads them, some too many rather than one too few, and the library says which feature has
-which id."""
+Where lines are short, parts are as long as the query asks for. Where they are long, or there is no
+room for that, those ids alone are asked for that may stand in a part: Python reads them, some too
+many rather than one too few, and the library says which feature has which id."""
 from __future__ import annotations
 
 import json
@@ -12,7 +13,7 @@ from typing import FrozenSet, Iterable, Iterator, List, Optional, Union
 
 MANY = 2_000  # bytes of ids from which on that is worth while
 LONGER = 16  # a part that is so many times as long as the ids takes much longer than they do
-SHORT = 4_096  # bytes of a line whose id Python reads in no less than a tenth of the time that the library takes for it
+SHORT = 4_096  # bytes of a line: of a shorter one Python takes long to read the id, beside the library
 MOST = 256 << 20  # bytes that a part has at most for that
 SPACE = rb"[ \t\r]*"
 USUAL = b'{"type":"CityJSONFeature","id":"'  # how most features begin
@@ -44,7 +45,8 @@ def _thorough(part: bytes) -> Iterator[bytes]:
 def _usual(text: bytes) -> Optional[List[bytes]]:
     """The id of each line, where all lines begin as usual and no id has an escape."""
     found: List[bytes] = []
-    add, find, begins, length = found.append, text.find, text.startswith, len(USUAL)  # there are very many lines
+    # there are very many lines, so the methods are looked up once
+    add, find, begins, length = found.append, text.find, text.startswith, len(USUAL)
     place = 0
     while begins(USUAL, place):
         place += length
@@ -65,7 +67,8 @@ def _ids_in(part: Text) -> Iterable[bytes]:
 
 
 def ids_for(ids: bytes, part: Text) -> bytes:
-    """The ids of a query that may stand in a part: all, where they are few, or few beside the part."""
+    """The ids of a query that may stand in a part: all, where they are few, or few beside the
+    part."""
     if len(ids) < MANY or len(part) >= LONGER * len(ids):
         return ids
     texts = _listed(ids).intersection(_ids_in(part)) if part else ()
@@ -73,6 +76,7 @@ def ids_for(ids: bytes, part: Text) -> bytes:
 
 
 def part_size_for(ids: bytes, head: bytes) -> int:
-    """How long parts have to be at least for a query for these ids, of a stream that goes on so behind its header."""
+    """How long parts have to be at least for a query for these ids, of a stream that goes on so
+    behind its header."""
     are_short = len(head) < SHORT * head.count(b"\n")
     return min(2 * LONGER * len(ids), MOST) if len(ids) >= MANY and are_short else 0

@@ -1,4 +1,5 @@
-"""What stands at the place of a fault, read by Python and not by the proved engine: a hint at which member, id or type is meant."""
+"""What stands at the place of a fault, read by Python and not by the proved engine: a hint at which
+member, id or type is meant."""
 from __future__ import annotations
 
 import json
@@ -14,8 +15,11 @@ STRING = re.compile(rb'"(?:[^"\\\x00-\x1f]|\\.)*"')
 WORD = re.compile(rb"[-+.0-9A-Za-z]+")
 KINDS = {"{": "an object", "[": "an array", '"': "a string", "t": "true", "f": "false", "n": "null"}
 SECOND_LEVEL = re.compile(
-    r"(Bridge|Building|Tunnel)(ConstructiveElement|Furniture|Installation|Part|Room|Storey|Unit|HollowSpace)\Z")
-Needs = Tuple[str, Dict[str, Any], Tuple[str, ...]]  # what an object is, the object, and the members that it needs
+    r"(Bridge|Building|Tunnel)(ConstructiveElement|Furniture|Installation|Part|Room|Storey|Unit|HollowSpace)\Z"
+)
+Needs = Tuple[
+    str, Dict[str, Any], Tuple[str, ...]
+]  # what an object is, the object, and the members that it needs
 
 
 def _decoded(text: bytes) -> Any:
@@ -30,7 +34,7 @@ def _string_at(line: bytes, place: int) -> Optional[str]:
 
 def _name_before(line: bytes, place: int) -> Optional[str]:
     """The name of the member whose value stands at a place."""
-    found = NAME_BEFORE.search(line[max(0, place - VALUE):place])
+    found = NAME_BEFORE.search(line[max(0, place - VALUE) : place])
     return _decoded(found.group(1)) if found else None
 
 
@@ -73,13 +77,17 @@ def _of_feature(root: Dict[str, Any]) -> Iterator[Needs]:
     for name, told in _members(root.get("CityObjects")).items():
         kind = _members(told).get("type")
         is_part = isinstance(kind, str) and SECOND_LEVEL.match(kind)
-        yield f"the city object {quoted(name)}", _members(told), ("type", "parents") if is_part else ("type",)
+        yield f"the city object {quoted(name)}", _members(told), (
+            "type",
+            "parents",
+        ) if is_part else ("type",)
         for geometry in _list(_members(told).get("geometry")):
             yield from _of_geometry(geometry)
 
 
 def _missing(line: bytes, place: int, is_header: bool) -> Optional[str]:
-    """Which member the object at a place lacks: it is found in the whole line, since the place does not say what it is."""
+    """Which member the object at a place lacks: it is found in the whole line, since the place does
+    not say what it is."""
     root = _decoded(line)
     told, _ = json.JSONDecoder().raw_decode(line[place:].decode("utf-8"))
     for what, found, needed in _of_header(root) if is_header else _of_feature(root):
@@ -138,10 +146,22 @@ def _object_type(line: bytes, place: int, _: bool) -> Optional[str]:
 
 
 READERS: Dict[int, Callable[[bytes, int, bool], Optional[str]]] = {
-    10: _missing, 11: _string("the name is {}"), 12: _kind, 13: _value("the number begins with {}"), 14: _string("the type is {}"),
-    15: _string("the version is {}"), 18: _value("the number is {}"), 19: _object_type, 20: _string("the id is {}"),
-    21: _string("the child is {}"), 22: _string("the id in the list is {}"), 23: _owner("the city object is {}"),
-    24: _string("the type is {}"), 25: _value("the index is {}"), 27: _value("the index is {}"), 28: _value("the template is {}"),
+    10: _missing,
+    11: _string("the name is {}"),
+    12: _kind,
+    13: _value("the number begins with {}"),
+    14: _string("the type is {}"),
+    15: _string("the version is {}"),
+    18: _value("the number is {}"),
+    19: _object_type,
+    20: _string("the id is {}"),
+    21: _string("the child is {}"),
+    22: _string("the id in the list is {}"),
+    23: _owner("the city object is {}"),
+    24: _string("the type is {}"),
+    25: _value("the index is {}"),
+    27: _value("the index is {}"),
+    28: _value("the template is {}"),
     31: _owner("the city object is {}"),
 }
 

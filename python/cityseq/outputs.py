@@ -1,4 +1,5 @@
-"""Where kept lines go to. A file is written as `NAME.part`, and gets its name when it is whole, so that no part looks like the whole."""
+"""Where kept lines go to. A file is written as `NAME.part`, and gets its name when it is whole, so
+that no part looks like the whole."""
 from __future__ import annotations
 
 import io
@@ -18,8 +19,8 @@ PART = ".part"  # what the name of a file ends in as long as it is not whole
 
 
 def part_of(path: str) -> Optional[str]:
-    """Where what goes to a path is written first, beside the file that a link leads to; None of a device or a pipe, which is written
-    as it is."""
+    """Where what goes to a path is written first, beside the file that a link leads to; None of a
+    device or a pipe, which is written as it is."""
     try:
         if not stat.S_ISREG(os.stat(path).st_mode):
             return None
@@ -29,11 +30,13 @@ def part_of(path: str) -> Optional[str]:
 
 
 class Writer:
-    """Writes to a target: a path, `-` for standard output, or a binary file. A path is opened at the first call of `write` or `close`, so
-    that it is there where nothing is kept."""
+    """Writes to a target: a path, `-` for standard output, or a binary file. A path is opened at
+    the first call of `write` or `close`, so that it is there where nothing is kept."""
 
     def __init__(self, target: Target, keep_partial: bool = False) -> None:
-        if isinstance(target, io.TextIOBase) or not (isinstance(target, (str, bytes, os.PathLike)) or hasattr(target, "write")):
+        if isinstance(target, io.TextIOBase) or not (
+            isinstance(target, (str, bytes, os.PathLike)) or hasattr(target, "write")
+        ):
             raise RequestError("an output is a path or a binary file")
         if isinstance(target, bytes):
             target = os.fsdecode(target)
@@ -67,14 +70,15 @@ class Writer:
             file = self._opened()
             while rest:
                 written = file.write(rest)
-                rest = rest[written:] if isinstance(written, int) else rest[len(rest):]
+                rest = rest[written:] if isinstance(written, int) else rest[len(rest) :]
         except (OSError, ValueError) as fault:
             raise write_fault(fault, self.name) from fault
         finally:
             rest.release()
 
     def close(self, whole: bool) -> None:
-        """Flushes what was written, and closes a file that was opened here. It gets its name if it is whole, and is discarded if not."""
+        """Flushes what was written, and closes a file that was opened here. It gets its name if it
+        is whole, and is discarded if not."""
         try:
             if whole or self._file is not None:
                 file = self._opened()
@@ -85,7 +89,7 @@ class Writer:
                 if self._path is not None:
                     file.close()
             if whole and self._part is not None:
-                os.replace(self._part, self._part[:-len(PART)])
+                os.replace(self._part, self._part[: -len(PART)])
                 self._part = None
         except (OSError, ValueError) as fault:
             raise write_fault(fault, self.name) from fault
@@ -93,7 +97,8 @@ class Writer:
             self.discard()
 
     def discard(self) -> None:
-        """Closes a file that was opened here and is not whole, and removes it unless it is to be kept as it is."""
+        """Closes a file that was opened here and is not whole, and removes it unless it is to be
+        kept as it is."""
         with suppress(OSError, ValueError):
             if self._path is not None and self._file is not None:
                 self._file.close()

@@ -1,7 +1,9 @@
-"""Packed files: gzip, told by its first bytes or by the name, and Zstandard where python3-zstandard is there.
+"""Packed files: gzip, told by its first bytes or by the name, and Zstandard where python3-zstandard
+is there.
 
-What is packed by gzip here are blocks of up to 64 KB, each a member that says how long it is (BGZF, of the SAM specification): so many
-threads pack at once, gzip unpacks them as any archive, and bgzip and tabix can begin in the middle."""
+What is packed by gzip here are blocks of up to 64 KB, each a member that says how long it is (BGZF,
+of the SAM specification): so many threads pack at once, gzip unpacks them as any archive, and bgzip
+and tabix can begin in the middle."""
 from __future__ import annotations
 
 import enum
@@ -40,7 +42,9 @@ def packing_by_name(name: str) -> Optional[Packing]:
 
 def packing_of(head: bytes, name: str) -> Optional[Packing]:
     """How a file is packed that begins so and has this name, if it is."""
-    return next((packing for packing in Packing if head.startswith(packing.mark)), None) or packing_by_name(name)
+    return next(
+        (packing for packing in Packing if head.startswith(packing.mark)), None
+    ) or packing_by_name(name)
 
 
 def _inflating() -> Any:
@@ -63,7 +67,10 @@ class _Gzip:
 
     def __init__(self) -> None:
         self._inflate = _inflating()
-        self.faults: Tuple[Type[Exception], ...] = (zlib.error, getattr(self._inflate, "error", zlib.error))
+        self.faults: Tuple[Type[Exception], ...] = (
+            zlib.error,
+            getattr(self._inflate, "error", zlib.error),
+        )
         self.read = READ
 
     def member(self) -> Any:
@@ -98,7 +105,8 @@ class _Zstd:
 
 
 class Unpacker(io.RawIOBase):
-    """The text that is packed in a file, of which one member follows another. `taken` is how many bytes of the file were read."""
+    """The text that is packed in a file, of which one member follows another. `taken` is how many
+    bytes of the file were read."""
 
     def __init__(self, file: IO[bytes], packing: Packing) -> None:
         super().__init__()
@@ -123,7 +131,8 @@ class Unpacker(io.RawIOBase):
         super().close()
 
     def read(self, most: int = -1) -> bytes:
-        """Some bytes of the text, at most so many, and none at its end. Raises `OSError` or `EOFError` where the archive is broken."""
+        """Some bytes of the text, at most so many, and none at its end. Raises `OSError` or
+        `EOFError` where the archive is broken."""
         most = most if most >= 0 else 1 << 20
         if not self._text:
             try:
@@ -137,7 +146,11 @@ class Unpacker(io.RawIOBase):
         while self._member is not None or self._begin():
             text = self._kind.more(self._member, self._packed, most)
             is_whole = self._member.eof
-            self._packed = self._member.unused_data if is_whole else getattr(self._member, "unconsumed_tail", b"")
+            self._packed = (
+                self._member.unused_data
+                if is_whole
+                else getattr(self._member, "unconsumed_tail", b"")
+            )
             if is_whole:
                 self._member = None
             elif not text and not self._packed and not self._fill():
@@ -154,7 +167,8 @@ class Unpacker(io.RawIOBase):
         return bool(piece)
 
     def _begin(self) -> bool:
-        """Begins the next member. False where there is none: at the end, or where nothing but zeros follows a member."""
+        """Begins the next member. False where there is none: at the end, or where nothing but zeros
+        follows a member."""
         while True:
             if self._has_begun:
                 self._packed = self._packed.lstrip(b"\0")
@@ -175,7 +189,9 @@ def _block(text: Text) -> bytes:
         packed = deflate.compress(text) + deflate.flush()
         if len(packed) + 26 <= 1 << 16:
             break
-    head = struct.pack("<4BI2BH2B2H", 0x1F, 0x8B, 8, 4, 0, 0, 0xFF, 6, 0x42, 0x43, 2, len(packed) + 25)
+    head = struct.pack(
+        "<4BI2BH2B2H", 0x1F, 0x8B, 8, 4, 0, 0, 0xFF, 6, 0x42, 0x43, 2, len(packed) + 25
+    )
     return head + packed + struct.pack("<2I", zlib.crc32(text), len(text))
 
 
@@ -191,11 +207,12 @@ def pack(text: Text, packing: Packing) -> bytes:
         packed: bytes = _zstandard().ZstdCompressor(write_checksum=True).compress(text)
         return packed
     view = memoryview(text)
-    return b"".join(_block(view[begin:begin + BLOCK]) for begin in range(0, len(view), BLOCK))
+    return b"".join(_block(view[begin : begin + BLOCK]) for begin in range(0, len(view), BLOCK))
 
 
 class Packer(io.RawIOBase):
-    """Packs what is written to it into a file. Short texts are gathered, and what is packed already is taken as it is."""
+    """Packs what is written to it into a file. Short texts are gathered, and what is packed already
+    is taken as it is."""
 
     def __init__(self, file: IO[bytes], packing: Packing) -> None:
         super().__init__()

@@ -13,8 +13,8 @@ WIDTH = 79
 
 
 class Bar:
-    """Shows how many bytes are done, packed where they are packed, of so many if that is known, and of which file; or nothing where it
-    is not wanted."""
+    """Shows how many bytes are done, packed where they are packed, of so many if that is known, and
+    of which file; or nothing where it is not wanted."""
 
     def __init__(self, total: Optional[int], is_wanted: bool) -> None:
         self._total = total
@@ -37,7 +37,9 @@ class Bar:
         """Counts so many bytes more of a file."""
         self._done += size
         self._file = file
-        if self._is_shown and time.monotonic() - self._last > (ON_A_TERMINAL if self._is_terminal else ELSEWHERE):
+        if self._is_shown and time.monotonic() - self._last > (
+            ON_A_TERMINAL if self._is_terminal else ELSEWHERE
+        ):
             self._last = time.monotonic()
             self._show()
 

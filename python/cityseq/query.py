@@ -1,11 +1,22 @@
-"""What is asked: how lines are judged, and which features are wanted, checked before anything is read."""
+"""What is asked: how lines are judged, and which features are wanted, checked before anything is
+read."""
 from __future__ import annotations
 
 from dataclasses import dataclass
 from functools import lru_cache
 from typing import TYPE_CHECKING, Any, Iterable, Optional, Union
 
-from ._library import BAD_REQUEST, DEPTH_LIMITS, FAULTS, LINE_LIMITS, USUAL_DEPTH, USUAL_LINE, RawRequest, Text, library
+from ._library import (
+    BAD_REQUEST,
+    DEPTH_LIMITS,
+    FAULTS,
+    LINE_LIMITS,
+    USUAL_DEPTH,
+    USUAL_LINE,
+    RawRequest,
+    Text,
+    library,
+)
 from .faults import RequestError
 from .ids import ids_for
 
@@ -18,21 +29,26 @@ Box = Union[str, Iterable[Union[int, float, str, "Decimal"]]]
 
 
 def lines_of(texts: Iterable[str]) -> bytes:
-    """Texts as the library takes them, one a line. The empty one comes first, so that the last line is not empty and needs no LF."""
+    """Texts as the library takes them, one a line. The empty one comes first, so that the last line
+    is not empty and needs no LF."""
     listed = list(texts)
     empty = listed.count("")
     return ("\n" * empty + "\n".join(filter(None, listed))).encode("utf-8")
 
 
 def _asked_lines(texts: Union[Texts, bytes, None], what: str) -> Optional[bytes]:
-    """The texts that are asked for, of which one may come alone; or all in UTF-8, one a line, where that is what is at hand."""
+    """The texts that are asked for, of which one may come alone; or all in UTF-8, one a line, where
+    that is what is at hand."""
     if texts is None or isinstance(texts, bytes):
         return texts
     listed = [texts] if isinstance(texts, str) else list(texts)
     for text in listed:
         if not isinstance(text, str) or "\n" in text:
-            raise RequestError(f"no text with a line's end in it can be asked for among {what}: {text!r}" if isinstance(text, str)
-                               else f"{what} are texts: {text!r} is none")
+            raise RequestError(
+                f"no text with a line's end in it can be asked for among {what}: {text!r}"
+                if isinstance(text, str)
+                else f"{what} are texts: {text!r} is none"
+            )
     try:
         return lines_of(listed)
     except UnicodeEncodeError as fault:
@@ -75,7 +91,8 @@ class Work:
         return self.kind == "check" and not self.keep_going
 
     def request(self, header: bytes, part: Text) -> RawRequest:
-        """The same, as the library takes it with a header and a part: room is asked for lines of less than twice as much as these have."""
+        """The same, as the library takes it with a header and a part: room is asked for lines of
+        less than twice as much as these have."""
         longest = max(len(header), len(part), LINE_LIMITS[0])
         ids = None if self.ids is None else ids_for(self.ids, part)
         return _request(self, ids, min(self.line_limit, 1 << (longest - 1).bit_length()))
@@ -86,22 +103,48 @@ def _request(work: Work, ids: Optional[bytes], line_limit: int) -> RawRequest:
     """A request, which is made once for many parts."""
     texts = (ids, work.types, work.lods, work.box)
     return RawRequest(
-        line_limit, work.depth, work.keep_going, work.tree, work.exclude, *(text is not None for text in texts),
-        *(given for text in texts for given in (text or b"", len(text or b""))))
+        line_limit,
+        work.depth,
+        work.keep_going,
+        work.tree,
+        work.exclude,
+        *(text is not None for text in texts),
+        *(given for text in texts for given in (text or b"", len(text or b""))),
+    )
 
 
 def asked(
-    kind: str, *, line_limit: int = USUAL_LINE, depth: int = USUAL_DEPTH, keep_going: bool = False, tree: bool = False,
-    exclude: bool = False, ids: Union[Texts, bytes, None] = None, types: Optional[Texts] = None, lods: Optional[Texts] = None,
-    box: Optional[Box] = None, exact_lods: bool = False,
+    kind: str,
+    *,
+    line_limit: int = USUAL_LINE,
+    depth: int = USUAL_DEPTH,
+    keep_going: bool = False,
+    tree: bool = False,
+    exclude: bool = False,
+    ids: Union[Texts, bytes, None] = None,
+    types: Optional[Texts] = None,
+    lods: Optional[Texts] = None,
+    box: Optional[Box] = None,
+    exact_lods: bool = False,
 ) -> Work:
     """The work of these options. Raises `RequestError` where it cannot be asked."""
     if kind == "info" and keep_going:
-        raise RequestError("what is in a stream is told of a valid one: filter it first, with keep_going")
+        raise RequestError(
+            "what is in a stream is told of a valid one: filter it first, with keep_going"
+        )
     work = Work(
-        kind, _limit(line_limit, *LINE_LIMITS, "line limit"), _limit(depth, *DEPTH_LIMITS, "depth"),
-        bool(keep_going), bool(tree), bool(exclude),
-        _asked_lines(ids, "ids"), _asked_lines(types, "types"), _asked_lines(lods, "LoDs"), _box_of(box), bool(exact_lods))
+        kind,
+        _limit(line_limit, *LINE_LIMITS, "line limit"),
+        _limit(depth, *DEPTH_LIMITS, "depth"),
+        bool(keep_going),
+        bool(tree),
+        bool(exclude),
+        _asked_lines(ids, "ids"),
+        _asked_lines(types, "types"),
+        _asked_lines(lods, "LoDs"),
+        _box_of(box),
+        bool(exact_lods),
+    )
     answer = library().check(b"", b"", work.request(b"", b""), 0)[0]
     if answer.status == BAD_REQUEST:
         words = FAULTS.get(answer.code, f"bad request {answer.code}")
@@ -110,11 +153,14 @@ def asked(
 
 
 class UnknownType(RequestError):
-    """A type of city objects that is asked for, and that there is not. `brief` are the program's words for it."""
+    """A type of city objects that is asked for, and that there is not. `brief` are the program's
+    words for it."""
 
     def __init__(self, brief: str, work: Work) -> None:
         names = (work.types or b"").decode().split("\n")
-        self.brief, self.name = brief, next((name for name in names if name not in library().type_names()), "")
+        self.brief, self.name = brief, next(
+            (name for name in names if name not in library().type_names()), ""
+        )
         super().__init__(f"{brief}: {self.name}")
 
     def __reduce__(self) -> Any:

@@ -1,4 +1,5 @@
-"""Parts of a file that are read where they are judged: the lines that begin in a range of its bytes."""
+"""Parts of a file that are read where they are judged: the lines that begin in a range of its
+bytes."""
 from __future__ import annotations
 
 from dataclasses import dataclass, replace
@@ -17,7 +18,8 @@ Range = Tuple[int, int]
 
 @dataclass(frozen=True)
 class Seen:
-    """How a file begins: its first line and some bytes behind it; and its size, where its bytes can be gone to, and its state."""
+    """How a file begins: its first line and some bytes behind it; and its size, where its bytes can
+    be gone to, and its state."""
 
     header: bytes = b""
     behind: bytes = b""
@@ -44,7 +46,8 @@ def cut(begin: int, size: int, each: int) -> Iterator[Range]:
 
 
 def _first_line(file: IO[bytes], begin: int, end: int) -> int:
-    """Where the first line begins at this byte or after it; some place from the end on where none begins before that."""
+    """Where the first line begins at this byte or after it; some place from the end on where none
+    begins before that."""
     file.seek(begin - 1)
     place = begin - 1
     while place < end:
@@ -59,7 +62,8 @@ def _first_line(file: IO[bytes], begin: int, end: int) -> int:
 
 
 def _lines_from(file: IO[bytes], begin: int, end: int, work: Work) -> bytearray:
-    """The lines that begin from one byte on and before another. Of a last one that is too long, as much as tells that."""
+    """The lines that begin from one byte on and before another. Of a last one that is too long, as
+    much as tells that."""
     file.seek(begin)
     reader, lines = Reader(file, file.name), bytearray()
     while len(lines) < end - begin:
@@ -79,14 +83,17 @@ def _lines_from(file: IO[bytes], begin: int, end: int, work: Work) -> bytearray:
     if reader.fault is not None:
         raise reader.fault
     if len(lines) > last + work.line_limit + 1 or not lines.endswith(b"\n"):
-        del lines[last + work.line_limit + 1:]
+        del lines[last + work.line_limit + 1 :]
         if work.keep_going and len(lines) > last + work.line_limit:
             lines += b"\n"
     return lines
 
 
-def judge_range(work: Work, path: str, begin: int, end: int, first: bool, state: Optional[State] = None) -> Answer:
-    """Judges the header of a file and the lines that begin in a range of it. It has to be in this state, if one is given."""
+def judge_range(
+    work: Work, path: str, begin: int, end: int, first: bool, state: Optional[State] = None
+) -> Answer:
+    """Judges the header of a file and the lines that begin in a range of it. It has to be in this
+    state, if one is given."""
     try:
         with open(path, "rb") as file:
             header = file.readline(work.line_limit + 1)

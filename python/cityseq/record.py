@@ -1,4 +1,5 @@
-"""The record of an archive: a line of JSON for each file, with what it is and what came of it, so that a later run may skip it."""
+"""The record of an archive: a line of JSON for each file, with what it is and what came of it, so
+that a later run may skip it."""
 from __future__ import annotations
 
 import hashlib
@@ -42,7 +43,8 @@ def time_now() -> str:
 
 
 class Record:
-    """The lines of a record: those that were there, and those that are appended, each written at once."""
+    """The lines of a record: those that were there, and those that are appended, each written at
+    once."""
 
     def __init__(self, path: str) -> None:
         self.path = path
@@ -53,7 +55,9 @@ class Record:
             text = self._file.read()
             for line in text.split(b"\n"):
                 self._take(line)
-            if text and not text.endswith(b"\n"):  # a run that was killed may have left a part of a line
+            if text and not text.endswith(
+                b"\n"
+            ):  # a run that was killed may have left a part of a line
                 self._file.write(b"\n")
         except OSError as fault:
             raise write_fault(fault, path) from fault
@@ -63,16 +67,33 @@ class Record:
             told = json.loads(line)
         except ValueError:
             return
-        if isinstance(told, dict) and told.get("kind") == "record" and isinstance(told.get("file"), str):
+        if (
+            isinstance(told, dict)
+            and told.get("kind") == "record"
+            and isinstance(told.get("file"), str)
+        ):
             self._told[told["file"]] = told
 
     def find(self, path: str, asked: Asked, program: str) -> Optional[Object]:
-        """What came of a file as it is now, by the same program and the same options, if that is told and was no fault."""
+        """What came of a file as it is now, by the same program and the same options, if that is
+        told and was no fault."""
         told = self._told.get(os.path.abspath(path))
         if told is None or told.get("verdict") not in ("valid", "invalid"):
             return None
-        wanted: Tuple[Any, ...] = (program, asked.command, options_object(asked), *state_now(path).values())
-        return told if wanted == tuple(told.get(name) for name in ("cityseq", "command", "options", "size", "mtime_ns")) else None
+        wanted: Tuple[Any, ...] = (
+            program,
+            asked.command,
+            options_object(asked),
+            *state_now(path).values(),
+        )
+        return (
+            told
+            if wanted
+            == tuple(
+                told.get(name) for name in ("cityseq", "command", "options", "size", "mtime_ns")
+            )
+            else None
+        )
 
     def append(self, told: Object) -> None:
         """Appends a line."""

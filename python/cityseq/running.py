@@ -1,13 +1,28 @@
-"""Runs over streams: their parts are judged by as many threads as asked, or elsewhere, and the answers joined in order."""
+"""Runs over streams: their parts are judged by as many threads as asked, or elsewhere, and the
+answers joined in order."""
 from __future__ import annotations
 
 import contextlib
 import os
 from collections import deque
-from dataclasses import asdict, dataclass, field, replace
+from dataclasses import dataclass, field, replace
 from functools import partial
 from itertools import chain, islice
-from typing import TYPE_CHECKING, Any, Callable, Deque, Dict, Generator, Iterable, Iterator, List, Optional, Tuple, Type, Union
+from typing import (
+    TYPE_CHECKING,
+    Any,
+    Callable,
+    Deque,
+    Dict,
+    Generator,
+    Iterable,
+    Iterator,
+    List,
+    Optional,
+    Tuple,
+    Type,
+    Union,
+)
 
 from ._library import COMPLETE, NO_MEMORY, REFUSED
 from .faults import CityseqError, InvalidStream, MemoryFault, ReadFault, RequestError, WriteFault
@@ -40,11 +55,13 @@ Results = Generator["Result", None, None]
 
 @dataclass
 class Result:
-    """What came of a stream. `status` is that of the program: 0 valid, 1 some line is invalid, 3 to 5 a fault, told by `fault`, which is
-    of the stream's file, or of the one that `fault_file` names.
+    """What came of a stream. `status` is that of the program: 0 valid, 1 some line is invalid, 3 to
+    5 a fault, told by `fault`, which is of the stream's file, or of the one that `fault_file`
+    names.
 
-    `reports` are the invalid lines that were told, in order: the first one, or, told to go on, all. `end` is the one that ended
-    the run, if one did. `features` are those that are wanted. Lines up to the end are counted, blank ones and the header too."""
+    `reports` are the invalid lines that were told, in order: the first one, or, told to go on, all.
+    `end` is the one that ended the run, if one did. `features` are those that are wanted. Lines up
+    to the end are counted, blank ones and the header too."""
 
     file: str
     status: int
@@ -59,7 +76,8 @@ class Result:
     fault: Optional[str] = None
     hints: List[str] = field(default_factory=list)
     fault_file: Optional[str] = None
-    raises: Optional[CityseqError] = field(default=None, repr=False, compare=False)  # the fault, as an exception
+    # the fault, as an exception
+    raises: Optional[CityseqError] = field(default=None, repr=False, compare=False)
 
     @property
     def valid(self) -> bool:
@@ -74,17 +92,12 @@ class Result:
         return self
 
     def raised_if_invalid(self, keep_going: bool) -> "Result":
-        """The same. Raises `InvalidStream` too, where the stream is not valid, unless it was to go on after invalid lines."""
+        """The same. Raises `InvalidStream` too, where the stream is not valid, unless it was to go
+        on after invalid lines."""
         self.raised()
         if self.status == InvalidStream.status and not keep_going:
             raise InvalidStream(str(self.end), self, self.file)
         return self
-
-    def summary(self) -> Dict[str, Any]:
-        """All but the reports, as JSON may have it."""
-        told = asdict(replace(self, reports=[], raises=None))
-        del told["reports"], told["raises"]
-        return told
 
 
 @dataclass
@@ -102,19 +115,20 @@ class Info(Result):
     lods: Optional[Dict[str, int]] = None
     unasked: Tuple[str, ...] = ()
 
-    def summary(self) -> Dict[str, Any]:
-        """All but the reports, as JSON may have it: the numbers of the transform as the program writes them."""
-        from .world import normal
-
-        transform = {"scale": list(map(normal, self.scale)), "translate": list(map(normal, self.translate))}
-        return {**super().summary(), **transform}
-
 
 class Stream:
-    """One stream on its way: what is still to be judged of it, and what came of its parts so far."""
+    """One stream on its way: what is still to be judged of it, and what came of its parts so
+    far."""
 
-    def __init__(self, source: Source, work: Work, size: Optional[int] = None, output: Optional[Writer] = None,
-                 tell: Optional[Tell] = None, progress: Optional[Progress] = None) -> None:
+    def __init__(
+        self,
+        source: Source,
+        work: Work,
+        size: Optional[int] = None,
+        output: Optional[Writer] = None,
+        tell: Optional[Tell] = None,
+        progress: Optional[Progress] = None,
+    ) -> None:
         self.source, self.work, self.size, self.file = source, work, size, name_of(source)
         self._in_turn = False
         self._output, self._progress = output, progress
@@ -148,7 +162,8 @@ class Stream:
         return before
 
     def tasks(self) -> Tasks:
-        """What is to be called for each part, in order. A read that fails, or memory that is refused, is told after them."""
+        """What is to be called for each part, in order. A read that fails, or memory that is
+        refused, is told after them."""
         try:
             with opened(self.source) as reader:
                 yield from self._tasks(reader)
@@ -179,33 +194,51 @@ class Stream:
             raise reader.fault
 
     def _packing(self, task: Task) -> Task:
-        """The same, which packs what is kept where the output is packed: so many threads pack at once."""
+        """The same, which packs what is kept where the output is packed: so many threads pack at
+        once."""
         how = None if self._output is None else self._output.packing
         if how is None:
             return task
         return partial(_packed, task, how)
 
     def _parts(self, reader: Reader, header: bytes, rest: bytearray) -> Iterator[Optional[Judged]]:
-        """What judges each part behind the header: those of a file are read where they are judged, but for its end."""
+        """What judges each part behind the header: those of a file are read where they are judged,
+        but for its end."""
         file = placed(reader.file) if is_path(self.source) else None
         if file is not None:
-            begin = yield from (self._parts_in_turn if self._in_turn else self._parts_at_once)(file, header)
+            begin = yield from (self._parts_in_turn if self._in_turn else self._parts_at_once)(
+                file, header
+            )
             if begin > len(header):
                 reader.go_to(begin)
                 rest = bytearray()
-        for part in Cutter(reader, rest, self._part_size(PART, header), self.work.line_limit, self.work.keep_going).parts():
-            yield partial(judge_read, self.work, self.file, header, partial(given, part)) if part else None
+        for part in Cutter(
+            reader, rest, self._part_size(PART, header), self.work.line_limit, self.work.keep_going
+        ).parts():
+            yield partial(
+                judge_read, self.work, self.file, header, partial(given, part)
+            ) if part else None
 
     def _parts_at_once(self, file: Placed, header: bytes) -> Generator[Judged, None, int]:
         """What judges parts of a file, by any thread. It answers where what is left begins."""
         places = Places(file, len(header), self._part_size(PART, header), self.work.line_limit)
         for ends in places.parts():
-            yield partial(judge_placed, self.work, self.file, header, file, ends, self._part_size(SMALL, header))
+            yield partial(
+                judge_placed,
+                self.work,
+                self.file,
+                header,
+                file,
+                ends,
+                self._part_size(SMALL, header),
+            )
         return places.begin
 
     def _parts_in_turn(self, file: Placed, header: bytes) -> Generator[Judged, None, int]:
-        """What judges parts of a file that are read in turn, or what came of them. It answers where what is left begins."""
-        # whether the texts of LoDs are too many to be told hangs on how long parts are, and is to be the same for any number of threads
+        """What judges parts of a file that are read in turn, or what came of them. It answers where
+        what is left begins."""
+        # whether the texts of LoDs are too many to be told hangs on how long parts are, and is to
+        # be the same for any number of threads
         usual = PART if self.work.exact_lods else SMALL
         turns = Turns(file, len(header), self._part_size(usual, header), self.work.line_limit)
         answer = turns.counted(self.work, header, AT_ONCE) if self.work.counts_alone else None
@@ -217,9 +250,11 @@ class Stream:
         return turns.begin
 
     def _part_size(self, usual: int, header: bytes) -> int:
-        """How long parts are. A long header is judged again with each, and a query for very many ids is made ready again, so that they
-        are longer then."""
-        for_ids = 0 if self.work.ids is None else part_size_for(self.work.ids, self._head[len(header):])
+        """How long parts are. A long header is judged again with each, and a query for very many
+        ids is made ready again, so that they are longer then."""
+        for_ids = (
+            0 if self.work.ids is None else part_size_for(self.work.ids, self._head[len(header) :])
+        )
         return self.size or max(usual, HEADERS * len(header), for_ids)
 
     def heads(self, header: bytes, behind: bytes) -> None:
@@ -233,7 +268,12 @@ class Stream:
         if answer.status == NO_MEMORY:
             self._fault = MemoryFault("out of memory", None, self.file)
         if self._output is not None and self._fault is None:
-            self._write(partial(self._output.write_packed if answer.is_packed else self._output.write, answer.output))
+            self._write(
+                partial(
+                    self._output.write_packed if answer.is_packed else self._output.write,
+                    answer.output,
+                )
+            )
         if answer.fault is not None and self._fault is None:
             self._fault = answer.fault
         if self._progress is not None:
@@ -268,14 +308,30 @@ class Stream:
             self._fault = ReadFault(f"read fault: {CHANGED}", None, self.file)
         refused = joined.status == REFUSED or joined.refused > 0
         if self._output is not None:
-            whole = self._fault is None and joined.end is None and (not refused or self.work.keep_going)
+            whole = (
+                self._fault is None and joined.end is None and (not refused or self.work.keep_going)
+            )
             self._write(partial(self._output.close, whole))
         hints = hints_for(joined.end, self._head) if joined.end is not None else []
         made: Type[Result] = Info if self.work.kind == "info" else Result
-        result = made(self.file, int(refused), joined.lines, joined.kept, joined.refused, *joined.peaks, end=joined.end,
-                      reports=self._reports, hints=hints, raises=self._fault)
+        result = made(
+            self.file,
+            int(refused),
+            joined.lines,
+            joined.kept,
+            joined.refused,
+            *joined.peaks,
+            end=joined.end,
+            reports=self._reports,
+            hints=hints,
+            raises=self._fault,
+        )
         if self._fault is not None:
-            result.status, result.fault, result.fault_file = self._fault.status, self._fault.words, self._fault.file
+            result.status, result.fault, result.fault_file = (
+                self._fault.status,
+                self._fault.words,
+                self._fault.file,
+            )
         if isinstance(result, Info) and not self.ended and joined.tally is not None:
             self._inform(result, joined.tally)
         return result
@@ -309,9 +365,12 @@ def _told(answer: Answer, _: bool) -> Answer:
     return answer
 
 
-def results(streams: Iterable[Union[Stream, Whole]], submit: Callable[[Task], Any], ahead: int) -> Results:
-    """What comes of each stream, in order. `submit` begins a task and answers its future; so many are begun before the first is
-    waited for. What was begun of a stream after its end is cancelled."""
+def results(
+    streams: Iterable[Union[Stream, Whole]], submit: Callable[[Task], Any], ahead: int
+) -> Results:
+    """What comes of each stream, in order. `submit` begins a task and answers its future; so many
+    are begun before the first is waited for. What was begun of a stream after its end is
+    cancelled."""
     waiting: Deque[Tuple[Union[Stream, Whole], Any]] = deque()
     last: Optional[Stream] = None
 
@@ -352,8 +411,12 @@ def results(streams: Iterable[Union[Stream, Whole]], submit: Callable[[Task], An
             last.abandon()
 
 
-def in_turn(streams: Iterable[Stream], call: Callable[[Callable[[], List[Answer]]], List[Answer]] = lambda made: made()) -> Results:
-    """What comes of each stream, in order. Its parts are read and judged one after another, by the calls that are given to `call`."""
+def in_turn(
+    streams: Iterable[Stream],
+    call: Callable[[Callable[[], List[Answer]]], List[Answer]] = lambda made: made(),
+) -> Results:
+    """What comes of each stream, in order. Its parts are read and judged one after another, by the
+    calls that are given to `call`."""
     for stream in map(Stream.read_in_turn, streams):
         try:
             with contextlib.closing(stream.tasks()) as tasks:
@@ -369,7 +432,8 @@ def in_turn(streams: Iterable[Stream], call: Callable[[Callable[[], List[Answer]
 
 
 def _next_answers(tasks: Tasks) -> List[Answer]:
-    """What comes of the next parts, of so many that it is worth while to hand it on; nothing at the end."""
+    """What comes of the next parts, of so many that it is worth while to hand it on; nothing at the
+    end."""
     answers: List[Answer] = []
     size = 0
     for task in tasks:
@@ -407,7 +471,8 @@ def _by_crew(streams: Iterable[Stream], jobs: int) -> Results:
 
 
 def _shared_out(streams: Iterable[Stream], crew: Crew) -> Iterator[Union[Stream, Whole]]:
-    """The streams; each that is packed is judged whole by a thread, unless it is the only one, so that many are unpacked at once."""
+    """The streams; each that is packed is judged whole by a thread, unless it is the only one, so
+    that many are unpacked at once."""
     ahead = iter(streams)
     begun = list(islice(ahead, 2))
     for stream in chain(begun, ahead):
@@ -418,5 +483,5 @@ def _shared_out(streams: Iterable[Stream], crew: Crew) -> Iterator[Union[Stream,
 
 
 def _judged_whole(stream: Stream) -> Result:
-    result, = in_turn([stream])
+    (result,) = in_turn([stream])
     return result

@@ -1,4 +1,5 @@
-"""Whether an output would destroy what is read: files are compared by device and inode, and not by name."""
+"""Whether an output would destroy what is read: files are compared by device and inode, and not by
+name."""
 from __future__ import annotations
 
 import os
@@ -13,24 +14,32 @@ Identity = Tuple[int, int]
 
 
 def _state(thing: Any, standard: int) -> os.stat_result:
-    """What the system tells of a source or an output. That which is `-` is this standard descriptor."""
+    """What the system tells of a source or an output. That which is `-` is this standard
+    descriptor."""
     if is_path(thing):
         return os.stat(thing)
     return os.fstat(standard if isinstance(thing, str) else thing.fileno())
 
 
 def identity(thing: Any, standard: int) -> Optional[Identity]:
-    """The device and the inode of what a source or an output stores its bytes in; None where it is not there, or is no regular file."""
+    """The device and the inode of what a source or an output stores its bytes in; None where it is
+    not there, or is no regular file."""
     try:
         state = _state(thing, standard)
     except (AttributeError, OSError, ValueError):
         return None
-    return (state.st_dev, state.st_ino) if stat.S_ISREG(state.st_mode) or stat.S_ISBLK(state.st_mode) else None
+    return (
+        (state.st_dev, state.st_ino)
+        if stat.S_ISREG(state.st_mode) or stat.S_ISBLK(state.st_mode)
+        else None
+    )
 
 
 def _written(outputs: Iterable[Any]) -> Iterator[Tuple[str, Any]]:
     """The name of each output, and each file that is written for it."""
-    for output in (os.fsdecode(output) if isinstance(output, bytes) else output for output in outputs):
+    for output in (
+        os.fsdecode(output) if isinstance(output, bytes) else output for output in outputs
+    ):
         yield name_of(output), output
         if is_path(output):
             part = part_of(os.fsdecode(output))
@@ -39,8 +48,13 @@ def _written(outputs: Iterable[Any]) -> Iterator[Tuple[str, Any]]:
 
 
 def refuse_same(sources: Iterable[Any], outputs: Iterable[Any]) -> None:
-    """Raises `RequestError` where something that is written, standard output too if it is `-`, is something that is read."""
-    read: Set[Identity] = {found for found in (identity(source, 0) for source in sources if not isinstance(source, bytes)) if found}
+    """Raises `RequestError` where something that is written, standard output too if it is `-`, is
+    something that is read."""
+    read: Set[Identity] = {
+        found
+        for found in (identity(source, 0) for source in sources if not isinstance(source, bytes))
+        if found
+    }
     for name, output in _written(outputs):
         if identity(output, 1) in read:
             raise RequestError(f"{name}: the output is a file that is read")

@@ -1,4 +1,5 @@
-"""Texts from outside as a terminal may have them: what a stream or a name of a file has in it can move the cursor or turn the line."""
+"""Texts from outside as a terminal may have them: what a stream or a name of a file has in it can
+move the cursor or turn the line."""
 from __future__ import annotations
 
 import json
@@ -14,13 +15,17 @@ def _escaped(sign: str) -> str:
 
 
 def shown(text: str) -> str:
-    """The same, with an escape for each sign that is not printed: controls, marks of direction, lone surrogates."""
+    """The same, with an escape for each sign that is not printed: controls, marks of direction,
+    lone surrogates."""
     return text if text.isprintable() else "".join(map(_escaped, text))
 
 
 def quoted(text: str) -> str:
-    """The same as a string of JSON, in which all other letters stand as they are. Of a long text its beginning is shown."""
-    return shown(json.dumps(text if len(text) <= MOST else f"{text[:MOST]}\u2026", ensure_ascii=False))
+    """The same as a string of JSON, in which all other letters stand as they are. Of a long text
+    its beginning is shown."""
+    return shown(
+        json.dumps(text if len(text) <= MOST else f"{text[:MOST]}\u2026", ensure_ascii=False)
+    )
 
 
 def fitting(text: str, encoding: str) -> str:

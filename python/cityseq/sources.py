@@ -22,7 +22,8 @@ READ_FAULTS = (OSError, EOFError, ValueError)  # what a read may fail by
 
 
 def is_path(source: Any) -> bool:
-    """Whether a source or a target is a path, `-` aside. Bytes are none: they are a stream themselves."""
+    """Whether a source or a target is a path, `-` aside. Bytes are none: they are a stream
+    themselves."""
     return isinstance(source, (str, os.PathLike)) and os.fsdecode(source) != "-"
 
 
@@ -37,7 +38,8 @@ def name_of(source: Any) -> str:
 
 
 def size_of(source: Any) -> Optional[int]:
-    """How many bytes a source has, packed where it is packed, if that can be known before it is read."""
+    """How many bytes a source has, packed where it is packed, if that can be known before it is
+    read."""
     if isinstance(source, (bytes, bytearray, memoryview)):
         return memoryview(source).nbytes
     return os.path.getsize(source) if is_path(source) and os.path.isfile(source) else None
@@ -50,7 +52,9 @@ def _poll_of(file: Any) -> Any:
         mode = os.fstat(descriptor).st_mode
     except (AttributeError, OSError, ValueError):
         return None
-    if isinstance(file, Unpacker) or not (stat.S_ISFIFO(mode) or stat.S_ISSOCK(mode) or stat.S_ISCHR(mode)):
+    if isinstance(file, Unpacker) or not (
+        stat.S_ISFIFO(mode) or stat.S_ISSOCK(mode) or stat.S_ISCHR(mode)
+    ):
         return None
     poll = select.poll()
     poll.register(descriptor, select.POLLIN)
@@ -88,7 +92,13 @@ class Reader:
             piece = self._read(min(most, PIECE))
             if isinstance(piece, (bytes, bytearray)):
                 return bytes(piece)
-            self._fail(OSError("the source gives text: open it as binary" if isinstance(piece, str) else "no bytes were ready"))
+            self._fail(
+                OSError(
+                    "the source gives text: open it as binary"
+                    if isinstance(piece, str)
+                    else "no bytes were ready"
+                )
+            )
         except READ_FAULTS as fault:
             self._fail(fault)
         return b""
@@ -114,7 +124,9 @@ def _open(source: Source) -> Any:
         return io.BytesIO(source)
     if isinstance(source, (str, os.PathLike)):
         return _open_path(os.fsdecode(source))
-    raise RequestError(f"a source is a path, bytes or a binary file, and no {type(source).__name__}")
+    raise RequestError(
+        f"a source is a path, bytes or a binary file, and no {type(source).__name__}"
+    )
 
 
 def is_packed(source: Any) -> bool:
@@ -129,7 +141,8 @@ def is_packed(source: Any) -> bool:
 
 
 def state_of(descriptor: int) -> State:
-    """The size of an open file and its time, one of which is another one where the file is changed."""
+    """The size of an open file and its time, one of which is another one where the file is
+    changed."""
     told = os.fstat(descriptor)
     return told.st_size, told.st_mtime_ns
 

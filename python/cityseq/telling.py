@@ -1,11 +1,12 @@
-"""What the command says of files: of each invalid line, and of what came of each file, as text or as JSON."""
+"""What the command says of files: of each invalid line, and of what came of each file, as text or
+as JSON."""
 from __future__ import annotations
 
 import json
 import os
 import sys
 from collections import Counter
-from typing import Any, Callable, Dict, Iterator, List, Optional
+from typing import Any, Callable, Dict, Iterator, List
 
 from .console import encoding, put, say
 from .progress import Bar
@@ -28,7 +29,8 @@ def is_terminal(output: Any) -> bool:
 
 
 def info_lines(info: Info, is_plain: bool) -> Iterator[str]:
-    """The report of a stream: the program's lines, and, of a file, the box in world coordinates and the texts of LoDs."""
+    """The report of a stream: the program's lines, and, of a file, the box in world coordinates and
+    the texts of LoDs."""
     from .world import normal
 
     yield f"lines {info.lines}"
@@ -37,7 +39,11 @@ def info_lines(info: Info, is_plain: bool) -> Iterator[str]:
     yield "translate " + " ".join(map(normal, info.translate))
     yield from (f"type {name} {count}" for name, count in info.types.items())
     yield from (f"lod {name} {count}" for name, count in info.classes.items())
-    yield from (f"{axis} {told[0]} {told[1]}" for axis, told in zip("xyz", (info.x, info.y, info.z)) if told is not None)
+    yield from (
+        f"{axis} {told[0]} {told[1]}"
+        for axis, told in zip("xyz", (info.x, info.y, info.z))
+        if told is not None
+    )
     yield f"peak bytes {info.peak_bytes}"
     yield f"peak tokens {info.peak_tokens}"
     yield f"peak open {info.peak_depth}"
@@ -51,16 +57,23 @@ def info_lines(info: Info, is_plain: bool) -> Iterator[str]:
         yield f"features with lod {quoted(text)} unknown"
 
 
+def _counts(lines: int, features: int, refused: int) -> str:
+    """The counts of a stream, as the program writes them."""
+    return f"lines={lines} features={features}" + (f" refused={refused}" if refused else "")
+
+
 class Teller:
-    """Says reports as they come, as many as are wanted, and what came of each file. A report that ends a run is said with its result, so
-    behind what was written before it."""
+    """Says reports as they come, as many as are wanted, and what came of each file. A report that
+    ends a run is said with its result, so behind what was written before it."""
 
     def __init__(self, asked: Asked, bar: Bar) -> None:
         self._asked, self._bar = asked, bar
         self._codes: "Counter[int]" = Counter()
         self._count = 0
         on_a_terminal = is_terminal(sys.stderr) and not asked.is_plain and not asked.json
-        self._most = ON_A_TERMINAL if asked.max_reports is None and on_a_terminal else asked.max_reports
+        self._most = (
+            ON_A_TERMINAL if asked.max_reports is None and on_a_terminal else asked.max_reports
+        )
 
     def report(self, report: Report) -> None:
         """Says that a line is invalid."""
@@ -117,7 +130,11 @@ class TextTeller(Teller):
     def __init__(self, asked: Asked, bar: Bar, has_many: bool) -> None:
         super().__init__(asked, bar)
         self._has_many = has_many
-        self._has_colour = is_terminal(sys.stderr) and not os.environ.get("NO_COLOR") and os.environ.get("TERM") != "dumb"
+        self._has_colour = (
+            is_terminal(sys.stderr)
+            and not os.environ.get("NO_COLOR")
+            and os.environ.get("TERM") != "dumb"
+        )
 
     def _say(self, *lines: str) -> None:
         self._bar.clear()
@@ -142,7 +159,8 @@ class TextTeller(Teller):
         self._say(*self._lines(report))
 
     def _lines(self, report: Report) -> Iterator[str]:
-        """The program's words, and below them of which feature, where in it, what stands there, and how to fix it."""
+        """The program's words, and below them of which feature, where in it, what stands there, and
+        how to fix it."""
         place = f"{self._of(report.file)}line {report.line}, byte {report.byte}"
         yield f"{self._painted(BOLD, place)}: {self._painted(RED, f'{report.code} {report.text}')}"
         if report.id is not None:
@@ -155,7 +173,10 @@ class TextTeller(Teller):
         yield f"    Fix: {explain(report.code).fix.split('. ')[0].rstrip('.')}."
 
     def say_more(self, file: str, count: int) -> None:
-        self._say(f"{self._of(file)}{count:,} more lines are not valid: --max-reports says how many are told, --summary counts them")
+        self._say(
+            f"{self._of(file)}{count:,} more lines are not valid:"
+            " --max-reports says how many are told, --summary counts them"
+        )
 
     def say_result(self, result: Result, extra: Callable[[], Object]) -> None:
         if result.fault is not None:
@@ -165,11 +186,13 @@ class TextTeller(Teller):
             for hint in result.hints:
                 self._say(f"{self._of(result.file)}{hint}")
         if result.end is None and isinstance(result, Info):
-            self._put([self._of(result.file) + line for line in info_lines(result, self._asked.is_plain)])
+            self._put(
+                [self._of(result.file) + line for line in info_lines(result, self._asked.is_plain)]
+            )
         elif result.end is None and self._asked.command == "check":
-            refused = f" refused={result.refused}" if result.refused else ""
-            words = f"{'invalid' if refused else 'valid'} lines={result.lines} features={result.features}{refused}"
-            self._put([self._of(result.file) + words])
+            verdict = "invalid" if result.refused else "valid"
+            counts = _counts(result.lines, result.features, result.refused)
+            self._put([f"{self._of(result.file)}{verdict} {counts}"])
 
     def _fault(self, result: Result, words: str) -> str:
         """A fault: of standard input alone in the program's words."""
@@ -178,8 +201,8 @@ class TextTeller(Teller):
         return f"{shown(result.fault_file or result.file)}: {shown(words)}"
 
     def skipped(self, file: str, told: Object) -> None:
-        self._put([f"{self._of(file)}{told['verdict']} lines={told['lines']} features={told['features']}"
-                   f"{' refused=%d' % told['refused'] if told['refused'] else ''}, as recorded at {told['time']}"])
+        counts = _counts(told["lines"], told["features"], told["refused"])
+        self._put([f"{self._of(file)}{told['verdict']} {counts}, as recorded at {told['time']}"])
 
     def say_summary(self, codes: "Counter[int]") -> None:
         for code in sorted(codes):
@@ -229,5 +252,6 @@ def brief(words: str) -> str:
 def teller_of(asked: Asked, bar: Bar, has_many: bool) -> Teller:
     """What says all as it is asked for."""
     if asked.json:
-        return JsonTeller(asked, bar, asked.command == "filter" and asked.output == "-" and asked.output_dir is None)
+        keeps = asked.command == "filter" and asked.output == "-" and asked.output_dir is None
+        return JsonTeller(asked, bar, keeps)
     return TextTeller(asked, bar, has_many)

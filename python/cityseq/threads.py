@@ -1,8 +1,9 @@
-"""Threads that judge parts: each has a stack of its own size, and they are started one by one, as there is work for them.
+"""Threads that judge parts: each has a stack of its own size, and they are started one by one, as
+there is work for them.
 
-A pool of Python's own gives a thread the stack that `ulimit -s` says, which may be too small, and waits for ever where the memory for
-the first steps of a thread is refused. Here a thread that does not begin means fewer threads. Where none begins, whoever asks for an
-answer does the work."""
+A pool of Python's own gives a thread the stack that `ulimit -s` says, which may be too small, and
+waits for ever where the memory for the first steps of a thread is refused. Here a thread that does
+not begin means fewer threads. Where none begins, whoever asks for an answer does the work."""
 from __future__ import annotations
 
 import _thread
@@ -19,7 +20,8 @@ _starting = threading.Lock()  # since how long a stack is is set for the whole p
 
 
 def _start(call: Callable[..., None], *given: Any) -> None:
-    """Starts a thread with a stack of its own. Raises `RuntimeError` or `MemoryError` where the system refuses that."""
+    """Starts a thread with a stack of its own. Raises `RuntimeError` or `MemoryError` where the
+    system refuses that."""
     with _starting:
         before = threading.stack_size(STACK)
         try:
@@ -29,9 +31,12 @@ def _start(call: Callable[..., None], *given: Any) -> None:
 
 
 def _has_stack() -> bool:
-    """Whether the thread that asks surely has as long a stack: it is the first one of the process, and the system allows that."""
+    """Whether the thread that asks surely has as long a stack: it is the first one of the process,
+    and the system allows that."""
     limit = resource.getrlimit(resource.RLIMIT_STACK)[0]
-    return threading.current_thread() is threading.main_thread() and (limit == resource.RLIM_INFINITY or limit >= STACK)
+    return threading.current_thread() is threading.main_thread() and (
+        limit == resource.RLIM_INFINITY or limit >= STACK
+    )
 
 
 class Job(Generic[T]):
@@ -86,14 +91,15 @@ class Job(Generic[T]):
 
 
 class Crew:
-    """Threads that make calls, at most so many, and never more than there are calls. It is closed by leaving a `with` block, and then
-    none of them is left."""
+    """Threads that make calls, at most so many, and never more than there are calls. It is closed
+    by leaving a `with` block, and then none of them is left."""
 
     def __init__(self, most: int) -> None:
         self._most = most
         self._jobs: "SimpleQueue[Optional[Job[Any]]]" = SimpleQueue()
         self._submitted = 0
-        self._ends: List[Any] = []  # a lock for each thread that has begun, which it holds as long as it is there
+        # a lock for each thread that has begun, which it holds as long as it is there
+        self._ends: List[Any] = []
 
     def __enter__(self) -> "Crew":
         return self
@@ -127,7 +133,8 @@ class Crew:
         return job
 
     def _add(self) -> bool:
-        """Starts one more thread, and waits until it has begun: with little memory it may end before that, in silence."""
+        """Starts one more thread, and waits until it has begun: with little memory it may end
+        before that, in silence."""
         begun, end = _thread.allocate_lock(), _thread.allocate_lock()
         begun.acquire()
         end.acquire()

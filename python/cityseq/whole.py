@@ -1,7 +1,8 @@
-"""Streams that one thread reads and judges whole, as those of many packed files: so as many are unpacked at once as there are threads.
+"""Streams that one thread reads and judges whole, as those of many packed files: so as many are
+unpacked at once as there are threads.
 
-Reports and progress are handed to the thread that asks for the result, in order, and so few wait that memory is bounded: a thread that is
-ahead waits until its file's turn comes."""
+Reports and progress are handed to the thread that asks for the result, in order, and so few wait
+that memory is bounded: a thread that is ahead waits until its file's turn comes."""
 from __future__ import annotations
 
 import queue
@@ -23,7 +24,8 @@ class GivenUp(Exception):
 
 
 class Relay:
-    """Hands reports and counts of bytes from the thread that has them to the one that tells them."""
+    """Hands reports and counts of bytes from the thread that has them to the one that tells
+    them."""
 
     def __init__(self) -> None:
         self._queue: "queue.Queue[Union[int, List[Report], None]]" = queue.Queue(WAITING)
@@ -38,7 +40,8 @@ class Relay:
             self._hand_on()
 
     def progress(self, size: int) -> None:
-        """Takes how many bytes more are done; all reports of these were taken before. It never waits for its turn."""
+        """Takes how many bytes more are done; all reports of these were taken before. It never
+        waits for its turn."""
         self._size += size
         if self.is_given_up:
             raise GivenUp
@@ -71,8 +74,11 @@ class Relay:
             except queue.Full:
                 pass
 
-    def drain(self, tell: Optional[Tell], progress: Optional[Progress], is_alive: Callable[[], bool]) -> None:
-        """Tells all that is handed over, until nothing more comes, or no thread is there any more that may hand something over."""
+    def drain(
+        self, tell: Optional[Tell], progress: Optional[Progress], is_alive: Callable[[], bool]
+    ) -> None:
+        """Tells all that is handed over, until nothing more comes, or no thread is there any more
+        that may hand something over."""
         while True:
             try:
                 what = self._queue.get(timeout=PATIENCE)

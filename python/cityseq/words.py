@@ -1,6 +1,8 @@
-"""The words of the command line: which there are, the help on them, and what is said where they are not understood.
+"""The words of the command line: which there are, the help on them, and what is said where they are
+not understood.
 
-Commands, options, texts and mistakes are those of the program `cityseq`, and some more; so whoever knows the one knows the other."""
+Commands, options, texts and mistakes are those of the program `cityseq`, and some more; so whoever
+knows the one knows the other."""
 from __future__ import annotations
 
 from dataclasses import dataclass, field
@@ -62,19 +64,26 @@ class Told(Exception):
 
 @dataclass(frozen=True)
 class Option:
-    """An option: its name, what it sets, the value that it takes, if it takes one, and the help on it."""
+    """An option: its name, what it sets, the value that it takes, if it takes one, and the help on
+    it."""
 
     name: str
     help: str
     value: Optional[str] = None
     read: Callable[[str], Any] = str
     usual: Optional[str] = None
-    sets: Optional[Tuple[str, Any]] = None  # of an option without a value, if that is another field than its own
+    # of an option without a value: the field and what it is set to, if that is not its own field
+    sets: Optional[Tuple[str, Any]] = None
 
     @property
     def usage(self) -> str:
         """The option as it is written."""
         return f"--{self.name}" + (f" <{self.value}>" if self.value else "")
+
+    @property
+    def told(self) -> str:
+        """The help on it, with the value where none is given."""
+        return self.help + (f" [default: {self.usual}]" if self.usual else "")
 
     @property
     def field(self) -> str:
@@ -84,7 +93,8 @@ class Option:
 
 @dataclass(frozen=True)
 class Command:
-    """A command: what it does, its options, what stands for its other words, and what follows its help."""
+    """A command: what it does, its options, what stands for its other words, and what follows its
+    help."""
 
     name: str
     about: str
@@ -99,7 +109,11 @@ def whole_number(least: int, greatest: int) -> Callable[[str], int]:
     def read(text: str) -> int:
         digits = text[1:] if text[:1] == "+" else text
         if not (digits.isascii() and digits.isdigit()):
-            raise ValueError("invalid digit found in string" if text else "cannot parse integer from empty string")
+            raise ValueError(
+                "invalid digit found in string"
+                if text
+                else "cannot parse integer from empty string"
+            )
         if int(digits) >= 1 << 64:
             raise ValueError("number too large to fit in target type")
         if not least <= int(digits) <= greatest:
@@ -110,43 +124,102 @@ def whole_number(least: int, greatest: int) -> Callable[[str], int]:
 
 
 LIMITS = (
-    Option("line-limit", "Refuse a line that is longer, from {} to {}".format(*LINE_LIMITS), "BYTES", whole_number(*LINE_LIMITS),
-           str(USUAL_LINE)),
-    Option("depth", "Refuse a line with more arrays and objects open at once, from {} to {}".format(*DEPTH_LIMITS), "LEVELS",
-           whole_number(*DEPTH_LIMITS), str(USUAL_DEPTH)),
+    Option(
+        "line-limit",
+        "Refuse a line that is longer, from {} to {}".format(*LINE_LIMITS),
+        "BYTES",
+        whole_number(*LINE_LIMITS),
+        str(USUAL_LINE),
+    ),
+    Option(
+        "depth",
+        "Refuse a line with more arrays and objects open at once, from {} to {}".format(
+            *DEPTH_LIMITS
+        ),
+        "LEVELS",
+        whole_number(*DEPTH_LIMITS),
+        str(USUAL_DEPTH),
+    ),
 )
 KEEP_GOING = Option("keep-going", "Report each line that is not valid, and go on with the next")
 TREE = Option("tree", "Refuse a feature of which a city object is not reached from the main one")
 QUERY = (
-    Option("exclude", "Keep the features that do not meet the options below, instead of those that do"),
+    Option(
+        "exclude", "Keep the features that do not meet the options below, instead of those that do"
+    ),
     Option("id", "Keep a feature whose id is one of these, with commas between them", "IDS"),
-    Option("ids-from", "Keep a feature whose id is a line of this file, or of standard input if it is -", "LIST"),
-    Option("type", "Keep a feature that has a city object of one of these types, with commas between them", "TYPES"),
-    Option("lod", "Keep a feature that has a geometry with one of these as its lod, with commas between them", "LODS"),
-    Option("bbox", "Keep a feature that reaches into this box, in world coordinates; written --bbox=-5,0,5,9 where it begins with a minus",
-           "MINX,MINY,MAXX,MAXY"),
+    Option(
+        "ids-from",
+        "Keep a feature whose id is a line of this file, or of standard input if it is -",
+        "LIST",
+    ),
+    Option(
+        "type",
+        "Keep a feature that has a city object of one of these types, with commas between them",
+        "TYPES",
+    ),
+    Option(
+        "lod",
+        "Keep a feature that has a geometry with one of these as its lod, with commas between them",
+        "LODS",
+    ),
+    Option(
+        "bbox",
+        "Keep a feature that reaches into this box, in world coordinates; written --bbox=-5,0,5,9 where it begins with a minus",
+        "MINX,MINY,MAXX,MAXY",
+    ),
 )
 OUTPUTS = (
-    Option("output", "Write to this file once the run has ended well, packed where its name ends in .gz or .zst", "OUTPUT", usual="-"),
+    Option(
+        "output",
+        "Write to this file once the run has ended well, packed where its name ends in .gz or .zst",
+        "OUTPUT",
+        usual="-",
+    ),
     Option("output-dir", "Write what is kept of each FILE to a file of its name in here", "FOLDER"),
     Option("keep-partial", "Leave what was kept as OUTPUT.part where the run has not ended well"),
 )
 RUNS = (
-    Option("files-from", "Read the names of files from this file, one a line, or from standard input if it is -", "LIST"),
-    Option("jobs", "Judge so many parts at once [default: the number of processors]", "N", whole_number(1, MOST_JOBS)),
-    Option("part-size", "Judge parts of so many bytes [default: 4 MiB or less]", "BYTES", whole_number(1, MOST_BYTES)),
+    Option(
+        "files-from",
+        "Read the names of files from this file, one a line, or from standard input if it is -",
+        "LIST",
+    ),
+    Option(
+        "jobs",
+        "Judge so many parts at once [default: the number of processors]",
+        "N",
+        whole_number(1, MOST_JOBS),
+    ),
+    Option(
+        "part-size",
+        "Judge parts of so many bytes [default: 4 MiB or less]",
+        "BYTES",
+        whole_number(1, MOST_BYTES),
+    ),
 )
 SAYS = (
-    Option("json", "Write an object a line, as docs/json.md says: one for each report, and one for each FILE at its end"),
+    Option(
+        "json",
+        "Write an object a line, as docs/json.md says: one for each report, and one for each FILE at its end",
+    ),
     Option("sha256", "Say the SHA-256 of each FILE, with --json"),
-    Option("max-reports", "Say so many reports of each FILE, and then how many more there are [default: 1000 on a terminal]", "N",
-           whole_number(0, MOST_BYTES)),
+    Option(
+        "max-reports",
+        "Say so many reports of each FILE, and then how many more there are [default: 1000 on a terminal]",
+        "N",
+        whole_number(0, MOST_BYTES),
+    ),
     Option("summary", "Say how often each reason comes, instead of each report"),
     Option("progress", "Show on standard error how far it is"),
     Option("quiet", "Say nothing but faults: the status tells the rest"),
 )
 RECORDS = (
-    Option("record", "Append a line for each FILE to this file: what it is, and what came of it", "RECORD"),
+    Option(
+        "record",
+        "Append a line for each FILE to this file: what it is, and what came of it",
+        "RECORD",
+    ),
     Option("resume", "Skip each FILE that is in the record as it is now, with the same options"),
 )
 STATUSES = """\
@@ -197,16 +270,46 @@ and translation, city objects by type, geometries by LoD, the least and the grea
 vertices on each axis, and the most bytes, tokens and open containers that were held; of a FILE also
 the box in world coordinates, and the features by the texts of their LoDs. See '{0} --help' for the
 exit status."""
-COMMANDS = {command.name: command for command in (
-    Command("check", "Say whether a stream is valid, and count its lines and features",
-            (*LIMITS, KEEP_GOING, TREE, *RUNS, *SAYS, *RECORDS), CHECK_AFTER),
-    Command("filter", "Copy the header and the features that are wanted",
-            (*LIMITS, KEEP_GOING, TREE, *QUERY, *OUTPUTS, *RUNS, *SAYS), FILTER_AFTER),
-    Command("info", "Report what is in a stream: types, LoDs, extent, and memory",
-            (*LIMITS, TREE, Option("no-lods", "Do not count the texts of LoDs, which takes as long again for each", sets=("lods", False)),
-             *RUNS, *SAYS), INFO_AFTER),
-    Command("explain", "Say what the code of a reason means, and how to fix it", (), "Example:\n  {0} explain 25", "<CODE>"),
-)}
+COMMANDS = {
+    command.name: command
+    for command in (
+        Command(
+            "check",
+            "Say whether a stream is valid, and count its lines and features",
+            (*LIMITS, KEEP_GOING, TREE, *RUNS, *SAYS, *RECORDS),
+            CHECK_AFTER,
+        ),
+        Command(
+            "filter",
+            "Copy the header and the features that are wanted",
+            (*LIMITS, KEEP_GOING, TREE, *QUERY, *OUTPUTS, *RUNS, *SAYS),
+            FILTER_AFTER,
+        ),
+        Command(
+            "info",
+            "Report what is in a stream: types, LoDs, extent, and memory",
+            (
+                *LIMITS,
+                TREE,
+                Option(
+                    "no-lods",
+                    "Do not count the texts of LoDs, which takes as long again for each",
+                    sets=("lods", False),
+                ),
+                *RUNS,
+                *SAYS,
+            ),
+            INFO_AFTER,
+        ),
+        Command(
+            "explain",
+            "Say what the code of a reason means, and how to fix it",
+            (),
+            "Example:\n  {0} explain 25",
+            "<CODE>",
+        ),
+    )
+}
 ABOUT = "Checks, filters and summarises CityJSONSeq 2.0 streams, read once and in bounded memory"
 HELP = "Print this message or the help of the given subcommand(s)"
 
@@ -219,13 +322,25 @@ def _table(rows: Sequence[Tuple[str, str]]) -> str:
 def _program_help(program: str) -> str:
     commands = [(command.name, command.about) for command in COMMANDS.values()] + [("help", HELP)]
     options = (("-h, --help", "Print help"), ("-V, --version", "Print version"))
-    return (f"{ABOUT}\n\nUsage: {program} <COMMAND>\n\nCommands:\n{_table(commands)}\n\nOptions:\n{_table(options)}\n\n{STATUSES}")
+    parts = [
+        ABOUT,
+        f"Usage: {_usage(program, None)}",
+        f"Commands:\n{_table(commands)}",
+        f"Options:\n{_table(options)}",
+        STATUSES,
+    ]
+    return "\n\n".join(parts)
 
 
 def _command_help(program: str, command: Command) -> str:
-    rows = [(f"    {option.usage}", option.help + (f" [default: {option.usual}]" if option.usual else "")) for option in command.options]
-    return (f"{command.about}\n\nUsage: {_usage(program, command)}\n\nOptions:\n{_table([*rows, ('-h, --help', 'Print help')])}\n\n"
-            f"{command.after.format(program)}")
+    rows = [(f"    {option.usage}", option.told) for option in command.options]
+    parts = [
+        command.about,
+        f"Usage: {_usage(program, command)}",
+        f"Options:\n{_table([*rows, ('-h, --help', 'Print help')])}",
+        command.after.format(program),
+    ]
+    return "\n\n".join(parts)
 
 
 def _usage(program: str, command: Optional[Command]) -> str:
@@ -279,7 +394,10 @@ class Reader:
         usage = _usage(self._program, self._command)
         tip = None
         if near is not None:
-            tip, usage = f"a similar argument exists: '{near}'", f"{self._program} {self._command.name} {self._options[near].usage}"
+            tip, usage = (
+                f"a similar argument exists: '{near}'",
+                f"{self._program} {self._command.name} {self._options[near].usage}",
+            )
         return _mistake(f"unexpected argument '{shown(word)}' found", tip, usage)
 
     def _read_option(self, name: str, equals: str, value: str) -> None:
@@ -288,8 +406,10 @@ class Reader:
             raise self._unexpected(name)
         if option.value is None:
             if equals:
-                raise _mistake(f"unexpected value '{shown(value)}' for '{option.usage}' found; no more were expected",
-                               usage=f"{self._program} {self._command.name} {option.usage}")
+                raise _mistake(
+                    f"unexpected value '{shown(value)}' for '{option.usage}' found; no more were expected",
+                    usage=f"{self._program} {self._command.name} {option.usage}",
+                )
             self._set(option, option.sets[1] if option.sets else True)
             return
         if not equals:
@@ -299,7 +419,9 @@ class Reader:
         except ValueError as fault:
             if isinstance(fault, Mistake):
                 raise
-            raise _mistake(f"invalid value '{shown(value)}' for '{option.usage}': {fault}") from None
+            raise _mistake(
+                f"invalid value '{shown(value)}' for '{option.usage}': {fault}"
+            ) from None
 
     def _next_value(self, option: Option) -> str:
         """The next word, which is no option."""
@@ -312,7 +434,10 @@ class Reader:
 
     def _set(self, option: Option, value: Any) -> None:
         if option.field in self._given:
-            raise _mistake(f"the argument '{option.usage}' cannot be used multiple times", usage=_usage(self._program, self._command))
+            raise _mistake(
+                f"the argument '{option.usage}' cannot be used multiple times",
+                usage=_usage(self._program, self._command),
+            )
         self._given[option.field] = value
 
 
@@ -327,11 +452,16 @@ def _of_help(program: str, words: Sequence[str]) -> str:
 
 def _unknown(program: str, word: str) -> Mistake:
     near = _alike(word, [*COMMANDS, "help"])
-    return _mistake(f"unrecognized subcommand '{shown(word)}'", near and f"a similar subcommand exists: '{near}'", _usage(program, None))
+    return _mistake(
+        f"unrecognized subcommand '{shown(word)}'",
+        near and f"a similar subcommand exists: '{near}'",
+        _usage(program, None),
+    )
 
 
 def read_words(program: str, version: str, words: Sequence[str]) -> Asked:
-    """What these words ask for. Raises `Told` where that is a text, and `Mistake` where they are not understood."""
+    """What these words ask for. Raises `Told` where that is a text, and `Mistake` where they are
+    not understood."""
     if not words:
         raise Mistake(_program_help(program))
     first = words[0]

@@ -6,6 +6,7 @@ import re
 import subprocess
 import sys
 import unittest
+from unittest import mock
 
 from . import support
 from .support import HEADER, PLAIN, InFolder, command, feature
@@ -13,6 +14,7 @@ from .test_sources import BROKEN, GOOD
 
 import cityseq
 from cityseq import words as words_of
+from cityseq.console import put
 from .test_told import example
 
 SAID = "line 3, byte 142: 25 vertex index out of range"
@@ -157,6 +159,12 @@ class Commands(InFolder):
         good = self.file(GOOD)
         self.assertEqual(command("check", none, good)[::2], (f"{good}: valid lines=3 features=2\n".encode(), 3))
         self.assertEqual(command("filter", "--output", self.folder, "-", given=GOOD)[::2], (b"", 4))
+
+    def test_a_line_is_written_at_once(self):
+        """A reader that goes away behind its end is no fault, also where Python keeps no buffer."""
+        with mock.patch("sys.stdout") as output:
+            put("a\nb")
+        self.assertEqual(output.write.mock_calls, [mock.call("a\nb\n")])
 
     def test_many_reports(self):
         path = self.file(HEADER + b"[]\n" * 2_500, "a.jsonl")

@@ -90,7 +90,8 @@ class Wholes(InFolder):
     def test_a_run_that_is_interrupted_leaves_nothing(self):
         for signalled, status in ((signal.SIGINT, 130), (signal.SIGTERM, 143)):
             ran = subprocess.Popen([sys.executable, "-m", "cityseq", "filter", "--output", self.output, "-"], stdin=subprocess.PIPE,
-                                   stderr=subprocess.PIPE, env={**os.environ, "PYTHONPATH": os.path.join(support.ROOT, "python")})
+                                   stderr=subprocess.PIPE, env={**os.environ, "PYTHONPATH": os.path.join(support.ROOT, "python")},
+                                   preexec_fn=lambda: signal.signal(signal.SIGINT, signal.SIG_DFL))  # which a shell has ignored behind &
             ran.stdin.write(HEADER + PLAIN * 200_000)
             ran.stdin.flush()
             for _ in range(200):
@@ -99,10 +100,8 @@ class Wholes(InFolder):
                 time.sleep(0.05)
             self.assertTrue(self.part.exists())
             ran.send_signal(signalled)
-            said = ran.stderr.read()
-            ran.stdin.close()
-            self.assertEqual((ran.wait(20), said.count(b"\n"), self.found()), (status, 1, [None, None]))
-            ran.stderr.close()
+            _, said = ran.communicate(timeout=60)
+            self.assertEqual((ran.returncode, said.count(b"\n"), self.found()), (status, 1, [None, None]))
 
 
 class Sames(InFolder):

@@ -117,7 +117,7 @@ class Sources(InFolder):
             print(len(found), found[-1])
             peak = dict(line.split(":") for line in open("/proc/self/status"))["VmHWM"]
             print(int(peak.split()[0]) < 200_000)"""
-        ran = subprocess.run([sys.executable, "-c", script % (HEADER, HEADER)], stdout=subprocess.PIPE, timeout=60,
+        ran = subprocess.run([sys.executable, "-c", script % (HEADER, HEADER)], stdout=subprocess.PIPE, timeout=240,
                              env={**os.environ, "PYTHONPATH": os.path.join(support.ROOT, "python")})
         self.assertEqual(ran.stdout.decode().splitlines(), [
             "(2, 8388608, 2) 1", "(1, 8388608, 2) 0", "(2, 8388608, 2) 2", "(1, 8388608, 2) 0", "1048577 1048577", "True"])
@@ -132,7 +132,7 @@ class Sources(InFolder):
                 except cityseq.MemoryFault as fault:
                     print(fault, fault.status, fault.result.lines)
             print(cityseq.check(%r).status)"""
-        ran = subprocess.run([sys.executable, "-c", script % (GOOD, GOOD)], stdout=subprocess.PIPE, timeout=60,
+        ran = subprocess.run([sys.executable, "-c", script % (GOOD, GOOD)], stdout=subprocess.PIPE, timeout=240,
                              env={**os.environ, "PYTHONPATH": os.path.join(support.ROOT, "python")})
         self.assertEqual(ran.stdout.decode(), "<bytes>: out of memory 5 3\n<bytes>: out of memory 5 3\n0\n")
 
