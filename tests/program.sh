@@ -3,8 +3,11 @@
 # documents show; and their names of code, links and lengths.
 #
 #     tests/program.sh [PROGRAM]
+#     tests/program.sh --package PYTHON
 #
-# With no PROGRAM it builds crates/cityseq, which is quick where nothing changed since the last build. A row is a function
+# With no PROGRAM it builds crates/cityseq, which is quick where nothing changed since the last build. With --package the command of
+# the Python package is tried by this Python in the program's place: it reads standard input where no file is named, and then has to
+# say and to answer the same. The rows that cannot hold of it are listed below, each with its reason. A row is a function
 # named row_*, or a block of a document that is marked `console`; a row that fails prints its name, what is wanted and what
 # came. The last line is 'N passed, M failed', and the status is 0 where all passed.
 set -u
@@ -13,6 +16,24 @@ cd "$(dirname "$0")/.." || exit
 limit=8388608 # the usual line limit, in bytes
 skipped=77    # what a row answers that this system cannot show
 documents='README.md docs/GUIDE.md docs/REASONS.md' # whose commands are run
+files=' < FILE' # what follows the options in the usage of a command
+
+# What does not hold of the package's command, and why.
+not_of_the_package='
+row_the_vectors_with_a_peer_that_takes_all   it tries no command
+row_a_word_too_many                          a word behind the command names a file
+row_a_file_that_is_named                     so does this one
+row_a_second_word_that_is_not_utf_8          so does this one, and the names of files are bytes
+row_a_folder_as_standard_input               Python itself ends then, before it runs a line
+row_a_folder_as_standard_input_of_check      the same
+row_less_memory_than_the_limits_ask_for      it takes memory for the lines that come, and not for the limits
+row_no_more_memory_than_the_limits_ask_for   Python, and the part and the output that it holds, take more than is left
+row_each_allocation_refused_in_turn          it counts the allocations of the program
+row_the_example_counts                       it is about the library
+row_each_edit_can_be_applied                 it is about the crates
+row_the_documents_name_what_is_there         it is about the documents
+row_the_documents_link_to_what_is_there_and_are_short   so is this
+'
 
 # A header, a feature, and a feature of four vertices whose last index is the one given.
 header='{"type":"CityJSON","version":"2.0","transform":{"scale":[1,1,1],"translate":[0,0,0]},"CityObjects":{},"vertices":[]}'
@@ -25,8 +46,16 @@ scratch=$(mktemp -d) # the files of one row
 tools=$(mktemp -d)   # the program, by the name that its texts have
 trap 'rm -rf "$scratch" "$tools"' EXIT
 
-# Prints the path of the program, built if it is not given.
+# Prints the path of the program, built if it is not given; of a script that runs the package's command.
 find_program() {
+  if [ "${1:-}" = --package ]; then
+    lines "#!$(command -v "${2:-python3}")" 'import sys' 'sys.dont_write_bytecode = False' \
+      "sys.pycache_prefix = '$tools/compiled'" "sys.path.insert(0, '$PWD/python')" \
+      'from cityseq.__main__ import run' 'run()' > "$tools/command"
+    chmod +x "$tools/command"
+    echo "$tools/command"
+    return
+  fi
   if [ $# -gt 0 ]; then
     realpath -e -- "$1"
     return
@@ -480,11 +509,11 @@ row_a_full_device_is_the_end_of_an_open_input() {
 }
 
 row_going_on_and_info() {
-  refuses "$(mistake "unexpected argument '--keep-going' found" 'Usage: cityseq info [OPTIONS] < FILE' '')" info --keep-going
+  refuses "$(mistake "unexpected argument '--keep-going' found" "Usage: cityseq info [OPTIONS]$files" '')" info --keep-going
 }
 
 row_going_on_twice() {
-  refuses "$(mistake "the argument '--keep-going' cannot be used multiple times" 'Usage: cityseq check [OPTIONS] < FILE' '')" \
+  refuses "$(mistake "the argument '--keep-going' cannot be used multiple times" "Usage: cityseq check [OPTIONS]$files" '')" \
     check --keep-going --keep-going
 }
 
@@ -582,7 +611,7 @@ row_an_empty_word() {
 }
 
 row_a_word_too_many() {
-  refuses "$(mistake "unexpected argument 'filter' found" 'Usage: cityseq filter [OPTIONS] < FILE' '')" filter filter
+  refuses "$(mistake "unexpected argument 'filter' found" "Usage: cityseq filter [OPTIONS]$files" '')" filter filter
 }
 
 # A stream is named as what standard input has, and the usage shows how.
@@ -600,11 +629,11 @@ row_an_unknown_option() {
 }
 
 row_an_option_of_another_command() {
-  refuses "$(mistake "unexpected argument '--id' found" 'Usage: cityseq check [OPTIONS] < FILE' '')" check --id b
+  refuses "$(mistake "unexpected argument '--id' found" "Usage: cityseq check [OPTIONS]$files" '')" check --id b
 }
 
 row_an_option_given_twice() {
-  refuses "$(mistake "the argument '--id <IDS>' cannot be used multiple times" 'Usage: cityseq filter [OPTIONS] < FILE' '')" \
+  refuses "$(mistake "the argument '--id <IDS>' cannot be used multiple times" "Usage: cityseq filter [OPTIONS]$files" '')" \
     filter --id b --id c
 }
 
@@ -613,7 +642,7 @@ row_an_option_without_its_value() {
 }
 
 row_a_box_taken_for_an_option() {
-  refuses "$(mistake "unexpected argument '-5' found" 'Usage: cityseq filter [OPTIONS] < FILE' '')" filter --bbox -5,0,5,9
+  refuses "$(mistake "unexpected argument '-5' found" "Usage: cityseq filter [OPTIONS]$files" '')" filter --bbox -5,0,5,9
 }
 
 # Whether this line limit is refused.
@@ -827,9 +856,11 @@ script_of() {
   step "$shown" "$command"
 }
 
-# Whether the commands of this block print what stands under them, on standard output and standard error together.
+# Whether the commands of this block print what stands under them, on standard output and standard error together. The package has
+# more words, so its usage is longer, and its help is another one.
 shown_in() {
-  block "$1" "$2" > "$scratch/wanted"
+  block "$1" "$2" | sed "s/^Usage: cityseq [a-z]* \[OPTIONS\]\$/&$files/" > "$scratch/wanted"
+  if [ -n "$files" ] && grep -q '^\$ cityseq.*--help' "$scratch/wanted"; then return $skipped; fi
   script_of < "$scratch/wanted" > "$scratch/script"
   PATH=$tools:$PATH timeout 60 bash "$scratch/script" < /dev/null > "$scratch/written" 2>&1
   diff --label shown --label printed -u "$scratch/wanted" "$scratch/written"
@@ -847,7 +878,7 @@ try() {
   "$@"
   case $? in
     0) passed=$((passed + 1)) ;;
-    "$skipped") echo "$row: left out, as this system cannot show it" ;;
+    "$skipped") echo "$row: left out, as it cannot be shown here" ;;
     *) echo "$row: FAILED" && failed=$((failed + 1)) ;;
   esac
 }
@@ -861,12 +892,18 @@ try_document() {
   done
 }
 
+# Whether a row is tried: with the package's command some are not.
+is_tried() {
+  [ -z "$files" ] || ! grep -q "^$1 " <<< "$not_of_the_package"
+}
+
 passed=0 failed=0
+[ "${1:-}" != --package ] || files=' [FILE]...'
 if found=$(find_program "$@"); then
   program=$tools/cityseq
   ln -s "$found" "$program"
   for row in $(compgen -A function row_); do
-    try "$row"
+    is_tried "$row" && try "$row"
   done
   for document in $documents; do
     try_document "$document"

@@ -1,9 +1,47 @@
 #!/usr/bin/env bash
-# Tests the Python package over the library that is built, python/cityseq/libcityseq.so. Where distributed is not there, what needs it
-# is left out, and that is said. The last line is 'N passed, M failed', and the status is 0 where none failed.
+# Tests the Python package over the library that is built, python/cityseq/libcityseq.so: its own tests, and beside them the edges of
+# its command, the rows of the program over that, and whether its types are right. Where a package of Python is not there, what needs it is left out, and that is said. The last line is
+# 'N passed, M failed' over all, and the status is 0 where none failed.
 #
 #     tests/python.sh [PYTHON]      (python3 if left out)
 set -u
 python=$(command -v "${1:-python3}") || exit
-cd "$(dirname "$0")/../python" || exit
-exec "$python" -B -W ignore -m tests
+cd "$(dirname "$0")/.." || exit
+
+scratch=$(mktemp -d)
+trap 'rm -rf "$scratch"' EXIT
+passed=0 failed=0
+
+# each run of the command would compile the package anew
+unset PYTHONDONTWRITEBYTECODE
+export PYTHONPYCACHEPREFIX=$scratch/compiled
+
+own_tests() { cd python && exec "$python" -B -W ignore -m tests; }
+
+edges() { exec tests/package_edges.sh "$python"; }
+
+program() { exec tests/program.sh --package "$python"; }
+
+types() {
+  cd python || return
+  if ! "$python" -c 'import mypy' 2> "$scratch/noise"; then echo 'left out: mypy is not there' && echo '0 passed, 0 failed' && return; fi
+  "$python" -m mypy --strict --cache-dir "$scratch/mypy" -p cityseq > "$scratch/mistakes" && echo '1 passed, 0 failed' && return
+  cat "$scratch/mistakes" && echo '0 passed, 1 failed'
+}
+
+# Shows what a part printed, and adds the counts of its last line. One that does not end so counts as one failure.
+count() {
+  cat "$scratch/$1"
+  if [[ $(tail -n 1 "$scratch/$1") =~ ^([0-9]+)' passed, '([0-9]+)' failed'$ ]]; then
+    passed=$((passed + BASH_REMATCH[1])) failed=$((failed + BASH_REMATCH[2]))
+  else
+    echo "$1: it did not say what passed" && failed=$((failed + 1))
+  fi
+}
+
+parts='own_tests edges program types'
+for part in $parts; do "$part" > "$scratch/$part" 2>&1 & done
+wait
+for part in $parts; do count "$part"; done
+echo "$passed passed, $failed failed"
+[ "$failed" = 0 ]

@@ -7,7 +7,9 @@ peaks where a stream is complete and nothing is asked. The last line is 'N passe
 With `peer` another checker's command is run, which has the stream on its standard input and ends with status 0 exactly where it
 takes it for valid. It says where that differs from these vectors, those aside that ask for limits of their own or have a query,
 and always ends with status 0: what another checker means by valid may well be something else."""
+import os
 import sys
+from concurrent.futures import ThreadPoolExecutor
 
 from table import rows, run, wanted_of
 
@@ -28,10 +30,15 @@ def differences(program, row):
             yield f"lines and peaks: wanted {wanted}, got {got}"
 
 
+def for_each(call, tried):
+    """What comes of each row, in order; as many are tried at once as there are processors."""
+    with ThreadPoolExecutor(os.cpu_count()) as pool:
+        yield from zip(tried, pool.map(call, tried))
+
+
 def try_cityseq(program):
     passed = failed = 0
-    for row in rows():
-        wrong = list(differences(program, row))
+    for row, wrong in for_each(lambda row: list(differences(program, row)), list(rows())):
         for difference in wrong:
             print(f"{row['name']}: {difference}")
         passed, failed = passed + (not wrong), failed + bool(wrong)
@@ -40,16 +47,14 @@ def try_cityseq(program):
 
 
 def try_peer(command):
-    tried = differ = 0
-    for row in rows():
-        if row["query"] != "-" or (row["line limit"], row["depth"]) != ("1000", "64"):
-            continue
-        tried += 1
-        valid, status = row["answer"] == "complete", run(command, row["text"])[2]
+    usual = [row for row in rows() if row["query"] == "-" and (row["line limit"], row["depth"]) == ("1000", "64")]
+    differ = 0
+    for row, (_, _, status) in for_each(lambda row: run(command, row["text"]), usual):
+        valid = row["answer"] == "complete"
         if valid != (status == 0):
             differ += 1
             print(f"{row['name']}: {row['answer']} here, status {status} there")
-    print(f"{tried} vectors tried, {differ} told otherwise")
+    print(f"{len(usual)} vectors tried, {differ} told otherwise")
     return 0
 
 

@@ -10,23 +10,25 @@
     >>> cityseq.info("examples/town.city.jsonl").box
     '995,1990,1050,2005'
 
-A source is a path, `-` for standard input, bytes or a binary file; a path that ends in `.gz` is unpacked. `jobs` says how many threads
-judge parts of it at once; None is as many as there are processors. `part_size` is how long parts are; None is 4 MiB or less.
-`progress` is called with how many bytes more are done, as `tqdm.update` may be, and `on_report` with each report as it comes, instead of
-their list."""
+A source is a path, `-` for standard input, bytes, which are the stream itself, or a binary file; a path of a file that is packed by gzip or
+Zstandard is unpacked. `jobs` says how many threads judge parts of it at once; None is as many as there are processors. `part_size` is how
+long parts are; None is 4 MiB or less. `progress` is called with how many bytes more are done, packed where they are packed, and
+`on_report` with each report as it comes, instead of their list."""
 from __future__ import annotations
 
 from typing import Callable, Iterable, Iterator, Optional
 
 from ._library import USUAL_DEPTH, USUAL_LINE
-from .faults import CityseqError, LibraryMissing, MemoryFault, ReadFault, RequestError, WriteFault
+from .faults import CityseqError, InvalidStream, LibraryMissing, MemoryFault, ReadFault, RequestError, WriteFault
+from .outputs import Target, Writer
 from .query import Box, Texts, asked
 from .reports import Explanation, Report, explain
 from .running import Info, Result, Stream, threaded
-from .sources import Source, Target, Writer, is_same_file
+from .same import refuse_same
+from .sources import Source
 
 __all__ = [
-    "CityseqError", "Explanation", "Info", "LibraryMissing", "MemoryFault", "ReadFault", "Report", "RequestError", "Result",
+    "CityseqError", "Explanation", "Info", "InvalidStream", "LibraryMissing", "MemoryFault", "ReadFault", "Report", "RequestError", "Result",
     "WriteFault", "check", "check_files", "explain", "filter", "info",
 ]
 __version__ = "0.2.0"
@@ -41,6 +43,12 @@ def _part_size(size: Optional[int]) -> Optional[int]:
     return size
 
 
+def _only(stream: Stream, jobs: Optional[int]) -> Result:
+    """What comes of a stream. No thread is left of those that judged it."""
+    result, = threaded([stream], jobs)
+    return result
+
+
 def check(source: Source, *, jobs: Optional[int] = None, line_limit: int = USUAL_LINE, depth: int = USUAL_DEPTH,
           keep_going: bool = False, tree: bool = False, on_report: OnReport = None, progress: Progress = None,
           part_size: Optional[int] = None) -> Result:
@@ -51,7 +59,7 @@ def check(source: Source, *, jobs: Optional[int] = None, line_limit: int = USUAL
     the run did not come to its end, and `RequestError` where it cannot be asked."""
     work = asked("check", line_limit=line_limit, depth=depth, keep_going=keep_going, tree=tree)
     stream = Stream(source, work, _part_size(part_size), tell=on_report, progress=progress)
-    return next(threaded([stream], jobs)).raised()
+    return _only(stream, jobs).raised()
 
 
 def check_files(sources: Iterable[Source], *, jobs: Optional[int] = None, line_limit: int = USUAL_LINE, depth: int = USUAL_DEPTH,
@@ -65,29 +73,34 @@ def check_files(sources: Iterable[Source], *, jobs: Optional[int] = None, line_l
 def filter(source: Source, output: Target, *, ids: Optional[Texts] = None, types: Optional[Texts] = None,
            lods: Optional[Texts] = None, box: Optional[Box] = None, exclude: bool = False, jobs: Optional[int] = None,
            line_limit: int = USUAL_LINE, depth: int = USUAL_DEPTH, keep_going: bool = False, tree: bool = False,
-           on_report: OnReport = None, progress: Progress = None, part_size: Optional[int] = None) -> Result:
+           keep_partial: bool = False, on_report: OnReport = None, progress: Progress = None,
+           part_size: Optional[int] = None) -> Result:
     """Copies the header and the features that are wanted, byte for byte, to a path, `-` or a binary file.
 
     A feature is wanted if its id is one of `ids`, some city object has one of `types`, some geometry one of `lods`, and its vertices
     reach into `box`, four numbers or a text minx,miny,maxx,maxy; None asks nothing. With `exclude` all others are. The other options
-    are those of `check`. An output has what was kept before the end, whatever that was. Raises `WriteFault` too."""
+    are those of `check`.
+
+    A path is written as `NAME.part`, and gets its name once the whole stream has been read and is valid, or, with `keep_going`, has a
+    valid header; else nothing is left, or, with `keep_partial`, `NAME.part`. Raises `InvalidStream` where the stream is not valid, unless
+    with `keep_going`, and `WriteFault` too."""
     work = asked("filter", ids=ids, types=types, lods=lods, box=box, exclude=exclude,
                  line_limit=line_limit, depth=depth, keep_going=keep_going, tree=tree)
-    if is_same_file(source, output):
-        raise RequestError("the output is the stream that is read")
-    stream = Stream(source, work, _part_size(part_size), Writer(output), on_report, progress)
-    return next(threaded([stream], jobs)).raised()
+    refuse_same([source], [output])
+    stream = Stream(source, work, _part_size(part_size), Writer(output, keep_partial), on_report, progress)
+    return _only(stream, jobs).raised_if_invalid(keep_going)
 
 
 def info(source: Source, *, exact_lods: bool = True, jobs: Optional[int] = None, line_limit: int = USUAL_LINE,
-         depth: int = USUAL_DEPTH, keep_going: bool = False, tree: bool = False, on_report: OnReport = None,
-         progress: Progress = None, part_size: Optional[int] = None) -> Info:
+         depth: int = USUAL_DEPTH, tree: bool = False, on_report: OnReport = None, progress: Progress = None,
+         part_size: Optional[int] = None) -> Info:
     """Reports what is in a stream: transform, types, LoDs, ranges of vertices, and their box in world coordinates.
 
     `exact_lods` asks for each text of an LoD with how many features have it, which takes as long again for each text. The other
-    options are those of `check`. Where a stream is not valid to its end, all of the report is empty."""
-    work = asked("info", exact_lods=exact_lods, line_limit=line_limit, depth=depth, keep_going=keep_going, tree=tree)
+    options are those of `check`, which has one more: what is valid in a stream that is not would be taken for what is in
+    the stream. Where a stream is not valid, all of the report is empty."""
+    work = asked("info", exact_lods=exact_lods, line_limit=line_limit, depth=depth, tree=tree)
     stream = Stream(source, work, _part_size(part_size), tell=on_report, progress=progress)
-    result = next(threaded([stream], jobs)).raised()
+    result = _only(stream, jobs).raised()
     assert isinstance(result, Info)
     return result

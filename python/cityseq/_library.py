@@ -3,6 +3,7 @@ from __future__ import annotations
 
 import ctypes
 import os
+import resource
 import threading
 from ctypes import POINTER, c_bool, c_char_p, c_int64, c_size_t, c_uint32, c_uint64
 from typing import Any, Iterable, Optional, Tuple, Union
@@ -157,9 +158,9 @@ def _load() -> Library:
     return Library(calls)
 
 
-# What `mallopt` sets in glibc (malloc.h): from how many bytes on the system is asked for memory of its own, and from how many
-# that are free it is given some back.
-_TRIM_THRESHOLD, _MMAP_THRESHOLD = -1, -3
+# What `mallopt` sets in glibc (malloc.h): from how many bytes on the system is asked for memory of its own, from how many that are
+# free it is given some back, and how many arenas there are, for each of which beside the first 64 MB of addresses are reserved.
+_TRIM_THRESHOLD, _MMAP_THRESHOLD, _ARENA_MAX = -1, -3, -8
 
 
 def keep_room() -> None:
@@ -171,6 +172,8 @@ def keep_room() -> None:
         return
     for threshold in (_MMAP_THRESHOLD, _TRIM_THRESHOLD):
         setting(threshold, 1 << 30)
+    if resource.getrlimit(resource.RLIMIT_AS)[0] != resource.RLIM_INFINITY:
+        setting(_ARENA_MAX, 1)
 
 
 def library() -> Library:

@@ -1,289 +1,378 @@
-"""The command: `cityseq-run`, or `python3 -m cityseq`, over files, with the options and the statuses of the program `cityseq`."""
+"""The command `cityseq`, also `cityseq-run` and `python3 -m cityseq`: the program's words, lines
+and statuses, over files on many cores."""
 from __future__ import annotations
 
-import argparse
-import json
 import os
+import signal
 import sys
-from contextlib import closing, suppress
-from dataclasses import asdict
-from typing import Any, Callable, Iterator, List, Optional, Sequence
+from collections import deque
+from contextlib import closing
+from typing import Any, Deque, Dict, Iterable, List, NoReturn, Optional, Sequence, Tuple, Union
 
 from . import __version__
-from ._library import USUAL_DEPTH, USUAL_LINE, keep_room
-from .faults import CityseqError, MemoryFault, RequestError, WriteFault
+from ._library import keep_room
+from .console import flush, put, say
+from .faults import CityseqError, MemoryFault, RequestError, WriteFault, write_fault
+from .outputs import Writer
 from .progress import Bar
-from .query import Work, asked
-from .reports import Report, explain
-from .running import Info, Result, Stream, threaded
-from .sources import Writer, is_same_file, size_of, why
+from .query import UnknownType, Work, asked
+from .reports import explain
+from .running import Result, Stream, threaded
+from .same import refuse_same
+from .shown import shown
+from .sources import is_path, size_of
+from .telling import brief, is_terminal, teller_of
+from .words import Asked, Mistake, Told, read_words
 
-STATUSES = """\
-Exit status, the greatest over all files: 0 valid up to the end; 1 a line is not valid; 2 the command line is wrong; 3 a read
-failed; 4 a write failed; 5 no memory was granted. FILE - is standard input. A FILE that ends in .gz is unpacked."""
+UNEXPECTED = 70
+STOPPED = 128  # and the number of the signal
+WHERE = "to those who gave you cityseq"  # where a failure is reported that nobody expected
+HASHES = 2  # so many files are hashed at once
 
 
-def _complain(words: str) -> None:
-    """Says something on standard error. Where it takes nothing, the status alone tells of it."""
-    with suppress(OSError, ValueError):
-        print(words, file=sys.stderr, flush=True)
+class Stopped(BaseException):
+    """A signal that asks the process to end."""
+
+    def __init__(self, number: int) -> None:
+        super().__init__(number)
+        self.name, self.value = signal.Signals(number).name, number
 
 
-def _print(text: str) -> None:
-    """Writes a line to standard output."""
+def _stop(number: int, _frame: Any) -> NoReturn:
+    raise Stopped(number)
+
+
+def end_by_signals() -> None:
+    """Has the signals that ask a process to end do so by an exception, so that nothing is left that
+    is not whole."""
+    for number in (signal.SIGTERM, signal.SIGHUP):
+        if signal.getsignal(number) == signal.SIG_DFL:
+            signal.signal(number, _stop)
+
+
+# ---- what is asked for
+
+
+def _listed(path: str, what: str) -> bytes:
+    """The texts of a list, one a line. In the list they may have a NUL behind each; empty ones are
+    passed over."""
     try:
-        if sys.stdout is None:
-            raise OSError("standard output is closed")
-        print(text)
-    except (OSError, ValueError) as fault:
-        raise WriteFault(f"write fault: {why(fault)}") from fault
-
-
-def _flush() -> None:
-    """Flushes what was written to standard output."""
-    try:
-        if sys.stdout is not None:
-            sys.stdout.flush()
-    except (OSError, ValueError) as fault:
-        raise WriteFault(f"write fault: {why(fault)}") from fault
-
-
-class Parser(argparse.ArgumentParser):
-    """Reads the words. What it says where they are wrong, or help that is asked for, may meet an output that is full."""
-
-    def _print_message(self, message: str, file: Any = None) -> None:
-        if file is sys.stderr:
-            _complain(message.rstrip("\n"))
+        if path == "-":
+            if sys.stdin is None:
+                raise OSError("standard input is closed")
+            text = sys.stdin.buffer.read()
         else:
-            _print(message.rstrip("\n"))
-            _flush()
+            with open(path, "rb") as source:
+                text = source.read()
+    except OSError as fault:
+        raise RequestError(f"{path}: {what}: {fault.strerror or fault}") from fault
+    text = text[3:] if text.startswith(b"\xef\xbb\xbf") else text
+    text = text.replace(b"\0", b"\n") if b"\0" in text else text.replace(b"\r\n", b"\n")
+    return text.strip(b"\n") if b"\n\n" not in text else b"\n".join(filter(None, text.split(b"\n")))
 
 
-class Once(argparse.Action):
-    """An option that is given once."""
-
-    def __call__(self, parser: Any, namespace: Any, values: Any, option: Optional[str] = None) -> None:
-        if getattr(namespace, f"{self.dest} was given", False):
-            parser.error(f"the argument '{option}' cannot be used multiple times")
-        setattr(namespace, self.dest, values)
-        setattr(namespace, f"{self.dest} was given", True)
-
-
-def _add_common(command: argparse.ArgumentParser) -> None:
-    option = command.add_argument
-    option("files", metavar="FILE", nargs="+", help="a stream; - is standard input")
-    option("--line-limit", metavar="BYTES", type=int, default=USUAL_LINE, action=Once, help="refuse a line that is longer")
-    option("--depth", metavar="LEVELS", type=int, default=USUAL_DEPTH, action=Once,
-           help="refuse a line with more arrays and objects open at once")
-    option("--keep-going", action="store_true", help="report each line that is not valid, and go on with the next")
-    option("--tree", action="store_true", help="refuse a feature of which a city object is not reached from the main one")
-    option("--jobs", metavar="N", type=int, action=Once, help="judge so many parts at once (the number of processors)")
-    option("--part-size", metavar="BYTES", type=int, action=Once, help="how long parts are (4 MiB or less)")
-    option("--json", action="store_true", help="write an object a line: one for each report, and one for each file at its end")
-    option("--progress", action="store_true", help="show on standard error how far it is")
-
-
-def _add_query(command: argparse.ArgumentParser) -> None:
-    option = command.add_argument
-    option("--exclude", action="store_true", help="keep the features that do not meet the options below")
-    for name, metavar, what in (
-            ("id", "IDS", "whose id is one of these"), ("type", "TYPES", "that has a city object of one of these types"),
-            ("lod", "LODS", "that has a geometry with one of these as its lod")):
-        option(f"--{name}", metavar=metavar, action=Once, help=f"keep a feature {what}, with commas between them")
-    option("--ids-from", metavar="LIST", action=Once, help="keep a feature whose id is a line of this file; empty ones are passed over")
-    option("--bbox", metavar="MINX,MINY,MAXX,MAXY", action=Once,
-           help="keep a feature that reaches into this box; written --bbox=-5,0,5,9 where it begins with a minus")
-    option("--output", metavar="OUTPUT", default="-", action=Once, help="where to write, packed where it ends in .gz")
-    option("--output-dir", metavar="FOLDER", action=Once, help="write what is kept of each FILE to a file of its name in here")
-
-
-def _parser() -> Parser:
-    parser = Parser(prog="cityseq-run", epilog=STATUSES, allow_abbrev=False,
-                    description="Checks, filters and summarises CityJSONSeq 2.0 streams on many cores")
-    parser.add_argument("--version", action="version", version=f"cityseq-run {__version__}")
-    parser.add_argument("--explain", metavar="CODE", type=int, help="say what the code of a reason means, and how to fix it")
-    commands = parser.add_subparsers(dest="command", metavar="COMMAND")
-    for name, about in (("check", "say whether streams are valid, and count their lines and features"),
-                        ("filter", "copy the header and the features that are wanted"),
-                        ("info", "report what is in a stream: types, LoDs, extent, and memory")):
-        command = commands.add_parser(name, help=about, description=about, epilog=STATUSES, allow_abbrev=False)
-        _add_common(command)
-        if name == "filter":
-            _add_query(command)
-        if name == "info":
-            command.add_argument("--no-lods", action="store_true", help="do not count the texts of LoDs, which takes some time for each")
-    explained = commands.add_parser("explain", help="say what the code of a reason means, and how to fix it")
-    explained.add_argument("explain", metavar="CODE", type=int)
-    return parser
+def _files(wanted: Asked) -> Tuple[str, ...]:
+    """The files that are read."""
+    listed = b"" if wanted.files_from is None else _listed(wanted.files_from, "a list of files")
+    named = (*wanted.files, *(map(os.fsdecode, listed.split(b"\n")) if listed else ()))
+    files = named or (() if wanted.files_from is not None else ("-",))
+    if (*files, wanted.ids_from, wanted.files_from).count("-") > 1:
+        raise RequestError("standard input is read once: - is given for more than one thing")
+    return files
 
 
 def _texts(text: Optional[str]) -> Optional[List[str]]:
     return None if text is None else text.split(",")
 
 
-def _ids(options: argparse.Namespace) -> Optional[List[str]]:
-    """The ids that are asked for, by the option and by the file."""
-    if options.ids_from is None:
-        return _texts(options.id)
+def _ids(wanted: Asked) -> Union[List[str], bytes, None]:
+    """The ids that are asked for, by the option and by the list, of which there may be very
+    many."""
+    if wanted.ids_from is None:
+        return _texts(wanted.id)
+    listed = _listed(wanted.ids_from, "a list of ids")
     try:
-        with open(options.ids_from, encoding="utf-8-sig", newline="\n") as source:
-            listed = [line.rstrip("\r\n") for line in source]
-    except (OSError, ValueError) as fault:
-        raise RequestError(f"{options.ids_from}: {fault}") from fault
-    return [text for text in listed if text] + (_texts(options.id) or [])
+        listed.decode("utf-8")
+    except UnicodeDecodeError as fault:
+        raise RequestError(f"{wanted.ids_from}: a list of ids: {fault}") from fault
+    if wanted.id is None:
+        return listed
+    return (listed.decode("utf-8").split("\n") if listed else []) + wanted.id.split(",")
 
 
-def _work(options: argparse.Namespace) -> Work:
+def _work(wanted: Asked) -> Work:
     """What is asked, checked."""
-    common = dict(line_limit=options.line_limit, depth=options.depth, keep_going=options.keep_going, tree=options.tree)
-    if options.command == "filter":
-        return asked("filter", exclude=options.exclude, ids=_ids(options), types=_texts(options.type),
-                     lods=_texts(options.lod), box=options.bbox, **common)
-    return asked(options.command, exact_lods=options.command == "info" and not options.no_lods, **common)
+    common: Dict[str, Any] = dict(
+        line_limit=wanted.line_limit,
+        depth=wanted.depth,
+        keep_going=wanted.keep_going,
+        tree=wanted.tree,
+    )
+    if wanted.command == "filter":
+        return asked(
+            "filter",
+            exclude=wanted.exclude,
+            ids=_ids(wanted),
+            types=_texts(wanted.type),
+            lods=_texts(wanted.lod),
+            box=wanted.bbox,
+            **common,
+        )
+    return asked(
+        wanted.command,
+        exact_lods=wanted.command == "info" and wanted.lods and not wanted.is_plain,
+        **common,
+    )
 
 
-def _outputs(options: argparse.Namespace) -> List[Optional[str]]:
+def _outputs(wanted: Asked, files: Sequence[str]) -> List[Optional[str]]:
     """Where each file's output goes."""
-    if options.command != "filter":
-        return [None] * len(options.files)
-    if options.output_dir is None:
-        if len(options.files) > 1:
-            raise RequestError("each file's output has its own header: name a folder by --output-dir")
-        outputs = [options.output]
-    else:
-        outputs = [os.path.join(options.output_dir, os.path.basename(file)) for file in options.files]
-        if options.output != "-" or "-" in options.files or len(set(outputs)) < len(outputs):
-            raise RequestError("with --output-dir each FILE has a name of its own, and there is no --output")
-    for file, output in zip(options.files, outputs):
-        if is_same_file(file, output):
-            raise RequestError(f"{file}: the output is the stream that is read")
-    return outputs
+    if wanted.command != "filter":
+        return [None] * len(files)
+    if wanted.output_dir is None:
+        if len(files) > 1:
+            raise RequestError(
+                "each file's output has its own header: name a folder by --output-dir"
+            )
+        return [wanted.output] * len(files)
+    outputs = [os.path.join(wanted.output_dir, os.path.basename(file)) for file in files]
+    if (
+        wanted.output != "-"
+        or "-" in files
+        or len({os.path.realpath(output) for output in outputs}) < len(outputs)
+    ):
+        raise RequestError(
+            "with --output-dir each FILE has a name of its own, and there is no --output"
+        )
+    return list(outputs)
+
+
+def _refuse_same(wanted: Asked, files: Iterable[str], outputs: Iterable[Optional[str]]) -> None:
+    """Refuses to write to what is read, be it by standard output or standard error."""
+    read = [*files, *filter(None, (wanted.ids_from, wanted.files_from))]
+    refuse_same(
+        read,
+        [output for output in (*outputs, wanted.record, "-", sys.stderr) if output is not None],
+    )
 
 
 def _make_folder(path: str) -> None:
     try:
         os.makedirs(path, exist_ok=True)
     except OSError as fault:
-        raise WriteFault(f"{path}: write fault: {why(fault)}") from fault
+        raise write_fault(fault, path) from fault
 
 
-class Printer:
-    """Prints reports as they come, and what came of each file."""
-
-    def __init__(self, options: argparse.Namespace, bar: Bar) -> None:
-        self._options, self._bar = options, bar
-        to_output = options.command == "filter" and options.output == "-" and options.output_dir is None
-        self._json = _complain if to_output else _print
-
-    def _say(self, text: str, say: Callable[[str], None] = _complain) -> None:
-        self._bar.clear()
-        say(text.encode("utf-8", "backslashreplace").decode("utf-8"))
-
-    def report(self, report: Report) -> None:
-        """Tells of an invalid line: by the program's words, and below them of which feature, where in it, and how to fix it."""
-        if self._options.json:
-            self._say(json.dumps(asdict(report)), self._json)
-            return
-        told = [f"{report.file}: {report}"]
-        if report.id is not None:
-            told.append(f"    feature {json.dumps(report.id, ensure_ascii=False)}")
-        if report.excerpt:
-            told += ["    " + line for line in report.caret().split("\n")]
-        told.append(f"    Fix: {explain(report.code).fix.split('. ')[0].rstrip('.')}.")
-        self._say("\n".join(told))
-
-    def result(self, result: Result) -> None:
-        """Tells what came of a file."""
-        if self._options.json:
-            self._say(json.dumps(result.summary(), default=str), self._json)
-            return
-        for hint in result.hints:
-            self._say(f"{result.file}: {hint}")
-        if result.fault is not None:
-            self._say(f"{result.file}: {result.fault}")
-        elif self._options.command == "info" and isinstance(result, Info) and result.end is None:
-            before = f"{result.file}: " if len(self._options.files) > 1 else ""
-            self._say("\n".join(before + line for line in info_lines(result)), _print)
-        elif self._options.command == "check" and result.end is None:
-            refused = f" refused={result.refused}" if result.refused else ""
-            words = f"{'invalid' if refused else 'valid'} lines={result.lines} features={result.features}{refused}"
-            self._say(f"{result.file}: {words}", _print)
+# ---- what is done
 
 
-def info_lines(info: Info) -> Iterator[str]:
-    """The report of a stream: the program's lines, then the box in world coordinates and the texts of LoDs."""
-    from .world import normal
+class Run:
+    """A run over files: what is known of each beside what comes of it."""
 
-    yield f"lines {info.lines}"
-    yield f"features {info.features}"
-    yield "scale " + " ".join(map(normal, info.scale))
-    yield "translate " + " ".join(map(normal, info.translate))
-    yield from (f"type {name} {count}" for name, count in info.types.items())
-    yield from (f"lod {name} {count}" for name, count in info.classes.items())
-    yield from (f"{axis} {told[0]} {told[1]}" for axis, told in zip("xyz", (info.x, info.y, info.z)) if told is not None)
-    yield f"peak bytes {info.peak_bytes}"
-    yield f"peak tokens {info.peak_tokens}"
-    yield f"peak open {info.peak_depth}"
-    if info.box is not None:
-        yield f"bbox {info.box}"
-    for text, count in sorted((info.lods or {}).items()):
-        yield f"features with lod {json.dumps(text, ensure_ascii=False)} {count}"
-    for text in info.unasked:
-        yield f"features with lod {json.dumps(text)} unknown"
+    def __init__(self, wanted: Asked, files: Sequence[str], bar: Bar) -> None:
+        self._wanted, self._bar = wanted, bar
+        self._teller = teller_of(wanted, bar, len(files) > 1)
+        # of the files that are read, in order: what each is now, and its digest
+        self._states: Deque[Tuple[Any, Any]] = deque()
+        self._hashes: Any = None
+        self._record: Any = None
+        if wanted.sha256 or wanted.record is not None:
+            from .threads import Crew  # of runs without, few need more than the threads that judge
+
+            self._hashes = Crew(HASHES)
+        if wanted.record is not None:
+            from .record import Record
+
+            self._record = Record(wanted.record)
+
+    def __enter__(self) -> "Run":
+        return self
+
+    def __exit__(self, kind: Any, *_: Any) -> None:
+        if (
+            self._hashes is not None and kind is None
+        ):  # else the process ends, and nobody waits for a long file
+            self._hashes.__exit__()
+        if self._record is not None:
+            self._record.close()
+
+    def skip(self, files: Sequence[str]) -> Tuple[List[str], int]:
+        """The files that are to be read, and the greatest status of those that the record has as
+        they are now."""
+        if not self._wanted.resume:
+            return list(files), 0
+        left, worst = [], 0
+        for file in files:
+            told = self._record.find(file, self._wanted, __version__)
+            if told is None:
+                left.append(file)
+            else:
+                worst = max(worst, told["status"])
+                self._teller.skipped(file, told)
+        return left, worst
+
+    def stream(self, file: str, work: Work, output: Optional[str]) -> Stream:
+        """A file as a stream, of which it is noted what it is now."""
+        if self._hashes is not None:
+            from .record import sha256_of, state_now
+
+            digest = self._hashes.submit(lambda: sha256_of(file)) if is_path(file) else None
+            self._states.append((state_now(file), digest))
+        writer = None if output is None else Writer(output, self._wanted.keep_partial)
+        return Stream(
+            file,
+            work,
+            self._wanted.part_size,
+            writer,
+            self._teller.report,
+            lambda size: self._bar.add(file, size),
+        )
+
+    def take(self, result: Result) -> int:
+        """Says what came of a file, and records it. It answers its status."""
+        state, digest = self._states.popleft() if self._states else ({}, None)
+        sha256 = None if digest is None else digest.result()
+        self._teller.result(result, lambda: self._object(result, sha256))
+        if self._record is not None:
+            from .objects import record_object
+            from .record import time_now
+
+            told = record_object(
+                result, self._wanted, __version__, {**state, "sha256": sha256, "time": time_now()}
+            )
+            self._record.append({**told, "file": os.path.abspath(result.file)})
+        return result.status
+
+    def _object(self, result: Result, sha256: Optional[str]) -> Dict[str, Any]:
+        from .objects import result_object
+
+        return result_object(
+            result,
+            self._wanted,
+            __version__,
+            size_of(result.file),
+            sha256 if self._wanted.sha256 else None,
+        )
+
+    def close(self) -> None:
+        """Says what is said of all files together."""
+        self._teller.close()
 
 
-def _run(options: argparse.Namespace) -> int:
+def _run(wanted: Asked) -> int:
     """Does what is asked with each file, in order, and answers the greatest status."""
-    work, outputs, worst = _work(options), _outputs(options), 0
-    if options.part_size is not None and options.part_size < 1:
-        raise RequestError("a part has one byte or more")
-    if options.command == "filter" and options.output_dir is not None:
-        _make_folder(options.output_dir)
+    files, work = _files(wanted), _work(wanted)
+    outputs = _outputs(wanted, files)
+    if wanted.output_dir is not None:
+        _make_folder(wanted.output_dir)
+    _refuse_same(wanted, files, outputs)
+    if wanted.command == "check" and (wanted.resume or wanted.record is not None):
+        from .record import refuse_unrecorded
+
+        refuse_unrecorded(wanted, files)
+    if wanted.is_plain and is_terminal(sys.stdin) and is_terminal(sys.stderr):
+        say("reading standard input; it ends with Ctrl-D")
     keep_room()
-    sizes = [size_of(file) for file in options.files]
-    with Bar(None if None in sizes else sum(filter(None, sizes)), options.progress) as bar:
-        printer = Printer(options, bar)
-        streams = (Stream(file, work, options.part_size, None if output is None else Writer(output), printer.report, bar.add)
-                   for file, output in zip(options.files, outputs))
-        with closing(threaded(streams, options.jobs)) as results:
+    sizes = [size_of(file) for file in files] if wanted.progress else []
+    with Bar(None if None in sizes else sum(filter(None, sizes)), wanted.progress) as bar, Run(
+        wanted, files, bar
+    ) as run:
+        left, worst = run.skip(files)
+        streams = (
+            run.stream(file, work, output) for file, output in zip(left, _outputs(wanted, left))
+        )
+        with closing(threaded(streams, wanted.jobs)) as results:
             for result in results:
-                printer.result(result)
-                worst = max(worst, result.status)
+                worst = max(worst, run.take(result))
+        run.close()
     return worst
 
 
-def _explain(code: int) -> int:
+def _explain(words: Sequence[str]) -> int:
     try:
+        (code,) = map(int, words)
         told = explain(code)
+    except ValueError:
+        raise RequestError("explain takes a code, as explain 25") from None
     except KeyError:
-        raise RequestError(f"no reason has the code {code}") from None
-    _print(f"{code} {told.text}\n\n{told.meaning}\n\nFix: {told.fix}")
+        raise RequestError(f"no reason has the code {words[0]}") from None
+    put(f"{code} {told.text}\n\n{told.meaning}\n\nFix: {told.fix}")
     return 0
 
 
-def _done(words: Optional[Sequence[str]]) -> int:
-    """Does what the words ask for, and flushes what was written."""
-    parser = _parser()
-    options = parser.parse_args(words)
-    if options.command is None and options.explain is None:
-        parser.print_help(sys.stderr)
-        return RequestError.status
-    status = _explain(options.explain) if options.explain is not None else _run(options)
-    _flush()
-    return status
+# ---- how it ends
+
+
+def _program() -> str:
+    """The name that the command is called by."""
+    name = os.path.basename(sys.argv[0])
+    return name if name.startswith("cityseq") else "cityseq"
+
+
+def _refused(fault: CityseqError, wanted: Optional[Asked]) -> None:
+    """Says what ended the run: of standard input alone, and where nothing was asked yet, in the
+    program's words."""
+    is_plain = wanted is None or wanted.is_plain
+    if isinstance(fault, Mistake):
+        if fault.words:
+            say(fault.words)
+    elif isinstance(fault, UnknownType):
+        near = fault.alike()
+        say(fault.brief if is_plain else shown(fault.words))
+        if near is not None and not is_plain:
+            say(f"  tip: a similar type exists: '{near}'")
+    else:
+        say(
+            brief(fault.words)
+            if is_plain and fault.status != RequestError.status
+            else shown(str(fault))
+        )
+
+
+def _traced(fault: Exception) -> str:
+    """What a fault that nobody expected is, and where it came up, in one line."""
+    import traceback  # which is wanted least often of all
+
+    calls = traceback.extract_tb(fault.__traceback__)
+    place = f" in {os.path.basename(calls[-1].filename)}, line {calls[-1].lineno}" if calls else ""
+    return shown(" ".join(f"{type(fault).__name__}: {fault}".split()) + place)
+
+
+def _drop_output() -> None:
+    """Gives what is still in the buffer of standard output nowhere to go."""
+    if sys.stdout is not None:
+        os.dup2(os.open(os.devnull, os.O_WRONLY), 1)
 
 
 def main(words: Optional[Sequence[str]] = None) -> int:
     """Runs the command with these words, or those of the command line, and answers the status."""
+    wanted: Optional[Asked] = None
     try:
-        return _done(words)
+        try:
+            wanted = read_words(_program(), __version__, sys.argv[1:] if words is None else words)
+            status = _explain(wanted.files) if wanted.command == "explain" else _run(wanted)
+        except Told as text:
+            put(str(text))
+            status = 0
+        flush()
+        return status
     except CityseqError as fault:
-        _complain(fault.words)
-        if fault.status == WriteFault.status and sys.stdout is not None:
-            os.dup2(os.open(os.devnull, os.O_WRONLY), 1)  # what is still in the buffer has nowhere to go
+        _refused(fault, wanted)
+        if fault.status == WriteFault.status:
+            _drop_output()
         return fault.status
     except MemoryError:
-        _complain("out of memory")
+        say("out of memory")
         return MemoryFault.status
     except KeyboardInterrupt:
-        return 130
+        say("interrupted")
+        return STOPPED + signal.SIGINT
+    except Stopped as stop:
+        say(f"stopped by {stop.name}")
+        return STOPPED + stop.value
+    except Exception as fault:
+        say(
+            f"unexpected failure: {_traced(fault)}. This is a fault of cityseq: please report this"
+            f" line and the command {WHERE}"
+        )
+        return UNEXPECTED

@@ -1,5 +1,5 @@
-"""The same over a cluster of `distributed`: parts of files are tasks, each of which opens its file by its path, so the workers need this
-package and the files.
+"""The same over a cluster of `distributed`: parts of files are tasks, each of which opens its file
+by its path, so the workers need this package and the files.
 
     from distributed import Client
     import cityseq.dask
@@ -7,21 +7,27 @@ package and the files.
         for result in cityseq.dask.check(client, ["north.city.jsonl", "south.city.jsonl"]):
             print(result.file, result.status, result.features)
 
-A worker that dies has its tasks done by others. Answers are joined in order, as those of threads are."""
+A worker that dies has its tasks done by others. Answers are joined in order, as those of threads
+are."""
 from __future__ import annotations
 
+import os
 from functools import partial
 from itertools import islice
 from typing import Any, Callable, Iterable, Iterator, List, Optional
 
 from ._library import USUAL_DEPTH, USUAL_LINE
-from .faults import CityseqError, ReadFault, RequestError
+from .faults import CityseqError, RequestError
+from .packed import packing_by_name
 from .parts import Answer
 from .query import Box, Texts, Work, asked
 from .ranges import Seen, cut, judge_range, judge_whole, look
 from .reports import Report
 from .running import HEADERS, Info, Result, Stream, Tasks, results
-from .sources import Target, Writer, is_path, is_same_file
+from .outputs import Target, Writer
+from .same import refuse_same
+from .sources import is_packed, is_path
+from .threads import in_thread
 
 PART = 32 << 20  # how long the parts of tasks are
 LOOKED_AT = 64  # of so many files the beginnings are looked at together
@@ -34,7 +40,9 @@ OnReport = Optional[Callable[[Report], None]]
 class _Ranged(Stream):
     """A file whose parts are read where they are judged."""
 
-    def __init__(self, path: str, work: Work, size: int, seen: Seen, output: Optional[Writer], tell: OnReport) -> None:
+    def __init__(
+        self, path: str, work: Work, size: int, seen: Seen, output: Optional[Writer], tell: OnReport
+    ) -> None:
         super().__init__(path, work, size, output, tell)
         self._seen, self._path, self._each = seen, path, size
 
@@ -43,21 +51,32 @@ class _Ranged(Stream):
         seen = self._seen
         self.heads(seen.header, seen.behind)
         if seen.fault is not None and not seen.header.endswith(b"\n"):
-            self.fail(ReadFault(seen.fault))
+            self.fail(seen.fault)
             return
         if seen.size is None:
             yield partial(judge_whole, self.work, self._path)
             return
         begin = len(seen.header)
         first = True
-        for left, right in cut(begin, seen.size, max(self._each, HEADERS * begin)) if seen.header.endswith(b"\n") else ():
-            yield partial(judge_range, self.work, self._path, left, right, first)
+        for left, right in (
+            cut(begin, seen.size, max(self._each, HEADERS * begin))
+            if seen.header.endswith(b"\n")
+            else ()
+        ):
+            yield partial(judge_range, self.work, self._path, left, right, first, seen.state)
             first = False
         if first:
-            yield partial(judge_range, self.work, self._path, begin, begin, True)
+            yield partial(judge_range, self.work, self._path, begin, begin, True, seen.state)
 
 
-def _streams(client: Any, paths: Iterable[str], work: Work, size: int, output: Optional[Writer], tell: OnReport) -> Iterator[Stream]:
+def _streams(
+    client: Any,
+    paths: Iterable[str],
+    work: Work,
+    size: int,
+    output: Optional[Writer],
+    tell: OnReport,
+) -> Iterator[Stream]:
     """The files as streams, whose beginnings are looked at by the workers, many at once."""
     left = iter(paths)
     while True:
@@ -69,12 +88,16 @@ def _streams(client: Any, paths: Iterable[str], work: Work, size: int, output: O
             yield _Ranged(path, work, size, seen, output, tell)
 
 
-def _run(client: Any, paths: Any, work: Work, size: int, output: Optional[Writer], tell: OnReport) -> Iterator[Result]:
+def _run(
+    client: Any, paths: Any, work: Work, size: int, output: Optional[Writer], tell: OnReport
+) -> Iterator[Result]:
     """What comes of each file, in order."""
     try:
         import distributed
     except ImportError as fault:
-        raise CityseqError("there is no distributed: install cityseq with the extra cluster") from fault
+        raise CityseqError(
+            "there is no distributed: install cityseq with the extra cluster"
+        ) from fault
     if not isinstance(client, distributed.Client):
         raise RequestError(f"a client of distributed is wanted, and not {client!r}")
     paths = [paths] if is_path(paths) else list(paths)
@@ -83,37 +106,85 @@ def _run(client: Any, paths: Any, work: Work, size: int, output: Optional[Writer
             raise RequestError(f"the workers open files by their paths: {path!r} is none")
 
     def submit(task: Callable[[], Answer]) -> Any:
-        return client.submit(task, pure=False, retries=RETRIES)
+        return client.submit(in_thread, task, pure=False, retries=RETRIES)
 
     threads: Any = client.nthreads()  # type: ignore[no-untyped-call]
     ahead = AHEAD * max(sum(threads.values()), 1)
-    return results(_streams(client, list(map(str, paths)), work, size, output, tell), submit, ahead)
+    return results(
+        _streams(client, list(map(os.fsdecode, paths)), work, size, output, tell), submit, ahead
+    )
 
 
-def check(client: Any, paths: Any, *, line_limit: int = USUAL_LINE, depth: int = USUAL_DEPTH, keep_going: bool = False,
-          tree: bool = False, on_report: OnReport = None, part_size: int = PART) -> Iterator[Result]:
-    """Checks files, of which there may be one, and gives the result of each, in order. A fault is told by the result."""
+def check(
+    client: Any,
+    paths: Any,
+    *,
+    line_limit: int = USUAL_LINE,
+    depth: int = USUAL_DEPTH,
+    keep_going: bool = False,
+    tree: bool = False,
+    on_report: OnReport = None,
+    part_size: int = PART,
+) -> Iterator[Result]:
+    """Checks files, of which there may be one, and gives the result of each, in order. A fault is
+    told by the result."""
     work = asked("check", line_limit=line_limit, depth=depth, keep_going=keep_going, tree=tree)
     return _run(client, paths, work, part_size, None, on_report)
 
 
-def info(client: Any, paths: Any, *, exact_lods: bool = True, line_limit: int = USUAL_LINE, depth: int = USUAL_DEPTH,
-         keep_going: bool = False, tree: bool = False, on_report: OnReport = None, part_size: int = PART) -> Iterator[Info]:
-    """Reports what is in files, of which there may be one, in order. A fault is told by the result."""
-    work = asked("info", exact_lods=exact_lods, line_limit=line_limit, depth=depth, keep_going=keep_going, tree=tree)
+def info(
+    client: Any,
+    paths: Any,
+    *,
+    exact_lods: bool = True,
+    line_limit: int = USUAL_LINE,
+    depth: int = USUAL_DEPTH,
+    tree: bool = False,
+    on_report: OnReport = None,
+    part_size: int = PART,
+) -> Iterator[Info]:
+    """Reports what is in files, of which there may be one, in order. A fault is told by the
+    result."""
+    work = asked("info", exact_lods=exact_lods, line_limit=line_limit, depth=depth, tree=tree)
     return _run(client, paths, work, part_size, None, on_report)  # type: ignore[return-value]
 
 
-def filter(client: Any, path: Any, output: Target, *, ids: Optional[Texts] = None, types: Optional[Texts] = None,
-           lods: Optional[Texts] = None, box: Optional[Box] = None, exclude: bool = False, line_limit: int = USUAL_LINE,
-           depth: int = USUAL_DEPTH, keep_going: bool = False, tree: bool = False, on_report: OnReport = None,
-           part_size: int = PART) -> Result:
-    """Copies the header and the features of a file that are wanted to an output, which is written where this is called."""
-    work = asked("filter", ids=ids, types=types, lods=lods, box=box, exclude=exclude,
-                 line_limit=line_limit, depth=depth, keep_going=keep_going, tree=tree)
-    if str(path).endswith(".gz"):
+def filter(
+    client: Any,
+    path: Any,
+    output: Target,
+    *,
+    ids: Optional[Texts] = None,
+    types: Optional[Texts] = None,
+    lods: Optional[Texts] = None,
+    box: Optional[Box] = None,
+    exclude: bool = False,
+    line_limit: int = USUAL_LINE,
+    depth: int = USUAL_DEPTH,
+    keep_going: bool = False,
+    tree: bool = False,
+    keep_partial: bool = False,
+    on_report: OnReport = None,
+    part_size: int = PART,
+) -> Result:
+    """Copies the header and the features of a file that are wanted to an output, which is written
+    where this is called, as `cityseq.filter` does."""
+    work = asked(
+        "filter",
+        ids=ids,
+        types=types,
+        lods=lods,
+        box=box,
+        exclude=exclude,
+        line_limit=line_limit,
+        depth=depth,
+        keep_going=keep_going,
+        tree=tree,
+    )
+    if packing_by_name(os.fsdecode(path)) is not None or is_packed(path):
         raise RequestError("a packed file has no parts: unpack it, or filter it by threads")
-    if is_same_file(path, output):
-        raise RequestError("the output is the stream that is read")
-    found: List[Result] = list(_run(client, [path], work, part_size, Writer(output), on_report))
-    return found[0].raised()
+    refuse_same([path], [output])
+    found: List[Result] = list(
+        _run(client, [path], work, part_size, Writer(output, keep_partial), on_report)
+    )
+    return found[0].raised_if_invalid(keep_going)

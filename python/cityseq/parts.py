@@ -1,7 +1,9 @@
-"""Streams in parts: how one is cut at LF in bounded memory, how a part is judged, and how the answers are joined.
+"""Streams in parts: how one is cut at LF in bounded memory, how a part is judged, and how the
+answers are joined.
 
-The law of parts: what comes of a stream is what comes of its header with the first of its later lines, joined with what comes of
-the same header with the rest. Each part is judged behind the header, so the header's line counts once."""
+The law of parts: what comes of a stream is what comes of its header with the first of its later
+lines, joined with what comes of the same header with the rest. Each part is judged behind the
+header, so the header's line counts once."""
 from __future__ import annotations
 
 from dataclasses import dataclass
@@ -9,7 +11,7 @@ from itertools import islice
 from typing import Callable, Iterable, Iterator, Optional, Tuple, Union
 
 from ._library import COMPLETE, NO_MEMORY, REFUSED, RawAnswer, RawReports, Text, library
-from .faults import CityseqError
+from .faults import CityseqError, ReadFault
 from .query import Work
 from .reports import Report, describe
 from .sources import PIECE, Reader
@@ -20,7 +22,8 @@ ROOM = 1_024  # the room for reports at first
 
 
 def read_header(reader: Reader, line_limit: int) -> Tuple[bytes, bytearray]:
-    """The first line with its LF, and what was read behind it. A line past the limit has one byte more than that, and no LF."""
+    """The first line with its LF, and what was read behind it. A line past the limit has one byte
+    more than that, and no LF."""
     buffer, end = bytearray(), -1
     while end < 0 and len(buffer) <= line_limit:
         begin = len(buffer)
@@ -30,20 +33,35 @@ def read_header(reader: Reader, line_limit: int) -> Tuple[bytes, bytearray]:
         buffer += piece
         end = buffer.find(b"\n", begin)
     if 0 <= end <= line_limit:
-        return bytes(buffer[:end + 1]), buffer[end + 1:]
-    return bytes(buffer[:line_limit + 1]), bytearray()
+        return bytes(buffer[: end + 1]), buffer[end + 1 :]
+    return bytes(buffer[: line_limit + 1]), bytearray()
 
 
 class Cutter:
-    """Cuts what comes behind the header into parts of whole lines, which are as long as asked, or as one line that is longer."""
+    """Cuts what comes behind the header into parts of whole lines, which are as long as asked, or
+    as one line that is longer."""
 
-    def __init__(self, reader: Reader, rest: bytearray, size: int, line_limit: int, keep_going: bool) -> None:
+    def __init__(
+        self, reader: Reader, rest: bytearray, size: int, line_limit: int, keep_going: bool
+    ) -> None:
         self._reader, self._rest, self._size = reader, rest, size
         self._line_limit, self._keep_going = line_limit, keep_going
+        self._is_waiting = False
 
-    def _fill(self, size: int) -> bool:
-        """Reads until so many bytes are there. False where the input ends before."""
+    def _is_idle(self, size: int) -> bool:
+        """Whether fewer bytes are there, and nothing has come for some time. It is said once before
+        each read."""
+        self._is_waiting = (
+            len(self._rest) < size and not self._is_waiting and self._reader.is_idle()
+        )
+        return self._is_waiting
+
+    def _fill(self, size: int, stops: bool = False) -> bool:
+        """Reads until so many bytes are there, or, if it stops, until nothing comes for some time.
+        False where the input ends before."""
         while len(self._rest) < size:
+            if stops and self._is_idle(size):
+                return True
             piece = self._reader.read(min(PIECE, size - len(self._rest)))
             if not piece:
                 return False
@@ -58,10 +76,13 @@ class Cutter:
 
     def _take_last(self) -> bytearray:
         """All that is left; where a read failed, the whole lines of it alone."""
-        return self._take(len(self._rest) if self._reader.fault is None else self._rest.rfind(b"\n") + 1)
+        return self._take(
+            len(self._rest) if self._reader.fault is None else self._rest.rfind(b"\n") + 1
+        )
 
     def _take_long_line(self) -> Tuple[bytearray, bool]:
-        """A part of one line that is longer than the size, and whether there may be more behind it."""
+        """A part of one line that is longer than the size, and whether there may be more behind
+        it."""
         seen = 0
         while len(self._rest) <= self._line_limit:
             if self._rest.find(b"\n", seen) >= 0:
@@ -73,8 +94,9 @@ class Cutter:
         return (self._take(end), True) if end else self._take_too_long()
 
     def _take_too_long(self) -> Tuple[bytearray, bool]:
-        """A part of a line that is too long, of which so much is enough, and whether there may be more behind it."""
-        part = self._rest[:self._line_limit + 1]
+        """A part of a line that is too long, of which so much is enough, and whether there may be
+        more behind it."""
+        part = self._rest[: self._line_limit + 1]
         if not self._keep_going:
             return part, False
         while True:
@@ -87,11 +109,18 @@ class Cutter:
                 return (part if self._reader.fault is None else bytearray()), False
 
     def parts(self) -> Iterator[bytearray]:
-        """The parts, in order."""
+        """The parts, in order. An empty one says that nothing more has come for some time; the
+        whole lines that are there came before."""
         more = True
         while more:
-            if not self._fill(self._size):
+            if not self._fill(self._size, True):
                 part, more = self._take_last(), False
+            elif self._is_waiting:
+                part = self._take(self._rest.rfind(b"\n") + 1)
+                yield part
+                if part:
+                    yield bytearray()
+                continue
             else:
                 end = self._rest.rfind(b"\n", 0, self._size) + 1
                 part, more = (self._take(end), True) if end else self._take_long_line()
@@ -101,8 +130,8 @@ class Cutter:
 
 @dataclass
 class Answer:
-    """What came of a header and a part, or of the parts so far: lines and reports are counted in these. None is joined yet where
-    `parts` is 0."""
+    """What came of a header and a part, or of the parts so far: lines and reports are counted in
+    these. None is joined yet where `parts` is 0."""
 
     status: int = COMPLETE
     lines: int = 0
@@ -112,13 +141,15 @@ class Answer:
     end: Optional[Report] = None
     reports: Iterable[Report] = ()
     output: Text = b""
+    is_packed: bool = False  # the output
     tally: Optional[Tally] = None
     size: int = 0
-    fault: Optional[str] = None  # of a read behind the part
+    fault: Optional[ReadFault] = None  # of a read behind the part
     parts: int = 1
 
     def add(self, answer: "Answer", tell: Callable[[Report], None]) -> None:
-        """Joins the answer of the next part, and tells its reports as those of the stream. The header's line counts once."""
+        """Joins the answer of the next part, and tells its reports as those of the stream. The
+        header's line counts once."""
         header = min(self.parts, 1)
         before = self.lines - header
         for report in answer.reports:
@@ -127,24 +158,36 @@ class Answer:
             self.end = answer.end.moved(before)
             tell(self.end)
         self.status, self.fault = answer.status, answer.fault
-        self.lines += max(answer.lines - header, 0)  # of a part that found no memory no line is told
+        # of a part that found no memory no line is told
+        self.lines += max(answer.lines - header, 0)
         self.kept += answer.kept
         self.refused += answer.refused
-        self.peaks = (max(self.peaks[0], answer.peaks[0]), max(self.peaks[1], answer.peaks[1]), max(self.peaks[2], answer.peaks[2]))
+        self.peaks = (
+            max(self.peaks[0], answer.peaks[0]),
+            max(self.peaks[1], answer.peaks[1]),
+            max(self.peaks[2], answer.peaks[2]),
+        )
         if answer.tally is not None:
             self.tally = answer.tally if self.tally is None else self.tally.joined(answer.tally)
         self.parts += 1
 
     def count(self, told: RawAnswer, size: int) -> None:
-        """Joins the next part, which is valid, by what the library told of it. The header's line is counted before."""
+        """Joins the next part, which is valid, by what the library told of it. The header's line is
+        counted before."""
         self.lines += told.lines - 1
         self.kept += told.kept
-        self.peaks = (max(self.peaks[0], told.peak_bytes), max(self.peaks[1], told.peak_tokens), max(self.peaks[2], told.peak_depth))
+        self.peaks = (
+            max(self.peaks[0], told.peak_bytes),
+            max(self.peaks[1], told.peak_tokens),
+            max(self.peaks[2], told.peak_depth),
+        )
         self.size += size
         self.parts = 1
 
 
-def _call(work: Work, header: bytes, part: Text, room: int) -> Tuple[RawAnswer, RawReports, Text, Optional[Tally]]:
+def _call(
+    work: Work, header: bytes, part: Text, room: int
+) -> Tuple[RawAnswer, RawReports, Text, Optional[Tally]]:
     """The call of the library that the work asks for."""
     request = work.request(header, part)
     if work.kind == "filter":
@@ -171,23 +214,32 @@ def _held(part: Text) -> Union[bytes, bytearray]:
 
 
 def _judge(work: Work, file: str, header: bytes, part: Text, first: bool) -> Answer:
-    """The same. Where reports have no room it is judged again, with as much as they need. They are read when they are joined, as
-    there may be very many."""
+    """The same. Where reports have no room it is judged again, with as much as they need. They are
+    read when they are joined, as there may be very many."""
     room = ROOM if work.keep_going else 0
     answer, raws, output, tally = _call(work, header, part, room)
     if answer.refused > room and work.keep_going:
         answer, raws, output, tally = _call(work, header, part, answer.refused)
     if answer.status not in (COMPLETE, REFUSED, NO_MEMORY):
-        raise CityseqError(f"the library answered {answer.status}, code {answer.code}, of a part of {len(part)} bytes")
+        raise CityseqError(
+            f"the library answered {answer.status}, code {answer.code}, of a part of {len(part)} bytes"
+        )
     if tally is not None and work.exact_lods and answer.status == COMPLETE:
         from . import lods  # few runs need it
 
         lods.count(tally, work, header, part)
     told = _held(part) if answer.refused or answer.status == REFUSED else b""
     return Answer(
-        status=answer.status, lines=answer.lines, kept=answer.kept, refused=answer.refused,
+        status=answer.status,
+        lines=answer.lines,
+        kept=answer.kept,
+        refused=answer.refused,
         peaks=(answer.peak_bytes, answer.peak_tokens, answer.peak_depth),
         end=next(describe([answer], header, told, file)) if answer.status == REFUSED else None,
-        reports=describe(islice(raws, answer.refused), header, told, file) if answer.refused else (),
-        output=output if first else memoryview(output)[min(len(header), len(output)):], tally=tally,
-        size=len(part))
+        reports=describe(islice(raws, answer.refused), header, told, file)
+        if answer.refused
+        else (),
+        output=output if first else memoryview(output)[min(len(header), len(output)) :],
+        tally=tally,
+        size=len(part),
+    )

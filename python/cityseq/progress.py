@@ -1,54 +1,61 @@
-"""How far a run is, on standard error: by `tqdm` where it is there, else by a plain counter."""
+"""How far a run is, on standard error."""
 from __future__ import annotations
 
 import sys
 import time
-from contextlib import suppress
 from typing import Any, Optional
 
-EACH = 0.5  # seconds between two counts
+from .console import say
+from .shown import shown
+
+ON_A_TERMINAL, ELSEWHERE = 0.2, 10.0  # seconds between two looks
+WIDTH = 79
 
 
 class Bar:
-    """Shows how many bytes are done, of so many if that is known, or nothing where it is not wanted."""
+    """Shows how many bytes are done, packed where they are packed, of so many if that is known, and
+    of which file; or nothing where it is not wanted."""
 
-    def __init__(self, total: Optional[int], shown: bool) -> None:
-        self._total, self._shown, self._done, self._last = total, shown, 0, 0.0
-        self._bar: Any = None
-        if shown:
-            try:
-                from tqdm import tqdm
-            except ImportError:
-                return
-            self._bar = tqdm(total=total, unit="B", unit_scale=True, file=sys.stderr)
+    def __init__(self, total: Optional[int], is_wanted: bool) -> None:
+        self._total = total
+        self._is_shown = is_wanted and sys.stderr is not None
+        self._is_terminal = self._is_shown and sys.stderr.isatty()
+        self._done, self._file = 0, ""
+        self._begun = self._last = time.monotonic()
+        self._is_there = False  # on the terminal
 
     def __enter__(self) -> "Bar":
         return self
 
     def __exit__(self, *_: Any) -> None:
-        if self._bar is not None:
-            self._bar.close()
-        elif self._shown:
-            self._count("\n")
+        if self._is_shown:
+            self._show()
+            if self._is_terminal:
+                say("")
 
-    def add(self, size: int) -> None:
-        """Counts so many bytes more."""
+    def add(self, file: str, size: int) -> None:
+        """Counts so many bytes more of a file."""
         self._done += size
-        if self._bar is not None:
-            self._bar.update(size)
-        elif self._shown and time.monotonic() - self._last > EACH:
+        self._file = file
+        if self._is_shown and time.monotonic() - self._last > (
+            ON_A_TERMINAL if self._is_terminal else ELSEWHERE
+        ):
             self._last = time.monotonic()
-            self._count("")
+            self._show()
 
     def clear(self) -> None:
         """Makes room for a line on standard error."""
-        if self._bar is not None:
-            self._bar.clear()
-        elif self._shown:
-            with suppress(OSError, ValueError):
-                print("\r", end="", file=sys.stderr)
+        if self._is_there:
+            say("\r\x1b[K", end="")
+            self._is_there = False
 
-    def _count(self, end: str) -> None:
-        share = f" of {self._total / 1e6:.0f}" if self._total else ""
-        with suppress(OSError, ValueError):
-            print(f"\r{self._done / 1e6:.0f}{share} MB", end=end, file=sys.stderr, flush=True)
+    def _show(self) -> None:
+        share = f" of {self._total / 1e6:,.0f}" if self._total else ""
+        percent = f"{100 * self._done / self._total:3.0f} %  " if self._total else ""
+        rate = self._done / 1e6 / max(time.monotonic() - self._begun, 0.001)
+        text = f"{percent}{self._done / 1e6:,.0f}{share} MB, {rate:,.0f} MB/s  {shown(self._file)}"
+        if not self._is_terminal:
+            say(text)
+            return
+        say(f"\r\x1b[K{text[:WIDTH]}", end="")
+        self._is_there = True

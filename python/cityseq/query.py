@@ -1,36 +1,54 @@
-"""What is asked: how lines are judged, and which features are wanted, checked before anything is read."""
+"""What is asked: how lines are judged, and which features are wanted, checked before anything is
+read."""
 from __future__ import annotations
 
 from dataclasses import dataclass
 from functools import lru_cache
-from typing import TYPE_CHECKING, Iterable, Optional, Union
+from typing import TYPE_CHECKING, Any, Iterable, Optional, Union
 
-from ._library import BAD_REQUEST, DEPTH_LIMITS, FAULTS, LINE_LIMITS, USUAL_DEPTH, USUAL_LINE, RawRequest, Text, library
+from ._library import (
+    BAD_REQUEST,
+    DEPTH_LIMITS,
+    FAULTS,
+    LINE_LIMITS,
+    USUAL_DEPTH,
+    USUAL_LINE,
+    RawRequest,
+    Text,
+    library,
+)
 from .faults import RequestError
+from .ids import ids_for
 
 if TYPE_CHECKING:
     from decimal import Decimal
 
+UNKNOWN_TYPE = 5  # the fault of a request for a type that there is not
 Texts = Union[str, Iterable[str]]
 Box = Union[str, Iterable[Union[int, float, str, "Decimal"]]]
 
 
 def lines_of(texts: Iterable[str]) -> bytes:
-    """Texts as the library takes them, one a line. The empty one comes first, so that the last line is not empty and needs no LF."""
-    listed = sorted(texts, key=bool)
-    return ("\n".join(listed) or "\n" * len(listed)).encode("utf-8")
+    """Texts as the library takes them, one a line. The empty one comes first, so that the last line
+    is not empty and needs no LF."""
+    listed = list(texts)
+    empty = listed.count("")
+    return ("\n" * empty + "\n".join(filter(None, listed))).encode("utf-8")
 
 
-def _asked_lines(texts: Optional[Texts], what: str) -> Optional[bytes]:
-    """The texts that are asked for, of which one may come alone."""
-    if texts is None:
-        return None
+def _asked_lines(texts: Union[Texts, bytes, None], what: str) -> Optional[bytes]:
+    """The texts that are asked for, of which one may come alone; or all in UTF-8, one a line, where
+    that is what is at hand."""
+    if texts is None or isinstance(texts, bytes):
+        return texts
     listed = [texts] if isinstance(texts, str) else list(texts)
     for text in listed:
-        if not isinstance(text, str):
-            raise RequestError(f"{what} are texts: {text!r} is none")
-        if "\n" in text:
-            raise RequestError(f"no text with a line's end in it can be asked for among {what}: {text!r}")
+        if not isinstance(text, str) or "\n" in text:
+            raise RequestError(
+                f"no text with a line's end in it can be asked for among {what}: {text!r}"
+                if isinstance(text, str)
+                else f"{what} are texts: {text!r} is none"
+            )
     try:
         return lines_of(listed)
     except UnicodeEncodeError as fault:
@@ -73,38 +91,85 @@ class Work:
         return self.kind == "check" and not self.keep_going
 
     def request(self, header: bytes, part: Text) -> RawRequest:
-        """The same, as the library takes it with a header and a part: room is asked for lines of less than twice as much as these have."""
+        """The same, as the library takes it with a header and a part: room is asked for lines of
+        less than twice as much as these have."""
         longest = max(len(header), len(part), LINE_LIMITS[0])
-        return _request(self, min(self.line_limit, 1 << (longest - 1).bit_length()))
+        ids = None if self.ids is None else ids_for(self.ids, part)
+        return _request(self, ids, min(self.line_limit, 1 << (longest - 1).bit_length()))
 
 
 @lru_cache(maxsize=8)
-def _request(work: Work, line_limit: int) -> RawRequest:
+def _request(work: Work, ids: Optional[bytes], line_limit: int) -> RawRequest:
     """A request, which is made once for many parts."""
-    texts = (work.ids, work.types, work.lods, work.box)
+    texts = (ids, work.types, work.lods, work.box)
     return RawRequest(
-        line_limit, work.depth, work.keep_going, work.tree, work.exclude, *(text is not None for text in texts),
-        *(given for text in texts for given in (text or b"", len(text or b""))))
+        line_limit,
+        work.depth,
+        work.keep_going,
+        work.tree,
+        work.exclude,
+        *(text is not None for text in texts),
+        *(given for text in texts for given in (text or b"", len(text or b""))),
+    )
 
 
 def asked(
-    kind: str, *, line_limit: int = USUAL_LINE, depth: int = USUAL_DEPTH, keep_going: bool = False, tree: bool = False,
-    exclude: bool = False, ids: Optional[Texts] = None, types: Optional[Texts] = None, lods: Optional[Texts] = None,
-    box: Optional[Box] = None, exact_lods: bool = False,
+    kind: str,
+    *,
+    line_limit: int = USUAL_LINE,
+    depth: int = USUAL_DEPTH,
+    keep_going: bool = False,
+    tree: bool = False,
+    exclude: bool = False,
+    ids: Union[Texts, bytes, None] = None,
+    types: Optional[Texts] = None,
+    lods: Optional[Texts] = None,
+    box: Optional[Box] = None,
+    exact_lods: bool = False,
 ) -> Work:
     """The work of these options. Raises `RequestError` where it cannot be asked."""
+    if kind == "info" and keep_going:
+        raise RequestError(
+            "what is in a stream is told of a valid one: filter it first, with keep_going"
+        )
     work = Work(
-        kind, _limit(line_limit, *LINE_LIMITS, "line limit"), _limit(depth, *DEPTH_LIMITS, "depth"),
-        bool(keep_going), bool(tree), bool(exclude),
-        _asked_lines(ids, "ids"), _asked_lines(types, "types"), _asked_lines(lods, "LoDs"), _box_of(box), bool(exact_lods))
+        kind,
+        _limit(line_limit, *LINE_LIMITS, "line limit"),
+        _limit(depth, *DEPTH_LIMITS, "depth"),
+        bool(keep_going),
+        bool(tree),
+        bool(exclude),
+        _asked_lines(ids, "ids"),
+        _asked_lines(types, "types"),
+        _asked_lines(lods, "LoDs"),
+        _box_of(box),
+        bool(exact_lods),
+    )
     answer = library().check(b"", b"", work.request(b"", b""), 0)[0]
     if answer.status == BAD_REQUEST:
-        raise RequestError(FAULTS.get(answer.code, f"bad request {answer.code}") + _which(work, answer.code))
+        words = FAULTS.get(answer.code, f"bad request {answer.code}")
+        raise UnknownType(words, work) if answer.code == UNKNOWN_TYPE else RequestError(words)
     return work
 
 
-def _which(work: Work, code: int) -> str:
-    """Which of the types is unknown, where that is the fault."""
-    if code != 5 or work.types is None:
-        return ""
-    return ": " + next((name for name in work.types.decode().split("\n") if name not in library().type_names()), "")
+class UnknownType(RequestError):
+    """A type of city objects that is asked for, and that there is not. `brief` are the program's
+    words for it."""
+
+    def __init__(self, brief: str, work: Work) -> None:
+        names = (work.types or b"").decode().split("\n")
+        self.brief, self.name = brief, next(
+            (name for name in names if name not in library().type_names()), ""
+        )
+        super().__init__(f"{brief}: {self.name}")
+
+    def __reduce__(self) -> Any:
+        return RequestError, (self.words,)
+
+    def alike(self) -> Optional[str]:
+        """The type that may be meant."""
+        from difflib import get_close_matches  # which mistakes alone need
+
+        names = {name.lower(): name for name in library().type_names()}
+        near = get_close_matches(self.name.lower(), names, 1)
+        return names[near[0]] if near else None

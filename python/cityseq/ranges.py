@@ -1,37 +1,43 @@
-"""Parts of a file that are read where they are judged: the lines that begin in a range of its bytes."""
+"""Parts of a file that are read where they are judged: the lines that begin in a range of its
+bytes."""
 from __future__ import annotations
 
 from dataclasses import dataclass, replace
 from typing import IO, Iterator, Optional, Tuple
 
-from .faults import ReadFault
+from .faults import ReadFault, read_fault
 from .hints import HEAD
+from .packed import Unpacker
 from .parts import Answer, judge, read_header
 from .query import Work
 from .running import Stream, in_turn
-from .sources import PIECE, READ_FAULTS, Reader, opened, size_of, why
+from .sources import CHANGED, PIECE, READ_FAULTS, Reader, State, opened, size_of, state_of
 
 Range = Tuple[int, int]
 
 
 @dataclass(frozen=True)
 class Seen:
-    """How a file begins: its first line and some bytes behind it, and its size, where its bytes can be gone to."""
+    """How a file begins: its first line and some bytes behind it; and its size, where its bytes can
+    be gone to, and its state."""
 
     header: bytes = b""
     behind: bytes = b""
     size: Optional[int] = None
-    fault: Optional[str] = None
+    state: Optional[State] = None
+    fault: Optional[ReadFault] = None
 
 
 def look(path: str, line_limit: int) -> Seen:
     """Looks how a file begins."""
     try:
         with opened(path) as reader:
+            size = None if isinstance(reader.file, Unpacker) else size_of(path)
+            state = None if size is None else state_of(reader.file.fileno())
             header, rest = read_header(reader, line_limit)
-            return Seen(header, bytes(rest[:HEAD]), size_of(path), reader.fault and f"read fault: {reader.fault}")
+            return Seen(header, bytes(rest[:HEAD]), size, state, reader.fault)
     except ReadFault as fault:
-        return Seen(fault=fault.words)
+        return Seen(fault=fault)
 
 
 def cut(begin: int, size: int, each: int) -> Iterator[Range]:
@@ -40,7 +46,8 @@ def cut(begin: int, size: int, each: int) -> Iterator[Range]:
 
 
 def _first_line(file: IO[bytes], begin: int, end: int) -> int:
-    """Where the first line begins at this byte or after it; some place from the end on where none begins before that."""
+    """Where the first line begins at this byte or after it; some place from the end on where none
+    begins before that."""
     file.seek(begin - 1)
     place = begin - 1
     while place < end:
@@ -55,9 +62,10 @@ def _first_line(file: IO[bytes], begin: int, end: int) -> int:
 
 
 def _lines_from(file: IO[bytes], begin: int, end: int, work: Work) -> bytearray:
-    """The lines that begin from one byte on and before another. Of a last one that is too long, as much as tells that."""
+    """The lines that begin from one byte on and before another. Of a last one that is too long, as
+    much as tells that."""
     file.seek(begin)
-    reader, lines = Reader(file), bytearray()
+    reader, lines = Reader(file, file.name), bytearray()
     while len(lines) < end - begin:
         piece = reader.read(end - begin - len(lines))
         if not piece:
@@ -73,25 +81,28 @@ def _lines_from(file: IO[bytes], begin: int, end: int, work: Work) -> bytearray:
         if found:
             break
     if reader.fault is not None:
-        raise OSError(reader.fault)
+        raise reader.fault
     if len(lines) > last + work.line_limit + 1 or not lines.endswith(b"\n"):
-        del lines[last + work.line_limit + 1:]
+        del lines[last + work.line_limit + 1 :]
         if work.keep_going and len(lines) > last + work.line_limit:
             lines += b"\n"
     return lines
 
 
-def judge_range(work: Work, path: str, begin: int, end: int, first: bool) -> Answer:
-    """Judges the header of a file and the lines that begin in a range of it."""
+def judge_range(
+    work: Work, path: str, begin: int, end: int, first: bool, state: Optional[State] = None
+) -> Answer:
+    """Judges the header of a file and the lines that begin in a range of it. It has to be in this
+    state, if one is given."""
     try:
         with open(path, "rb") as file:
             header = file.readline(work.line_limit + 1)
-            if first and begin >= end:
-                return judge(work, path, header, b"", True)
-            left = max(_first_line(file, begin, end), begin)
+            left = max(_first_line(file, begin, end), begin) if begin < end else end
             part = _lines_from(file, left, end, work) if left < end else bytearray()
+            if state is not None and state_of(file.fileno()) != state:
+                raise OSError(CHANGED)
     except READ_FAULTS as fault:
-        return Answer(lines=int(not first), fault=f"read fault: {why(fault)}")
+        return Answer(lines=int(not first), fault=read_fault(fault, path))
     if not part and not first:
         return Answer(lines=1, size=end - begin)
     answer = judge(work, path, header, part, first)

@@ -9,6 +9,8 @@ import unicodedata
 from dataclasses import dataclass, replace
 from typing import Any, Dict, Iterable, Iterator, Optional, Tuple, Union
 
+from .met import met
+
 Text = Union[bytes, bytearray]
 
 TOO_LONG = 2
@@ -17,7 +19,8 @@ LONGEST_READ = 1 << 20  # lines that are longer are not read as JSON to find an 
 # A feature that begins as usual: with its id, or with its type and then its id.
 USUAL_BEGIN = (
     rb'[ \t\r]*\{[ \t\r]*(?:"type"[ \t\r]*:[ \t\r]*"CityJSONFeature"[ \t\r]*,[ \t\r]*)?'
-    rb'"id"[ \t\r]*:[ \t\r]*("(?:[^"\\\x00-\x1f]|\\.)*")')
+    rb'"id"[ \t\r]*:[ \t\r]*("(?:[^"\\\x00-\x1f]|\\.)*")'
+)
 
 
 @dataclass(frozen=True)
@@ -34,7 +37,9 @@ class Explanation:
 def _explanations() -> Dict[int, Explanation]:
     path = os.path.join(os.path.dirname(os.path.abspath(__file__)), "reasons.json")
     with open(path, encoding="utf-8") as source:
-        return {int(code): Explanation(int(code), **told) for code, told in json.load(source).items()}
+        return {
+            int(code): Explanation(int(code), **told) for code, told in json.load(source).items()
+        }
 
 
 def explain(code: int) -> Explanation:
@@ -44,9 +49,12 @@ def explain(code: int) -> Explanation:
 
 @dataclass(frozen=True)
 class Report:
-    """An invalid line: its number from 1, the byte in it from 0, and why. `id` is that of the feature where it can be read.
+    """An invalid line: its number from 1, the byte in it from 0, and why. `id` is that of the
+    feature where it can be read, and `met` says what stands at the place, as far as Python can read
+    it: both are hints.
 
-    The excerpt is what stands round the place, and `column` is where it stands in the excerpt, in columns of a terminal."""
+    The excerpt is what stands round the place, and `column` is where it stands in the excerpt, in
+    columns of a terminal."""
 
     file: str
     line: int
@@ -56,6 +64,7 @@ class Report:
     id: Optional[str] = None
     excerpt: str = ""
     column: int = 0
+    met: Optional[str] = None
 
     def __str__(self) -> str:
         """The program's own words."""
@@ -90,8 +99,11 @@ def find_id(line: Text) -> Optional[str]:
 
 
 def _shown(text: bytes) -> str:
-    """Bytes as a terminal may have them: one sign for each that is no character, or none that is printed."""
-    return "".join(sign if sign.isprintable() else "\ufffd" for sign in text.decode("utf-8", "replace"))
+    """Bytes as a terminal may have them: one sign for each that is no character, or none that is
+    printed."""
+    return "".join(
+        sign if sign.isprintable() else "\ufffd" for sign in text.decode("utf-8", "replace")
+    )
 
 
 def excerpt_of(line: Text, place: int) -> Tuple[str, int]:
@@ -103,11 +115,14 @@ def excerpt_of(line: Text, place: int) -> Tuple[str, int]:
     while place < end < len(line) and line[end] & 0xC0 == 0x80:
         end -= 1
     before, after = _shown(bytes(line[begin:place])), _shown(bytes(line[place:end]))
-    return before + after, sum(2 if unicodedata.east_asian_width(sign) in "WF" else 1 for sign in before)
+    return before + after, sum(
+        2 if unicodedata.east_asian_width(sign) in "WF" else 1 for sign in before
+    )
 
 
 def describe(raws: Iterable[Any], header: Text, part: Text, file: str) -> Iterator[Report]:
-    """The reports of lines of a header and a part, each given as its `line`, `place` and `code`; the lines rise."""
+    """The reports of lines of a header and a part, each given as its `line`, `place` and `code`;
+    the lines rise."""
     begin, number = 0, 2
     for raw in raws:
         while number < raw.line:
@@ -118,7 +133,17 @@ def describe(raws: Iterable[Any], header: Text, part: Text, file: str) -> Iterat
         stop = left + raw.place + 1 if raw.code == TOO_LONG else right if right >= 0 else len(text)
         line = bytes(text[left:stop])
         excerpt, column = excerpt_of(line, raw.place)
-        yield Report(file, raw.line, raw.place, raw.code, _text_of(raw.code), find_id(line) if raw.line > 1 else None, excerpt, column)
+        yield Report(
+            file,
+            raw.line,
+            raw.place,
+            raw.code,
+            _text_of(raw.code),
+            find_id(line) if raw.line > 1 else None,
+            excerpt,
+            column,
+            met(line, raw.place, raw.code, raw.line == 1),
+        )
 
 
 def _text_of(code: int) -> str:

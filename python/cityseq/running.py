@@ -1,22 +1,43 @@
-"""Runs over streams: their parts are judged by as many threads as asked, or elsewhere, and the answers joined in order."""
+"""Runs over streams: their parts are judged by as many threads as asked, or elsewhere, and the
+answers joined in order."""
 from __future__ import annotations
 
 import contextlib
 import os
 from collections import deque
-from dataclasses import asdict, dataclass, field, replace
+from dataclasses import dataclass, field, replace
 from functools import partial
-from typing import TYPE_CHECKING, Any, Callable, Deque, Dict, Generator, Iterable, Iterator, List, Optional, Tuple, Type
+from itertools import chain, islice
+from typing import (
+    TYPE_CHECKING,
+    Any,
+    Callable,
+    Deque,
+    Dict,
+    Generator,
+    Iterable,
+    Iterator,
+    List,
+    Optional,
+    Tuple,
+    Type,
+    Union,
+)
 
-from ._library import NO_MEMORY, REFUSED
-from .faults import CityseqError, MemoryFault, ReadFault, RequestError, WriteFault
+from ._library import COMPLETE, NO_MEMORY, REFUSED
+from .faults import CityseqError, InvalidStream, MemoryFault, ReadFault, RequestError, WriteFault
 from .hints import HEAD, hints_for
+from .ids import part_size_for
+from .outputs import Writer
+from .packed import BLOCK, Packing, Unpacker, pack
 from .parts import PART, Answer, Cutter, read_header
 from .places import SMALL, Placed, Places, Turns, given, judge_placed, judge_read, placed
 from .query import Work
 from .reports import Report
-from .sources import Reader, Source, Writer, is_path, name_of, opened
+from .sources import CHANGED, Reader, Source, Watch, is_packed, is_path, name_of, opened
 from .tally import Range, Tally
+from .threads import Crew
+from .whole import Whole
 
 if TYPE_CHECKING:
     from decimal import Decimal
@@ -25,19 +46,22 @@ HEADERS = 4  # a usual part is at least so many times as long as the header
 AHEAD = 2  # how many parts wait beside those that are judged
 AT_ONCE = 64 << 20  # of so many bytes, or a part more, what came of parts in turn is told together
 Tell = Callable[[Report], None]
+Progress = Callable[[int], None]
 Task = Callable[[], Answer]
 Judged = Callable[[bool], Answer]  # what judges a part, and takes whether that is the first
-Tasks = Generator[Task, None, None]
+Tasks = Generator[Optional[Task], None, None]  # none, where nothing more has come for some time
 Results = Generator["Result", None, None]
-FAULTS = {fault.status: fault for fault in (ReadFault, WriteFault, MemoryFault)}
 
 
 @dataclass
 class Result:
-    """What came of a stream. `status` is that of the program: 0 valid, 1 some line is invalid, 3 to 5 a fault, told by `fault`.
+    """What came of a stream. `status` is that of the program: 0 valid, 1 some line is invalid, 3 to
+    5 a fault, told by `fault`, which is of the stream's file, or of the one that `fault_file`
+    names.
 
-    `reports` are the invalid lines that were told, in order: the first one, or, told to go on, all. `end` is the one that ended
-    the run, if one did. `features` are those that are wanted. Lines up to the end are counted, blank ones and the header too."""
+    `reports` are the invalid lines that were told, in order: the first one, or, told to go on, all.
+    `end` is the one that ended the run, if one did. `features` are those that are wanted. Lines up
+    to the end are counted, blank ones and the header too."""
 
     file: str
     status: int
@@ -51,6 +75,9 @@ class Result:
     reports: List[Report] = field(default_factory=list)
     fault: Optional[str] = None
     hints: List[str] = field(default_factory=list)
+    fault_file: Optional[str] = None
+    # the fault, as an exception
+    raises: Optional[CityseqError] = field(default=None, repr=False, compare=False)
 
     @property
     def valid(self) -> bool:
@@ -59,15 +86,18 @@ class Result:
 
     def raised(self) -> "Result":
         """The same. Raises the fault that ended the run, if one did, with this result."""
-        if self.fault is not None:
-            raise FAULTS[self.status](self.fault, self)
+        if self.raises is not None:
+            self.raises.result = self
+            raise self.raises
         return self
 
-    def summary(self) -> Dict[str, Any]:
-        """All but the reports, as JSON may have it."""
-        told = asdict(self)
-        del told["reports"]
-        return told
+    def raised_if_invalid(self, keep_going: bool) -> "Result":
+        """The same. Raises `InvalidStream` too, where the stream is not valid, unless it was to go
+        on after invalid lines."""
+        self.raised()
+        if self.status == InvalidStream.status and not keep_going:
+            raise InvalidStream(str(self.end), self, self.file)
+        return self
 
 
 @dataclass
@@ -85,28 +115,33 @@ class Info(Result):
     lods: Optional[Dict[str, int]] = None
     unasked: Tuple[str, ...] = ()
 
-    def summary(self) -> Dict[str, Any]:
-        """All but the reports, as JSON may have it: the numbers of the transform as the program writes them."""
-        from .world import normal
-
-        transform = {"scale": list(map(normal, self.scale)), "translate": list(map(normal, self.translate))}
-        return {**super().summary(), **transform}
-
 
 class Stream:
-    """One stream on its way: what is still to be judged of it, and what came of its parts so far."""
+    """One stream on its way: what is still to be judged of it, and what came of its parts so
+    far."""
 
-    def __init__(self, source: Source, work: Work, size: Optional[int] = None, output: Optional[Writer] = None,
-                 tell: Optional[Tell] = None, progress: Optional[Callable[[int], None]] = None) -> None:
+    def __init__(
+        self,
+        source: Source,
+        work: Work,
+        size: Optional[int] = None,
+        output: Optional[Writer] = None,
+        tell: Optional[Tell] = None,
+        progress: Optional[Progress] = None,
+    ) -> None:
         self.source, self.work, self.size, self.file = source, work, size, name_of(source)
         self._in_turn = False
         self._output, self._progress = output, progress
         self._reports: List[Report] = []
+        self._told_to = tell
         self._tell: Tell = self._reports.append if tell is None else tell
         self._joined = Answer(parts=0)
         self._header, self._head = b"", b""
-        self._fault: Optional[Tuple[int, str]] = None
-        self._late: Optional[Tuple[int, str]] = None
+        self._fault: Optional[CityseqError] = None
+        self._late: Optional[CityseqError] = None
+        self._watch: Optional[Watch] = None
+        self._unpacker: Optional[Unpacker] = None
+        self._taken = 0
 
     @property
     def ended(self) -> bool:
@@ -118,56 +153,92 @@ class Stream:
         self._in_turn = True
         return self
 
+    def relayed(self, tell: Tell, progress: Progress) -> Tuple[Optional[Tell], Optional[Progress]]:
+        """Has others be told of reports and of progress, and answers who was."""
+        before = self._told_to, self._progress
+        if self._told_to is not None:
+            self._tell = tell
+        self._progress = progress
+        return before
+
     def tasks(self) -> Tasks:
-        """What is to be called for each part, in order. A read that fails, or memory that is refused, is told after them."""
+        """What is to be called for each part, in order. A read that fails, or memory that is
+        refused, is told after them."""
         try:
             with opened(self.source) as reader:
                 yield from self._tasks(reader)
         except ReadFault as fault:
             self.fail(fault)
         except MemoryError:
-            self.fail(MemoryFault("out of memory"))
+            self.fail(MemoryFault("out of memory", None, self.file))
 
     def fail(self, fault: CityseqError) -> None:
         """Notes a fault that counts where no part ends the stream before it."""
-        self._late = fault.status, fault.words
+        self._late = fault
 
     def _tasks(self, reader: Reader) -> Tasks:
         limit = self.work.line_limit
+        self._watch = Watch.of(reader.file)
+        self._unpacker = reader.file if isinstance(reader.file, Unpacker) else None
         header, rest = read_header(reader, limit)
         self.heads(header, bytes(rest[:HEAD]))
         is_line = header.endswith(b"\n")
         if is_line or reader.fault is None or len(header) > limit:
             first = True
             for judged in self._parts(reader, header, rest) if is_line else ():
-                yield partial(judged, first)
-                first = False
+                yield None if judged is None else self._packing(partial(judged, first))
+                first = first and judged is None
             if first:
                 yield partial(judge_read, self.work, self.file, header, partial(given, b""), True)
         if reader.fault is not None:
-            raise ReadFault(f"read fault: {reader.fault}")
+            raise reader.fault
 
-    def _parts(self, reader: Reader, header: bytes, rest: bytearray) -> Iterator[Judged]:
-        """What judges each part behind the header: those of a file are read where they are judged, but for its end."""
+    def _packing(self, task: Task) -> Task:
+        """The same, which packs what is kept where the output is packed: so many threads pack at
+        once."""
+        how = None if self._output is None else self._output.packing
+        if how is None:
+            return task
+        return partial(_packed, task, how)
+
+    def _parts(self, reader: Reader, header: bytes, rest: bytearray) -> Iterator[Optional[Judged]]:
+        """What judges each part behind the header: those of a file are read where they are judged,
+        but for its end."""
         file = placed(reader.file) if is_path(self.source) else None
         if file is not None:
-            begin = yield from (self._parts_in_turn if self._in_turn else self._parts_at_once)(file, header)
+            begin = yield from (self._parts_in_turn if self._in_turn else self._parts_at_once)(
+                file, header
+            )
             if begin > len(header):
                 reader.go_to(begin)
                 rest = bytearray()
-        for part in Cutter(reader, rest, self._part_size(PART, header), self.work.line_limit, self.work.keep_going).parts():
-            yield partial(judge_read, self.work, self.file, header, partial(given, part))
+        for part in Cutter(
+            reader, rest, self._part_size(PART, header), self.work.line_limit, self.work.keep_going
+        ).parts():
+            yield partial(
+                judge_read, self.work, self.file, header, partial(given, part)
+            ) if part else None
 
     def _parts_at_once(self, file: Placed, header: bytes) -> Generator[Judged, None, int]:
         """What judges parts of a file, by any thread. It answers where what is left begins."""
         places = Places(file, len(header), self._part_size(PART, header), self.work.line_limit)
         for ends in places.parts():
-            yield partial(judge_placed, self.work, self.file, header, file, ends, self._part_size(SMALL, header))
+            yield partial(
+                judge_placed,
+                self.work,
+                self.file,
+                header,
+                file,
+                ends,
+                self._part_size(SMALL, header),
+            )
         return places.begin
 
     def _parts_in_turn(self, file: Placed, header: bytes) -> Generator[Judged, None, int]:
-        """What judges parts of a file that are read in turn, or what came of them. It answers where what is left begins."""
-        # whether the texts of LoDs are too many to be told hangs on how long parts are, and is to be the same for any number of threads
+        """What judges parts of a file that are read in turn, or what came of them. It answers where
+        what is left begins."""
+        # whether the texts of LoDs are too many to be told hangs on how long parts are, and is to
+        # be the same for any number of threads
         usual = PART if self.work.exact_lods else SMALL
         turns = Turns(file, len(header), self._part_size(usual, header), self.work.line_limit)
         answer = turns.counted(self.work, header, AT_ONCE) if self.work.counts_alone else None
@@ -179,57 +250,96 @@ class Stream:
         return turns.begin
 
     def _part_size(self, usual: int, header: bytes) -> int:
-        """How long parts are. A long header is judged again with each, so that they are longer then."""
-        return self.size or max(usual, HEADERS * len(header))
+        """How long parts are. A long header is judged again with each, and a query for very many
+        ids is made ready again, so that they are longer then."""
+        for_ids = (
+            0 if self.work.ids is None else part_size_for(self.work.ids, self._head[len(header) :])
+        )
+        return self.size or max(usual, HEADERS * len(header), for_ids)
 
     def heads(self, header: bytes, behind: bytes) -> None:
         """Notes the stream's first line, and some of what follows it."""
         self._header, self._head = header, header[:HEAD] + behind
-        if self._progress is not None:
-            self._progress(len(header))
 
     def add(self, answer: Answer) -> None:
         """Joins the answer of the next part."""
+        size = self._done(answer)
         self._joined.add(answer, self._tell)
         if answer.status == NO_MEMORY:
-            self._fault = MemoryFault.status, "out of memory"
+            self._fault = MemoryFault("out of memory", None, self.file)
         if self._output is not None and self._fault is None:
-            self._write(lambda: self._output.write(answer.output))  # type: ignore[union-attr]
+            self._write(
+                partial(
+                    self._output.write_packed if answer.is_packed else self._output.write,
+                    answer.output,
+                )
+            )
         if answer.fault is not None and self._fault is None:
-            self._fault = ReadFault.status, answer.fault
+            self._fault = answer.fault
         if self._progress is not None:
-            self._progress(answer.size)
+            self._progress(size)
+
+    def _done(self, answer: Answer) -> int:
+        """How many bytes more of the source have been dealt with, packed where they are packed."""
+        if self._unpacker is None:
+            return answer.size + (0 if self._joined.parts else len(self._header))
+        before, self._taken = self._taken, self._unpacker.taken
+        return self._taken - before
 
     def _write(self, call: Callable[[], None]) -> None:
+        """Writes something. The first fault counts."""
         try:
             call()
         except WriteFault as fault:
-            self._fault = fault.status, fault.words
+            self._fault = self._fault or fault
 
     def answer(self) -> Answer:
         """What came of the stream, as that of one part."""
         fault = self._fault or self._late
         reports = self._reports[:-1] if self._joined.end is not None else self._reports
-        return replace(self._joined, reports=reports, fault=fault and fault[1], parts=1)
+        return replace(self._joined, reports=reports, fault=fault, parts=1)
 
     def finish(self) -> Result:
         """What came of the stream, when all its parts were added."""
         joined = self._joined
         if not self.ended:
             self._fault = self._late
-        if self._output is not None and joined.parts:
-            before = self._fault
-            self._write(self._output.close)
-            self._fault = before or self._fault
+        if self._watch is not None and self._watch.is_changed():
+            self._fault = ReadFault(f"read fault: {CHANGED}", None, self.file)
         refused = joined.status == REFUSED or joined.refused > 0
-        status, fault = self._fault or (int(refused), None)
+        if self._output is not None:
+            whole = (
+                self._fault is None and joined.end is None and (not refused or self.work.keep_going)
+            )
+            self._write(partial(self._output.close, whole))
         hints = hints_for(joined.end, self._head) if joined.end is not None else []
         made: Type[Result] = Info if self.work.kind == "info" else Result
-        result = made(self.file, status, joined.lines, joined.kept, joined.refused, *joined.peaks, end=joined.end,
-                      reports=self._reports, fault=fault, hints=hints)
+        result = made(
+            self.file,
+            int(refused),
+            joined.lines,
+            joined.kept,
+            joined.refused,
+            *joined.peaks,
+            end=joined.end,
+            reports=self._reports,
+            hints=hints,
+            raises=self._fault,
+        )
+        if self._fault is not None:
+            result.status, result.fault, result.fault_file = (
+                self._fault.status,
+                self._fault.words,
+                self._fault.file,
+            )
         if isinstance(result, Info) and not self.ended and joined.tally is not None:
             self._inform(result, joined.tally)
         return result
+
+    def abandon(self) -> None:
+        """Leaves nothing half done of a stream that is not finished."""
+        if self._output is not None:
+            self._output.discard()
 
     def _inform(self, info: Info, tally: Tally) -> None:
         from .world import box_of, transform_of  # `info` alone needs it
@@ -242,20 +352,34 @@ class Stream:
         info.lods, info.unasked = tally.lods, tuple(sorted(tally.unasked))
 
 
+def _packed(task: Task, how: Packing) -> Answer:
+    """The answer of a task, with its output packed unless that is short."""
+    answer = task()
+    if len(answer.output) >= BLOCK:
+        answer.output, answer.is_packed = pack(answer.output, how), True
+    return answer
+
+
 def _told(answer: Answer, _: bool) -> Answer:
     """The answer of parts that have been judged."""
     return answer
 
 
-def results(streams: Iterable[Stream], submit: Callable[[Task], Any], ahead: int) -> Results:
-    """What comes of each stream, in order. `submit` begins a task and answers its future; so many are begun before the first is
-    waited for. What was begun of a stream after its end is cancelled."""
-    waiting: Deque[Tuple[Stream, Any]] = deque()
+def results(
+    streams: Iterable[Union[Stream, Whole]], submit: Callable[[Task], Any], ahead: int
+) -> Results:
+    """What comes of each stream, in order. `submit` begins a task and answers its future; so many
+    are begun before the first is waited for. What was begun of a stream after its end is
+    cancelled."""
+    waiting: Deque[Tuple[Union[Stream, Whole], Any]] = deque()
+    last: Optional[Stream] = None
 
     def taken(most: int) -> Results:
         while waiting and (len(waiting) > most or waiting[0][1] is None or waiting[0][1].done()):
             stream, future = waiting.popleft()
-            if future is None:
+            if isinstance(stream, Whole):
+                yield stream.result()
+            elif future is None:
                 yield stream.finish()
             elif stream.ended:
                 future.cancel()
@@ -264,29 +388,65 @@ def results(streams: Iterable[Stream], submit: Callable[[Task], Any], ahead: int
 
     try:
         for stream in streams:
+            if isinstance(stream, Whole):
+                waiting.append((stream, stream))
+                yield from taken(ahead)
+                continue
+            last = stream
             with contextlib.closing(stream.tasks()) as tasks:
                 for task in tasks:
-                    waiting.append((stream, submit(task)))
-                    yield from taken(ahead)
+                    if task is not None:
+                        waiting.append((stream, submit(task)))
+                    yield from taken(0 if task is None else ahead)
                     if stream.ended:
                         break
             waiting.append((stream, None))
         yield from taken(0)
     finally:
-        for _, future in waiting:
+        for stream, future in waiting:
+            stream.abandon()
             if future is not None:
                 future.cancel()
+        if last is not None:
+            last.abandon()
 
 
-def in_turn(streams: Iterable[Stream]) -> Results:
-    """What comes of each stream, in order, by the thread that asks for it."""
+def in_turn(
+    streams: Iterable[Stream],
+    call: Callable[[Callable[[], List[Answer]]], List[Answer]] = lambda made: made(),
+) -> Results:
+    """What comes of each stream, in order. Its parts are read and judged one after another, by the
+    calls that are given to `call`."""
     for stream in map(Stream.read_in_turn, streams):
-        with contextlib.closing(stream.tasks()) as tasks:
-            for task in tasks:
-                stream.add(task())
-                if stream.ended:
-                    break
-        yield stream.finish()
+        try:
+            with contextlib.closing(stream.tasks()) as tasks:
+                while not stream.ended:
+                    answers = call(partial(_next_answers, tasks))
+                    if not answers:
+                        break
+                    for answer in answers:
+                        stream.add(answer)
+            yield stream.finish()
+        finally:
+            stream.abandon()
+
+
+def _next_answers(tasks: Tasks) -> List[Answer]:
+    """What comes of the next parts, of so many that it is worth while to hand it on; nothing at the
+    end."""
+    answers: List[Answer] = []
+    size = 0
+    for task in tasks:
+        if task is None:
+            if answers:
+                break
+            continue
+        answer = task()
+        answers.append(answer)
+        size += answer.size
+        if size >= PART or answer.status != COMPLETE or answer.fault is not None:
+            break
+    return answers
 
 
 def usual_jobs() -> int:
@@ -299,11 +459,29 @@ def threaded(streams: Iterable[Stream], jobs: Optional[int]) -> Results:
     jobs = usual_jobs() if jobs is None else jobs
     if isinstance(jobs, bool) or not isinstance(jobs, int) or jobs < 1:
         raise RequestError(f"jobs are a whole number from 1: {jobs!r}")
-    return in_turn(streams) if jobs == 1 else _pooled(streams, jobs)
+    return _by_crew(streams, jobs)
 
 
-def _pooled(streams: Iterable[Stream], jobs: int) -> Results:
-    from concurrent.futures import ThreadPoolExecutor  # which one thread does not wait for
+def _by_crew(streams: Iterable[Stream], jobs: int) -> Results:
+    with Crew(jobs) as crew:
+        if jobs > 1:
+            yield from results(_shared_out(streams, crew), crew.submit, jobs + AHEAD)
+        else:
+            yield from in_turn(streams, lambda made: crew.submit(made).result())
 
-    with ThreadPoolExecutor(jobs) as pool:
-        yield from results(streams, pool.submit, jobs + AHEAD)
+
+def _shared_out(streams: Iterable[Stream], crew: Crew) -> Iterator[Union[Stream, Whole]]:
+    """The streams; each that is packed is judged whole by a thread, unless it is the only one, so
+    that many are unpacked at once."""
+    ahead = iter(streams)
+    begun = list(islice(ahead, 2))
+    for stream in chain(begun, ahead):
+        if len(begun) > 1 and is_packed(stream.source) and crew.start():
+            yield Whole(stream, crew, _judged_whole)
+        else:
+            yield stream
+
+
+def _judged_whole(stream: Stream) -> Result:
+    (result,) = in_turn([stream])
+    return result

@@ -1,32 +1,36 @@
-"""Where streams come from and go to: paths, `-`, bytes and file objects, packed by gzip where the name ends in `.gz`."""
+"""Where streams come from: paths, of files that may be packed, `-`, bytes and file objects."""
 from __future__ import annotations
 
 import contextlib
 import io
 import os
+import select
+import stat
 import sys
-import zlib
-from typing import IO, Any, Iterator, Optional, Union
+from typing import IO, Any, Iterator, Optional, Tuple, Union
 
-from .faults import ReadFault, RequestError, WriteFault
+from .faults import ReadFault, RequestError, read_fault
+from .packed import Packing, Unpacker, packing_of
 
-Source = Union[str, "os.PathLike[str]", bytes, bytearray, memoryview, IO[bytes]]
-Target = Union[str, "os.PathLike[str]", IO[bytes]]
+Source = Union[str, "os.PathLike[Any]", bytes, bytearray, memoryview, IO[bytes]]
 
+State = Tuple[int, int]  # of a file
+CHANGED = "changed while it was read"
 PIECE = 1 << 20  # the most bytes of one read
-# What a read may fail by: gzip tells of archives that are cut short or broken by some of its own.
-READ_FAULTS = (OSError, EOFError, zlib.error, ValueError)
+IDLE = 50  # milliseconds after which what is there is not waited with
+READ_FAULTS = (OSError, EOFError, ValueError)  # what a read may fail by
 
 
 def is_path(source: Any) -> bool:
-    """Whether a source or a target is a path, `-` aside."""
-    return isinstance(source, (str, os.PathLike)) and os.fspath(source) != "-"
+    """Whether a source or a target is a path, `-` aside. Bytes are none: they are a stream
+    themselves."""
+    return isinstance(source, (str, os.PathLike)) and os.fsdecode(source) != "-"
 
 
 def name_of(source: Any) -> str:
     """What a source is called in reports."""
     if isinstance(source, (str, os.PathLike)):
-        return os.fspath(source)
+        return os.fsdecode(source)
     if isinstance(source, (bytes, bytearray, memoryview)):
         return "<bytes>"
     name = getattr(source, "name", None)
@@ -34,28 +38,53 @@ def name_of(source: Any) -> str:
 
 
 def size_of(source: Any) -> Optional[int]:
-    """How many bytes a source has, where that can be known before it is read."""
+    """How many bytes a source has, packed where it is packed, if that can be known before it is
+    read."""
     if isinstance(source, (bytes, bytearray, memoryview)):
         return memoryview(source).nbytes
-    if is_path(source) and not os.fspath(source).endswith(".gz") and os.path.isfile(source):
-        return os.path.getsize(source)
-    return None
+    return os.path.getsize(source) if is_path(source) and os.path.isfile(source) else None
+
+
+def _poll_of(file: Any) -> Any:
+    """What tells whether something has come by a pipe or the like; nothing of other files."""
+    try:
+        descriptor = file.fileno()
+        mode = os.fstat(descriptor).st_mode
+    except (AttributeError, OSError, ValueError):
+        return None
+    if isinstance(file, Unpacker) or not (
+        stat.S_ISFIFO(mode) or stat.S_ISSOCK(mode) or stat.S_ISCHR(mode)
+    ):
+        return None
+    poll = select.poll()
+    poll.register(descriptor, select.POLLIN)
+    return poll
 
 
 class Reader:
     """Reads a file object. A read that fails is kept as `fault`, and is the end of the input."""
 
-    def __init__(self, file: IO[bytes]) -> None:
-        self.file = file
+    def __init__(self, file: IO[bytes], name: str = "<stream>") -> None:
+        self.file, self.name = file, name
         self._read: Any = getattr(file, "read1", None) or file.read
-        self.fault: Optional[str] = None
+        self.fault: Optional[ReadFault] = None
+        self._poll = _poll_of(file)
+
+    def is_idle(self) -> bool:
+        """Whether nothing has come for some time where it comes bit by bit, as by a pipe."""
+        if self._poll is None:
+            return False
+        try:
+            return not self._poll.poll(IDLE)
+        except (OSError, ValueError):
+            return False
 
     def go_to(self, place: int) -> None:
         """Goes on from this byte of the file."""
         try:
             self.file.seek(place)
         except READ_FAULTS as fault:
-            self._fail(why(fault))
+            self._fail(fault)
 
     def read(self, most: int) -> bytes:
         """Some bytes, at most so many, and none at the end."""
@@ -63,26 +92,30 @@ class Reader:
             piece = self._read(min(most, PIECE))
             if isinstance(piece, (bytes, bytearray)):
                 return bytes(piece)
-            self._fail("the source gives text: open it as binary" if isinstance(piece, str) else "no bytes were ready")
+            self._fail(
+                OSError(
+                    "the source gives text: open it as binary"
+                    if isinstance(piece, str)
+                    else "no bytes were ready"
+                )
+            )
         except READ_FAULTS as fault:
-            self._fail(why(fault))
+            self._fail(fault)
         return b""
 
-    def _fail(self, fault: str) -> None:
-        self.fault, self._read = fault, io.BytesIO().read
+    def _fail(self, cause: BaseException) -> None:
+        self.fault, self._read = read_fault(cause, self.name), io.BytesIO().read
 
 
-def why(fault: BaseException) -> str:
-    """What an error says, in one line."""
-    told = getattr(fault, "strerror", None) or str(fault) or type(fault).__name__
-    return " ".join(str(told).split())
-
-
-def _packed(path: str, mode: str) -> Any:
-    """The file object of a path that is packed."""
-    import gzip  # few runs need it
-
-    return gzip.open(path, mode, 6)
+def _open_path(path: str) -> Any:
+    """The file object of a path, which unpacks what is packed."""
+    file = open(path, "rb")
+    try:
+        packing = packing_of(file.peek(len(Packing.ZSTD.mark)), path)
+        return file if packing is None else Unpacker(file, packing)
+    except BaseException:
+        file.close()
+        raise
 
 
 def _open(source: Source) -> Any:
@@ -90,82 +123,73 @@ def _open(source: Source) -> Any:
     if isinstance(source, (bytes, bytearray, memoryview)):
         return io.BytesIO(source)
     if isinstance(source, (str, os.PathLike)):
-        path = os.fspath(source)
-        return _packed(path, "rb") if path.endswith(".gz") else open(path, "rb")
-    raise RequestError(f"a source is a path, bytes or a binary file, and no {type(source).__name__}")
+        return _open_path(os.fsdecode(source))
+    raise RequestError(
+        f"a source is a path, bytes or a binary file, and no {type(source).__name__}"
+    )
+
+
+def is_packed(source: Any) -> bool:
+    """Whether a source is a path of a file that is packed."""
+    try:
+        if not is_path(source) or not os.path.isfile(source):
+            return False
+        with open(source, "rb") as file:
+            return packing_of(file.peek(len(Packing.ZSTD.mark)), os.fsdecode(source)) is not None
+    except OSError:
+        return False
+
+
+def state_of(descriptor: int) -> State:
+    """The size of an open file and its time, one of which is another one where the file is
+    changed."""
+    told = os.fstat(descriptor)
+    return told.st_size, told.st_mtime_ns
+
+
+class Watch:
+    """Looks whether a regular file is changed, from when it is made on."""
+
+    def __init__(self, descriptor: int) -> None:
+        self._descriptor = -1
+        self._descriptor = os.dup(descriptor)
+        self._state = state_of(descriptor)
+
+    def __del__(self) -> None:
+        if self._descriptor >= 0:
+            os.close(self._descriptor)
+
+    @classmethod
+    def of(cls, file: Any) -> Optional["Watch"]:
+        """A watch of the file behind a file object, where there is one that is regular."""
+        try:
+            descriptor = file.fileno()
+            return cls(descriptor) if stat.S_ISREG(os.fstat(descriptor).st_mode) else None
+        except (AttributeError, OSError, ValueError):
+            return None
+
+    def is_changed(self) -> bool:
+        """Whether the file is in another state than at first."""
+        return state_of(self._descriptor) != self._state
 
 
 @contextlib.contextmanager
 def opened(source: Source) -> Iterator[Reader]:
     """A reader of a source. What was opened for it is closed again."""
+    name = name_of(source)
     if hasattr(source, "read"):
-        yield Reader(source)  # type: ignore[arg-type]
+        yield Reader(source, name)  # type: ignore[arg-type]
         return
     if isinstance(source, str) and source == "-":
         if sys.stdin is None:
-            raise ReadFault("read fault: standard input is closed")
-        yield Reader(sys.stdin.buffer)
+            raise ReadFault("read fault: standard input is closed", None, name)
+        yield Reader(sys.stdin.buffer, name)
         return
     try:
         file = _open(source)
     except READ_FAULTS as fault:
         if isinstance(fault, RequestError):
             raise
-        raise ReadFault(f"read fault: {why(fault)}") from fault
+        raise read_fault(fault, name) from fault
     with file:
-        yield Reader(file)
-
-
-class Writer:
-    """Writes to a target. A path is opened at the first call of `write` or `close`, so that it is there where nothing is kept."""
-
-    def __init__(self, target: Target) -> None:
-        self._own = is_path(target)
-        self._path = os.fspath(target) if isinstance(target, (str, os.PathLike)) else None
-        self._file: Any = None if self._path is not None else target
-        if isinstance(target, io.TextIOBase) or not (self._path is not None or hasattr(target, "write")):
-            raise RequestError("an output is a path or a binary file")
-
-    def _open(self) -> Any:
-        if self._file is None and self._path == "-":
-            if sys.stdout is None:
-                raise OSError("standard output is closed")
-            self._file = sys.stdout.buffer
-        elif self._file is None:
-            assert self._path is not None
-            self._file = _packed(self._path, "wb") if self._path.endswith(".gz") else open(self._path, "wb")
-        return self._file
-
-    def write(self, text: Union[bytes, bytearray, memoryview]) -> None:
-        """Writes all of these bytes."""
-        rest = memoryview(text)
-        try:
-            file = self._open()
-            while rest:
-                written = file.write(rest)
-                rest = rest[written:] if isinstance(written, int) else rest[len(rest):]
-        except (OSError, ValueError) as fault:
-            raise WriteFault(f"write fault: {why(fault)}") from fault
-        finally:
-            rest.release()
-
-    def close(self) -> None:
-        """Flushes what was written, and closes a file that was opened here."""
-        try:
-            file = self._open()
-            if hasattr(file, "flush"):
-                file.flush()
-            if self._own:
-                file.close()
-        except (OSError, ValueError) as fault:
-            raise WriteFault(f"write fault: {why(fault)}") from fault
-
-
-def is_same_file(source: Any, target: Any) -> bool:
-    """Whether an output would overwrite the stream that it is made of."""
-    if not (is_path(source) and is_path(target)):
-        return False
-    try:
-        return os.path.samefile(source, target)
-    except OSError:
-        return False
+        yield Reader(file, name)

@@ -1,9 +1,13 @@
 """What the tests share: the vectors with what has to come of them, small lines, and streams made by chance."""
+import gzip
 import io
 import os
+import pathlib
 import random
 import subprocess
 import sys
+import tempfile
+import unittest
 
 ROOT = os.path.abspath(os.path.join(os.path.dirname(__file__), "..", ".."))
 PROGRAM = os.path.join(ROOT, "crates", "cityseq", "out", "cityseq")
@@ -109,10 +113,24 @@ class Slow(io.RawIOBase):
         return piece
 
 
-def command(*words, given=b"", **more):
+class InFolder(unittest.TestCase):
+    """Tests that have a folder of their own."""
+
+    def setUp(self):
+        folder = tempfile.TemporaryDirectory()
+        self.addCleanup(folder.cleanup)
+        self.folder = pathlib.Path(folder.name)
+
+    def file(self, text, name="stream.city.jsonl"):
+        path = self.folder / name
+        path.write_bytes(gzip.compress(text) if name.endswith(".gz") else text)
+        return path
+
+
+def command(*words, given=b"", coding="utf-8", **more):
     """What the command writes, says and answers."""
     ran = subprocess.run([sys.executable, "-m", "cityseq", *words], input=given, capture_output=True, timeout=60,
-                         env={**os.environ, "PYTHONPATH": os.path.join(ROOT, "python"), "PYTHONIOENCODING": "utf-8"}, **more)
+                         env={**os.environ, "PYTHONPATH": os.path.join(ROOT, "python"), "PYTHONIOENCODING": coding}, **more)
     return ran.stdout, ran.stderr.decode("utf-8", "replace"), ran.returncode
 
 

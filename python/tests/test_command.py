@@ -1,15 +1,20 @@
 """The command: what it writes, what it says, and its status."""
+import contextlib
 import gzip
-import json
 import os
 import re
 import subprocess
 import sys
 import unittest
+from unittest import mock
 
 from . import support
-from .support import HEADER, PLAIN, command, feature
-from .test_sources import BROKEN, GOOD, InFolder
+from .support import HEADER, PLAIN, InFolder, command, feature
+from .test_sources import BROKEN, GOOD
+
+import cityseq
+from cityseq import words as words_of
+from cityseq.console import put
 from .test_told import example
 
 SAID = "line 3, byte 142: 25 vertex index out of range"
@@ -20,32 +25,26 @@ class Commands(InFolder):
 
     def test_check(self):
         good, broken = self.file(GOOD, "good.jsonl"), self.file(BROKEN, "broken.jsonl")
-        self.assertEqual(command("check", good), (f"{good}: valid lines=3 features=2\n".encode(), "", 0))
+        self.assertEqual(command("check", good), (b"valid lines=3 features=2\n", "", 0))
+        self.assertEqual(command("check", good, good)[0], f"{good}: valid lines=3 features=2\n".encode() * 2)
         output, said, status = command("check", good, broken)
         self.assertEqual((output.count(b"\n"), status), (1, 1))
         first, *rest = said.splitlines()
         self.assertEqual(first, f"{broken}: {SAID}")
         self.assertEqual(rest[0], '    feature "b"')
         self.assertEqual(rest[1][rest[2].index("^"):][:3], "4]]")
-        self.assertTrue(rest[3].startswith("    Fix: Count from 0"))
-        self.assertEqual(command("check", "-", given=GOOD), (b"-: valid lines=3 features=2\n", "", 0))
+        self.assertEqual(rest[3], "    Hint: the index is 4.")
+        self.assertTrue(rest[4].startswith("    Fix: Count from 0"))
+        self.assertEqual(command("check", "-", given=GOOD), (b"valid lines=3 features=2\n", "", 0))
+        self.assertEqual(command("check", "-", given=BROKEN)[1].splitlines(), [SAID, *rest])
+        self.assertEqual(command("check", given=BROKEN), (b"", f"{SAID}\n", 1))
 
     def test_keep_going(self):
         output, said, status = command("check", "--keep-going", example("delivery"))
-        self.assertEqual((output, status), (f"{example('delivery')}: invalid lines=9 features=3 refused=5\n".encode(), 1))
+        self.assertEqual((output, status), (b"invalid lines=9 features=3 refused=5\n", 1))
         self.assertEqual(re.findall(r"line \d+, byte \d+: \d+", said), [
             "line 3, byte 144: 25", "line 4, byte 87: 10", "line 6, byte 100: 4", "line 7, byte 144: 25", "line 8, byte 64: 19"])
         self.assertEqual(re.findall(r'feature "(.*)"', said), ["p2", "p3", "p5", "p6", "p7"])
-
-    def test_json(self):
-        output, said, status = command("check", "--json", "--keep-going", example("delivery"), example("town"), self.folder / "none")
-        told = [json.loads(line) for line in output.splitlines()]
-        self.assertEqual((said, status), ("", 3))
-        self.assertEqual([(one["line"], one["byte"], one["code"], one["id"]) for one in told[:5]],
-                         [(3, 144, 25, "p2"), (4, 87, 10, "p3"), (6, 100, 4, "p5"), (7, 144, 25, "p6"), (8, 64, 19, "p7")])
-        self.assertEqual([(one["status"], one["features"]) for one in told[5:]], [(1, 3), (0, 4), (3, 0)])
-        told = json.loads(command("info", "--json", example("town"))[0])
-        self.assertEqual((told["box"], told["scale"], told["lods"]["2.2"]), ("995,1990,1050,2005", ["1e-3"] * 3, 1))
 
     def test_filter(self):
         wanted = HEADER + feature("b", "Road")
@@ -102,31 +101,142 @@ class Commands(InFolder):
         self.assertEqual(command("explain", "7"), (b"", "no reason has the code 7\n", 2))
 
     def test_hints(self):
-        self.assertIn("-: It is packed by gzip: ", command("check", "-", given=gzip.compress(GOOD))[1])
-        self.assertIn("-: It is empty: ", command("check", "-")[1])
+        self.assertIn("\nIt is packed by gzip: ", command("check", "-", given=gzip.compress(GOOD))[1])
+        self.assertIn("\nIt is empty: ", command("check", "-")[1])
+        self.assertEqual(command("check")[1], "line 1, byte 0: 1 no header line\n")
 
     def test_progress(self):
-        output, said, status = command("check", "--progress", "-", given=HEADER + PLAIN * 50_000)
-        self.assertEqual((output, status), (b"-: valid lines=50001 features=50000\n", 0))
-        self.assertIn("MB", said)
+        path = self.file(HEADER + PLAIN * 50_000, "stream.jsonl.gz")
+        output, said, status = command("check", "--progress", path)
+        self.assertEqual((output, status), (b"valid lines=50001 features=50000\n", 0))
+        size = os.path.getsize(path) / 1e6
+        self.assertRegex(said, rf"^100 %  {size:.0f} of {size:.0f} MB, [0-9,]+ MB/s  {path}\n$")
 
     def test_wrong_words(self):
         for words, said in (
-                ((), "usage: "), (("chekc", "-"), "chekc"), (("check",), "FILE"), (("check", "--id", "b", "-"), "unrecognized"),
-                (("filter", "--id", "a", "--id", "b", "-"), "cannot be used multiple times"), (("check", "--jobs", "0", "-"), "jobs"),
-                (("check", "--line-limit", "0", "-"), "line limit"), (("check", "--depth", "x", "-"), "depth"),
-                (("filter", "--type", "Shed", "-"), "unknown object type: Shed\n"), (("filter", "--bbox", "1,2,3", "-"), "bad box\n"),
-                (("filter", "--bbox=3,0,1,1", "-"), "empty box\n"), (("filter", "--bbox=1e18,0,2e18,0", "-"), "box number out of range\n")):
+                ((), "Usage: "), (("chekc", "-"), "a similar subcommand exists: 'check'"), (("check", "--id", "b", "-"), "unexpected argument '--id'"),
+                (("filter", "--id", "a", "--id", "b", "-"), "cannot be used multiple times"),
+                (("check", "--jobs", "0", "-"), "invalid value '0' for '--jobs <N>': 0 is not in 1..=4096"),
+                (("check", "--jobs", "\u0663", "-"), "invalid digit found in string"),
+                (("check", "--line-limit", "0", "-"), "0 is not in 1..=1073741824"), (("check", "--depth", "x", "-"), "invalid digit found in string"),
+                (("check", "--depth=", "-"), "cannot parse integer from empty string"), (("check", "--depth", "9" * 30), "number too large"),
+                (("check", "--depth"), "a value is required for '--depth <LEVELS>'"), (("check", "--jsn", "-"), "exists: '--json'"),
+                (("filter", "--type", "Bulding", "-"), "unknown object type: Bulding\n  tip: a similar type exists: 'Building'\n"),
+                (("filter", "--type", "building", "-"), "exists: 'Building'\n"), (("filter", "--type", "x\x1by", "-"), "type: x\\u001by\n"),
+                (("filter", "--bbox", "1,2,3", "-"), "bad box\n"), (("info", "--keep-going", "-"), "unexpected argument '--keep-going'"),
+                (("filter", "--bbox=3,0,1,1", "-"), "empty box\n"), (("filter", "--bbox=1e18,0,2e18,0", "-"), "box number out of range\n"),
+                (("explain",), "explain takes a code"), (("explain", "x"), "explain takes a code"), (("help", "chekc"), "exists: 'check'"),
+                (("check", "--resume", "x"), "--resume is for a --record"), (("check", "--record", "/dev/null", "-"), "standard input has no name"),
+                (("check", "-", "-"), "read once"), (("filter", "--ids-from", "-"), "read once")):
             output, told, status = command(*words, given=GOOD)
-            self.assertEqual((output, status, said in told, "Traceback" in told), (b"", 2, True, False), words)
+            self.assertEqual((output, status, said in told, "Traceback" in told), (b"", 2, True, False), (words, told))
+
+    def test_help(self):
+        for words in (("help",), ("--help",), ("-h",)):
+            self.assertEqual(command(*words), (command("--help")[0], "", 0))
+        for name in ("check", "filter", "info", "explain"):
+            output, said, status = command(name, "--help")
+            self.assertEqual((output, said, status), (command("help", name)[0], "", 0))
+            self.assertTrue(output.decode().startswith(words_of.COMMANDS[name].about))
+            self.assertLess(max(map(len, output.decode().splitlines())), 160)
+        self.assertEqual(command("-V"), (f"cityseq {cityseq.__version__}\n".encode(), "", 0))
+
+    @unittest.skipUnless(os.path.exists(support.PROGRAM), "the program is not built")
+    def test_all_options_of_the_program_are_there(self):
+        for name in ("check", "filter", "info"):
+            ours = command(name, "--help")[0].decode().splitlines()
+            theirs = support.program(name, "--help")[0].decode().splitlines()
+            options = [" ".join(line.split()) for line in theirs if line.lstrip().startswith("--")]
+            self.assertEqual([line for line in options if line not in {" ".join(our.split()) for our in ours}], [])
+            examples = [line for line in theirs if line.startswith("  cityseq ") or line.startswith("  zcat")]
+            self.assertEqual([line for line in examples if line not in ours], [])
 
     def test_faults(self):
         none = self.folder / "none"
         self.assertEqual(command("check", none), (b"", f"{none}: read fault: No such file or directory\n", 3))
+        self.assertEqual(command("filter", "--ids-from", none, "-")[1], f"{none}: a list of ids: No such file or directory\n")
         self.assertEqual(command("check", self.folder)[2], 3)
         good = self.file(GOOD)
         self.assertEqual(command("check", none, good)[::2], (f"{good}: valid lines=3 features=2\n".encode(), 3))
         self.assertEqual(command("filter", "--output", self.folder, "-", given=GOOD)[::2], (b"", 4))
+
+    def test_a_line_is_written_at_once(self):
+        """A reader that goes away behind its end is no fault, also where Python keeps no buffer."""
+        with mock.patch("sys.stdout") as output:
+            put("a\nb")
+        self.assertEqual(output.write.mock_calls, [mock.call("a\nb\n")])
+
+    def test_many_reports(self):
+        path = self.file(HEADER + b"[]\n" * 2_500, "a.jsonl")
+        for most, told in ((None, 2_500), (3, 3), (0, 0), (2_500, 2_500)):
+            words = () if most is None else ("--max-reports", str(most))
+            said = command("check", "--keep-going", *words, path)[1]
+            self.assertEqual(said.count("12 wrong kind"), told)
+            self.assertEqual("more lines are not valid" in said, told < 2_500)
+        said = command("check", "--keep-going", "--max-reports", "1", path, path)[1]
+        self.assertEqual(said.count(f"{path}: 2,499 more lines are not valid"), 2)
+
+    def test_a_summary(self):
+        output, said, status = command("check", "--keep-going", "--summary", example("delivery"), example("broken"))
+        self.assertEqual((output.count(b"\n"), said.splitlines(), status), (
+            2, ["      1 4 syntax", "      1 10 member missing", "      1 19 unknown object type", "      3 25 vertex index out of range"], 1))
+        self.assertEqual(command("check", "--summary", given=BROKEN)[1], "      1 25 vertex index out of range\n")
+
+    def on_a_terminal(self, *words, **environment):
+        """What the command says where standard error is a terminal."""
+        import pty
+        ours, theirs = pty.openpty()
+        ran = subprocess.Popen([sys.executable, "-m", "cityseq", *words], stdin=subprocess.DEVNULL, stdout=subprocess.DEVNULL, stderr=theirs, env={
+            **os.environ, "PYTHONPATH": os.path.join(support.ROOT, "python"), "TERM": "xterm", "NO_COLOR": "", **environment})
+        os.close(theirs)
+        said = b""
+        with contextlib.suppress(OSError):  # which is how a terminal ends
+            while True:
+                said += os.read(ours, 65_536)
+        os.close(ours)
+        ran.wait()
+        return said.decode()
+
+    def test_a_terminal(self):
+        path = self.file(HEADER + b"[]\n" * 1_200)
+        said = self.on_a_terminal("check", "--keep-going", path)
+        self.assertEqual((said.count("wrong kind"), said.count("\x1b[31m12 wrong kind\x1b[0m"), "200 more lines" in said), (1_000, 1_000, True))
+        for environment in ({"NO_COLOR": "1"}, {"TERM": "dumb"}):
+            self.assertNotIn("\x1b", self.on_a_terminal("check", "--keep-going", path, **environment))
+        said = self.on_a_terminal("check", "--progress", path, self.file(HEADER))
+        self.assertIn(f"MB/s  {path}"[:20], said)
+
+    def test_lists_of_files(self):
+        good, broken = self.file(GOOD, "good.jsonl"), self.file(BROKEN, "a b.jsonl")
+        wanted = command("check", good, broken)
+        for text in (f"{good}\n{broken}\n", f"{good}\r\n\r\n{broken}", f"{good}\0{broken}\0"):
+            self.assertEqual(command("check", "--files-from", self.file(text.encode(), "list")), wanted)
+            self.assertEqual(command("check", "--files-from", "-", given=text.encode()), wanted)
+        self.assertEqual(command("check", "--files-from", self.file(f"{broken}".encode(), "list"), good), wanted)
+        self.assertEqual(command("check", "--files-from", self.file(b"", "list")), (b"", "", 0))
+        self.assertEqual(command("check", "--files-from", self.folder / "none")[2], 2)
+
+    def test_ids_by_standard_input(self):
+        self.assertEqual(command("filter", "--ids-from", "-", self.file(GOOD), given=b"b\n"), (HEADER + feature("b", "Road"), "", 0))
+
+    def test_quiet(self):
+        for words in (("check", "--keep-going"), ("check",), ("check", "--summary", "--keep-going")):
+            self.assertEqual(command(*words, "--quiet", example("delivery"), example("town")), (b"", "", 1))
+        self.assertEqual(command("info", "--quiet", example("town")), (b"", "", 0))
+        self.assertEqual(command("check", "--quiet", self.folder / "none")[1:], (f"{self.folder}/none: read fault: No such file or directory\n", 3))
+
+    def test_reports_come_while_the_input_is_open(self):
+        """So do those of a run by many threads."""
+        for jobs in ("1", "4"):
+            ran = subprocess.Popen([sys.executable, "-m", "cityseq", "check", "--keep-going", "--jobs", jobs], stdin=subprocess.PIPE,
+                                   stdout=subprocess.PIPE, stderr=subprocess.PIPE, env={**os.environ, "PYTHONPATH": os.path.join(support.ROOT, "python")})
+            with ran:
+                for line in (2, 3):
+                    ran.stdin.write((HEADER if line == 2 else b"") + b"[]\n")
+                    ran.stdin.flush()
+                    self.assertEqual(ran.stderr.readline(), f"line {line}, byte 0: 12 wrong kind\n".encode())
+                ran.stdin.close()
+                self.assertEqual(ran.stdout.read(), b"invalid lines=3 features=0 refused=2\n")
 
     def told_on(self, stdout, stderr, *words):
         """The status of a run with these as its outputs, and what it says where that is kept."""
@@ -137,11 +247,12 @@ class Commands(InFolder):
     @unittest.skipUnless(os.path.exists("/dev/full"), "there is no device that is full")
     def test_outputs_that_are_full(self):
         with open("/dev/full", "wb") as full:
-            for words in (("check", "-"), ("filter", "-"), ("info", "-"), ("explain", "25"), ("check", "--json", "-"), ("--help",), ("filter", "--help")):
+            for words in (("check", "-"), ("filter", "-"), ("info", "-"), ("explain", "25"), ("check", "--json", "-"), ("--help",), ("filter", "--help"),
+                          ("check",), ("filter",)):
                 status, said = self.told_on(full, subprocess.PIPE, *words)
                 self.assertEqual((status, "write fault" in said, "Traceback" in said), (4, True, False), words)
             for words, status in ((("check", "-"), 0), (("check", "--progress", self.file(BROKEN)), 1), (("check", "--depth", "0", "-"), 2),
-                                  (("check", "/nowhere"), 3), (("check",), 2)):
+                                  (("check", "/nowhere"), 3), (("check", "-x"), 2)):
                 self.assertEqual(self.told_on(subprocess.DEVNULL, full, *words)[0], status, words)
 
 

@@ -8,8 +8,7 @@ import time
 import unittest
 
 from . import support
-from .support import HEADER, feature, numbered
-from .test_sources import InFolder
+from .support import HEADER, InFolder, feature, numbered
 
 import cityseq
 
@@ -36,6 +35,14 @@ def by_ranges(path, each, work):
     return output, numbered(reports), joined.lines, joined.kept, joined.refused, joined.peaks
 
 
+def filtered(call, *given, **options):
+    """What comes of a filter, also where the stream is not valid."""
+    try:
+        return call(*given, **options)
+    except cityseq.InvalidStream as fault:
+        return fault.result
+
+
 @unittest.skipIf(distributed is None, "distributed is not there")
 class Ranges(InFolder):
     """Parts that are read where they are judged, without a cluster."""
@@ -50,6 +57,16 @@ class Ranges(InFolder):
             for each in (1, chance.randrange(2, 300), 700, 100_000):
                 with self.subTest(seed=seed, each=each):
                     self.assertEqual(by_ranges(path, each, asked("filter", **options)), wanted)
+
+
+    def test_a_file_that_changes(self):
+        path, work = self.file(HEADER + feature("a") * 9), asked("check")
+        seen = look(str(path), work.line_limit)
+        begin = len(seen.header)
+        self.assertIsNone(judge_range(work, str(path), begin, seen.size, True, seen.state).fault)
+        os.truncate(path, begin)
+        self.assertEqual(str(judge_range(work, str(path), begin, seen.size, True, seen.state).fault),
+                         f"{path}: read fault: changed while it was read")
 
 
 @unittest.skipIf(distributed is None, "distributed is not there")
@@ -80,7 +97,8 @@ class Clusters(InFolder):
             self.assertEqual(list(cityseq.dask.info(self.client, path, part_size=50_000)), [cityseq.info(path)])
             here, there = io.BytesIO(), io.BytesIO()
             for options in ({"types": ["Road", "BuildingPart"]}, {"keep_going": True}):
-                self.assertEqual(cityseq.dask.filter(self.client, path, there, part_size=900, **options), cityseq.filter(path, here, **options))
+                self.assertEqual(filtered(cityseq.dask.filter, self.client, path, there, part_size=900, **options),
+                                 filtered(cityseq.filter, path, here, **options))
             self.assertEqual(there.getvalue(), here.getvalue())
 
     def test_what_cannot_be_read_or_asked(self):

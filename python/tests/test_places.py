@@ -7,8 +7,7 @@ from dataclasses import replace
 from unittest import mock
 
 from . import support
-from .support import HEADER, PLAIN, feature, numbered
-from .test_sources import InFolder
+from .support import HEADER, PLAIN, InFolder, feature, numbered
 
 import cityseq
 from cityseq.parts import read_header
@@ -203,8 +202,8 @@ class Runs(InFolder):
             cut = {"part_size": chance.randrange(1, 900), "jobs": chance.randrange(1, 5)}
             with self.subTest(seed=seed):
                 self.assertEqual(self.filtered(self.file(text), **cut, **options), self.filtered(text, **options))
-                one, many = (cityseq.info(source, line_limit=1_000, keep_going=True, part_size=cut["part_size"])
-                             for source in (text, self.file(text)))
+                text = self.filtered(text, **options)[0] or text  # what is valid of it
+                one, many = (cityseq.info(source, line_limit=1_000, part_size=cut["part_size"]) for source in (text, self.file(text)))
                 self.assertEqual((one.lines, one.features, one.types, one.lods, one.box),
                                  (many.lines, many.features, many.types, many.lods, many.box))
 

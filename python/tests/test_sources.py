@@ -2,33 +2,17 @@
 import gzip
 import io
 import os
-import pathlib
 import subprocess
 import sys
-import tempfile
 import unittest
 
 from . import support
-from .support import HEADER, PLAIN, feature, numbered
+from .support import HEADER, PLAIN, InFolder, feature, numbered
 
 import cityseq
 
 GOOD = HEADER + feature("a") + feature("b", "Road")
 BROKEN = HEADER + feature("a") + feature("b", last=4) + feature("c")
-
-
-class InFolder(unittest.TestCase):
-    """Tests that have a folder of their own."""
-
-    def setUp(self):
-        folder = tempfile.TemporaryDirectory()
-        self.addCleanup(folder.cleanup)
-        self.folder = pathlib.Path(folder.name)
-
-    def file(self, text, name="stream.city.jsonl"):
-        path = self.folder / name
-        path.write_bytes(gzip.compress(text) if name.endswith(".gz") else text)
-        return path
 
 
 class Sources(InFolder):
@@ -52,7 +36,7 @@ class Sources(InFolder):
         wanted = HEADER + feature("b", "Road")
         self.assertEqual([path.read_bytes(), gzip.decompress(packed.read_bytes()), memory.getvalue()], [wanted] * 3)
         with open(path, "wb", buffering=0) as raw:
-            cityseq.filter(BROKEN, raw)
+            self.assertRaises(cityseq.InvalidStream, cityseq.filter, BROKEN, raw)
         self.assertEqual(path.read_bytes(), HEADER + feature("a"))
 
     def test_an_archive_that_is_cut_short(self):
@@ -75,6 +59,21 @@ class Sources(InFolder):
         with self.assertRaises(cityseq.ReadFault) as caught:
             cityseq.check(support.Slow(BROKEN, 11, len(BROKEN)), keep_going=True)
         self.assertEqual(numbered(caught.exception.result.reports), [(3, 142, 25)])
+
+    def test_a_file_that_changes_while_it_is_read(self):
+        text = HEADER + PLAIN * 1_000
+        for name, change in (("emptied", lambda path: os.truncate(path, 0)), ("longer", lambda path: path.open("ab").write(PLAIN)),
+                             ("touched", lambda path: os.utime(path, (1, 1)))):
+            for jobs, file in ((1, "a.jsonl"), (3, "a.jsonl"), (3, "a.jsonl.gz")):
+                path, output = self.file(text, file), self.folder / "out"
+                for call in (cityseq.check, lambda source, **options: cityseq.filter(source, output, **options)):
+                    once = iter((change,))
+                    with self.subTest(name, jobs=jobs, file=file), self.assertRaises(cityseq.ReadFault) as caught:
+                        call(path, jobs=jobs, part_size=900, progress=lambda _: next(once, lambda _: None)(path))
+                    self.assertEqual(str(caught.exception), f"{path}: read fault: changed while it was read")
+                    self.assertFalse(output.exists())
+                    self.file(text, file)
+        self.assertEqual(cityseq.check(self.file(text)).status, 0)
 
     def test_what_cannot_be_read(self):
         with open(self.file(GOOD)) as text:
@@ -118,7 +117,7 @@ class Sources(InFolder):
             print(len(found), found[-1])
             peak = dict(line.split(":") for line in open("/proc/self/status"))["VmHWM"]
             print(int(peak.split()[0]) < 200_000)"""
-        ran = subprocess.run([sys.executable, "-c", script % (HEADER, HEADER)], stdout=subprocess.PIPE, timeout=60,
+        ran = subprocess.run([sys.executable, "-c", script % (HEADER, HEADER)], stdout=subprocess.PIPE, timeout=240,
                              env={**os.environ, "PYTHONPATH": os.path.join(support.ROOT, "python")})
         self.assertEqual(ran.stdout.decode().splitlines(), [
             "(2, 8388608, 2) 1", "(1, 8388608, 2) 0", "(2, 8388608, 2) 2", "(1, 8388608, 2) 0", "1048577 1048577", "True"])
@@ -133,9 +132,9 @@ class Sources(InFolder):
                 except cityseq.MemoryFault as fault:
                     print(fault, fault.status, fault.result.lines)
             print(cityseq.check(%r).status)"""
-        ran = subprocess.run([sys.executable, "-c", script % (GOOD, GOOD)], stdout=subprocess.PIPE, timeout=60,
+        ran = subprocess.run([sys.executable, "-c", script % (GOOD, GOOD)], stdout=subprocess.PIPE, timeout=240,
                              env={**os.environ, "PYTHONPATH": os.path.join(support.ROOT, "python")})
-        self.assertEqual(ran.stdout.decode(), "out of memory 5 3\nout of memory 5 3\n0\n")
+        self.assertEqual(ran.stdout.decode(), "<bytes>: out of memory 5 3\n<bytes>: out of memory 5 3\n0\n")
 
 
 class Requests(unittest.TestCase):

@@ -10,7 +10,10 @@ from . import support
 from .support import HEADER, PLAIN, feature
 
 import cityseq
+from cityseq.met import met
+from cityseq.query import asked
 from cityseq.reports import excerpt_of, find_id
+from cityseq.shown import quoted, shown
 from cityseq.world import box_of, normal, plain
 
 sys.path.insert(0, os.path.join(support.ROOT, "python"))
@@ -97,7 +100,90 @@ class Hints(unittest.TestCase):
             self.assertEqual(cityseq.check(text).hints, [])
 
 
-class Infos(unittest.TestCase):
+TOWN = open(example("town"), "rb").read()
+
+
+def town_with(line, before, after):
+    """The example with a text of one line changed."""
+    lines = TOWN.splitlines(keepends=True)
+    assert before in lines[line - 1]
+    lines[line - 1] = lines[line - 1].replace(before, after, 1)
+    return b"".join(lines)
+
+
+class Met(unittest.TestCase):
+    """What stands at the place of a fault."""
+
+    def test_each(self):
+        for line, before, after, code, wanted in (
+                (2, b'"lod":"2.2",', b"", 10, 'the geometry has no "lod"'),
+                (2, b'"type":"Building",', b"", 10, 'the city object "house-1" has no "type"'),
+                (2, b'"vertices"', b'"vertexes"', 10, 'the feature has no "vertices"'),
+                (2, b'"values":[0]', b'"value":[0]', 10, 'the semantics has no "values"'),
+                (5, b'"type":"Road"', b'"type":"BuildingPart"', 10, 'the city object "road-1" has no "parents"'),
+                (4, b'"template":0,', b"", 10, 'the instance has no "template"'),
+                (1, b'"scale"', b'"scales"', 10, 'transform has no "scale"'),
+                (1, b'"CityObjects":{},', b"", 10, 'the header has no "CityObjects"'),
+                (1, b'"version"', b'"type":"CityJSON","version"', 11, 'the name is "type"'),
+                (2, b'"2.2"', b"2.2", 12, 'the value of "lod" is a number'),
+                (2, b"[[[0,1,2,3]]]", b"[[null]]", 12, "an item of a list is null"),
+                (1, b"2000.0", b"2e1000001", 13, "the number begins with 2e1000001"),
+                (2, b"CityJSONFeature", b"Feature", 14, 'the type is "Feature"'),
+                (1, b'"2.0"', b'"1.1"', 15, 'the version is "1.1"'),
+                (4, b"5000,5000", b"5000,5000.5", 18, "the number is 5000.5"),
+                (2, b'"type":"Building"', b'"type":"Bulding"', 19, 'the type is "Bulding": is Building meant?'),
+                (2, b'"type":"Building"', b'"type":"+\xe2\x80\xae"', 19, 'the type is "+\\u202e"'),
+                (2, b'"id":"house-1"', b'"id":"house-9"', 20, 'the id is "house-9"'),
+                (3, b'["house-2-a"]', b'["house-2-b"]', 21, 'the child is "house-2-b"'),
+                (5, b'"type":"Road"', b'"type":"BuildingPart","parents":["block-1"]', 23, 'the city object is "road-1"'),
+                (2, b"MultiSurface", b"Polygon", 24, 'the type is "Polygon"'),
+                (2, b"0,1,2,3", b"0,1,2,4", 25, "the index is 4"),
+                (2, b'"values":[0]', b'"values":[1]', 27, "the index is 1"),
+                (4, b'"template":0', b'"template":1', 28, "the template is 1"),
+                (2, b'"2.2"', b'"2.2', 4, None)):
+            with self.subTest(before=before):
+                end = cityseq.check(town_with(line, before, after)).end
+                self.assertEqual((end.line, end.code, end.met), (line, code, wanted))
+
+    def test_a_line_that_is_made_to_cost(self):
+        deep = b'{"type":"CityJSONFeature","id":"b","CityObjects":{"b":{"a":' + b"[" * 60_000 + b"]" * 60_000 + b"}}}\n"
+        self.assertIsNone(cityseq.check(HEADER + deep).end.met)
+        for place in range(60):
+            for code in range(1, 32):
+                met(HEADER[:-1], place, code, True)
+                met(b"\xff{}[", min(place, 3), code, False)
+
+    def test_the_command_says_that_it_is_a_hint(self):
+        said = support.command("check", "-", given=town_with(2, b'"lod":"2.2",', b""))[1]
+        self.assertIn('    Hint: the geometry has no "lod".\n', said)
+
+
+class Shown(support.InFolder):
+    """Texts from outside reach no terminal as they are."""
+
+    def test_signs(self):
+        for text, wanted in (("a\u00fc\u20ac", "a\u00fc\u20ac"), ("\x1b[2J", "\\u001b[2J"), ("\x9b2J", "\\u009b2J"), ("\u202ea", "\\u202ea"),
+                             ("\udcff", "\\udcff"), ("\U000e0001", "\\U000e0001"), ("a\nb", "a\\u000ab"), ("\u2028", "\\u2028")):
+            self.assertEqual((shown(text), quoted(text)[1:-1]), (wanted, "a\\nb" if "\n" in text else wanted))
+
+    def test_ids_and_names_of_files(self):
+        for sign in ("\x1b", "\x9b", "\u202e", "\u2066"):
+            text = HEADER + feature("b" + sign, last=4) if sign != "\x1b" else HEADER + feature("b\\u001b", last=4)
+            path = self.file(text, f"n{sign}.jsonl")
+            for words in (("check", path), ("filter", path), ("check", f"{path}-none"), ("filter", "--output", f"{self.folder}/{sign}/x", path)):
+                output, said, _ = support.command(*words)
+                self.assertNotIn(sign, output.decode() + said if words[0] == "check" else said)
+                self.assertIn(f"\\u{ord(sign):04x}", said)
+
+    def test_an_encoding_that_lacks_letters(self):
+        good = self.file(HEADER + PLAIN, "\u20ac.jsonl")
+        broken = self.file(HEADER + feature("\u20ac", last=4), "\u20ac\u20ac.jsonl")
+        output, said, status = support.command("check", good, broken, coding="latin-1")
+        self.assertEqual((output.decode().split("/")[-1], status), ("\\u20ac.jsonl: valid lines=2 features=1\n", 1))
+        self.assertIn('feature "\\u20ac"', said)
+
+
+class Infos(support.InFolder):
     """What is in a stream."""
 
     def test_the_example(self):
@@ -129,6 +215,12 @@ class Infos(unittest.TestCase):
         self.assertEqual(cityseq.filter(text, os.devnull, box=info.box).features, 1)
         just_beside = ",".join(["-9", "0", "-5.00000000012345679", "1e17"])
         self.assertEqual(cityseq.filter(text, os.devnull, box=just_beside).features, 0)
+
+    def test_there_is_no_going_on(self):
+        """What is valid in a stream that is not would be taken for what is in the stream."""
+        for call in (lambda: cityseq.info(HEADER, keep_going=True), lambda: asked("info", keep_going=True)):
+            self.assertRaises((TypeError, cityseq.RequestError), call)
+        self.assertEqual(support.command("info", "--keep-going", example("delivery"))[::2], (b"", 2))
 
     def test_no_box(self):
         for scale in (b"1e-19", b"1e-1000000", b"1e20", b"1e1000000"):

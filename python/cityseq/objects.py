@@ -1,0 +1,156 @@
+"""What is told as JSON: objects of a kind and a version, whose members docs/json.md describes."""
+from __future__ import annotations
+
+from typing import TYPE_CHECKING, Any, Counter, Dict, List, Optional, Union
+
+from .reports import Report, explain
+from .running import Info, Result
+from .words import Asked
+
+if TYPE_CHECKING:
+    from decimal import Decimal
+
+VERSION = 1  # of the objects: it changes where a member is renamed, goes or means something else
+VERDICTS = {0: "valid", 1: "invalid"}
+LONGEST = 40  # digits before or behind the point of a number that is written out
+MOST = 1 << 53  # up to which a double holds every whole number
+Object = Dict[str, Any]
+
+
+def _object(kind: str, members: Object) -> Object:
+    return {"kind": kind, "version": VERSION, **members}
+
+
+def exact(number: "Decimal") -> Union[int, float, str]:
+    """A number as a number of JSON, where each reader gets the same by it; else its text."""
+    from decimal import Decimal  # `info` alone needs it, and it takes long to load
+
+    from .world import plain
+
+    if number == 0:
+        return 0
+    if abs(number.adjusted()) > LONGEST:
+        return str(number)
+    if number == number.to_integral_value():
+        return int(number) if abs(number) <= MOST else plain(number)
+    return float(number) if Decimal(float(number)) == number else plain(number)
+
+
+def report_object(report: Report) -> Object:
+    """An invalid line."""
+    return _object(
+        "report",
+        {
+            "file": report.file,
+            "line": report.line,
+            "byte": report.byte,
+            "code": report.code,
+            "text": report.text,
+            "id": report.id,
+            "hint": report.met,
+            "excerpt": report.excerpt,
+            "column": report.column,
+            "fix": explain(report.code).fix,
+        },
+    )
+
+
+def options_object(asked: Asked) -> Object:
+    """What was asked for, as far as it has to do with what comes of a file."""
+    options: Object = {
+        "line_limit": asked.line_limit,
+        "depth": asked.depth,
+        "tree": asked.tree,
+        "keep_going": asked.keep_going,
+    }
+    if asked.command == "filter":
+        options.update(
+            {
+                name: getattr(asked, name)
+                for name in ("exclude", "id", "ids_from", "type", "lod", "bbox")
+            }
+        )
+    return options
+
+
+def _counts(result: Result) -> Object:
+    return {
+        "status": result.status,
+        "verdict": VERDICTS.get(result.status, "fault"),
+        "lines": result.lines,
+        "features": result.features,
+        "refused": result.refused,
+        "ended_at": None if result.end is None else result.end.line,
+        "fault": result.fault,
+        "fault_file": result.fault_file,
+    }
+
+
+def _of_info(info: Info) -> Object:
+    from decimal import Decimal
+
+    box: Optional[List[Any]] = (
+        None if info.box is None else [exact(Decimal(edge)) for edge in info.box.split(",")]
+    )
+    return {
+        "scale": list(map(exact, info.scale)),
+        "translate": list(map(exact, info.translate)),
+        "types": info.types,
+        "lod_classes": info.classes,
+        "lods": info.lods,
+        "lods_unknown": list(info.unasked),
+        "x": info.x,
+        "y": info.y,
+        "z": info.z,
+        "bbox": box,
+    }
+
+
+def result_object(
+    result: Result, asked: Asked, program: str, size: Optional[int], sha256: Optional[str]
+) -> Object:
+    """What came of a file, but for the lines that were reported."""
+    members = {
+        "file": result.file,
+        "command": asked.command,
+        "cityseq": program,
+        "options": options_object(asked),
+        "size": size,
+        "sha256": sha256,
+        **_counts(result),
+        "peak_bytes": result.peak_bytes,
+        "peak_tokens": result.peak_tokens,
+        "peak_depth": result.peak_depth,
+        "hints": result.hints,
+    }
+    if isinstance(result, Info):
+        members["info"] = _of_info(result) if result.valid else None
+    return _object("result", members)
+
+
+def reasons_object(codes: "Counter[int]") -> Object:
+    """How often each reason came."""
+    return _object(
+        "reasons",
+        {
+            "reasons": [
+                {"code": code, "text": explain(code).text, "lines": codes[code]}
+                for code in sorted(codes)
+            ]
+        },
+    )
+
+
+def record_object(result: Result, asked: Asked, program: str, state: Object) -> Object:
+    """What a file is, and what came of it: a line of a record."""
+    return _object(
+        "record",
+        {
+            "file": result.file,
+            **state,
+            "command": asked.command,
+            "cityseq": program,
+            "options": options_object(asked),
+            **_counts(result),
+        },
+    )

@@ -1,0 +1,256 @@
+"""Packed files: gzip, told by its first bytes or by the name, and Zstandard where python3-zstandard
+is there.
+
+What is packed by gzip here are blocks of up to 64 KB, each a member that says how long it is (BGZF,
+of the SAM specification): so many threads pack at once, gzip unpacks them as any archive, and bgzip
+and tabix can begin in the middle."""
+from __future__ import annotations
+
+import enum
+import io
+import struct
+import zlib
+from importlib import import_module
+from typing import IO, Any, List, Optional, Tuple, Type, Union
+
+Text = Union[bytes, bytearray, memoryview]
+
+READ = 1 << 17  # bytes of an archive that are read at once
+READ_ZSTD = 1 << 11  # fewer, since all that comes of them is held
+BLOCK = 65_280  # bytes of a text in a block of BGZF
+LEVEL = 6  # of gzip
+# The last block of an archive, which is empty, and tells that nothing was cut off.
+LAST = bytes.fromhex("1f8b08040000000000ff0600424302001b0003000000000000000000")
+
+
+class Packing(enum.Enum):
+    """How a file is packed: the first bytes, and how names end."""
+
+    GZIP = b"\x1f\x8b", ".gz"
+    ZSTD = b"\x28\xb5\x2f\xfd", ".zst"
+
+    @property
+    def mark(self) -> bytes:
+        """The bytes that each archive begins with."""
+        return self.value[0]
+
+
+def packing_by_name(name: str) -> Optional[Packing]:
+    """How a file of this name is packed, if it is."""
+    return next((packing for packing in Packing if name.endswith(packing.value[1])), None)
+
+
+def packing_of(head: bytes, name: str) -> Optional[Packing]:
+    """How a file is packed that begins so and has this name, if it is."""
+    return next(
+        (packing for packing in Packing if head.startswith(packing.mark)), None
+    ) or packing_by_name(name)
+
+
+def _inflating() -> Any:
+    """What has `decompressobj`: isal, which is faster, where it is there."""
+    try:
+        return import_module("isal.isal_zlib")
+    except ImportError:
+        return zlib
+
+
+def _zstandard() -> Any:
+    try:
+        return import_module("zstandard")
+    except ImportError:
+        raise OSError("there is no zstandard for Python: install python3-zstandard") from None
+
+
+class _Gzip:
+    """Unpacks the members of a gzip archive."""
+
+    def __init__(self) -> None:
+        self._inflate = _inflating()
+        self.faults: Tuple[Type[Exception], ...] = (
+            zlib.error,
+            getattr(self._inflate, "error", zlib.error),
+        )
+        self.read = READ
+
+    def member(self) -> Any:
+        """What unpacks one more member."""
+        return self._inflate.decompressobj(wbits=31)
+
+    @staticmethod
+    def more(member: Any, packed: bytes, most: int) -> bytes:
+        """What comes of some more bytes, at most so many."""
+        text: bytes = member.decompress(packed, most)
+        return text
+
+
+class _Zstd:
+    """Unpacks the frames of a Zstandard archive."""
+
+    def __init__(self) -> None:
+        zstandard = _zstandard()
+        self._context = zstandard.ZstdDecompressor()
+        self.faults: Tuple[Type[Exception], ...] = (zstandard.ZstdError,)
+        self.read = READ_ZSTD
+
+    def member(self) -> Any:
+        """What unpacks one more frame."""
+        return self._context.decompressobj()
+
+    @staticmethod
+    def more(member: Any, packed: bytes, _: int) -> bytes:
+        """What comes of some more bytes."""
+        text: bytes = member.decompress(packed) if packed else b""
+        return text
+
+
+class Unpacker(io.RawIOBase):
+    """The text that is packed in a file, of which one member follows another. `taken` is how many
+    bytes of the file were read."""
+
+    def __init__(self, file: IO[bytes], packing: Packing) -> None:
+        super().__init__()
+        self._file, self._mark = file, packing.mark
+        self._kind: Union[_Gzip, _Zstd] = _Gzip() if packing is Packing.GZIP else _Zstd()
+        self._member: Any = None
+        self._has_begun = False
+        self._packed = b""
+        self._text = b""
+        self.taken = 0
+
+    def fileno(self) -> int:
+        """The descriptor of the packed file."""
+        return self._file.fileno()
+
+    def readable(self) -> bool:
+        return True
+
+    def close(self) -> None:
+        """Closes the packed file."""
+        self._file.close()
+        super().close()
+
+    def read(self, most: int = -1) -> bytes:
+        """Some bytes of the text, at most so many, and none at its end. Raises `OSError` or
+        `EOFError` where the archive is broken."""
+        most = most if most >= 0 else 1 << 20
+        if not self._text:
+            try:
+                self._text = self._next(most)
+            except self._kind.faults as fault:
+                raise OSError(f"the archive is broken: {fault}") from fault
+        text, self._text = self._text[:most], self._text[most:]
+        return text
+
+    def _next(self, most: int) -> bytes:
+        while self._member is not None or self._begin():
+            text = self._kind.more(self._member, self._packed, most)
+            is_whole = self._member.eof
+            self._packed = (
+                self._member.unused_data
+                if is_whole
+                else getattr(self._member, "unconsumed_tail", b"")
+            )
+            if is_whole:
+                self._member = None
+            elif not text and not self._packed and not self._fill():
+                raise EOFError("the archive is cut short")
+            if text:
+                return text
+        return b""
+
+    def _fill(self) -> bool:
+        """Reads some more. False at the end of the file."""
+        piece = self._file.read(self._kind.read)
+        self._packed += piece
+        self.taken += len(piece)
+        return bool(piece)
+
+    def _begin(self) -> bool:
+        """Begins the next member. False where there is none: at the end, or where nothing but zeros
+        follows a member."""
+        while True:
+            if self._has_begun:
+                self._packed = self._packed.lstrip(b"\0")
+            if len(self._packed) >= len(self._mark) or not self._fill():
+                break
+        if not self._packed:
+            return False
+        if not self._packed.startswith(self._mark):
+            raise OSError("what is there is no archive")
+        self._member, self._has_begun = self._kind.member(), True
+        return True
+
+
+def _block(text: Text) -> bytes:
+    """A block of BGZF: a member of gzip that has its own length in an extra field."""
+    for level in (LEVEL, 0):
+        deflate = zlib.compressobj(level, zlib.DEFLATED, -15)
+        packed = deflate.compress(text) + deflate.flush()
+        if len(packed) + 26 <= 1 << 16:
+            break
+    head = struct.pack(
+        "<4BI2BH2B2H", 0x1F, 0x8B, 8, 4, 0, 0, 0xFF, 6, 0x42, 0x43, 2, len(packed) + 25
+    )
+    return head + packed + struct.pack("<2I", zlib.crc32(text), len(text))
+
+
+def require(packing: Packing) -> None:
+    """Raises `OSError` where what packs so is not there."""
+    if packing is Packing.ZSTD:
+        _zstandard()
+
+
+def pack(text: Text, packing: Packing) -> bytes:
+    """A text, packed by itself: what is packed one behind another is unpacked together."""
+    if packing is Packing.ZSTD:
+        packed: bytes = _zstandard().ZstdCompressor(write_checksum=True).compress(text)
+        return packed
+    view = memoryview(text)
+    return b"".join(_block(view[begin : begin + BLOCK]) for begin in range(0, len(view), BLOCK))
+
+
+class Packer(io.RawIOBase):
+    """Packs what is written to it into a file. Short texts are gathered, and what is packed already
+    is taken as it is."""
+
+    def __init__(self, file: IO[bytes], packing: Packing) -> None:
+        super().__init__()
+        self._file, self._packing = file, packing
+        self._gathered: List[bytes] = []
+        self._size = 0
+
+    def writable(self) -> bool:
+        return True
+
+    def write(self, text: Any) -> int:
+        """Packs all of a text."""
+        self._gathered.append(bytes(text))
+        self._size += len(text)
+        if self._size >= BLOCK:
+            self._write_gathered()
+        return len(text)
+
+    def write_packed(self, packed: Text) -> None:
+        """Writes what was packed by `pack`."""
+        self._write_gathered()
+        self._file.write(packed)
+
+    def _write_gathered(self) -> None:
+        text, self._gathered, self._size = b"".join(self._gathered), [], 0
+        if text:
+            self._file.write(pack(text, self._packing))
+
+    def flush(self) -> None:
+        """Writes nothing: what is gathered is written when it is enough, or at the end."""
+
+    def finish(self) -> None:
+        """Writes what is left, and the mark of the end."""
+        self._write_gathered()
+        if self._packing is Packing.GZIP:
+            self._file.write(LAST)
+
+    def close(self) -> None:
+        """Closes the file."""
+        self._file.close()
+        super().close()

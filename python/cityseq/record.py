@@ -1,0 +1,115 @@
+"""The record of an archive: a line of JSON for each file, with what it is and what came of it, so
+that a later run may skip it."""
+from __future__ import annotations
+
+import hashlib
+import json
+import os
+import time
+from typing import Any, Dict, Optional, Tuple
+
+from .faults import RequestError, write_fault
+from .objects import Object, options_object
+from .sources import is_path
+from .words import Asked
+
+PIECE = 1 << 20
+
+
+def sha256_of(path: str) -> Optional[str]:
+    """The SHA-256 of a file, as sha256sum tells it; nothing where it cannot be read."""
+    digest = hashlib.sha256()
+    try:
+        with open(path, "rb", buffering=0) as file:
+            for piece in iter(lambda: file.read(PIECE), b""):
+                digest.update(piece)
+    except OSError:
+        return None
+    return digest.hexdigest()
+
+
+def state_now(path: str) -> Object:
+    """The size of a file and its time, in nanoseconds from 1970 on."""
+    try:
+        told = os.stat(path)
+    except OSError:
+        return {"size": None, "mtime_ns": None}
+    return {"size": told.st_size, "mtime_ns": told.st_mtime_ns}
+
+
+def time_now() -> str:
+    """The time, in UTC."""
+    return time.strftime("%Y-%m-%dT%H:%M:%SZ", time.gmtime())
+
+
+class Record:
+    """The lines of a record: those that were there, and those that are appended, each written at
+    once."""
+
+    def __init__(self, path: str) -> None:
+        self.path = path
+        self._told: Dict[str, Object] = {}
+        try:
+            self._file: Any = open(path, "ab+", buffering=0)
+            self._file.seek(0)
+            text = self._file.read()
+            for line in text.split(b"\n"):
+                self._take(line)
+            if text and not text.endswith(
+                b"\n"
+            ):  # a run that was killed may have left a part of a line
+                self._file.write(b"\n")
+        except OSError as fault:
+            raise write_fault(fault, path) from fault
+
+    def _take(self, line: bytes) -> None:
+        try:
+            told = json.loads(line)
+        except ValueError:
+            return
+        if (
+            isinstance(told, dict)
+            and told.get("kind") == "record"
+            and isinstance(told.get("file"), str)
+        ):
+            self._told[told["file"]] = told
+
+    def find(self, path: str, asked: Asked, program: str) -> Optional[Object]:
+        """What came of a file as it is now, by the same program and the same options, if that is
+        told and was no fault."""
+        told = self._told.get(os.path.abspath(path))
+        if told is None or told.get("verdict") not in ("valid", "invalid"):
+            return None
+        wanted: Tuple[Any, ...] = (
+            program,
+            asked.command,
+            options_object(asked),
+            *state_now(path).values(),
+        )
+        return (
+            told
+            if wanted
+            == tuple(
+                told.get(name) for name in ("cityseq", "command", "options", "size", "mtime_ns")
+            )
+            else None
+        )
+
+    def append(self, told: Object) -> None:
+        """Appends a line."""
+        try:
+            self._file.write(json.dumps(told).encode("utf-8") + b"\n")
+        except OSError as fault:
+            raise write_fault(fault, self.path) from fault
+
+    def close(self) -> None:
+        """Closes the file."""
+        self._file.close()
+
+
+def refuse_unrecorded(asked: Asked, files: Tuple[str, ...]) -> None:
+    """Refuses to record what has no name, and to resume without a record."""
+    if asked.resume and asked.record is None:
+        raise RequestError("--resume is for a --record")
+    if asked.record is not None and not all(map(is_path, files)):
+        raise RequestError("what is recorded are files: standard input has no name")

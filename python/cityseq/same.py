@@ -1,0 +1,60 @@
+"""Whether an output would destroy what is read: files are compared by device and inode, and not by
+name."""
+from __future__ import annotations
+
+import os
+import stat
+from typing import Any, Iterable, Iterator, Optional, Set, Tuple
+
+from .faults import RequestError
+from .outputs import part_of
+from .sources import is_path, name_of
+
+Identity = Tuple[int, int]
+
+
+def _state(thing: Any, standard: int) -> os.stat_result:
+    """What the system tells of a source or an output. That which is `-` is this standard
+    descriptor."""
+    if is_path(thing):
+        return os.stat(thing)
+    return os.fstat(standard if isinstance(thing, str) else thing.fileno())
+
+
+def identity(thing: Any, standard: int) -> Optional[Identity]:
+    """The device and the inode of what a source or an output stores its bytes in; None where it is
+    not there, or is no regular file."""
+    try:
+        state = _state(thing, standard)
+    except (AttributeError, OSError, ValueError):
+        return None
+    return (
+        (state.st_dev, state.st_ino)
+        if stat.S_ISREG(state.st_mode) or stat.S_ISBLK(state.st_mode)
+        else None
+    )
+
+
+def _written(outputs: Iterable[Any]) -> Iterator[Tuple[str, Any]]:
+    """The name of each output, and each file that is written for it."""
+    for output in (
+        os.fsdecode(output) if isinstance(output, bytes) else output for output in outputs
+    ):
+        yield name_of(output), output
+        if is_path(output):
+            part = part_of(os.fsdecode(output))
+            if part is not None:
+                yield part, part
+
+
+def refuse_same(sources: Iterable[Any], outputs: Iterable[Any]) -> None:
+    """Raises `RequestError` where something that is written, standard output too if it is `-`, is
+    something that is read."""
+    read: Set[Identity] = {
+        found
+        for found in (identity(source, 0) for source in sources if not isinstance(source, bytes))
+        if found
+    }
+    for name, output in _written(outputs):
+        if identity(output, 1) in read:
+            raise RequestError(f"{name}: the output is a file that is read")

@@ -1,0 +1,165 @@
+"""Outputs: what looks whole is whole, and nothing that is read is destroyed."""
+import gzip
+import io
+import os
+import signal
+import subprocess
+import sys
+import time
+import unittest
+
+from . import support
+from .support import HEADER, PLAIN, InFolder, command, feature
+from .test_sources import BROKEN, GOOD
+
+import cityseq
+from cityseq.outputs import Writer
+
+
+class Wholes(InFolder):
+    """What has the final name is whole, or what was there before."""
+
+    def setUp(self):
+        super().setUp()
+        self.output = self.folder / "out.jsonl"
+        self.part = self.folder / "out.jsonl.part"
+
+    def found(self):
+        """What is at the output and at its part, if they are there."""
+        return [path.read_bytes() if path.exists() else None for path in (self.output, self.part)]
+
+    def test_an_invalid_stream_leaves_nothing(self):
+        for jobs in (1, 3):
+            with self.assertRaises(cityseq.InvalidStream) as caught:
+                cityseq.filter(BROKEN, self.output, jobs=jobs, part_size=200)
+            fault = caught.exception
+            self.assertEqual((fault.status, fault.result.status, fault.result.features, str(fault)),
+                             (1, 1, 1, "<bytes>: line 3, byte 142: 25 vertex index out of range"))
+            self.assertEqual(self.found(), [None, None])
+
+    def test_an_invalid_stream_leaves_what_was_there(self):
+        self.output.write_bytes(b"before")
+        self.assertRaises(cityseq.InvalidStream, cityseq.filter, BROKEN, self.output)
+        self.assertEqual(self.found(), [b"before", None])
+
+    def test_a_part_is_left_where_it_is_asked_for(self):
+        with self.assertRaises(cityseq.InvalidStream):
+            cityseq.filter(BROKEN, self.output, keep_partial=True)
+        self.assertEqual(self.found(), [None, HEADER + feature("a")])
+        packed = self.folder / "out.jsonl.gz"
+        with self.assertRaises(cityseq.InvalidStream):
+            cityseq.filter(BROKEN, packed, keep_partial=True)
+        self.assertEqual(gzip.decompress((self.folder / "out.jsonl.gz.part").read_bytes()), HEADER + feature("a"))
+
+    def test_going_on_makes_a_whole(self):
+        result = cityseq.filter(BROKEN, self.output, keep_going=True)
+        self.assertEqual((result.status, self.found()), (1, [HEADER + feature("a") + feature("c"), None]))
+        result = cityseq.filter(PLAIN, self.folder / "none", keep_going=True)  # without a header nothing is read to the end
+        self.assertEqual((result.status, os.listdir(self.folder)), (1, ["out.jsonl"]))
+
+    def test_a_fault_leaves_nothing(self):
+        with self.assertRaises(cityseq.ReadFault):
+            cityseq.filter(support.Slow(GOOD, 11, len(GOOD) - 3), self.output)
+        self.assertEqual(self.found(), [None, None])
+
+    def test_a_link_stays_a_link_and_a_mode_stays(self):
+        self.output.symlink_to("target")
+        (self.folder / "target").write_bytes(b"")
+        os.chmod(self.folder / "target", 0o604)
+        cityseq.filter(GOOD, self.output)
+        self.assertTrue(self.output.is_symlink())
+        self.assertEqual((self.output.read_bytes(), os.stat(self.output).st_mode & 0o777), (GOOD, 0o604))
+        self.assertEqual(sorted(os.listdir(self.folder)), ["out.jsonl", "target"])
+
+    def test_a_device_is_written_as_it_is(self):
+        self.assertEqual(cityseq.filter(GOOD, os.devnull).status, 0)
+        self.assertFalse(os.path.exists(os.devnull + ".part"))
+
+    def test_the_command(self):
+        broken = self.file(BROKEN)
+        self.assertEqual(command("filter", "--output", self.output, broken)[2], 1)
+        self.assertEqual(self.found(), [None, None])
+        self.assertEqual(command("filter", "--output", self.output, "--keep-partial", broken)[2], 1)
+        self.assertEqual(self.found(), [None, HEADER + feature("a")])
+        good, folder = self.file(GOOD, "good.jsonl"), self.folder / "folder"
+        self.assertEqual(command("filter", "--output-dir", folder, broken, good)[2], 1)
+        self.assertEqual([path.name for path in folder.iterdir()], ["good.jsonl"])
+        self.assertEqual(command("filter", "--keep-going", "--output-dir", folder, broken, good)[2], 1)
+        self.assertEqual(sorted(path.name for path in folder.iterdir()), ["good.jsonl", "stream.city.jsonl"])
+
+    def test_a_run_that_is_interrupted_leaves_nothing(self):
+        for signalled, status in ((signal.SIGINT, 130), (signal.SIGTERM, 143)):
+            ran = subprocess.Popen([sys.executable, "-m", "cityseq", "filter", "--output", self.output, "-"], stdin=subprocess.PIPE,
+                                   stderr=subprocess.PIPE, env={**os.environ, "PYTHONPATH": os.path.join(support.ROOT, "python")},
+                                   preexec_fn=lambda: signal.signal(signal.SIGINT, signal.SIG_DFL))  # which a shell has ignored behind &
+            ran.stdin.write(HEADER + PLAIN * 200_000)
+            ran.stdin.flush()
+            for _ in range(200):
+                if self.part.exists():
+                    break
+                time.sleep(0.05)
+            self.assertTrue(self.part.exists())
+            ran.send_signal(signalled)
+            _, said = ran.communicate(timeout=60)
+            self.assertEqual((ran.returncode, said.count(b"\n"), self.found()), (status, 1, [None, None]))
+
+
+class Sames(InFolder):
+    """Nothing is written to what is read, whatever name it has."""
+
+    def test_files_by_any_name(self):
+        path = self.file(GOOD)
+        link, hard = self.folder / "link", self.folder / "hard"
+        link.symlink_to(path)
+        os.link(path, hard)
+        for output in (path, link, hard, os.fsencode(hard)):
+            with self.subTest(output=output), self.assertRaises(cityseq.RequestError):
+                cityseq.filter(path, output)
+        with open(path, "ab") as appended, open(path, "rb") as read:
+            for source, output in ((path, appended), (read, appended), (read, path)):
+                self.assertRaises(cityseq.RequestError, cityseq.filter, source, output)
+        self.assertEqual(path.read_bytes(), GOOD)
+
+    def test_what_is_written_first(self):
+        path = self.file(GOOD, "a.jsonl.part")
+        self.assertRaises(cityseq.RequestError, cityseq.filter, path, self.folder / "a.jsonl")
+        self.assertEqual(path.read_bytes(), GOOD)
+
+    def test_the_command(self):
+        paths = [self.file(GOOD, "a.jsonl"), self.file(GOOD, "b.jsonl")]
+        folder = self.folder / "od2"
+        folder.mkdir()
+        (folder / "a.jsonl").symlink_to(paths[1])
+        self.assertEqual(command("filter", "--output-dir", folder, *paths)[2], 2)
+        ids = self.file(b"a\n", "ids")
+        self.assertEqual(command("filter", "--output", ids, "--ids-from", ids, paths[0])[2], 2)
+        for name, source in (("filter", paths[0]), ("check", paths[0]), ("filter", "-")):
+            with open(paths[0], "ab") as appended, open(paths[0], "rb") as read:
+                ran = subprocess.run([sys.executable, "-m", "cityseq", name, source], stdin=read, stdout=appended, stderr=subprocess.PIPE,
+                                     env={**os.environ, "PYTHONPATH": os.path.join(support.ROOT, "python")})
+            self.assertEqual((ran.returncode, paths[0].read_bytes()), (2, GOOD))
+        self.assertEqual([path.read_bytes() for path in (*paths, ids)], [GOOD, GOOD, b"a\n"])
+
+
+class Writers(InFolder):
+    """What writes."""
+
+    def test_a_missing_folder_is_named(self):
+        output = self.folder / "no" / "out.jsonl"
+        with self.assertRaises(cityseq.WriteFault) as caught:
+            cityseq.filter(GOOD, output)
+        self.assertEqual(str(caught.exception), f"{output}: write fault: No such file or directory")
+        self.assertEqual(command("filter", "--output", output, self.file(GOOD))[1], f"{output}: write fault: No such file or directory\n")
+
+    def test_nothing_is_opened_before_it_is_used(self):
+        Writer(self.folder / "out").discard()
+        self.assertEqual(os.listdir(self.folder), [])
+        memory = io.BytesIO()
+        writer = Writer(memory)
+        writer.write(b"x")
+        writer.close(True)
+        self.assertEqual(memory.getvalue(), b"x")
+
+
+if __name__ == "__main__":
+    unittest.main()
