@@ -17,6 +17,7 @@ limit=8388608 # the usual line limit, in bytes
 skipped=77    # what a row answers that this system cannot show
 documents='README.md docs/GUIDE.md docs/REASONS.md' # whose commands are run
 files=' < FILE' # what follows the options in the usage of a command
+package=false    # whether the command of the package is tried
 
 # What does not hold of the package's command, and why.
 not_of_the_package='
@@ -859,8 +860,8 @@ script_of() {
 # Whether the commands of this block print what stands under them, on standard output and standard error together. The package has
 # more words, so its usage is longer, and its help is another one.
 shown_in() {
-  block "$1" "$2" | sed "s/^Usage: cityseq [a-z]* \[OPTIONS\]\$/&$files/" > "$scratch/wanted"
-  if [ -n "$files" ] && grep -q '^\$ cityseq.*--help' "$scratch/wanted"; then return $skipped; fi
+  block "$1" "$2" | sed "s/^\(Usage: cityseq [a-z]* \[OPTIONS\]\) < FILE\$/\1$files/" > "$scratch/wanted"
+  if $package && grep -q '^\$ cityseq.*--help' "$scratch/wanted"; then return $skipped; fi
   script_of < "$scratch/wanted" > "$scratch/script"
   PATH=$tools:$PATH timeout 60 bash "$scratch/script" < /dev/null > "$scratch/written" 2>&1
   diff --label shown --label printed -u "$scratch/wanted" "$scratch/written"
@@ -894,11 +895,11 @@ try_document() {
 
 # Whether a row is tried: with the package's command some are not.
 is_tried() {
-  [ -z "$files" ] || ! grep -q "^$1 " <<< "$not_of_the_package"
+  ! $package || ! grep -q "^$1 " <<< "$not_of_the_package"
 }
 
 passed=0 failed=0
-[ "${1:-}" != --package ] || files=' [FILE]...'
+[ "${1:-}" != --package ] || { package=true files=' [FILE]...'; }
 if found=$(find_program "$@"); then
   program=$tools/cityseq
   ln -s "$found" "$program"

@@ -11,7 +11,7 @@ _cityseq_run() {
     TunnelInstallation TunnelPart'
   COMPREPLY=()
   if [ "$COMP_CWORD" = 1 ]; then
-    options='check filter info explain -h --help --version --explain'
+    options='check filter info explain help -h --help -V --version'
     mapfile -t COMPREPLY < <(compgen -W "$options" -- "$current")
     return
   fi
@@ -26,30 +26,32 @@ _cityseq_run() {
       mapfile -t COMPREPLY < <(compgen -d -- "$current")
       return
       ;;
-    --ids-from | --output)
+    --files-from | --record | --ids-from | --output)
       mapfile -t COMPREPLY < <(compgen -f -- "$current")
       return
       ;;
-    --explain | --line-limit | --depth | --jobs | --part-size | --id | --lod | --bbox)
+    --line-limit | --depth | --jobs | --part-size | --max-reports | --id | --lod | --bbox)
       return
       ;;
   esac
   case ${COMP_WORDS[1]} in
     check)
       options='
-        -h --help --line-limit --depth --keep-going --tree --jobs --part-size --json --progress'
+        --line-limit --depth --keep-going --tree --files-from --jobs --part-size --json --sha256
+        --max-reports --summary --progress --quiet --record --resume -h --help'
       files=yes
       ;;
     filter)
       options='
-        -h --help --line-limit --depth --keep-going --tree --jobs --part-size --json --progress
-        --exclude --id --type --lod --ids-from --bbox --output --output-dir'
+        --line-limit --depth --keep-going --tree --exclude --id --ids-from --type --lod --bbox
+        --output --output-dir --keep-partial --files-from --jobs --part-size --json --sha256
+        --max-reports --summary --progress --quiet -h --help'
       files=yes
       ;;
     info)
       options='
-        -h --help --line-limit --depth --keep-going --tree --jobs --part-size --json --progress
-        --no-lods'
+        --line-limit --depth --tree --no-lods --files-from --jobs --part-size --json --sha256
+        --max-reports --summary --progress --quiet -h --help'
       files=yes
       ;;
     explain)

@@ -1,6 +1,6 @@
 # Completion of cityseq-run for fish. packaging/options.py writes this file.
 
-set -l commands check filter info explain
+set -l commands check filter info explain help
 set -g __cityseq_run_types \
     Bridge Building CityFurniture CityObjectGroup GenericCityObject LandUse OtherConstruction \
     PlantCover Railway Road SolitaryVegetationObject TINRelief TransportSquare Tunnel WaterBody \
@@ -10,57 +10,74 @@ set -g __cityseq_run_types \
     TunnelInstallation TunnelPart
 
 complete -c cityseq-run -n "not __fish_seen_subcommand_from $commands" -f
-complete -c cityseq-run -n "not __fish_seen_subcommand_from $commands" -a check -d 'Say whether streams are valid'
+complete -c cityseq-run -n "not __fish_seen_subcommand_from $commands" -a check -d 'Say whether a stream is valid'
 complete -c cityseq-run -n "not __fish_seen_subcommand_from $commands" -a filter -d 'Copy the header and the features that are wanted'
 complete -c cityseq-run -n "not __fish_seen_subcommand_from $commands" -a info -d 'Report what is in a stream'
 complete -c cityseq-run -n "not __fish_seen_subcommand_from $commands" -a explain -d 'Say what the code of a reason means'
-complete -c cityseq-run -n "not __fish_seen_subcommand_from $commands" -s h -l help -d 'Show this help message and exit'
-complete -c cityseq-run -n "not __fish_seen_subcommand_from $commands" -l version -d 'Show programs version number and exit'
-complete -c cityseq-run -n "not __fish_seen_subcommand_from $commands" -l explain -x -d 'Say what the code of a reason means'
+complete -c cityseq-run -n "not __fish_seen_subcommand_from $commands" -a help -d 'Print this message or the help of the given subcommand(s)'
+complete -c cityseq-run -n "not __fish_seen_subcommand_from $commands" -s h -l help -d 'Print help'
+complete -c cityseq-run -n "not __fish_seen_subcommand_from $commands" -s V -l version -d 'Print version'
 
 complete -c cityseq-run -n '__fish_seen_subcommand_from check' -F
-complete -c cityseq-run -n '__fish_seen_subcommand_from check' -s h -l help -d 'Show this help message and exit'
 complete -c cityseq-run -n '__fish_seen_subcommand_from check' -l line-limit -x -d 'Refuse a line that is longer'
 complete -c cityseq-run -n '__fish_seen_subcommand_from check' -l depth -x -d 'Refuse a line with more arrays and objects open at once'
 complete -c cityseq-run -n '__fish_seen_subcommand_from check' -l keep-going -d 'Report each line that is not valid'
 complete -c cityseq-run -n '__fish_seen_subcommand_from check' -l tree -d 'Refuse a feature of which a city object is not reached from the main one'
-complete -c cityseq-run -n '__fish_seen_subcommand_from check' -l jobs -x -d 'Judge so many parts at once (the number of processors)'
-complete -c cityseq-run -n '__fish_seen_subcommand_from check' -l part-size -x -d 'How long parts are (4 MiB or less)'
+complete -c cityseq-run -n '__fish_seen_subcommand_from check' -l files-from -r -F -d 'Read the names of files from this file'
+complete -c cityseq-run -n '__fish_seen_subcommand_from check' -l jobs -x -d 'Judge so many parts at once'
+complete -c cityseq-run -n '__fish_seen_subcommand_from check' -l part-size -x -d 'Judge parts of so many bytes'
 complete -c cityseq-run -n '__fish_seen_subcommand_from check' -l json -d 'Write an object a line'
+complete -c cityseq-run -n '__fish_seen_subcommand_from check' -l sha256 -d 'Say the SHA-256 of each FILE'
+complete -c cityseq-run -n '__fish_seen_subcommand_from check' -l max-reports -x -d 'Say so many reports of each FILE'
+complete -c cityseq-run -n '__fish_seen_subcommand_from check' -l summary -d 'Say how often each reason comes'
 complete -c cityseq-run -n '__fish_seen_subcommand_from check' -l progress -d 'Show on standard error how far it is'
+complete -c cityseq-run -n '__fish_seen_subcommand_from check' -l quiet -d 'Say nothing but faults'
+complete -c cityseq-run -n '__fish_seen_subcommand_from check' -l record -r -F -d 'Append a line for each FILE to this file'
+complete -c cityseq-run -n '__fish_seen_subcommand_from check' -l resume -d 'Skip each FILE that is in the record as it is now'
+complete -c cityseq-run -n '__fish_seen_subcommand_from check' -s h -l help -d 'Print help'
 
 complete -c cityseq-run -n '__fish_seen_subcommand_from filter' -F
-complete -c cityseq-run -n '__fish_seen_subcommand_from filter' -s h -l help -d 'Show this help message and exit'
 complete -c cityseq-run -n '__fish_seen_subcommand_from filter' -l line-limit -x -d 'Refuse a line that is longer'
 complete -c cityseq-run -n '__fish_seen_subcommand_from filter' -l depth -x -d 'Refuse a line with more arrays and objects open at once'
 complete -c cityseq-run -n '__fish_seen_subcommand_from filter' -l keep-going -d 'Report each line that is not valid'
 complete -c cityseq-run -n '__fish_seen_subcommand_from filter' -l tree -d 'Refuse a feature of which a city object is not reached from the main one'
-complete -c cityseq-run -n '__fish_seen_subcommand_from filter' -l jobs -x -d 'Judge so many parts at once (the number of processors)'
-complete -c cityseq-run -n '__fish_seen_subcommand_from filter' -l part-size -x -d 'How long parts are (4 MiB or less)'
-complete -c cityseq-run -n '__fish_seen_subcommand_from filter' -l json -d 'Write an object a line'
-complete -c cityseq-run -n '__fish_seen_subcommand_from filter' -l progress -d 'Show on standard error how far it is'
 complete -c cityseq-run -n '__fish_seen_subcommand_from filter' -l exclude -d 'Keep the features that do not meet the options below'
 complete -c cityseq-run -n '__fish_seen_subcommand_from filter' -l id -x -d 'Keep a feature whose id is one of these'
+complete -c cityseq-run -n '__fish_seen_subcommand_from filter' -l ids-from -r -F -d 'Keep a feature whose id is a line of this file'
 complete -c cityseq-run -n '__fish_seen_subcommand_from filter' -l type -x -a '(__fish_complete_list , "string join \n $__cityseq_run_types")' -d 'Keep a feature that has a city object of one of these types'
 complete -c cityseq-run -n '__fish_seen_subcommand_from filter' -l lod -x -d 'Keep a feature that has a geometry with one of these as its lod'
-complete -c cityseq-run -n '__fish_seen_subcommand_from filter' -l ids-from -r -F -d 'Keep a feature whose id is a line of this file'
 complete -c cityseq-run -n '__fish_seen_subcommand_from filter' -l bbox -x -d 'Keep a feature that reaches into this box'
-complete -c cityseq-run -n '__fish_seen_subcommand_from filter' -l output -r -F -d 'Where to write'
+complete -c cityseq-run -n '__fish_seen_subcommand_from filter' -l output -r -F -d 'Write to this file once the run has ended well'
 complete -c cityseq-run -n '__fish_seen_subcommand_from filter' -l output-dir -x -a '(__fish_complete_directories)' -d 'Write what is kept of each FILE to a file of its name in here'
+complete -c cityseq-run -n '__fish_seen_subcommand_from filter' -l keep-partial -d 'Leave what was kept as OUTPUT.part where the run has not ended well'
+complete -c cityseq-run -n '__fish_seen_subcommand_from filter' -l files-from -r -F -d 'Read the names of files from this file'
+complete -c cityseq-run -n '__fish_seen_subcommand_from filter' -l jobs -x -d 'Judge so many parts at once'
+complete -c cityseq-run -n '__fish_seen_subcommand_from filter' -l part-size -x -d 'Judge parts of so many bytes'
+complete -c cityseq-run -n '__fish_seen_subcommand_from filter' -l json -d 'Write an object a line'
+complete -c cityseq-run -n '__fish_seen_subcommand_from filter' -l sha256 -d 'Say the SHA-256 of each FILE'
+complete -c cityseq-run -n '__fish_seen_subcommand_from filter' -l max-reports -x -d 'Say so many reports of each FILE'
+complete -c cityseq-run -n '__fish_seen_subcommand_from filter' -l summary -d 'Say how often each reason comes'
+complete -c cityseq-run -n '__fish_seen_subcommand_from filter' -l progress -d 'Show on standard error how far it is'
+complete -c cityseq-run -n '__fish_seen_subcommand_from filter' -l quiet -d 'Say nothing but faults'
+complete -c cityseq-run -n '__fish_seen_subcommand_from filter' -s h -l help -d 'Print help'
 
 complete -c cityseq-run -n '__fish_seen_subcommand_from info' -F
-complete -c cityseq-run -n '__fish_seen_subcommand_from info' -s h -l help -d 'Show this help message and exit'
 complete -c cityseq-run -n '__fish_seen_subcommand_from info' -l line-limit -x -d 'Refuse a line that is longer'
 complete -c cityseq-run -n '__fish_seen_subcommand_from info' -l depth -x -d 'Refuse a line with more arrays and objects open at once'
-complete -c cityseq-run -n '__fish_seen_subcommand_from info' -l keep-going -d 'Report each line that is not valid'
 complete -c cityseq-run -n '__fish_seen_subcommand_from info' -l tree -d 'Refuse a feature of which a city object is not reached from the main one'
-complete -c cityseq-run -n '__fish_seen_subcommand_from info' -l jobs -x -d 'Judge so many parts at once (the number of processors)'
-complete -c cityseq-run -n '__fish_seen_subcommand_from info' -l part-size -x -d 'How long parts are (4 MiB or less)'
-complete -c cityseq-run -n '__fish_seen_subcommand_from info' -l json -d 'Write an object a line'
-complete -c cityseq-run -n '__fish_seen_subcommand_from info' -l progress -d 'Show on standard error how far it is'
 complete -c cityseq-run -n '__fish_seen_subcommand_from info' -l no-lods -d 'Do not count the texts of LoDs'
+complete -c cityseq-run -n '__fish_seen_subcommand_from info' -l files-from -r -F -d 'Read the names of files from this file'
+complete -c cityseq-run -n '__fish_seen_subcommand_from info' -l jobs -x -d 'Judge so many parts at once'
+complete -c cityseq-run -n '__fish_seen_subcommand_from info' -l part-size -x -d 'Judge parts of so many bytes'
+complete -c cityseq-run -n '__fish_seen_subcommand_from info' -l json -d 'Write an object a line'
+complete -c cityseq-run -n '__fish_seen_subcommand_from info' -l sha256 -d 'Say the SHA-256 of each FILE'
+complete -c cityseq-run -n '__fish_seen_subcommand_from info' -l max-reports -x -d 'Say so many reports of each FILE'
+complete -c cityseq-run -n '__fish_seen_subcommand_from info' -l summary -d 'Say how often each reason comes'
+complete -c cityseq-run -n '__fish_seen_subcommand_from info' -l progress -d 'Show on standard error how far it is'
+complete -c cityseq-run -n '__fish_seen_subcommand_from info' -l quiet -d 'Say nothing but faults'
+complete -c cityseq-run -n '__fish_seen_subcommand_from info' -s h -l help -d 'Print help'
 
 complete -c cityseq-run -n '__fish_seen_subcommand_from explain' -f
-complete -c cityseq-run -n '__fish_seen_subcommand_from explain' -s h -l help -d 'Show this help message and exit'
+complete -c cityseq-run -n '__fish_seen_subcommand_from explain' -s h -l help -d 'Print help'
 
 complete -c cityseq-run -n '__fish_seen_subcommand_from help' -f -a 'check filter info explain'

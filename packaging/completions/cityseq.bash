@@ -30,17 +30,17 @@ _cityseq() {
     check)
       options='
         --line-limit --depth --keep-going --tree -h --help'
-      files=
+      files=yes
       ;;
     filter)
       options='
         --line-limit --depth --keep-going --tree --exclude --id --type --lod --bbox -h --help'
-      files=
+      files=yes
       ;;
     info)
       options='
         --line-limit --depth --tree -h --help'
-      files=
+      files=yes
       ;;
     help) options='check filter info' ;;
   esac
@@ -51,4 +51,4 @@ _cityseq() {
   fi
 }
 
-complete -o default -F _cityseq cityseq
+complete -o default -o filenames -F _cityseq cityseq

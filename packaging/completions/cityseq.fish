@@ -17,14 +17,14 @@ complete -c cityseq -n "not __fish_seen_subcommand_from $commands" -a help -d 'P
 complete -c cityseq -n "not __fish_seen_subcommand_from $commands" -s h -l help -d 'Print help'
 complete -c cityseq -n "not __fish_seen_subcommand_from $commands" -s V -l version -d 'Print version'
 
-complete -c cityseq -n '__fish_seen_subcommand_from check' -f
+complete -c cityseq -n '__fish_seen_subcommand_from check' -F
 complete -c cityseq -n '__fish_seen_subcommand_from check' -l line-limit -x -d 'Refuse a line that is longer'
 complete -c cityseq -n '__fish_seen_subcommand_from check' -l depth -x -d 'Refuse a line with more arrays and objects open at once'
 complete -c cityseq -n '__fish_seen_subcommand_from check' -l keep-going -d 'Report each line that is not valid'
 complete -c cityseq -n '__fish_seen_subcommand_from check' -l tree -d 'Refuse a feature of which a city object is not reached from the main one'
 complete -c cityseq -n '__fish_seen_subcommand_from check' -s h -l help -d 'Print help'
 
-complete -c cityseq -n '__fish_seen_subcommand_from filter' -f
+complete -c cityseq -n '__fish_seen_subcommand_from filter' -F
 complete -c cityseq -n '__fish_seen_subcommand_from filter' -l line-limit -x -d 'Refuse a line that is longer'
 complete -c cityseq -n '__fish_seen_subcommand_from filter' -l depth -x -d 'Refuse a line with more arrays and objects open at once'
 complete -c cityseq -n '__fish_seen_subcommand_from filter' -l keep-going -d 'Report each line that is not valid'
@@ -36,7 +36,7 @@ complete -c cityseq -n '__fish_seen_subcommand_from filter' -l lod -x -d 'Keep a
 complete -c cityseq -n '__fish_seen_subcommand_from filter' -l bbox -x -d 'Keep a feature that reaches into this box'
 complete -c cityseq -n '__fish_seen_subcommand_from filter' -s h -l help -d 'Print help'
 
-complete -c cityseq -n '__fish_seen_subcommand_from info' -f
+complete -c cityseq -n '__fish_seen_subcommand_from info' -F
 complete -c cityseq -n '__fish_seen_subcommand_from info' -l line-limit -x -d 'Refuse a line that is longer'
 complete -c cityseq -n '__fish_seen_subcommand_from info' -l depth -x -d 'Refuse a line with more arrays and objects open at once'
 complete -c cityseq -n '__fish_seen_subcommand_from info' -l tree -d 'Refuse a feature of which a city object is not reached from the main one'
