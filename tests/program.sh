@@ -520,7 +520,7 @@ row_going_on_twice() {
 
 row_going_on_with_a_value() {
   refuses "$(mistake "unexpected value 'true' for '--keep-going' found; no more were expected" \
-    'Usage: cityseq check [OPTIONS] < FILE' '')" check --keep-going=true
+    "Usage: cityseq check [OPTIONS]$files" '')" check --keep-going=true
 }
 
 row_a_full_device_after_a_report() {
@@ -626,7 +626,7 @@ row_a_file_that_is_named() {
 
 row_an_unknown_option() {
   refuses "$(mistake "unexpected argument '--idd' found" "  tip: a similar argument exists: '--id'" '' \
-    'Usage: cityseq filter [OPTIONS] < FILE' '')" filter --idd b
+    "Usage: cityseq filter [OPTIONS]$files" '')" filter --idd b
 }
 
 row_an_option_of_another_command() {

@@ -120,7 +120,9 @@ class Cutter:
                 yield part
                 if part:
                     yield bytearray()
-                continue
+                if len(self._rest) <= self._line_limit:
+                    continue
+                part, more = self._take_too_long()
             else:
                 end = self._rest.rfind(b"\n", 0, self._size) + 1
                 part, more = (self._take(end), True) if end else self._take_long_line()

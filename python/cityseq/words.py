@@ -391,13 +391,8 @@ class Reader:
 
     def _unexpected(self, word: str) -> Mistake:
         near = _alike(word, list(self._options))
+        tip = None if near is None else f"a similar argument exists: '{near}'"
         usage = _usage(self._program, self._command)
-        tip = None
-        if near is not None:
-            tip, usage = (
-                f"a similar argument exists: '{near}'",
-                f"{self._program} {self._command.name} {self._options[near].usage}",
-            )
         return _mistake(f"unexpected argument '{shown(word)}' found", tip, usage)
 
     def _read_option(self, name: str, equals: str, value: str) -> None:
@@ -408,7 +403,7 @@ class Reader:
             if equals:
                 raise _mistake(
                     f"unexpected value '{shown(value)}' for '{option.usage}' found; no more were expected",
-                    usage=f"{self._program} {self._command.name} {option.usage}",
+                    usage=_usage(self._program, self._command),
                 )
             self._set(option, option.sets[1] if option.sets else True)
             return
