@@ -16,7 +16,7 @@ long parts are; None is 4 MiB or less. `progress` is called with how many bytes 
 `on_report` with each report as it comes, instead of their list."""
 from __future__ import annotations
 
-from typing import Callable, Iterable, Iterator, Optional
+from typing import TYPE_CHECKING, Any, Callable, Dict, Iterable, Iterator, Optional
 
 from ._library import USUAL_DEPTH, USUAL_LINE
 from .faults import CityseqError, InvalidStream, LibraryMissing, MemoryFault, ReadFault, RequestError, WriteFault
@@ -27,9 +27,12 @@ from .running import Info, Result, Stream, threaded
 from .same import refuse_same
 from .sources import Source
 
+if TYPE_CHECKING:
+    from .listing import Feature
+
 __all__ = [
     "CityseqError", "Explanation", "Info", "InvalidStream", "LibraryMissing", "MemoryFault", "ReadFault", "Report", "RequestError", "Result",
-    "WriteFault", "check", "check_files", "explain", "filter", "info",
+    "WriteFault", "check", "check_files", "explain", "features", "filter", "info", "table",
 ]
 __version__ = "0.2.0"
 
@@ -104,3 +107,26 @@ def info(source: Source, *, exact_lods: bool = True, jobs: Optional[int] = None,
     result = _only(stream, jobs).raised()
     assert isinstance(result, Info)
     return result
+
+
+def features(source: Source, *, ids: Optional[Texts] = None, types: Optional[Texts] = None, lods: Optional[Texts] = None,
+             box: Optional[Box] = None, exclude: bool = False, line_limit: int = USUAL_LINE, depth: int = USUAL_DEPTH,
+             keep_going: bool = False, tree: bool = False) -> Iterator[Feature]:
+    """Yields each kept feature of a stream: its line, its id, what is in it, and `json()` for the rest.
+
+    The options are those of `filter`. Raises `InvalidStream` at the first invalid line, after the features before it; with
+    `keep_going` only where the header is invalid. Raises `ReadFault` and `MemoryFault` too."""
+    from .listing import features as listed  # few runs need it
+
+    return listed(source, asked("filter", ids=ids, types=types, lods=lods, box=box, exclude=exclude, line_limit=line_limit,
+                                depth=depth, keep_going=keep_going, tree=tree))
+
+
+def table(source: Source, **query: Any) -> Dict[str, Any]:
+    """Returns the columns of a table with a row for each kept feature: id, line, length, objects, geometries, types, lods,
+    and the extent in world coordinates, xmin to zmax, as the nearest floats. `pandas.DataFrame` takes it as it is.
+
+    The options and faults are those of `features`."""
+    from .listing import table as tabled  # few runs need it
+
+    return tabled(source, asked("filter", **query))

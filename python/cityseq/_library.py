@@ -6,7 +6,7 @@ import os
 import resource
 import threading
 from ctypes import POINTER, c_bool, c_char_p, c_int64, c_size_t, c_uint32, c_uint64
-from typing import Any, Iterable, Optional, Tuple, Union
+from typing import Any, Iterable, Optional, Sequence, Tuple, Union
 
 from .faults import LibraryMissing
 
@@ -67,7 +67,17 @@ class RawTally(ctypes.Structure):
     _fields_ = [("features", c_uint64), ("types", c_uint64 * TYPES), ("lods", c_uint64 * len(LOD_CLASSES)), ("ranges", RawRange * 3)]
 
 
+class RawFeature(ctypes.Structure):
+    """`struct cityseq_feature`."""
+
+    _fields_ = [
+        ("line", c_uint64), ("begin", c_uint64), ("length", c_uint64), ("id_begin", c_uint64), ("id_length", c_uint64),
+        ("objects", c_uint64), ("geometries", c_uint64), ("types", c_uint64), ("lods", c_uint64), ("ranges", RawRange * 3),
+    ]
+
+
 Text = Union[bytes, bytearray, memoryview]
+RawFeatures = Sequence[RawFeature]
 RawReports = Iterable[RawReport]
 _COMMON = [c_char_p, c_size_t, c_char_p, c_size_t, POINTER(RawRequest)]
 _ROOM = [POINTER(RawReport), c_size_t]
@@ -76,6 +86,7 @@ _CALLS = {
     "cityseq_check": (RawAnswer, _COMMON + _ROOM),
     "cityseq_filter": (RawAnswer, _COMMON + [c_char_p, c_size_t] + _ROOM),
     "cityseq_info": (RawAnswer, _COMMON + [POINTER(RawTally)] + _ROOM),
+    "cityseq_features": (RawAnswer, _COMMON + [POINTER(RawFeature), c_size_t] + _ROOM),
     "cityseq_reason_text": (c_size_t, [c_uint64, c_char_p, c_size_t]),
     "cityseq_type_name": (c_size_t, [c_uint64, c_char_p, c_size_t]),
 }
@@ -116,6 +127,12 @@ class Library:
         given = self._given(header, part, request)
         answer = self._calls.cityseq_info(*given, ctypes.byref(tally), reports, room)
         return answer, reports, tally
+
+    def features(self, header: bytes, part: Text, request: RawRequest, room: int) -> Tuple[RawAnswer, RawReports, RawFeatures]:
+        """The same as `check`, and the third are the records of the kept features, for which there is this room."""
+        report, records = (RawReport * 1)(), (RawFeature * max(room, 1))()
+        answer = self._calls.cityseq_features(*self._given(header, part, request), records, room, report, 0)
+        return answer, report, records[:min(answer.kept, room)]
 
     def reason_text(self, code: int) -> str:
         """The words of a reason; none where no reason has this code."""

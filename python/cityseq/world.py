@@ -9,6 +9,7 @@ from typing import Any, Iterator, List, Optional, Tuple
 
 from .tally import Range
 
+Extent = Optional[Tuple[Decimal, Decimal]]
 UNITS, GREATEST = -18, Decimal(10) ** 18  # a box takes multiples of 10^-18 that are below 10^18 in size
 NESTED = 1_100  # arrays and objects that a header may have open at once, and some more
 
@@ -47,6 +48,15 @@ def _edges(vertices: Tuple[int, int], scale: Decimal, shift: Decimal) -> Iterato
     exact = decimal.Context(prec=200, traps=[decimal.Inexact, decimal.Overflow, decimal.InvalidOperation, decimal.Subnormal])
     edges = [exact.add(exact.multiply(Decimal(vertex), scale), shift) for vertex in vertices]
     yield from sorted(edges)
+
+
+def extent_of(ranges: Tuple[Range, Range, Range], scale: List[Decimal],
+              translate: List[Decimal]) -> Tuple[Extent, Extent, Extent]:
+    """The least and the greatest world coordinate on x, y and z, exactly; None where there is no vertex. Raises
+    `decimal.DecimalException` where one has more than 200 digits."""
+    extents = (None if vertices is None else tuple(_edges(vertices, scale[axis], translate[axis]))
+               for axis, vertices in enumerate(ranges))
+    return tuple(extents)  # type: ignore[return-value]
 
 
 def plain(number: Decimal) -> str:

@@ -1,0 +1,159 @@
+"""The kept features of a stream, one by one, or as columns of a table."""
+from __future__ import annotations
+
+import builtins
+import json
+from array import array
+from dataclasses import dataclass
+from math import nan
+from typing import TYPE_CHECKING, Any, Dict, Iterator, List, Tuple
+
+from ._library import (
+    COMPLETE,
+    LOD_CLASSES,
+    NO_MEMORY,
+    REFUSED,
+    RawAnswer,
+    RawFeature,
+    Text,
+    library,
+)
+from .faults import CityseqError, InvalidStream, MemoryFault
+from .parts import PART, Cutter, read_header
+from .query import Work
+from .reports import describe
+from .sources import Reader, Source, name_of, opened
+from .tally import Range
+
+if TYPE_CHECKING:
+    from decimal import Decimal
+
+    from .world import Extent
+
+EDGES = ("xmin", "xmax", "ymin", "ymax", "zmin", "zmax")
+
+
+@dataclass(frozen=True)
+class Feature:
+    """A kept feature.
+
+    Attributes:
+        line: The number of its line in the stream, from 1.
+        bytes: Its line, byte for byte, without the LF.
+        id: Its id, with escapes undone. It may have half a character in it.
+        objects: How many city objects it has.
+        geometries: How many geometries these have.
+        types: The names of the types of its city objects, each once, in the order of the table.
+        lods: The classes of its LoDs, each once: "0" to "4", and "other".
+        ranges: The least and greatest vertex on x, y and z, as they stand in the line. Each is
+            None where the feature has no vertex.
+        header: The first line of the stream.
+    """
+
+    line: int
+    bytes: builtins.bytes
+    id: str
+    objects: int
+    geometries: int
+    types: Tuple[str, ...]
+    lods: Tuple[str, ...]
+    ranges: Tuple[Range, Range, Range]
+    header: builtins.bytes
+
+    def json(self) -> Any:
+        """Returns the feature as Python's own JSON reader has it."""
+        return json.loads(self.bytes)
+
+    @property
+    def extent(self) -> Tuple[Extent, Extent, Extent]:
+        """The least and greatest world coordinate on x, y and z, as exact decimals."""
+        from .world import extent_of, transform_of  # few runs need it
+
+        scale, translate = transform_of(self.header)
+        return extent_of(self.ranges, scale, translate)
+
+
+def _set_bits(bits: int, names: Tuple[str, ...]) -> Tuple[str, ...]:
+    """The names whose bits are set."""
+    return tuple(name for number, name in enumerate(names) if bits >> number & 1)
+
+
+def _feature_of(raw: RawFeature, header: bytes, part: Text, lines: int) -> Feature:
+    """The feature of a record, where so many lines came before the part's own."""
+    line = bytes(part[raw.begin : raw.begin + raw.length])
+    ranges = tuple((axis.least, axis.greatest) if axis.some else None for axis in raw.ranges)
+    return Feature(
+        raw.line + lines,
+        line,
+        json.loads(line[raw.id_begin : raw.id_begin + raw.id_length]),
+        raw.objects,
+        raw.geometries,
+        _set_bits(raw.types, library().type_names()),
+        _set_bits(raw.lods, LOD_CLASSES),
+        ranges,  # type: ignore[arg-type]
+        header,
+    )
+
+
+def _fault_of(answer: RawAnswer, header: bytes, part: Text, lines: int, file: str) -> CityseqError:
+    """The fault that an answer tells."""
+    if answer.status == NO_MEMORY:
+        return MemoryFault("out of memory", None, file)
+    if answer.status == REFUSED:
+        report = next(describe([answer], header, part, file)).moved(lines)
+        return InvalidStream(str(report), None, file)
+    return CityseqError(f"the library answered {answer.status}, code {answer.code}", None, file)
+
+
+def _parts(reader: Reader, work: Work) -> Iterator[Tuple[bytes, Text]]:
+    """The header with each part, or with nothing where no line follows it."""
+    header, rest = read_header(reader, work.line_limit)
+    cutter = Cutter(reader, rest, PART, work.line_limit, work.keep_going)
+    any_part = False
+    for part in cutter.parts():
+        if part:
+            any_part = True
+            yield header, part
+    if not any_part and reader.fault is None:
+        yield header, b""
+
+
+def features(source: Source, work: Work) -> Iterator[Feature]:
+    """Yields the kept features of a stream. Raises the fault that ends it, if one does."""
+    file, lines = name_of(source), 0
+    with opened(source) as reader:
+        for header, part in _parts(reader, work):
+            room = part.count(b"\n") + 1
+            answer, _, raws = library().features(header, part, work.request(header, part), room)
+            for raw in raws:
+                yield _feature_of(raw, header, part, lines)
+            if answer.status != COMPLETE:
+                raise _fault_of(answer, header, part, lines, file)
+            lines += answer.lines - 1
+        if reader.fault is not None:
+            raise reader.fault
+
+
+def _rounded(extent: Extent) -> Tuple[float, float]:
+    """An extent as the nearest floats; not a number where there is none."""
+    return (nan, nan) if extent is None else (float(extent[0]), float(extent[1]))
+
+
+def table(source: Source, work: Work) -> Dict[str, Any]:
+    """The columns of a table with a row for each kept feature."""
+    from .world import extent_of, transform_of  # few runs need it
+
+    ids: List[str] = []
+    columns: Dict[str, Any] = {"id": ids, "line": array("Q"), "length": array("Q")}
+    columns.update({name: array("Q") for name in ("objects", "geometries")})
+    columns.update({"types": [], "lods": []})
+    columns.update({name: array("d") for name in EDGES})
+    transform: Tuple[List[Decimal], List[Decimal]] = ([], [])
+    for feature in features(source, work):
+        transform = transform if transform[0] else transform_of(feature.header)
+        edges = map(_rounded, extent_of(feature.ranges, *transform))
+        row = (feature.id, feature.line, len(feature.bytes), feature.objects, feature.geometries,
+               feature.types, feature.lods, *(edge for extent in edges for edge in extent))
+        for column, value in zip(columns.values(), row):
+            column.append(value)
+    return columns
