@@ -34,7 +34,7 @@ LONGEST_SENTENCE = 40  # words
 FOR_USERS = ("README.md", "CONTRIBUTING.md", "docs/GUIDE.md", "python/README.md")
 
 # Documents that still have longer cells. Remove a name here once the document is rewritten.
-MAY_HAVE_LONG_CELLS = ("docs/PROMISES.md", "docs/STATUS.md")
+MAY_HAVE_LONG_CELLS = ("docs/STATUS.md",)
 
 # Folders that builds leave, without documents of the repository. Hidden folders have none either.
 PASSED_OVER = ("out", "target", "build", "dist", "venv", "node_modules", "__pycache__")
