@@ -5,7 +5,8 @@
 
 Of docs/PROMISES.md: each function that the second column of a table names; each clause that it names of a function, as
 `function`/clause or `function`: clause; each definition, part of a definition, edit and file. Prose is passed over, but each
-name between backticks has to be the name of something. Of docs/REASONS.md: each code with its name and its text, and
+name between backticks has to be the name of something, also in the list of what is left to tests. The record of the headline
+is that of the definition. Of docs/REASONS.md: each code with its name and its text, and
 each function of the last table. A name that is not there is printed. The last line is 'N passed, M failed', over the
 names, and the status is 0 where none failed.
 """
@@ -153,11 +154,16 @@ def check_parts(code, report, cell, bare):
                 report.count(there, f'no part {part} of {name}')
 
 
-def check_cell(code, report, cell, owner):
-    """A cell that names functions and clauses; owner is the one function of the table, if it has one."""
-    for name in TICKED.findall(cell):
+def check_names(code, report, text):
+    """Each name between backticks is the name of something."""
+    for name in TICKED.findall(text):
         if re.fullmatch(r'[A-Za-z_][\w:./-]*', name):
             report.count(code.has(name), f'nothing has the name {name}')
+
+
+def check_cell(code, report, cell, owner):
+    """A cell that names functions and clauses; owner is the one function of the table, if it has one."""
+    check_names(code, report, cell)
     for inside in PARENTHESIS.findall(cell):
         check_parenthesis(code, report, inside)
     bare = re.sub(r' +([,;:])', r'\1', ' '.join(PARENTHESIS.sub('', cell).split()))
@@ -199,6 +205,24 @@ def check_promises(code, report):
             check_cell(code, report, cell, owner)
 
 
+def check_tests(code, report):
+    """The names in the list of what is left to tests."""
+    document = (ROOT / 'docs/PROMISES.md').read_text()
+    section = document.split('\n## What is left to tests\n')[1].split('\n## ')[0]
+    report.place = 'docs/PROMISES.md, what is left to tests'
+    check_names(code, report, section)
+
+
+def check_headline(report):
+    """The record of the headline stands in the document as in its definition."""
+    definition = (ROOT / 'crates/cj_stream/specs/Headline.antt').read_text()
+    record = re.search(r'^pub record Headline .*\n(?:  pub .*\n)+', definition, re.M)
+    report.place = 'docs/PROMISES.md'
+    document = (ROOT / 'docs/PROMISES.md').read_text()
+    is_there = record is not None and f'```\n{record[0]}```\n' in document
+    report.count(is_there, 'the record of the headline is not that of specs/Headline.antt')
+
+
 def check_reasons(code, report):
     source = (ROOT / 'crates/cj_spans/src/reason.rt').read_text()
     table = re.findall(r'Reason::(\w+) => make_entry\((\d+), "([^"]*)"\)', source)
@@ -222,6 +246,8 @@ def anchor(number, text):
 def main():
     code, report = Code(), Report()
     check_promises(code, report)
+    check_tests(code, report)
+    check_headline(report)
     check_reasons(code, report)
     print(f'{report.passed} passed, {report.failed} failed')
     return report.failed > 0
