@@ -33,9 +33,6 @@ LONGEST_SENTENCE = 40  # words
 # Documents whose sentences are measured.
 FOR_USERS = ("README.md", "CONTRIBUTING.md", "docs/GUIDE.md", "python/README.md")
 
-# Documents that still have longer cells. Remove a name here once the document is rewritten.
-MAY_HAVE_LONG_CELLS = ("docs/STATUS.md",)
-
 # Folders that builds leave, without documents of the repository. Hidden folders have none either.
 PASSED_OVER = ("out", "target", "build", "dist", "venv", "node_modules", "__pycache__")
 
@@ -214,24 +211,11 @@ def check_sentences(document: Path, report: Report) -> None:
         report.count(words <= LONGEST_SENTENCE, f"{name_of(document)}:{sentence.line}", fault)
 
 
-def show_exempt(name: str, faults: int) -> None:
-    """Prints how many cells an exempt document still has to shorten."""
-    if faults:
-        print(f"{name}: exempt, with {faults} long cells")
-    else:
-        print(f"{name}: has no long cells any more, so it need not be exempt")
-
-
 def check_document(document: Path, report: Report) -> None:
     """Checks the links of a document, its cells, and if it is for users its sentences."""
     name = name_of(document)
     check_links(document, report)
-    if name in MAY_HAVE_LONG_CELLS:
-        exempt = Report()
-        check_cells(document, exempt)
-        show_exempt(name, len(exempt.failures))
-    else:
-        check_cells(document, report)
+    check_cells(document, report)
     if name in FOR_USERS:
         check_sentences(document, report)
 
