@@ -1,4 +1,4 @@
-"""Checks, filters and summarises CityJSONSeq 2.0 streams on many cores, by a library that is proved.
+"""Checks, filters and summarises CityJSONSeq 2.0 streams on many cores, by a proved library.
 
     >>> import cityseq
     >>> result = cityseq.check("examples/broken.city.jsonl")
@@ -10,16 +10,23 @@
     >>> cityseq.info("examples/town.city.jsonl").box
     '995,1990,1050,2005'
 
-A source is a path, `-` for standard input, bytes, which are the stream itself, or a binary file; a path of a file that is packed by gzip or
-Zstandard is unpacked. `jobs` says how many threads judge parts of it at once; None is as many as there are processors. `part_size` is how
-long parts are; None is 4 MiB or less. `progress` is called with how many bytes more are done, packed where they are packed, and
-`on_report` with each report as it comes, instead of their list."""
+A source is a path, `-` for standard input, bytes, or a binary file. Bytes are the stream itself. A
+file that is packed by gzip or Zstandard is unpacked.
+"""
 from __future__ import annotations
 
 from typing import TYPE_CHECKING, Any, Callable, Dict, Iterable, Iterator, Optional
 
 from ._library import USUAL_DEPTH, USUAL_LINE
-from .faults import CityseqError, InvalidStream, LibraryMissing, MemoryFault, ReadFault, RequestError, WriteFault
+from .faults import (
+    CityseqError,
+    InvalidStream,
+    LibraryMissing,
+    MemoryFault,
+    ReadFault,
+    RequestError,
+    WriteFault,
+)
 from .outputs import Target, Writer
 from .query import Box, Texts, asked
 from .reports import Explanation, Report, explain
@@ -31,8 +38,24 @@ if TYPE_CHECKING:
     from .listing import Feature
 
 __all__ = [
-    "CityseqError", "Explanation", "Info", "InvalidStream", "LibraryMissing", "MemoryFault", "ReadFault", "Report", "RequestError", "Result",
-    "WriteFault", "check", "check_files", "explain", "features", "filter", "info", "table",
+    "CityseqError",
+    "Explanation",
+    "Info",
+    "InvalidStream",
+    "LibraryMissing",
+    "MemoryFault",
+    "ReadFault",
+    "Report",
+    "RequestError",
+    "Result",
+    "WriteFault",
+    "check",
+    "check_files",
+    "explain",
+    "features",
+    "filter",
+    "info",
+    "table",
 ]
 __version__ = "0.2.0"
 
@@ -47,61 +70,180 @@ def _part_size(size: Optional[int]) -> Optional[int]:
 
 
 def _only(stream: Stream, jobs: Optional[int]) -> Result:
-    """What comes of a stream. No thread is left of those that judged it."""
-    result, = threaded([stream], jobs)
+    """Returns the result of one stream. No thread is left of those that judged it."""
+    (result,) = threaded([stream], jobs)
     return result
 
 
-def check(source: Source, *, jobs: Optional[int] = None, line_limit: int = USUAL_LINE, depth: int = USUAL_DEPTH,
-          keep_going: bool = False, tree: bool = False, on_report: OnReport = None, progress: Progress = None,
-          part_size: Optional[int] = None) -> Result:
-    """Says whether a stream is valid, and counts its lines and features.
+def check(
+    source: Source,
+    *,
+    jobs: Optional[int] = None,
+    line_limit: int = USUAL_LINE,
+    depth: int = USUAL_DEPTH,
+    keep_going: bool = False,
+    tree: bool = False,
+    on_report: OnReport = None,
+    progress: Progress = None,
+    part_size: Optional[int] = None,
+) -> Result:
+    """Checks whether a stream is valid, and counts its lines and features.
 
-    The limits are those of the program: bytes in a line, and arrays and objects that are open at once. With `keep_going` each invalid
-    line is reported, and with `tree` each city object has to be reached from the main one. Raises `ReadFault` or `MemoryFault` where
-    the run did not come to its end, and `RequestError` where it cannot be asked."""
+    Args:
+        source: A path, `-` for standard input, bytes that are the stream, or a binary file.
+        jobs: How many threads judge parts of the stream. None is one for each processor.
+        line_limit: The most bytes in a line, from 1 to 1 GiB.
+        depth: The most arrays and objects that are open at once, from 1 to 1,024.
+        keep_going: Whether to report each invalid line, and not only the first.
+        tree: Whether the main city object has to reach each other one of its feature.
+        on_report: Is called with each report as it comes. The result then has no list of them.
+        progress: Is called with the number of bytes that were done since the call before. In a
+            packed file these are packed bytes.
+        part_size: How many bytes a part has. None is 4 MiB or less.
+
+    Returns:
+        The verdict, the counts and the reports.
+
+    Raises:
+        ReadFault: The source cannot be opened or read, or it changes.
+        MemoryFault: Memory is short.
+        RequestError: An argument has a value that it may not have.
+        LibraryMissing: The library is not there, or it is another version.
+    """
     work = asked("check", line_limit=line_limit, depth=depth, keep_going=keep_going, tree=tree)
     stream = Stream(source, work, _part_size(part_size), tell=on_report, progress=progress)
     return _only(stream, jobs).raised()
 
 
-def check_files(sources: Iterable[Source], *, jobs: Optional[int] = None, line_limit: int = USUAL_LINE, depth: int = USUAL_DEPTH,
-                keep_going: bool = False, tree: bool = False, on_report: OnReport = None, progress: Progress = None,
-                part_size: Optional[int] = None) -> Iterator[Result]:
-    """Checks many streams, by threads that are shared, and gives the result of each, in order. A fault is told by the result."""
-    work, size = asked("check", line_limit=line_limit, depth=depth, keep_going=keep_going, tree=tree), _part_size(part_size)
-    return threaded((Stream(source, work, size, tell=on_report, progress=progress) for source in sources), jobs)
+def check_files(
+    sources: Iterable[Source],
+    *,
+    jobs: Optional[int] = None,
+    line_limit: int = USUAL_LINE,
+    depth: int = USUAL_DEPTH,
+    keep_going: bool = False,
+    tree: bool = False,
+    on_report: OnReport = None,
+    progress: Progress = None,
+    part_size: Optional[int] = None,
+) -> Iterator[Result]:
+    """Checks many streams, by threads that they share.
+
+    Args:
+        sources: The streams, each as `check` takes one.
+        jobs: As for `check`, and so are all others.
+
+    Yields:
+        The result of each stream, in order. A fault of one is in its result, and the others go on.
+
+    Raises:
+        RequestError: An argument has a value that it may not have.
+        LibraryMissing: The library is not there, or it is another version.
+    """
+    work = asked("check", line_limit=line_limit, depth=depth, keep_going=keep_going, tree=tree)
+    size = _part_size(part_size)
+    streams = (Stream(each, work, size, tell=on_report, progress=progress) for each in sources)
+    return threaded(streams, jobs)
 
 
-def filter(source: Source, output: Target, *, ids: Optional[Texts] = None, types: Optional[Texts] = None,
-           lods: Optional[Texts] = None, box: Optional[Box] = None, exclude: bool = False, jobs: Optional[int] = None,
-           line_limit: int = USUAL_LINE, depth: int = USUAL_DEPTH, keep_going: bool = False, tree: bool = False,
-           keep_partial: bool = False, on_report: OnReport = None, progress: Progress = None,
-           part_size: Optional[int] = None) -> Result:
-    """Copies the header and the features that are wanted, byte for byte, to a path, `-` or a binary file.
+def filter(
+    source: Source,
+    output: Target,
+    *,
+    ids: Optional[Texts] = None,
+    types: Optional[Texts] = None,
+    lods: Optional[Texts] = None,
+    box: Optional[Box] = None,
+    exclude: bool = False,
+    jobs: Optional[int] = None,
+    line_limit: int = USUAL_LINE,
+    depth: int = USUAL_DEPTH,
+    keep_going: bool = False,
+    tree: bool = False,
+    keep_partial: bool = False,
+    on_report: OnReport = None,
+    progress: Progress = None,
+    part_size: Optional[int] = None,
+) -> Result:
+    """Copies the header and the features that a query selects, byte for byte and in order.
 
-    A feature is wanted if its id is one of `ids`, some city object has one of `types`, some geometry one of `lods`, and its vertices
-    reach into `box`, four numbers or a text minx,miny,maxx,maxy; None asks nothing. With `exclude` all others are. The other options
-    are those of `check`.
+    The query selects a feature that meets each of `ids`, `types`, `lods` and `box`. None asks
+    nothing. The options that are not listed here are those of `check`.
 
-    A path is written as `NAME.part`, and gets its name once the whole stream has been read and is valid, or, with `keep_going`, has a
-    valid header; else nothing is left, or, with `keep_partial`, `NAME.part`. Raises `InvalidStream` where the stream is not valid, unless
-    with `keep_going`, and `WriteFault` too."""
-    work = asked("filter", ids=ids, types=types, lods=lods, box=box, exclude=exclude,
-                 line_limit=line_limit, depth=depth, keep_going=keep_going, tree=tree)
+    Args:
+        source: The stream, as `check` takes it.
+        output: A path, `-` for standard output, or a binary file. A path is written as `NAME.part`.
+            It is renamed when the whole stream was read and is valid. With `keep_going` a valid
+            header is enough.
+        ids: Keeps a feature whose id is one of these.
+        types: Keeps a feature that has a city object of one of these types.
+        lods: Keeps a feature that has a geometry of one of these LoDs.
+        box: Keeps a feature whose vertices reach into this box: four numbers, or a text
+            minx,miny,maxx,maxy, in world coordinates.
+        exclude: Keeps the features that the query does not select.
+        keep_going: Whether to leave out invalid lines, and to go on.
+        keep_partial: Whether `NAME.part` stays if the stream is invalid.
+
+    Returns:
+        The verdict, the counts and the reports. `features` counts what was kept.
+
+    Raises:
+        InvalidStream: The stream is invalid. With `keep_going` only an invalid header is.
+        WriteFault: The output cannot be opened or written.
+        ReadFault: The source cannot be opened or read, or it changes.
+        MemoryFault: Memory is short.
+        RequestError: An argument has a value that it may not have, or the output is the source.
+        LibraryMissing: The library is not there, or it is another version.
+    """
+    work = asked(
+        "filter",
+        ids=ids,
+        types=types,
+        lods=lods,
+        box=box,
+        exclude=exclude,
+        line_limit=line_limit,
+        depth=depth,
+        keep_going=keep_going,
+        tree=tree,
+    )
     refuse_same([source], [output])
-    stream = Stream(source, work, _part_size(part_size), Writer(output, keep_partial), on_report, progress)
+    writer = Writer(output, keep_partial)
+    stream = Stream(source, work, _part_size(part_size), writer, on_report, progress)
     return _only(stream, jobs).raised_if_invalid(keep_going)
 
 
-def info(source: Source, *, exact_lods: bool = True, jobs: Optional[int] = None, line_limit: int = USUAL_LINE,
-         depth: int = USUAL_DEPTH, tree: bool = False, on_report: OnReport = None, progress: Progress = None,
-         part_size: Optional[int] = None) -> Info:
-    """Reports what is in a stream: transform, types, LoDs, ranges of vertices, and their box in world coordinates.
+def info(
+    source: Source,
+    *,
+    exact_lods: bool = True,
+    jobs: Optional[int] = None,
+    line_limit: int = USUAL_LINE,
+    depth: int = USUAL_DEPTH,
+    tree: bool = False,
+    on_report: OnReport = None,
+    progress: Progress = None,
+    part_size: Optional[int] = None,
+) -> Info:
+    """Summarises a valid stream: transform, types, LoDs, ranges of vertices, and their box.
 
-    `exact_lods` asks for each text of an LoD with how many features have it, which takes as long again for each text. The other
-    options are those of `check`, which has one more: what is valid in a stream that is not would be taken for what is in
-    the stream. Where a stream is not valid, all of the report is empty."""
+    The options that are not listed here are those of `check`. There is no `keep_going`, because a
+    summary of the valid lines looks like a summary of the stream.
+
+    Args:
+        source: The stream, as `check` takes it.
+        exact_lods: Whether to count the features of each text of an LoD. Each text takes as long
+            again as all the rest.
+
+    Returns:
+        The verdict, the counts and the summary. The summary is empty if the stream is invalid.
+
+    Raises:
+        ReadFault: The source cannot be opened or read, or it changes.
+        MemoryFault: Memory is short.
+        RequestError: An argument has a value that it may not have.
+        LibraryMissing: The library is not there, or it is another version.
+    """
     work = asked("info", exact_lods=exact_lods, line_limit=line_limit, depth=depth, tree=tree)
     stream = Stream(source, work, _part_size(part_size), tell=on_report, progress=progress)
     result = _only(stream, jobs).raised()
@@ -109,24 +251,64 @@ def info(source: Source, *, exact_lods: bool = True, jobs: Optional[int] = None,
     return result
 
 
-def features(source: Source, *, ids: Optional[Texts] = None, types: Optional[Texts] = None, lods: Optional[Texts] = None,
-             box: Optional[Box] = None, exclude: bool = False, line_limit: int = USUAL_LINE, depth: int = USUAL_DEPTH,
-             keep_going: bool = False, tree: bool = False) -> Iterator[Feature]:
-    """Yields each kept feature of a stream: its line, its id, what is in it, and `json()` for the rest.
+def features(
+    source: Source,
+    *,
+    ids: Optional[Texts] = None,
+    types: Optional[Texts] = None,
+    lods: Optional[Texts] = None,
+    box: Optional[Box] = None,
+    exclude: bool = False,
+    line_limit: int = USUAL_LINE,
+    depth: int = USUAL_DEPTH,
+    keep_going: bool = False,
+    tree: bool = False,
+) -> Iterator[Feature]:
+    """Lists the features that a query selects. The arguments are those of `filter`.
 
-    The options are those of `filter`. Raises `InvalidStream` at the first invalid line, after the features before it; with
-    `keep_going` only where the header is invalid. Raises `ReadFault` and `MemoryFault` too."""
+    Yields:
+        Each kept feature in order: its line, its id, what is in it, and `json()` for the rest.
+
+    Raises:
+        InvalidStream: A line is invalid. The features before it came first. With `keep_going` only
+            an invalid header is told so.
+        ReadFault: The source cannot be opened or read, or it changes.
+        MemoryFault: Memory is short.
+        RequestError: An argument has a value that it may not have.
+        LibraryMissing: The library is not there, or it is another version.
+    """
     from .listing import features as listed  # few runs need it
 
-    return listed(source, asked("filter", ids=ids, types=types, lods=lods, box=box, exclude=exclude, line_limit=line_limit,
-                                depth=depth, keep_going=keep_going, tree=tree))
+    work = asked(
+        "filter",
+        ids=ids,
+        types=types,
+        lods=lods,
+        box=box,
+        exclude=exclude,
+        line_limit=line_limit,
+        depth=depth,
+        keep_going=keep_going,
+        tree=tree,
+    )
+    return listed(source, work)
 
 
 def table(source: Source, **query: Any) -> Dict[str, Any]:
-    """Returns the columns of a table with a row for each kept feature: id, line, length, objects, geometries, types, lods,
-    and the extent in world coordinates, xmin to zmax, as the nearest floats. `pandas.DataFrame` takes it as it is.
+    """Returns the features that a query selects as columns, which `pandas.DataFrame` takes.
 
-    The options and faults are those of `features`."""
+    Args:
+        source: The stream, as `check` takes it.
+        **query: The arguments of `features`.
+
+    Returns:
+        A column for each of `id`, `line`, `length` in bytes, `objects`, `geometries`, `types`,
+        `lods`, and `xmin`, `xmax`, `ymin`, `ymax`, `zmin`, `zmax`. The last six are world
+        coordinates as the nearest floats, and not a number where a feature has no vertex.
+
+    Raises:
+        CityseqError: As `features` does.
+    """
     from .listing import table as tabled  # few runs need it
 
     return tabled(source, asked("filter", **query))
