@@ -278,6 +278,7 @@ class stream {
         const bool ends = bytes.back() == '\n';
         const std::size_t taken = std::min(bytes.size() - ends, most_ - begun_);
         text.append(bytes.data(), taken);
+        left_out_ += bytes.size() - ends - taken;
         begun_ += taken;
         if (ends) {
             text += '\n';
@@ -306,7 +307,7 @@ class stream {
             whole_ = part_.size();
         if (is_refused())
             judge(part_.size());
-        else if (whole_ >= part_length_)
+        else if (whole_ >= part_length_ || (begun_ == 0 && left_out_ > 0))
             judge(whole_);
         return taken;
     }
@@ -316,6 +317,7 @@ class stream {
         const answer got = call(length);
         throw_unless_judged(got);
         const std::uint64_t before = judged_ ? answer_.lines - 1 : 0;
+        const std::uint64_t bytes = judged_bytes_;
         const std::size_t front = judged_ ? header_.size() : 0;
         answer_ = judged_ ? ::cityseq_answer_then(&answer_, &got, header_.size()) : got;
         if (got.status != CITYSEQ_COMPLETE)
@@ -324,10 +326,13 @@ class stream {
             tally_ = ::cityseq_tally_then(&tally_, &part_tally_);
         judged_ = true;
         part_.erase(0, length);
+        judged_bytes_ += length + left_out_;
+        left_out_ = 0;
         whole_ = 0;
         for (std::size_t i = 0; reported_ && i < got.refused; i++) {
             report one = reports_[i];
             one.line += before;
+            one.begin += bytes;
             reported_(one);
         }
         if (kept_ && got.written > front)
@@ -370,6 +375,8 @@ class stream {
     std::string part_;      // the lines after those that were judged, and a begun one
     std::size_t begun_ = 0; // the bytes of the line that has begun
     std::size_t whole_ = 0; // the bytes of the whole lines of the part
+    std::uint64_t left_out_ = 0;     // the bytes of a line of the part that are not held
+    std::uint64_t judged_bytes_ = 0; // the bytes of all parts that were judged
     std::string output_;
     std::vector<report> reports_;
     bool has_header_ = false; // whether LF has ended the header

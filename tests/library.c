@@ -14,12 +14,19 @@
 
 enum { threads = 8, rounds = 50, rooms = 9 };
 
+/* What the interface of this number has to keep: no caller is built anew for a library that is put in another's place. */
+_Static_assert(CITYSEQ_INTERFACE == 2, "the sizes below are those of interface 2");
+_Static_assert(sizeof(struct cityseq_request) == 88 && sizeof(struct cityseq_report) == 32, "sizes");
+_Static_assert(sizeof(struct cityseq_answer) == 80 && sizeof(struct cityseq_feature) == 144, "sizes");
+_Static_assert(sizeof(struct cityseq_tally) == 544, "sizes");
+
 /* What came of a stream, joined of parts. */
 struct joined {
     struct cityseq_answer answer;
     struct cityseq_tally tally;
     struct cityseq_report *reports;
     char *output;
+    uint64_t bytes; /* of the parts */
 };
 
 struct text {
@@ -41,6 +48,7 @@ static struct joined judge(struct text header, struct text part, const struct ci
     struct joined found;
     size_t lines = 1, length = header.length + part.length;
     memset(&found, 0, sizeof found);
+    found.bytes = part.length;
     for (size_t i = 0; i < part.length; i++)
         lines += part.bytes[i] == '\n';
     found.reports = room(sizeof *found.reports * (lines + 1));
@@ -74,7 +82,9 @@ static void join(struct joined *all, struct joined next, size_t header)
     for (uint64_t i = 0; i < next.answer.refused; i++) {
         all->reports[reports + i] = next.reports[i];
         all->reports[reports + i].line += before;
+        all->reports[reports + i].begin += all->bytes;
     }
+    all->bytes += next.bytes;
     if (next.answer.written)
         memcpy(all->output + written, next.output + header, next.answer.written - header);
     free(next.reports);
@@ -344,7 +354,7 @@ static void queries(void)
 static void little_room(void)
 {
     struct cityseq_request r = CITYSEQ_USUAL;
-    struct cityseq_report reports[2] = {{7, 7, 7}, {7, 7, 7}};
+    struct cityseq_report reports[2] = {{7, 7, 7, 7}, {7, 7, 7, 7}};
     char part[400], out[400];
     size_t header = strlen(header_line), good = strlen(good_line), length;
     length = (size_t)snprintf(part, sizeof part, "{\n%s[\n", good_line);
@@ -365,7 +375,7 @@ static void little_room(void)
 static int is_untouched(struct cityseq_answer answer, const char *out, size_t length, const struct cityseq_report *report,
                         const struct cityseq_tally *tally)
 {
-    static const struct cityseq_report seven = {7, 7, 7};
+    static const struct cityseq_report seven = {7, 7, 7, 7};
     struct cityseq_answer nothing = {0};
     struct cityseq_tally sevens;
     nothing.status = answer.status, nothing.code = answer.code;
@@ -380,7 +390,7 @@ static int is_untouched(struct cityseq_answer answer, const char *out, size_t le
 static void nothing_judged(void)
 {
     struct cityseq_request r = CITYSEQ_USUAL;
-    struct cityseq_report report = {7, 7, 7};
+    struct cityseq_report report = {7, 7, 7, 7};
     struct cityseq_tally tally;
     char out[400];
     size_t header = strlen(header_line), good = strlen(good_line);
@@ -422,6 +432,36 @@ static void joins(void)
     row("nothing after that either", are_same(cityseq_answer_then(&all, &first, header), all));
 }
 
+static int is_number(struct cityseq_decimal n, unsigned negative, uint64_t high, uint64_t low, int power)
+{
+    return n.negative == negative && n.high == high && n.low == low && n.power == power;
+}
+
+/* The numbers of the transform, with their signs, their powers, and all of their 36 digits. */
+static void transforms(void)
+{
+    static const char header[] =
+        "{\"type\":\"CityJSON\",\"version\":\"2.0\",\"transform\":{\"scale\":[0.001,1e-18,-2.50],"
+        "\"translate\":[0,85000,123456789012345678901234567890.123456]},\"CityObjects\":{},\"vertices\":[]}\n";
+    struct cityseq_request r = CITYSEQ_USUAL;
+    struct cityseq_tally tally, empty, other;
+    size_t length = strlen(good_line);
+    cityseq_info(header, sizeof header - 1, good_line, length, &r, &tally, NULL, 0);
+    row("a transform", tally.transformed == 1 && tally.features == 1);
+    row("scales", is_number(tally.scale[0], 0, 0, 1, -3) && is_number(tally.scale[1], 0, 0, 1, -18) &&
+                      is_number(tally.scale[2], 1, 0, 25, -1));
+    row("translations", is_number(tally.translate[0], 0, 0, 0, 0) && is_number(tally.translate[1], 0, 0, 85, 3) &&
+                            is_number(tally.translate[2], 0, 6692605942763486u, 16927977054893030080u, -6));
+    cityseq_info("{}\n", 3, good_line, length, &r, &empty, NULL, 0);
+    row("no transform of an invalid header", !empty.transformed && is_number(empty.scale[0], 0, 0, 0, 0));
+    memset(&empty, 0, sizeof empty), other = cityseq_tally_then(&empty, &tally);
+    row("no tally, and then one", !memcmp(&other, &tally, sizeof other));
+    other = cityseq_tally_then(&tally, &tally);
+    row("one transform of two parts", other.features == 2 && other.transformed == 1 &&
+                                          !memcmp(other.scale, tally.scale, sizeof other.scale) &&
+                                          !memcmp(other.translate, tally.translate, sizeof other.translate));
+}
+
 /* Where a part ends, byte by byte. */
 static size_t slow_part_end(const char *part, size_t length, size_t wanted)
 {
@@ -447,6 +487,21 @@ static void part_ends(void)
                 wrong += cityseq_part_end(part, length, wanted) != slow_part_end(part, length, wanted);
         }
     row("ends of parts", !wrong && cityseq_part_end("\n", 1, SIZE_MAX) == 1);
+}
+
+/* Where lines begin: of a header and lines of 0 to 3 bytes, with and without the last LF. */
+static void line_begins(void)
+{
+    static const char part[] = "\na\nbc\ndef\n";
+    static const uint64_t begins[] = {0, 0, 3, 4, 6, 9};
+    int wrong = 0;
+    for (uint64_t line = 0; line < 6; line++)
+        wrong += cityseq_line_begin("{}\n", 3, part, sizeof part - 1, line) != begins[line];
+    row("lines begin", !wrong);
+    row("no such line", cityseq_line_begin("{}\n", 3, part, 10, 6) == 13 &&
+                            cityseq_line_begin("{}\n", 3, part, 9, UINT64_MAX) == 12);
+    row("a header alone", cityseq_line_begin("{}", 2, NULL, 0, 1) == 0 && cityseq_line_begin("{}", 2, NULL, 0, 2) == 2);
+    row("no header", cityseq_line_begin("{}", 2, part, 10, 3) == 0 && cityseq_line_begin(NULL, 0, NULL, 0, 2) == 0);
 }
 
 /* Pointers that are NULL, where there is nothing at them. */
@@ -568,7 +623,9 @@ int main(int count, char **words)
     little_room();
     nothing_judged();
     joins();
+    transforms();
     part_ends();
+    line_begins();
     nulls();
     reason_texts();
     texts();

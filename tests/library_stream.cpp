@@ -38,7 +38,7 @@ struct Told {
 };
 
 bool same(const cityseq::report &a, const cityseq::report &b) {
-    return a.line == b.line && a.place == b.place && a.code == b.code;
+    return a.line == b.line && a.begin == b.begin && a.place == b.place && a.code == b.code;
 }
 
 // Whether both are the same. Of what was held only a complete stream tells exactly, and without

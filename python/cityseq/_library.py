@@ -5,7 +5,7 @@ import ctypes
 import os
 import resource
 import threading
-from ctypes import POINTER, c_bool, c_char_p, c_int64, c_size_t, c_uint32, c_uint64
+from ctypes import POINTER, c_bool, c_char_p, c_int32, c_int64, c_size_t, c_uint32, c_uint64
 from typing import Any, Iterable, Optional, Sequence, Tuple, Union
 
 from .faults import LibraryMissing
@@ -45,7 +45,8 @@ class RawRequest(ctypes.Structure):
 class RawReport(ctypes.Structure):
     """`struct cityseq_report`."""
 
-    _fields_ = [("line", c_uint64), ("place", c_uint64), ("code", c_uint64)]
+    _fields_ = [
+        ("line", c_uint64), ("begin", c_uint64), ("place", c_uint64), ("code", c_uint64)]
 
 
 class RawAnswer(ctypes.Structure):
@@ -61,10 +62,20 @@ class RawRange(ctypes.Structure):
     _fields_ = [("some", c_uint64), ("least", c_int64), ("greatest", c_int64)]
 
 
+class RawDecimal(ctypes.Structure):
+    """`struct cityseq_decimal`."""
+
+    _fields_ = [("negative", c_uint32), ("power", c_int32), ("high", c_uint64), ("low", c_uint64)]
+
+
 class RawTally(ctypes.Structure):
     """`struct cityseq_tally`."""
 
-    _fields_ = [("features", c_uint64), ("types", c_uint64 * TYPES), ("lods", c_uint64 * len(LOD_CLASSES)), ("ranges", RawRange * 3)]
+    _fields_ = [
+        ("features", c_uint64), ("types", c_uint64 * TYPES), ("lods", c_uint64 * len(LOD_CLASSES)),
+        ("ranges", RawRange * 3), ("transformed", c_uint64),
+        ("scale", RawDecimal * 3), ("translate", RawDecimal * 3),
+    ]
 
 
 class RawFeature(ctypes.Structure):

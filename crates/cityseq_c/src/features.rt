@@ -8,5 +8,6 @@ mod cursor;
 mod listed;
 mod record_of;
 
+pub use cursor::Cursor;
 pub use listed::Listed;
 pub use record_of::FeatureRecord;

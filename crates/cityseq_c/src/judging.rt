@@ -5,8 +5,9 @@ ghost use Rattle.cj_stream.specs.Sink.{HasRisen};
 ghost use Rattle.cj_stream.specs.Verdict.{Rules};
 ghost use Rattle.cityseq_c.specs.Judged.{Judged};
 ghost use Rattle.cityseq_c.specs.Query.{RefusesCall};
-ghost use Rattle.cityseq_c.specs.Request.{AreCut, IsAsked, IsFit, options_of};
+ghost use Rattle.cityseq_c.specs.Request.{AreCut, IsAsked, IsFit, needed_limits, options_of};
 
+use crate::finder::Finder;
 use crate::query::query_of;
 use crate::reports::{Noted, Told};
 use crate::request::{Fault, NotJudged, Request};
@@ -20,7 +21,7 @@ const MOST_BYTES: usize = 1_152_921_504_606_846_976;
 const _: () = prove!(MOST_BYTES == 1 << 60);
 
 /// Whether a stream is cut into these two behind its first line, or has no more than that.
-fn are_cut(header: &[u8], part: &[u8]) -> bool
+pub fn are_cut(header: &[u8], part: &[u8]) -> bool
     ensures { IsTrue result ↔ AreCut header.now part.now }
 {
     match memchr(b'\n', header) {
@@ -49,6 +50,15 @@ fn limits_of(header: &[u8], part: &[u8], request: &Request<'_>) -> Result<Limits
     Ok(limits)
 }
 
+/// The limits that an engine needs for these pieces. No line is longer than the longer one of them, so a higher line limit
+/// would take more memory, and change nothing else.
+fn limits_needed(asked: Limits, header: &[u8], part: &[u8]) -> Limits
+    ensures { result ≡ needed_limits asked header.now part.now }
+{
+    let longest = header.len().max(part.len()).max(1) as u64;
+    Limits::new(asked.line().min(longest), asked.depth()).unwrap_or(asked)
+}
+
 /// Gives an engine that is new a header and a part, which are one stream.
 ///
 /// # Errors
@@ -71,7 +81,7 @@ fn judge_stream<S: LineSink>(
     ensures unread { OnErr result ((sink.new ≡ sink.old) × (reports.new ≡ reports.old)) }
 {
     laws::good_lines_are_kept();
-    let mut noted = Noted::new(reports);
+    let mut noted = Noted::new(Finder::new(header, part), reports);
     let outcome = put_pieces(engine, &[header, part], sink, &mut noted);
     if let End::Memory = outcome.ended {
         return Err(NotJudged::Memory);
@@ -108,7 +118,8 @@ pub fn judge<S: LineSink>(
 {
     let limits = limits_of(header, part, request)?;
     let query = query_of(alloc, request)?;
-    let mut engine = match Engine::open(alloc, limits, &query, request.options()) {
+    let needed = limits_needed(limits, header, part);
+    let mut engine = match Engine::open(alloc, needed, &query, request.options()) {
         Ok(engine) => engine,
         Err(NoMemory) => return Err(NotJudged::Memory),
     };

@@ -7,7 +7,7 @@
 //!
 //! - `request`: what is asked, as C spells it, and what is wrong with it; `query`: the query that its texts make;
 //! - `judging`: a header and a part are judged as one stream; `answer`: what C is told of it, and of parts as one;
-//! - `cutting`: where a part ends;
+//! - `cutting`: where a part ends; `finder`: where lines begin;
 //! - `room`: bytes that C lends for the output; `reports`: the room that it lends for reports; `tally`: what is tallied;
 //! - `words`: texts of reasons and names of types.
 #![tactic(auto)]
@@ -22,11 +22,14 @@ ghost use Rattle.cityseq_c.specs.Answer.{not_judged};
 ghost use Rattle.cityseq_c.specs.Called.{Checks, Filters, IsTalliedOf, IsUnjudged, Lists, TalliesPart};
 ghost use Rattle.cityseq_c.specs.Cutting.{part_end};
 ghost use Rattle.cityseq_c.specs.Joined.{IsAnswerOf};
+ghost use Rattle.cityseq_c.specs.Begins.{begin_of};
+ghost use Rattle.cityseq_c.specs.Request.{AreCut};
 ghost use Rattle.cityseq_c.specs.Words.{reason_words, type_words, IsCopied};
 
 mod answer;
 mod cutting;
 mod features;
+mod finder;
 mod judging;
 mod query;
 mod reports;
@@ -40,7 +43,8 @@ mod words;
 use answer::Answer;
 use cj_stream::{IgnoreSink, TallySink, laws};
 use features::{FeatureRecord, Listed};
-use judging::judge;
+use finder::Finder;
+use judging::{are_cut, judge};
 use reports::Told;
 use request::Request;
 use room::Room;
@@ -174,6 +178,20 @@ pub extern "C" fn cityseq_part_end(part: &[u8], wanted: usize) -> usize
     ensures whole { whole (take result part.now) ≡ take result part.now }
 {
     cutting::part_end(part, wanted)
+}
+
+/// Where the line of this number begins in a header and a part, in bytes from the beginning of the header: the end where there is
+/// no such line, and 0 where the header is not one line.
+#[unsafe(no_mangle)]
+pub extern "C" fn cityseq_line_begin(header: &[u8], part: &[u8], line: u64) -> u64
+    ensures cut { AreCut header.now part.now → result ≡ begin_of (header.now ++ part.now) line }
+    ensures uncut { ¬ AreCut header.now part.now → result ≡ 0 }
+{
+    if are_cut(header, part) {
+        Finder::new(header, part).begin(line)
+    } else {
+        0
+    }
 }
 
 /// Writes the words of a reason as far as they fit, and answers how many bytes they have; 0 where no reason has this code.

@@ -1,7 +1,8 @@
 //! What is tallied, as C has it, and of a stream by its parts.
 ghost use Rattle.std.specs.Prelude.{◌≡◌};
-ghost use Rattle.cityseq_c.specs.Tally.{IsTally, range_of as range_told, range_by};
+ghost use Rattle.cityseq_c.specs.Tally.{AreShown, IsDecimal, IsTally, range_of as range_told, range_by};
 
+use cj_decimal::Decimal;
 use cj_stream::{TallySink, laws};
 
 /// The least and the greatest number on an axis.
@@ -14,7 +15,17 @@ pub struct Range {
     pub greatest: i64,
 }
 
-/// What is in the features that are wanted.
+/// The number `(high * 2^64 + low) * 10^power`, below 0 where `negative` is 1.
+#[repr(C)]
+#[derive(Clone, Copy, Debug, PartialEq, Eq)]
+pub struct Number {
+    pub negative: u32,
+    pub power: i32,
+    pub high: u64,
+    pub low: u64,
+}
+
+/// What is in the features that are wanted, and the header's transform.
 #[repr(C)]
 #[derive(Clone, Copy, Debug)]
 pub struct Tally {
@@ -25,6 +36,46 @@ pub struct Tally {
     pub lods: [u64; 6],
     /// The numbers of vertices on x, y and z, as they stand in the features.
     pub ranges: [Range; 3],
+    /// 1 if the header is valid, so that the transform is known, else 0.
+    pub transformed: u64,
+    /// What a number on x, y and z is multiplied by,
+    pub scale: [Number; 3],
+    /// and what is then added to it.
+    pub translate: [Number; 3],
+}
+
+/// The number 0.
+const ZERO: Number = Number {
+    negative: 0,
+    power: 0,
+    high: 0,
+    low: 0,
+};
+
+/// A decimal, as C has it.
+fn number_of(decimal: Decimal) -> Number
+    ensures { IsDecimal decimal result }
+{
+    let size = decimal.coefficient().unsigned_abs();
+    Number {
+        negative: (decimal.coefficient() < 0) as u32,
+        power: decimal.power(),
+        high: (size >> 64) as u64,
+        low: (size % (1 << 64)) as u64,
+    }
+}
+
+/// The numbers of a transform, as C has them: three times 0 where there is none.
+fn numbers_of(numbers: Option<[Decimal; 3]>) -> [Number; 3]
+    ensures { AreShown numbers result }
+{
+    match numbers {
+        Some(numbers) => {
+            let [x, y, z] = numbers;
+            [number_of(x), number_of(y), number_of(z)]
+        }
+        None => [ZERO; 3],
+    }
 }
 
 /// A range, as C has it.
@@ -78,6 +129,9 @@ impl Tally {
                 range_of(sink.range(1)),
                 range_of(sink.range(2)),
             ],
+            transformed: sink.scale().is_some() as u64,
+            scale: numbers_of(sink.scale()),
+            translate: numbers_of(sink.translate()),
         }
     }
 
@@ -102,6 +156,12 @@ impl Tally {
             → IsTalliedOf rules (headed h (a ++ b)) result }
     {
         laws::parts_are_joined();
-        Tally::of(&self.sink().then(&next.sink()))
+        let header = if self.transformed == 0 { next } else { self };
+        Tally {
+            transformed: header.transformed,
+            scale: header.scale,
+            translate: header.translate,
+            ..Tally::of(&self.sink().then(&next.sink()))
+        }
     }
 }

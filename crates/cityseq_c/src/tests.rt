@@ -2,11 +2,11 @@
 use crate::features::FeatureRecord;
 use crate::reports::Told;
 use crate::request::Request;
-use crate::tally::{Range, Tally};
+use crate::tally::{Number, Range, Tally};
 use crate::{
     Answer, cityseq_answer_then, cityseq_check, cityseq_features, cityseq_filter, cityseq_info,
-    cityseq_interface, cityseq_part_end, cityseq_reason_text, cityseq_tally_then,
-    cityseq_type_name, cityseq_version,
+    cityseq_interface, cityseq_line_begin, cityseq_part_end, cityseq_reason_text,
+    cityseq_tally_then, cityseq_type_name, cityseq_version,
 };
 use std::process::Abort;
 use std::test::Fail;
@@ -26,6 +26,7 @@ const BROKEN: &[u8] =
 /// Room for no report.
 const NO_REPORT: Told = Told {
     line: 0,
+    begin: 0,
     place: 0,
     code: 0,
 };
@@ -85,12 +86,30 @@ fn invalid_lines_are_reported(rt: HostRuntime) -> Result<(), Fail> {
         keep_going: true,
         ..usual()
     };
-    let mut reports = [NO_REPORT; 1];
+    let mut reports = [NO_REPORT; 2];
     let answer = cityseq_check(rt.alloc(), HEADER, BROKEN, &request, &mut reports);
     check_ended(&rt, answer, (0, 0, 0, 0));
     check_counts(&rt, answer, (3, 0, 2, 0));
     let told = reports[0];
-    assert_eq!(rt; (told.line, told.place, told.code), (2, 144, 25));
+    assert_eq!(rt;
+        (told.line, told.begin, told.place, told.code),
+        (2, 141, 144, 25)
+    );
+    let told = reports[1];
+    assert_eq!(rt;
+        (told.line, told.begin, told.place, told.code),
+        (3, 352, 1, 4)
+    );
+    Ok(())
+}
+
+#[test]
+fn lines_begin_where_they_stand(rt: HostRuntime) -> Result<(), Fail> {
+    assert_eq!(rt; cityseq_line_begin(HEADER, b"ab\nc", 1), 0);
+    assert_eq!(rt; cityseq_line_begin(HEADER, b"ab\nc", 2), 141);
+    assert_eq!(rt; cityseq_line_begin(HEADER, b"ab\nc", 3), 144);
+    assert_eq!(rt; cityseq_line_begin(HEADER, b"ab\nc", 4), 145);
+    assert_eq!(rt; cityseq_line_begin(b"{}", b"ab", 2), 0);
     Ok(())
 }
 
@@ -113,6 +132,16 @@ fn an_output_that_does_not_fit_is_cut(rt: HostRuntime) -> Result<(), Fail> {
     Ok(())
 }
 
+/// The number `low * 10^power`.
+fn number(low: u64, power: i32) -> Number {
+    Number {
+        negative: 0,
+        power,
+        high: 0,
+        low,
+    }
+}
+
 /// The tally of nothing.
 fn no_tally() -> Tally {
     Tally {
@@ -124,6 +153,9 @@ fn no_tally() -> Tally {
             least: 0,
             greatest: 0,
         }; 3],
+        transformed: 0,
+        scale: [number(0, 0); 3],
+        translate: [number(0, 0); 3],
     }
 }
 
@@ -135,6 +167,11 @@ fn a_feature_is_tallied(rt: HostRuntime) -> Result<(), Fail> {
     assert_eq!(rt; (tally.features, tally.types[1], tally.lods[2]), (1, 1, 1));
     let x = tally.ranges[0];
     assert_eq!(rt; (x.some, x.least, x.greatest), (1, 0, 1000));
+    assert_eq!(rt; (tally.transformed, tally.scale[2]), (1, number(1, -3)));
+    assert_eq!(rt;
+        (tally.translate[1], tally.translate[2]),
+        (number(2, 3), number(0, 0))
+    );
     Ok(())
 }
 
@@ -241,6 +278,7 @@ fn two_tallies_are_joined(rt: HostRuntime) -> Result<(), Fail> {
     let both = cityseq_tally_then(&tally, &tally);
     assert_eq!(rt; (both.features, both.types[1], both.lods[2]), (2, 2, 2));
     assert_eq!(rt; both.ranges[0], tally.ranges[0]);
+    assert_eq!(rt; (both.transformed, both.translate[0]), (1, number(1, 3)));
     Ok(())
 }
 

@@ -17,13 +17,14 @@ pub struct Cursor<'a> {
 }
 
 impl<'a> Cursor<'a> {
-    ghost use Rattle.std.specs.Prelude.{◌≡◌, ◌<◌, drop};
+    ghost use Rattle.std.specs.Prelude.{◌≡◌, ◌<◌, ◌↔◌, IsTrue, drop};
     ghost use Rattle.cj_stream.specs.Lines.{lines};
     ghost use Rattle.cityseq_c.specs.Features.{Passes, Seeks, place_of};
 
     /// The beginning of a part, whose first line is the second of the stream.
     pub fn new(part: &'a [u8]) -> Cursor<'a>
-        ensures { place_of result ≡ record { line = 2; begin = 0; left = lines part.now } }
+        ensures place { place_of result ≡ record { line = 2; begin = 0; left = lines part.now } }
+        ensures part { result.part ≡ part.entry }
     {
         Cursor {
             part,
@@ -32,8 +33,29 @@ impl<'a> Cursor<'a> {
         }
     }
 
+    /// The number of the line that begins here.
+    pub fn line(&self) -> u64
+        ensures { result ≡ (place_of self.now).line }
+    {
+        self.line
+    }
+
+    /// Where it begins in the part, in bytes from 0.
+    pub fn begin(&self) -> u64
+        ensures { result ≡ (place_of self.now).begin }
+    {
+        self.at as u64
+    }
+
+    /// Whether no line is left.
+    pub fn is_at_end(&self) -> bool
+        ensures { IsTrue result ↔ (length self.now.part.now ≤ self.now.at) }
+    {
+        self.at >= self.part.len()
+    }
+
     /// Takes the line that begins here, and returns its content.
-    fn next_line(&mut self) -> &'a [u8]
+    pub fn next_line(&mut self) -> &'a [u8]
         requires { self.old.at < length self.old.part.now }
         ensures part { self.new.part ≡ self.old.part }
         ensures on { self.old.at < self.new.at }
