@@ -1,5 +1,5 @@
-//! What the tests share: comparisons, and the calls that are tested without what their contracts
-//! say. A test compares values when it runs, and its proof grows with each fact that a call leaves.
+//! What the tests share: comparisons, and calls of the tested functions without their contracts. A
+//! test compares values when it runs. Its proof would grow with each fact that a call adds.
 use super::devices::{SlowReader, SlowWriter};
 use cj_budget::{Limits, Peaks};
 use cj_spans::Reason;

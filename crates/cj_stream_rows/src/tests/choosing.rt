@@ -1,7 +1,7 @@
-//! What is refused where the city objects of a feature have to hang together, and what is kept where the features that satisfy
-//! the query are left out.
+//! What is invalid if each city object must be reached, and what is kept if selected features are
+//! left out.
 //!
-//! The rows with a whole outcome are tried whole, by single bytes, and cut in two at every place.
+//! The rows with a whole outcome are run whole, by single bytes, and cut in two at every place.
 use super::calls::{
     Reading, check_bytes, check_ended, check_number, check_outcome, given, held, joined, outcome,
     ran, refused,

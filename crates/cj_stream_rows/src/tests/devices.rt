@@ -1,4 +1,4 @@
-//! Readers and writers that are slow or that fail. They tell contracts nothing of their bytes.
+//! Readers and writers that are slow or that fail. No contract knows their bytes.
 use std::io::{Error, ErrorKind, Read, Result, Write};
 
 /// Gives its bytes by at most `step` a read, and fails at the read number `fails_at`, from 1.

@@ -1,5 +1,5 @@
-//! Lines that are too long, step by step: what is held and told while their bytes come, and when they are reported. The line limit
-//! is 210 throughout.
+//! Lines that are too long, step by step: what is held and returned while their bytes come, and
+//! when they are reported. The line limit is always 210.
 use super::calls::{check_bytes, check_joined, held, joined};
 use super::reports::going;
 use super::rows::{FEATURE, FIRST, HEADER, STREAM, THIRD_REFUSED};

@@ -1,4 +1,4 @@
-//! Devices that fail: what is written is a prefix of the output, and the end says why.
+//! Devices that fail: a prefix of the output is written, and the end says why.
 use super::calls::{
     Reading, check_bytes, check_ended, check_number, copied, copied_to, joined, ran, ran_to,
     refused,

@@ -1,5 +1,5 @@
-//! Streams whose refused lines reading goes on after: each whole, by single bytes, and cut in two at every place, given to a run,
-//! to an engine and to a reader of lines.
+//! Streams with invalid lines that reading goes on after. Each is run whole, by single bytes, and
+//! cut in two at every place: by a run, an engine and a reader of lines.
 use super::calls::{
     Reading, check_bytes, check_joined, check_outcome, given, held, joined, outcome, ran, refused,
 };

@@ -1,4 +1,4 @@
-//! Queries of many ids: each that was added is found, and no other.
+//! Queries of many ids: each id that was added is found, and no other.
 use super::calls::{Reading, check_ended, check_number, joined, ran};
 use super::devices::SlowReader;
 use super::rows::FIRST;

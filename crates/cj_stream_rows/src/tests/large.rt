@@ -1,4 +1,4 @@
-//! Lists filled far, and queries of many and of long texts.
+//! Large lists, and queries of many and of long texts.
 use super::calls::{
     Reading, check_bytes, check_ended, check_number, check_outcome, copied, held, joined, outcome,
     refused, written_by,

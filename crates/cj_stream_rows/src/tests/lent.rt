@@ -1,4 +1,4 @@
-//! What a sink is lent: the header, and each feature by itself, with what their lines hold.
+//! What a sink borrows: the header, and each feature by itself, with the contents of their lines.
 use super::calls::{check_bytes, check_outcome, held, joined, outcome, ran_to};
 use super::rows::{FEATURE, STREAM};
 use cj_feature::{Feature, Header};

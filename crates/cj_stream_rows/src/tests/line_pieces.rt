@@ -1,4 +1,4 @@
-//! What comes behind a header, in pieces given to its reader of lines.
+//! What comes after a header, in pieces given to its reader of lines.
 use super::calls::{Reading, check_bytes, check_outcome, held, outcome, refused};
 use super::rows::{HEADER, STREAM, THIRD_REFUSED};
 use super::states::{check_progress, feed_header, header_opened};

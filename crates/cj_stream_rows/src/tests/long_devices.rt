@@ -1,4 +1,4 @@
-//! Devices that are slow or that fail, over streams longer than each buffer there is.
+//! Devices that are slow or that fail, with streams longer than each buffer.
 use super::calls::{check_bytes, check_ended, check_number, copied, copied_to};
 use super::devices::{SlowReader, SlowWriter};
 use super::long_lines::{long_text, many_features};

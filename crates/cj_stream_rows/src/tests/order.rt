@@ -1,4 +1,4 @@
-//! Of several faults of one line, the one that is told.
+//! Which of several broken rules of one line is reported.
 use super::calls::{check_ended, copied, joined, refused};
 use super::devices::SlowReader;
 use super::rows::FIRST;

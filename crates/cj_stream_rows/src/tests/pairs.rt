@@ -1,6 +1,6 @@
-//! Every two options, and all three, beside every two parts of a query.
+//! Every two options, and all three, with every two parts of a query.
 //!
-//! Which features satisfy two parts follows from the rows on one part each, in `choosing`.
+//! Which features satisfy two parts follows from the rows for one part each, in `choosing`.
 use super::calls::{check_number, joined, refused};
 use super::choosing::{APART, Came, ROAD, came_of, check_went};
 use super::queries::{Parts, SEVERAL, by_ids, by_lods, by_types, query_of};

@@ -1,5 +1,5 @@
-//! Streams that are read in parts: how runs over a header with some of the lines behind it went together, and what is reported
-//! of them.
+//! Streams that are read in parts: the joint outcome of runs over a header with some of the later
+//! lines, and what is reported of them.
 use super::calls::{Reading, check_outcome, held, joined, outcome, ran, refused};
 use super::devices::SlowReader;
 use super::going::complete;

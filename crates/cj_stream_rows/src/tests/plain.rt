@@ -1,5 +1,7 @@
-//! A plain, slow program over whole texts, beside which streams of many lines run: it cuts a text into its lines, looks each up
-//! in a table of lines whose verdicts are known by hand, and tells what is written, reported, counted and held.
+//! A plain, slow program over whole texts. Streams of many lines are compared with it.
+//!
+//! It cuts a text into its lines, and looks each up in a table of lines with verdicts found by
+//! hand. It returns what is written, reported, counted and held.
 use super::calls::{held, refused};
 use super::reports::note;
 use cj_budget::Peaks;

@@ -1,4 +1,4 @@
-//! Rows of queries: which features are kept of a stream.
+//! Rows of queries: which features of a stream are kept.
 use super::calls::{Reading, check_ended, check_joined, check_number, joined, refused, written_by};
 use super::devices::SlowReader;
 use super::rows::{FEATURE, HEADER, STREAM};

@@ -1,4 +1,5 @@
-//! Runs within a number of reads: how often the reader is read, what is written, and how they end.
+//! Runs with a limit on the number of reads: how often the reader is read, what is written, and how
+//! they end.
 use super::calls::{Reading, check_bytes, check_ended, check_number, ran, refused};
 use super::devices::{EndlessReader, SlowReader, SlowWriter};
 use super::rows::{FIRST, HEADER, STREAM, THIRD_REFUSED};

@@ -1,5 +1,5 @@
-//! What is reported of refused lines, where reading goes on after them: a sink of the tests that notes each report, the sink that
-//! counts, and when nothing is reported.
+//! What is reported of invalid lines if reading goes on after them. It has a sink that notes each
+//! report, the sink that counts, and cases without any report.
 use super::calls::{
     Reading, check_bytes, check_ended, check_number, joined, ran, refused, written_by,
 };

@@ -1,4 +1,4 @@
-//! Worked rows: inputs, what is written of them, and how they end.
+//! Worked examples: inputs, what is written of them, and how they end.
 use super::calls::{
     Reading, check_bytes, check_ended, check_number, check_outcome, copied, given, held, joined,
     outcome, refused,

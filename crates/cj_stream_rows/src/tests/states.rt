@@ -1,4 +1,4 @@
-//! Rows through the two states, by every cut, and what both tell where one turns into the other.
+//! Rows through the two states, with every cut, and what both return where one becomes the other.
 use super::calls::{
     Reading, check_bytes, check_ended, check_number, check_outcome, held, joined, outcome, refused,
 };

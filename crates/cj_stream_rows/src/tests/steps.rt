@@ -1,5 +1,6 @@
-//! Engines that are called step by step: a row is a list of calls, each with what it has to answer, and of what the engine has to
-//! tell between them. One function opens all of these engines, since to have one is what makes the proof of a function dear.
+//! Engines that are called step by step. A row is a list of calls, each with its expected result
+//! and the engine's expected counts. One function opens all of these engines, since the proof of a
+//! function that owns one is slow.
 use super::calls::{check_counts, check_feed, check_finish, check_held, check_number, opened};
 use super::reports::{NoteReports, check_notes};
 use cj_budget::Peaks;

@@ -1,5 +1,6 @@
-//! Streams of many lines that look random, each beside the plain program: with and without going on after refused lines, by single
-//! bytes, by reads of lengths that look random, and cut in two.
+//! Streams of many lines that look random, each compared with the plain program. They run with and
+//! without going on after invalid lines. They are cut into single bytes, into reads of varying
+//! lengths, and in two.
 use super::calls::{Reading, check_bound, check_bytes, check_outcome, ran};
 use super::devices::{CutReader, SlowReader};
 use super::plain::{Known, Plain, Verdict, Way, plainly};

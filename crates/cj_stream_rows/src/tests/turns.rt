@@ -1,4 +1,4 @@
-//! What both states tell, call by call: where one turns into the other, and behind an end.
+//! What both states return, call by call: where one becomes the other, and after an end.
 use super::calls::{check_bytes, check_number, held, joined};
 use super::rows::{FEATURE, FIRST, HEADER, STREAM, THIRD_REFUSED};
 use super::states::{

@@ -1,5 +1,8 @@
-//! The vectors of the folder `vectors/`, each whole, by single bytes, and cut in two at every place: two families, a feature cut
-//! short and one with a byte that is no UTF-8, at each place, and all others, which `table` has.
+//! The vectors of the folder `vectors/`, each run whole, by single bytes, and cut in two at every
+//! place.
+//!
+//! There are two families: a feature that is cut short at each place, and one with a byte that is
+//! not UTF-8 at each place. All others are in `table`.
 use super::calls::{
     Reading, check_bound, check_bytes, check_ended, check_outcome, ran, written_by,
 };
