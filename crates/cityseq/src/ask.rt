@@ -18,7 +18,7 @@ use std::io::{Read, Write};
 pub enum Ask {
     /// Check whether it is valid under these limits, and count its lines and features.
     Check(Limits, Options),
-    /// Copy the header and the features that the query selects.
+    /// Copy the header and the features that the query and the options keep.
     Filter(Limits, Query, Options),
     /// Write a summary of it. There is no summary of an invalid stream, so `info` cannot go on
     /// after an invalid line.
@@ -112,7 +112,7 @@ fn info<R: Read, W: Write + Drop, N: ReportSink>(
     }
 }
 
-/// Copies the header and the features of the stream that the query selects.
+/// Copies the header and the features that the query and the options keep.
 fn filter<R: Read, W: Write + Drop, N: ReportSink>(
     alloc: Global,
     limits: Limits,

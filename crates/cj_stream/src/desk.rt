@@ -1,8 +1,8 @@
 //! Judges whole lines, and puts the kept ones to a sink.
 //!
-//! The desk knows the limits, the query and the options. It keeps what it needs to judge a line:
-//! the tokens of the header with the parts read of it, the tokens of the judged line, and the open
-//! containers. It borrows the bytes of the lines.
+//! The desk knows the limits, the query and the options. It has the lists that judging needs: the
+//! tokens of the header, those of the judged line, and the open containers. It also has the parts
+//! read of the header. It borrows the bytes of the lines.
 //!
 //! That the header's tokens and parts belong to the header (`KeepsHeader`) is required by the
 //! functions that use them. A view borrows the lists, so they change only after the call of the
@@ -167,8 +167,9 @@ impl<'q> Desk<'q> {
         }
     }
 
-    /// Judges the tree of a later line, and puts it to the sink if it is a valid feature that the
-    /// query selects. Returns whether the sink took it. `before` is the number of lines before it.
+    /// Judges the tree of a later line, and puts it to the sink if it is a valid feature to keep.
+    /// The query and the options decide that. Returns whether the sink took it. `before` is the
+    /// number of lines before it.
     pub fn put_later<S: LineSink>(
         &self,
         before: u64,

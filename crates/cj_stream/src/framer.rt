@@ -331,8 +331,8 @@ impl<'q> Framer<'q> {
         }
     }
 
-    /// Judges the tree of a later line, and puts it to the sink if it is a valid feature that the
-    /// query selects.
+    /// Judges the tree of a later line, and puts it to the sink if it is a valid feature to keep.
+    /// The query and the options decide that.
     fn put_feature<S: LineSink>(&mut self, lf: bool, sink: &mut S) -> Result<(), End>
         requires room { self.old.reading.lines < 2 ^ 62 }
         requires later { 0 < self.old.reading.lines }

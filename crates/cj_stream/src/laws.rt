@@ -88,8 +88,8 @@ pub fn first_invalid_line_is_the_end()
 ///
 /// - What is kept, written and reported of the stream is that of the first part, followed by that
 ///   of the second part without its header.
-/// - A line of the second part has a number that is greater by the later lines of the first part.
-///   The ending is that of the second part, with its line moved in this way.
+/// - The number of a line in the second part is greater by the number of later lines in the first
+///   part. The ending is that of the second part, with its line moved in this way.
 /// - The good lines, the kept features and the reported lines add up, with the header counted once.
 ///
 /// For any endings, each peak is the greater one of both parts. The first part may itself be joined

@@ -148,7 +148,8 @@ pub fn read_whole(node: Node) -> Option<i64>
     }
 }
 
-/// Returns the least number of few digits that is outside: the count, if it is known.
+/// Returns the least number of few digits that is outside: the count if it is known, otherwise more
+/// than any such number.
 #[inline(always)]
 fn bound_of(count: Option<u64>) -> u64
     ensures { (n : ℕ) → n < 10 ^ 18 → is_outside_of count (pos n) ≡ not (nat_lt n result) }
