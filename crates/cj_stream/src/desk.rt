@@ -152,7 +152,8 @@ impl<'q> Desk<'q> {
         Ok(())
     }
 
-    /// Marks the city objects of a later line that are reached, if the options require trees.
+    /// Marks the city objects of a later line that are reached, if the options require that each
+    /// is.
     pub fn mark(&mut self, content: &[u8])
         requires shows { ShowsTree content.now self.old.limits.depth self.old.line_tokens.elements }
         requires unmarked { AreUnmarked self.old.line_tokens.elements }

@@ -29,7 +29,7 @@ pub enum End {
 /// How the reader of a header ended.
 #[derive(Clone, Copy, Debug, PartialEq, Eq)]
 pub enum HeaderEnd {
-    /// The stream is a valid header and nothing else.
+    /// The stream is a valid header without LF, and nothing else.
     Complete,
     /// The first line is invalid, or there is none.
     Refused {

@@ -1,12 +1,12 @@
 //! The engine: it takes a stream in pieces, and puts each kept line to a sink.
 //!
 //! It holds one of the two states of a stream, the reader of the header or the reader of later
-//! lines. It gives each piece to that state. Where the header is accepted within a piece, the
-//! reader of lines takes the rest of that piece. Both states promise the same of a piece and of the
-//! end (`Feeds`, `IsFinished`), and so does the engine.
+//! lines. It gives each piece to that state. If the header is accepted within a piece, the reader
+//! of lines takes the rest of that piece. Both states promise the same of a piece and of the end
+//! (`Feeds`, `IsFinished`), and so does the engine.
 //!
-//! The engine counts the bytes taken itself. If the rest of such a piece ends the stream, the
-//! engine has not taken the piece. The reader of the header had counted its first bytes.
+//! The engine has its own count of the bytes taken. If the rest of such a piece ends the stream,
+//! the engine has not taken the piece, although the reader of the header took its first bytes.
 ghost use Rattle.std.specs.Prelude.{◌≡◌, ◌≢◌, ◌+◌, ◌++◌, ◌^◌, ◌≤◌, ◌<◌, ℕ, List, [], length, OnOk, OnErr, IfOk, Some, None, Err};
 ghost use Rattle.cj_stream.specs.Ending.{header_end, line_end, IsAccepted};
 ghost use Rattle.cj_stream.specs.Feeding.{Feeds, IsFinished};
@@ -243,7 +243,7 @@ impl<'q> Engine<'q> {
         }
     }
 
-    /// Returns how many lines were invalid where reading went on after them.
+    /// Returns the number of invalid lines after which reading went on.
     pub fn refused(&self) -> u64
         ensures { result ≡ refused_of self.now }
     {

@@ -1,9 +1,9 @@
 //! Cuts pieces into lines, and deals with each line.
 //!
-//! A line takes one way. The framer cuts it, and the store keeps its bytes until it is whole. The
-//! desk judges the line and puts it to the sink. Then the line is passed: it is counted, and the
-//! lists of the line are emptied. The store has the bytes. The desk has the tokens and what was
-//! read of the header.
+//! Each line goes the same way. The framer cuts it, and the store keeps its bytes until it is
+//! whole. The desk judges the line and puts it to the sink. Then the line is passed: it is counted,
+//! and the lists of the line are emptied. The store has the bytes. The desk has the tokens and what
+//! was read of the header.
 //!
 //! The invariant says that the bytes, tokens and parts of the header belong together
 //! (`KeepsFirst`). It also says that all lists have their limits, and that none is above its limit
@@ -12,7 +12,7 @@
 //! A line that ends the stream is not counted. If reading goes on after invalid lines, an invalid
 //! line is reported and passed, and counts as refused too. A line that is too long is invalid as
 //! soon as the byte past the limit comes. If reading goes on, the framer drops the rest of the
-//! line, and reports it at its end.
+//! line, and reports the line at its end.
 //!
 //! The framer allocates twice. `open` allocates the lists of the first line. `make_room` allocates
 //! those of later lines, when LF has ended a valid first line, before the sink gets it. So the
@@ -20,7 +20,7 @@
 //! first line has functions of its own (`take_front`, `finish_first`). So those for later lines
 //! (`take_piece`, `finish`) call nothing that may allocate.
 //!
-//! Where `make_room` fails, or the sink fails after it, only this memory and the count of refused
+//! If `make_room` fails, or the sink fails after it, only this memory and the count of refused
 //! growths change (`IsLeft`, `IsStill`). Each list counts the growths that were refused. An end
 //! reports a lack of memory only if such a count has risen.
 ghost use Rattle.std.specs.Prelude.{◌≡◌, ◌+◌, ◌^◌, ◌<◌, ◌≤◌, ℕ, List, [], ◌∷◌, ◌++◌, ◌⊎◌, true, false, length, take, if◌then◌else◌, OnOk, OnErr, IfOk, IfErr, IsErrOf, IsTrue, Some};
@@ -689,7 +689,7 @@ impl<'q> Framer<'q> {
         self.kept
     }
 
-    /// Returns how many lines were invalid where reading went on after them.
+    /// Returns the number of invalid lines after which reading went on.
     pub fn refused(&self) -> u64
         ensures { result ≡ self.now.reading.refused }
     {

@@ -207,7 +207,7 @@ impl<'q> HeaderReader<'q> {
         self.framer.kept()
     }
 
-    /// Returns how many lines were invalid where reading went on after them: none.
+    /// Returns the number of invalid lines after which reading went on: none.
     pub fn refused(&self) -> u64
         ensures { result ≡ refused_of self.now }
     {

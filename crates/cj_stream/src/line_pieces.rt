@@ -109,9 +109,10 @@ pub fn put_lines<S: LineSink, N: ReportSink>(
 
 /// The headline for what comes after the lines that were dealt with, however the pieces are cut.
 ///
-/// The reader writes exactly the kept features, byte for byte, in order. It writes those before the
-/// first invalid line, or all of them if reading goes on. It gives each invalid line with its
-/// number, byte and reason. This holds unless a write fails.
+/// The reader writes exactly the kept features, byte for byte, in order. By default these are the
+/// ones before the first invalid line. If reading goes on after invalid lines, these are all of
+/// them. The reader gives each invalid line with its number, byte and reason. This holds unless a
+/// write fails.
 ///
 /// After a failed write the writer has a prefix of the output of the given pieces. The prefix has
 /// all output of the whole lines in the pieces that were taken whole. Nothing is allocated, so no

@@ -160,7 +160,7 @@ impl<'q> LineReader<'q> {
         self.framer.kept()
     }
 
-    /// Returns how many lines were invalid where reading went on after them.
+    /// Returns the number of invalid lines after which reading went on.
     pub fn refused(&self) -> u64
         ensures { result ≡ refused_of self.now }
     {

@@ -77,9 +77,9 @@ fn feed_all<S: LineSink, N: ReportSink>(
 /// However the stream is cut, the sink takes all that is kept of it, in order. The end is the
 /// ending of the stream. This holds unless a step of the sink fails or memory is refused.
 ///
-/// In those cases the sink took a prefix of what is kept of the given pieces. The prefix has all
-/// that is kept of the whole lines in the pieces that were taken whole. The sink of reports notes
-/// what is reported, to the same extent.
+/// Otherwise the sink took a prefix of what is kept of the given pieces. The prefix has all that is
+/// kept of the whole lines in the pieces that were taken whole. The sink of reports notes what is
+/// reported, to the same extent.
 ///
 /// Without a fault the engine's counts are those of the whole stream. After any end, the counts and
 /// both sinks are those of the first lines of the stream, as many as the engine counts.
@@ -117,9 +117,9 @@ pub fn put_pieces<S: LineSink, N: ReportSink>(
 /// L is the limit on the bytes of a line, D the limit on depth, and h the length of the first line,
 /// cut at L.
 ///
-/// 1. The engine writes exactly the header and the kept features, byte for byte, in order. It
-///    writes those before the first invalid line. If reading goes on past a valid header, it writes
-///    all of them.
+/// 1. The engine writes exactly the header and the kept features, byte for byte, in order. By
+///    default these are the ones before the first invalid line. If reading goes on after invalid
+///    lines, and the header is valid, these are all of them.
 /// 2. It gives each invalid line that it meets, with number, byte and reason. The end gives the
 ///    line, or a report does if reading goes on after it.
 /// 3. It never holds more than `h + L` bytes, `(h + L + D) / 2 + 1` tokens and D open containers.
