@@ -171,7 +171,7 @@ fn check_values_member(object: Node, boundaries: Option<Node>, depth: u8, found:
     }
 }
 
-/// Checks that the value is semantics of this depth for the boundaries.
+/// Checks that the value is a semantics object of this depth for the boundaries.
 fn check_semantics(node: Node, boundaries: Option<Node>, depth: u8, found: &mut Least)
     ensures { found.new ≡ least found.old (semantics depth (option_map tree boundaries.entry) (tree node.entry)) }
 {

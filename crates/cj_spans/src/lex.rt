@@ -59,8 +59,8 @@ fn lex_start_other(byte: u8) -> Option<Lex>
 
 /// Returns what the first byte of a scalar begins.
 ///
-/// Tests recognize numbers first, since most scalars are numbers. For one `match` on all bytes the
-/// compiler would make a jump table.
+/// Numbers come first, by comparisons, since most scalars are numbers. For one `match` on all bytes
+/// the compiler would make a jump table.
 #[inline(always)]
 pub fn lex_start(byte: u8) -> Option<Lex>
     ensures { result ≡ lex_start_of byte }

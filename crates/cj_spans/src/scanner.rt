@@ -14,9 +14,8 @@
 //! reserved forms of push. So no function in it has a result for a lack of memory, and a new one
 //! must have none.
 //!
-//! Each token but the last has two bytes of its own, or a container that is open. So `2 * tokens ≤
-//! bytes + open + 1`, which shows that the lists are long enough. A token for anything else would
-//! break this.
+//! Each token but the last has two bytes of its own, or a container that is open. So the lists are
+//! long enough: `2 * tokens ≤ bytes + open + 1`. A token for anything else would break this.
 ghost use Rattle.std.specs.Prelude.{◌≡◌, ◌+◌, ◌*◌, ◌/◌, ◌^◌, ◌≤◌, ◌<◌, ◌↔◌, ◌⊎◌, [], length, List, ℕ, suc, OnOk, OnErr, IfOk, IsOk, IsErrOf, IsTrue, IsUtf8};
 ghost use Rattle.std.specs.Str.{IsValidUpTo};
 ghost use Rattle.cj_budget.specs.Bounded.{BoundedList, IsWithin};

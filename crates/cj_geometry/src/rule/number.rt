@@ -179,8 +179,8 @@ fn check_any_index(node: Node, outside: Reason, count: Option<u64>, found: &mut 
     }
 }
 
-/// Checks that the value is a number in range, whole, and from 0 to below `count`, if that is
-/// known. An index that is not has `outside`.
+/// Checks that the value is a number in range and whole. It must also be the index of one of
+/// `count` things, from 0, if `count` is known. An index that is not has the reason `outside`.
 #[inline(always)]
 pub fn check_index(node: Node, outside: Reason, count: Option<u64>, found: &mut Least)
     ensures { found.new ≡ least found.old (index outside count (tree node.entry)) }

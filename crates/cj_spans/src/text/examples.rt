@@ -53,8 +53,8 @@ pub fn longer_characters()
     ensures { text (34 ∷ 195 ∷ 169 ∷ 226 ∷ 130 ∷ 172 ∷ 240 ∷ 159 ∷ 152 ∷ 128 ∷ 34 ∷ []) ≡ 233 ∷ 8364 ∷ 128512 ∷ [] }
 {}
 
-/// The first eight code points as a number. Shorter texts are aligned with them, and a code point
-/// from 255 on ends the number.
+/// The first eight code points as a number. The first one has the same weight in a shorter text. A
+/// code point from 255 on ends the number.
 pub fn words_of_texts()
     ensures none { word_of None ≡ 0 }
     ensures short { word_of (Some (codes "ab")) ≡ 0x6162_0000_0000_0000 }
