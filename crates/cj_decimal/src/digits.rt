@@ -15,7 +15,7 @@ const FULL: u128 = 100_000_000_000_000_000_000_000_000_000_000_000;
 const SHORT: u64 = 100_000_000_000_000_000;
 
 /// The digits read so far. `lead` is the first 36, from the first that is not 0. `extra` is the
-/// number of zeros after them. `lost` says whether another digit comes after them.
+/// number of zeros after them. `lost` says whether another digit that is not 0 comes later.
 #[derive(Clone, Copy)]
 pub struct Digits {
     pub lead: u128,

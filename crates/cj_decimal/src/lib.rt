@@ -3,12 +3,12 @@
 //! [`Decimal::read`] reads a spelling of any length. The result is a coefficient of at most 36
 //! digits and a power of ten, in normal form. `==` compares values.
 //!
-//! - The value of an index or a coordinate comes from [`Decimal::whole`]. A call of
-//!   [`Decimal::read_whole`] reads one directly, several times as fast. Only its usual cases are
-//!   read by [`Decimal::read_few`] and [`Decimal::read_few_signed`], faster still.
-//! - The value of a scale, a shift or the edge of a box comes from [`Decimal::fixed18`], in units
-//!   of 10^-18.
-//! - With [`Affine::compare`], `v * scale + shift` is compared with such an edge, exactly:
+//! - [`Decimal::whole`] returns the value of an index or a coordinate. To read one directly,
+//!   several times as fast, use [`Decimal::read_whole`]. For its usual cases alone there are
+//!   [`Decimal::read_few`] and [`Decimal::read_few_signed`], faster still.
+//! - [`Decimal::fixed18`] returns the value of a scale, a shift or the edge of a box, in units of
+//!   10^-18.
+//! - [`Affine::compare`] compares `v * scale + shift` with such an edge, exactly:
 //!
 //! ```text
 //! let map = Affine::new(scale, shift);        // 0.001 and 1000, say

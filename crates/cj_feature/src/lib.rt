@@ -19,7 +19,7 @@
 //! for [x, y, z] in feature.vertices() {}  // whole numbers, as in the line
 //! for x in feature.coordinates(0) {}      // the first number of each
 //!
-//! // if each city object must be reached from the main one, mark those that are first
+//! // if each city object must be reached from the main one, first mark those that are
 //! mark_reached(line, &mut tokens);
 //! let feature = check_feature(Doc::of(line, tokens.as_slice()), &header, true)?;
 //! ```

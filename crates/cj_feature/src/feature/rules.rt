@@ -85,7 +85,7 @@ fn check_vertices_member(object: Node, vertices: Option<Node>, found: &mut Least
     }
 }
 
-/// Checks the links of the city objects. They have none if they are not linked.
+/// Checks the links of the city objects. Unless `linked`, they have none.
 #[inline(always)]
 fn check_links_if(linked: bool, objects: Option<Node>, found: &mut Least)
     requires { linked ≡ false → links (option_map tree objects) ≡ [] }
