@@ -126,13 +126,14 @@ def words_in(text):
 
 
 def check_clauses(code, report, functions, clauses):
-    """Each of these functions has these clauses, and each definition these parts; of functions of one name one has."""
+    """Each of these functions has these clauses; of functions of one name one has. A definition has them as its parts."""
     for function in functions:
+        found = code.clauses_of(function)
         for clause in clauses:
-            if function in code.fields and not code.clauses_of(function):
-                report.count(clause in code.fields[function], f'no part {clause} of {function}')
+            if found or function not in code.fields:
+                report.count(any(clause in each for each in found), f'no clause {clause} of {function}')
             else:
-                report.count(any(clause in each for each in code.clauses_of(function)), f'no clause {clause} of {function}')
+                report.count(clause in code.fields[function], f'no part {clause} of {function}')
 
 
 def check_slashes(code, report, text, types):
