@@ -1,5 +1,5 @@
-// cityseq for C++17, over cityseq.h: requests that own their texts, and streams that come in pieces
-// of any size.
+// cityseq for C++17, over cityseq.h. A request owns its texts, and a stream comes in pieces of any
+// size:
 //
 //     auto write = [](std::string_view lines) { std::cout << lines; };
 //     auto asked = cityseq::request().types({"Building"});
@@ -8,9 +8,8 @@
 //         ;
 //     cityseq::answer answer = stream.finish();
 //
-// Errors are exceptions: bad_request for a request that cannot be asked, std::bad_alloc where
-// memory was refused, and whatever a callback throws. An invalid line is no error: the answer and
-// the reports tell it.
+// Errors are exceptions: bad_request for an invalid request, std::bad_alloc for refused memory, and
+// whatever a callback throws. An invalid line is no error. The answer and the reports have it.
 #ifndef CITYSEQ_HPP
 #define CITYSEQ_HPP
 
@@ -35,7 +34,7 @@ using answer = ::cityseq_answer;
 using report = ::cityseq_report;
 using tally = ::cityseq_tally;
 
-// A request that cannot be asked: code() is a cityseq_fault.
+// Says that a request is invalid. code() is the cityseq_fault.
 class bad_request : public std::invalid_argument {
   public:
     explicit bad_request(std::uint32_t code)
@@ -50,7 +49,7 @@ class bad_request : public std::invalid_argument {
 
 namespace detail {
 
-// The text that a call copies to room as far as it fits.
+// Returns the whole text of a call that copies as much of it as fits, and returns its length.
 template <typename Call> std::string copied(Call call) {
     std::string text(call(nullptr, std::size_t{0}), '\0');
     call(text.data(), text.size());
@@ -59,44 +58,46 @@ template <typename Call> std::string copied(Call call) {
 
 } // namespace detail
 
-// The version of the library.
+// Returns the version of the library.
 inline std::string version() {
     return detail::copied(::cityseq_version);
 }
 
-// The words of a reason; empty where no reason has this code.
+// Returns the text of the reason with this code, or "" if there is none.
 inline std::string reason_text(std::uint64_t code) {
     return detail::copied(
         [=](char *text, std::size_t room) { return ::cityseq_reason_text(code, text, room); });
 }
 
-// The name of a type of city objects, by its place in tally::types; empty where no type has it.
+// Returns the name of a type of city objects, by its index in tally::types, or "" if there is none.
 inline std::string type_name(std::uint64_t number) {
     return detail::copied(
         [=](char *text, std::size_t room) { return ::cityseq_type_name(number, text, room); });
 }
 
-// How lines are judged, and which features are kept: those that satisfy each part of the query that
-// is set. It owns its texts.
+// Says how lines are judged, and which features are kept. A feature is kept if it satisfies each
+// part of the query that is set.
 class request {
   public:
     using texts = std::vector<std::string>;
 
-    // The most bytes of a line, without its LF.
+    // Sets the most bytes of a line, without its LF.
     request &line_limit(std::uint64_t bytes) { return line_limit_ = bytes, *this; }
-    // The most arrays and objects that are open at once.
+    // Sets the most arrays and objects that may be open at once.
     request &depth_limit(std::uint64_t depth) { return depth_limit_ = depth, *this; }
-    // Whether an invalid line after the header is reported, and the next one read.
+    // Reports each invalid line after the header, and reads the next one.
     request &keep_going(bool on = true) { return keep_going_ = on, *this; }
-    // Whether each city object must be reached from the main one of its feature.
+    // Rejects a feature if its main city object does not reach all others.
     request &tree(bool on = true) { return tree_ = on, *this; }
-    // Whether the features that satisfy the query are left out, and all others kept.
+    // Keeps the features that do not satisfy the query, instead of those that do.
     request &exclude(bool on = true) { return exclude_ = on, *this; }
-    // One of these ids, types or LoDs. A text with an LF is a std::invalid_argument.
+    // Keeps features with one of these ids, types or LoDs. Throws std::invalid_argument if a text
+    // has an LF.
     request &ids(const texts &wanted) { return ids_.set(wanted), *this; }
     request &types(const texts &wanted) { return types_.set(wanted), *this; }
     request &lods(const texts &wanted) { return lods_.set(wanted), *this; }
-    // Some vertices in the box: "minx,miny,maxx,maxy", exact decimals.
+    // Keeps features whose extent meets the box "minx,miny,maxx,maxy", in world coordinates. The
+    // decimals are exact.
     request &box(std::string edges) {
         box_.asked = true;
         box_.text = std::move(edges);
@@ -106,8 +107,8 @@ class request {
     std::uint64_t line_limit() const noexcept { return line_limit_; }
     bool keep_going() const noexcept { return keep_going_; }
 
-    // The request for the calls of cityseq.h. It points into this one, and is good until this one
-    // changes or ends.
+    // Returns the request for the calls of cityseq.h. It points to the texts of this one, so it is
+    // valid until this one changes or ends.
     ::cityseq_request raw() const noexcept {
         ::cityseq_request raw = CITYSEQ_USUAL;
         raw.line_limit = line_limit_;
@@ -131,7 +132,7 @@ class request {
     }
 
   private:
-    // A part of the query, as cityseq.h has it: texts with an LF between each two.
+    // A part of the query in the form of cityseq.h, with an LF between each two texts.
     struct part {
         bool asked = false;
         std::string text;
@@ -145,7 +146,7 @@ class request {
                     joined += '\n';
                 joined += one;
             }
-            // No byte at all means no text, so the empty text alone is told by two of them.
+            // No byte means no text, so one LF is the empty text alone.
             if (joined.empty() && !wanted.empty())
                 joined = "\n";
             asked = true;
@@ -159,37 +160,35 @@ class request {
     part ids_, types_, lods_, box_;
 };
 
-// Takes whole lines of the output, one or more, the header first. The text is valid during the call
-// alone.
+// Receives whole lines of the output, the header first. The text is valid only during the call.
 using kept_lines = std::function<void(std::string_view lines)>;
 
-// Takes a report of an invalid line after which reading goes on. Its line is the number in the
-// stream.
+// Receives the report of an invalid line after which reading goes on. Its line number counts in the
+// whole stream.
 using told_report = std::function<void(const report &)>;
 
-// A stream that comes in pieces, cut anywhere. It judges whole lines, part by part, where a part
-// has about `part_length` bytes, and calls back after each part, in the order of the lines.
+// Judges a stream that comes in pieces, cut anywhere. It judges whole lines in parts of about
+// `part_length` bytes. After each part it calls back, in the order of the lines.
 //
-// However long the stream and its lines are, it holds at most part_length + 2 * line_limit + 4
-// bytes of them, as much again for the output, and the reports of a part. An exception that leaves
-// it, as that of a callback, ends it for good.
+// It holds at most part_length + 2 * line_limit + 4 bytes of lines, as much again for the output,
+// and the reports of a part. An exception that leaves it ends it for good, also one of a callback.
 class stream {
   public:
     static constexpr std::size_t usual_part = std::size_t{1} << 20;
 
-    // A stream whose lines are judged.
+    // Makes a stream that is judged.
     static stream checking(request asked, told_report reported = {},
                            std::size_t part_length = usual_part) {
         return {mode::checks, std::move(asked), {}, std::move(reported), part_length};
     }
 
-    // A stream whose header and kept features go to a callback, as they came.
+    // Makes a stream whose header and kept features go to a callback, byte for byte.
     static stream filtering(request asked, kept_lines kept, told_report reported = {},
                             std::size_t part_length = usual_part) {
         return {mode::filters, std::move(asked), std::move(kept), std::move(reported), part_length};
     }
 
-    // A stream whose kept features are tallied.
+    // Makes a stream whose kept features are tallied.
     static stream tallying(request asked, told_report reported = {},
                            std::size_t part_length = usual_part) {
         return {mode::tallies, std::move(asked), {}, std::move(reported), part_length};
@@ -200,8 +199,8 @@ class stream {
     stream(const stream &) = delete;
     stream &operator=(const stream &) = delete;
 
-    // Takes a piece of the stream. Answers whether more is wanted: not after an invalid line that
-    // is the end.
+    // Receives a piece of the stream. Returns false after the invalid line that ends the stream,
+    // and true if more may come.
     bool feed(std::string_view piece) {
         leave_unless_done guard(*this);
         while (!piece.empty() && state_ != state::ended)
@@ -210,7 +209,7 @@ class stream {
         return state_ != state::ended;
     }
 
-    // Ends the stream, and answers what came of all of it, however often it is called.
+    // Ends the stream and returns the answer for all of it. Further calls return the same.
     answer finish() {
         leave_unless_done guard(*this);
         if (state_ != state::ended && (!judged_ || !part_.empty()))
@@ -220,7 +219,7 @@ class stream {
         return answer_;
     }
 
-    // What was tallied so far.
+    // Returns the tally so far.
     const cityseq::tally &tallied() const noexcept { return tally_; }
 
   private:
@@ -231,15 +230,15 @@ class stream {
         : mode_(how), asked_(std::move(asked)), kept_(std::move(kept)),
           reported_(std::move(reported)), part_length_(std::max<std::size_t>(part_length, 1)),
           most_(static_cast<std::size_t>(asked_.line_limit()) + 1) {
-        // Nothing at all is judged first, for what is wrong with the request.
+        // Judging an empty stream shows at once whether the request is valid.
         const ::cityseq_request raw = asked_.raw();
         throw_unless_judged(::cityseq_check(nullptr, 0, nullptr, 0, &raw, nullptr, 0));
         if (reported_)
             reports_.resize(64);
     }
 
-    // Marks a stream that an exception leaves: its callbacks have got some of what came of a part,
-    // and not all.
+    // Marks a stream that an exception leaves. Its callbacks may have received only some lines of a
+    // part.
     class leave_unless_done {
       public:
         explicit leave_unless_done(stream &of) : of_(of) {
@@ -266,14 +265,14 @@ class stream {
             throw std::bad_alloc();
     }
 
-    // The bytes up to the first LF and with it, or all.
+    // Returns the number of bytes up to the first LF, with it, or of all bytes if there is none.
     static std::size_t line_end(std::string_view piece) noexcept {
         const std::size_t lf = piece.find('\n');
         return lf == std::string_view::npos ? piece.size() : lf + 1;
     }
 
-    // Adds the bytes of a line to what has begun of it. Of a line that is longer than the limit a
-    // byte more tells so, and what follows changes nothing.
+    // Adds bytes to the line that has begun. Of a line above the limit it keeps one byte more than
+    // the limit. That is enough to reject it.
     void append(std::string &text, std::string_view bytes) {
         const bool ends = bytes.back() == '\n';
         const std::size_t taken = std::min(bytes.size() - ends, most_ - begun_);
@@ -286,7 +285,7 @@ class stream {
         }
     }
 
-    // Whether the line that has begun is longer than the limit, so that it is the end.
+    // Returns whether the line that has begun is longer than the limit and ends the stream.
     bool is_refused() const noexcept {
         return begun_ == most_ && (!has_header_ || !asked_.keep_going());
     }
@@ -312,7 +311,7 @@ class stream {
         return taken;
     }
 
-    // Judges the header and so many bytes of the part, and calls back.
+    // Judges the header with the first `length` bytes of the part, and calls back.
     void judge(std::size_t length) {
         const answer got = call(length);
         throw_unless_judged(got);
@@ -340,7 +339,7 @@ class stream {
                                                    static_cast<std::size_t>(got.written) - front));
     }
 
-    // Calls the library, once more where there was not room for all reports.
+    // Calls the library, and again if there was no space for all reports.
     answer call(std::size_t length) {
         answer got = call_once(length);
         if (reported_ && got.refused > reports_.size()) {
@@ -371,10 +370,10 @@ class stream {
     told_report reported_;
     std::size_t part_length_;
     std::size_t most_;      // the most bytes that are held of a line's content
-    std::string header_;    // the header, or what has begun of it
-    std::string part_;      // the lines after those that were judged, and a begun one
+    std::string header_;    // the header, or its bytes so far
+    std::string part_;      // the lines that are not judged yet, the last one perhaps unfinished
     std::size_t begun_ = 0; // the bytes of the line that has begun
-    std::size_t whole_ = 0; // the bytes of the whole lines of the part
+    std::size_t whole_ = 0;          // the bytes of the part's whole lines
     std::uint64_t left_out_ = 0;     // the bytes of a line of the part that are not held
     std::uint64_t judged_bytes_ = 0; // the bytes of all parts that were judged
     std::string output_;
@@ -386,8 +385,8 @@ class stream {
     cityseq::tally tally_ = {}, part_tally_ = {};
 };
 
-// Feeds what an input has, up to its end or that of the stream, and finishes. A failed read is a
-// std::ios_base::failure.
+// Feeds a stream from an input and finishes it. Stops at the end of the input, or at an invalid
+// line that ends the stream. Throws std::ios_base::failure if a read fails.
 inline answer read(stream &to, std::istream &from) {
     std::vector<char> piece(std::size_t{1} << 16);
     bool more = true;
@@ -400,14 +399,14 @@ inline answer read(stream &to, std::istream &from) {
     return to.finish();
 }
 
-// A whole stream that lies in memory: judged,
+// Judges a whole stream that is in memory.
 inline answer check(std::string_view text, request asked = {}, told_report reported = {}) {
     stream all = stream::checking(std::move(asked), std::move(reported));
     all.feed(text);
     return all.finish();
 }
 
-// filtered,
+// Filters a whole stream that is in memory.
 inline answer filter(std::string_view text, kept_lines kept, request asked = {},
                      told_report reported = {}) {
     stream all = stream::filtering(std::move(asked), std::move(kept), std::move(reported));
@@ -415,7 +414,7 @@ inline answer filter(std::string_view text, kept_lines kept, request asked = {},
     return all.finish();
 }
 
-// and tallied.
+// Tallies the kept features of a whole stream that is in memory.
 inline std::pair<answer, tally> info(std::string_view text, request asked = {},
                                      told_report reported = {}) {
     stream all = stream::tallying(std::move(asked), std::move(reported));

@@ -24,13 +24,14 @@ def tables():
     found, title = {}, ""
     with open(os.path.join(support.ROOT, "docs", "json.md"), encoding="utf-8") as document:
         for line in document:
-            row = re.match(r"\| `(\w+)` \| ([^|]*) \|", line)
+            row = re.match(r"\| ((?:`\w+`(?:, )?)+) \| ([^|]*) \|", line)
             if line.startswith("## "):
                 title = line[3:].strip()
             elif line.startswith("The members of `"):
                 title = line.split("`")[1]
             elif row:
-                found.setdefault(title, {})[row.group(1)] = [TYPES[kind] for kind in re.split(r",? or ", row.group(2))]
+                types = [TYPES[kind] for kind in re.split(r",? or ", row.group(2))]
+                found.setdefault(title, {}).update(dict.fromkeys(re.findall(r"\w+", row.group(1)), types))
     return found
 
 
