@@ -1,5 +1,5 @@
-// cityseq for C++17, over cityseq.h. A request owns its texts, and a stream comes in pieces of any
-// size:
+// cityseq for C++17, over cityseq.h: requests that own their texts, and streams that come in pieces
+// of any size.
 //
 //     auto write = [](std::string_view lines) { std::cout << lines; };
 //     auto asked = cityseq::request().types({"Building"});
@@ -8,8 +8,13 @@
 //         ;
 //     cityseq::answer answer = stream.finish();
 //
-// Errors are exceptions: bad_request for an invalid request, std::bad_alloc for refused memory, and
-// whatever a callback throws. An invalid line is no error. The answer and the reports have it.
+// Errors are exceptions:
+//
+// - bad_request, if a request is wrong.
+// - std::bad_alloc, if no memory was granted.
+// - Whatever a callback throws.
+//
+// An invalid line is no error. The answer and the reports show it.
 #ifndef CITYSEQ_HPP
 #define CITYSEQ_HPP
 
@@ -34,7 +39,7 @@ using answer = ::cityseq_answer;
 using report = ::cityseq_report;
 using tally = ::cityseq_tally;
 
-// Says that a request is invalid. code() is the cityseq_fault.
+// A request is wrong. code() returns a cityseq_fault.
 class bad_request : public std::invalid_argument {
   public:
     explicit bad_request(std::uint32_t code)
@@ -49,7 +54,8 @@ class bad_request : public std::invalid_argument {
 
 namespace detail {
 
-// Returns the whole text of a call that copies as much of it as fits, and returns its length.
+// Returns the text that `call` writes. The call writes it as far as it fits, and returns how many
+// bytes it has.
 template <typename Call> std::string copied(Call call) {
     std::string text(call(nullptr, std::size_t{0}), '\0');
     call(text.data(), text.size());
@@ -63,41 +69,42 @@ inline std::string version() {
     return detail::copied(::cityseq_version);
 }
 
-// Returns the text of the reason with this code, or "" if there is none.
+// Returns the words of a reason. They are empty if no reason has this code.
 inline std::string reason_text(std::uint64_t code) {
     return detail::copied(
         [=](char *text, std::size_t room) { return ::cityseq_reason_text(code, text, room); });
 }
 
-// Returns the name of a type of city objects, by its index in tally::types, or "" if there is none.
+// Returns the name of a city object type, by its place in tally::types. It is empty if no type has
+// this place.
 inline std::string type_name(std::uint64_t number) {
     return detail::copied(
         [=](char *text, std::size_t room) { return ::cityseq_type_name(number, text, room); });
 }
 
-// Says how lines are judged, and which features are kept. A feature is kept if it satisfies each
-// part of the query that is set.
+// How lines are judged, and which features are kept: those that satisfy each part of the query that
+// is set. It owns its texts.
 class request {
   public:
     using texts = std::vector<std::string>;
 
-    // Sets the most bytes of a line, without its LF.
+    // Sets the most bytes of a line without its LF.
     request &line_limit(std::uint64_t bytes) { return line_limit_ = bytes, *this; }
-    // Sets the most arrays and objects that may be open at once.
+    // Sets the most arrays and objects that are open at once.
     request &depth_limit(std::uint64_t depth) { return depth_limit_ = depth, *this; }
-    // Reports each invalid line after the header, and reads the next one.
+    // Sets whether an invalid line after the header is reported, and reading goes on.
     request &keep_going(bool on = true) { return keep_going_ = on, *this; }
-    // Rejects a feature if its main city object does not reach all others.
+    // Sets whether each city object must be reached from the feature's main one.
     request &tree(bool on = true) { return tree_ = on, *this; }
-    // Keeps the features that do not satisfy the query, instead of those that do.
+    // Sets whether the features that satisfy the query are left out, and all others kept.
     request &exclude(bool on = true) { return exclude_ = on, *this; }
-    // Keeps features with one of these ids, types or LoDs. Throws std::invalid_argument if a text
+    // The id must be one of these. Some city object must have one of these types. Some geometry
+    // must have one of these LoDs, spelled the same. Each throws std::invalid_argument if a text
     // has an LF.
     request &ids(const texts &wanted) { return ids_.set(wanted), *this; }
     request &types(const texts &wanted) { return types_.set(wanted), *this; }
     request &lods(const texts &wanted) { return lods_.set(wanted), *this; }
-    // Keeps features whose extent meets the box "minx,miny,maxx,maxy", in world coordinates. The
-    // decimals are exact.
+    // Some vertices must be in the box "minx,miny,maxx,maxy". Its numbers are exact decimals.
     request &box(std::string edges) {
         box_.asked = true;
         box_.text = std::move(edges);
@@ -107,8 +114,8 @@ class request {
     std::uint64_t line_limit() const noexcept { return line_limit_; }
     bool keep_going() const noexcept { return keep_going_; }
 
-    // Returns the request for the calls of cityseq.h. It points to the texts of this one, so it is
-    // valid until this one changes or ends.
+    // Returns the request for the calls of cityseq.h. It points into this one, and is valid until
+    // this one changes or ends.
     ::cityseq_request raw() const noexcept {
         ::cityseq_request raw = CITYSEQ_USUAL;
         raw.line_limit = line_limit_;
@@ -132,7 +139,7 @@ class request {
     }
 
   private:
-    // A part of the query in the form of cityseq.h, with an LF between each two texts.
+    // A part of the query, as cityseq.h has it: texts with an LF between each two.
     struct part {
         bool asked = false;
         std::string text;
@@ -146,7 +153,7 @@ class request {
                     joined += '\n';
                 joined += one;
             }
-            // No byte means no text, so one LF is the empty text alone.
+            // A length of 0 means no text. So the empty text alone becomes two empty texts.
             if (joined.empty() && !wanted.empty())
                 joined = "\n";
             asked = true;
@@ -160,35 +167,37 @@ class request {
     part ids_, types_, lods_, box_;
 };
 
-// Receives whole lines of the output, the header first. The text is valid only during the call.
+// Takes whole lines of the output, one or more, the header first. The text is valid only during the
+// call.
 using kept_lines = std::function<void(std::string_view lines)>;
 
-// Receives the report of an invalid line after which reading goes on. Its line number counts in the
-// whole stream.
+// Takes the report of an invalid line after which reading goes on. Its `line` and `begin` count
+// from the beginning of the stream.
 using told_report = std::function<void(const report &)>;
 
-// Judges a stream that comes in pieces, cut anywhere. It judges whole lines in parts of about
-// `part_length` bytes. After each part it calls back, in the order of the lines.
+// A stream that comes in pieces, cut anywhere. It judges whole lines, in parts of about
+// `part_length` bytes. It calls back after each part, in the order of the lines.
 //
-// It holds at most part_length + 2 * line_limit + 4 bytes of lines, as much again for the output,
-// and the reports of a part. An exception that leaves it ends it for good, also one of a callback.
+// It holds at most part_length + 2 * line_limit + 4 bytes of the stream, and the same number of
+// bytes for the output. It also holds the reports of a part. This is so for streams and lines of
+// any length. An exception that leaves it, also one of a callback, ends it for good.
 class stream {
   public:
     static constexpr std::size_t usual_part = std::size_t{1} << 20;
 
-    // Makes a stream that is judged.
+    // Returns a stream whose lines are judged.
     static stream checking(request asked, told_report reported = {},
                            std::size_t part_length = usual_part) {
         return {mode::checks, std::move(asked), {}, std::move(reported), part_length};
     }
 
-    // Makes a stream whose header and kept features go to a callback, byte for byte.
+    // Returns a stream whose header and kept features go to a callback, byte for byte.
     static stream filtering(request asked, kept_lines kept, told_report reported = {},
                             std::size_t part_length = usual_part) {
         return {mode::filters, std::move(asked), std::move(kept), std::move(reported), part_length};
     }
 
-    // Makes a stream whose kept features are tallied.
+    // Returns a stream whose kept features are tallied.
     static stream tallying(request asked, told_report reported = {},
                            std::size_t part_length = usual_part) {
         return {mode::tallies, std::move(asked), {}, std::move(reported), part_length};
@@ -199,8 +208,8 @@ class stream {
     stream(const stream &) = delete;
     stream &operator=(const stream &) = delete;
 
-    // Receives a piece of the stream. Returns false after the invalid line that ends the stream,
-    // and true if more may come.
+    // Takes a piece of the stream. Returns whether the stream can go on. It cannot after an invalid
+    // line that is the end.
     bool feed(std::string_view piece) {
         leave_unless_done guard(*this);
         while (!piece.empty() && state_ != state::ended)
@@ -209,7 +218,7 @@ class stream {
         return state_ != state::ended;
     }
 
-    // Ends the stream and returns the answer for all of it. Further calls return the same.
+    // Ends the stream, and returns the answer for all of it. A later call returns the same answer.
     answer finish() {
         leave_unless_done guard(*this);
         if (state_ != state::ended && (!judged_ || !part_.empty()))
@@ -230,15 +239,15 @@ class stream {
         : mode_(how), asked_(std::move(asked)), kept_(std::move(kept)),
           reported_(std::move(reported)), part_length_(std::max<std::size_t>(part_length, 1)),
           most_(static_cast<std::size_t>(asked_.line_limit()) + 1) {
-        // Judging an empty stream shows at once whether the request is valid.
+        // An empty stream is judged first, to find what is wrong with the request.
         const ::cityseq_request raw = asked_.raw();
         throw_unless_judged(::cityseq_check(nullptr, 0, nullptr, 0, &raw, nullptr, 0));
         if (reported_)
             reports_.resize(64);
     }
 
-    // Marks a stream that an exception leaves. Its callbacks may have received only some lines of a
-    // part.
+    // Marks a stream that an exception leaves. Its callbacks may have got some of the results of a
+    // part, and not all.
     class leave_unless_done {
       public:
         explicit leave_unless_done(stream &of) : of_(of) {
@@ -265,14 +274,14 @@ class stream {
             throw std::bad_alloc();
     }
 
-    // Returns the number of bytes up to the first LF, with it, or of all bytes if there is none.
+    // Returns the number of bytes up to and with the first LF, or of all if there is no LF.
     static std::size_t line_end(std::string_view piece) noexcept {
         const std::size_t lf = piece.find('\n');
         return lf == std::string_view::npos ? piece.size() : lf + 1;
     }
 
-    // Adds bytes to the line that has begun. Of a line above the limit it keeps one byte more than
-    // the limit. That is enough to reject it.
+    // Adds bytes to the line that has begun. It keeps at most one byte more than the line limit.
+    // With that byte the line is too long, so the bytes after it change nothing.
     void append(std::string &text, std::string_view bytes) {
         const bool ends = bytes.back() == '\n';
         const std::size_t taken = std::min(bytes.size() - ends, most_ - begun_);
@@ -285,7 +294,7 @@ class stream {
         }
     }
 
-    // Returns whether the line that has begun is longer than the limit and ends the stream.
+    // Returns whether the line that has begun is too long, and therefore the end.
     bool is_refused() const noexcept {
         return begun_ == most_ && (!has_header_ || !asked_.keep_going());
     }
@@ -311,7 +320,7 @@ class stream {
         return taken;
     }
 
-    // Judges the header with the first `length` bytes of the part, and calls back.
+    // Judges the header and the first `length` bytes of the part, and calls back.
     void judge(std::size_t length) {
         const answer got = call(length);
         throw_unless_judged(got);
@@ -339,7 +348,7 @@ class stream {
                                                    static_cast<std::size_t>(got.written) - front));
     }
 
-    // Calls the library, and again if there was no space for all reports.
+    // Calls the library. If not all reports fitted, it makes room for them and calls again.
     answer call(std::size_t length) {
         answer got = call_once(length);
         if (reported_ && got.refused > reports_.size()) {
@@ -369,24 +378,24 @@ class stream {
     kept_lines kept_;
     told_report reported_;
     std::size_t part_length_;
-    std::size_t most_;      // the most bytes that are held of a line's content
-    std::string header_;    // the header, or its bytes so far
-    std::string part_;      // the lines that are not judged yet, the last one perhaps unfinished
-    std::size_t begun_ = 0; // the bytes of the line that has begun
-    std::size_t whole_ = 0;          // the bytes of the part's whole lines
-    std::uint64_t left_out_ = 0;     // the bytes of a line of the part that are not held
-    std::uint64_t judged_bytes_ = 0; // the bytes of all parts that were judged
+    std::size_t most_;      // The most bytes that are held of a line's content.
+    std::string header_;    // The header, or its first bytes.
+    std::string part_;      // The lines after those that were judged, and a begun one.
+    std::size_t begun_ = 0; // The bytes of the line that has begun.
+    std::size_t whole_ = 0; // The bytes of the whole lines of the part.
+    std::uint64_t left_out_ = 0;     // The bytes of a line of the part that are not held.
+    std::uint64_t judged_bytes_ = 0; // The bytes of all parts that were judged.
     std::string output_;
     std::vector<report> reports_;
-    bool has_header_ = false; // whether LF has ended the header
-    bool judged_ = false;     // whether a part was judged
+    bool has_header_ = false; // Whether an LF has ended the header.
+    bool judged_ = false;     // Whether a part was judged.
     state state_ = state::open;
     answer answer_ = {};
     cityseq::tally tally_ = {}, part_tally_ = {};
 };
 
-// Feeds a stream from an input and finishes it. Stops at the end of the input, or at an invalid
-// line that ends the stream. Throws std::ios_base::failure if a read fails.
+// Feeds an input to a stream, up to the end of one of them, and finishes the stream. A failed read
+// throws std::ios_base::failure.
 inline answer read(stream &to, std::istream &from) {
     std::vector<char> piece(std::size_t{1} << 16);
     bool more = true;
@@ -399,14 +408,14 @@ inline answer read(stream &to, std::istream &from) {
     return to.finish();
 }
 
-// Judges a whole stream that is in memory.
+// Judges a whole stream that lies in memory.
 inline answer check(std::string_view text, request asked = {}, told_report reported = {}) {
     stream all = stream::checking(std::move(asked), std::move(reported));
     all.feed(text);
     return all.finish();
 }
 
-// Filters a whole stream that is in memory.
+// Filters a whole stream that lies in memory.
 inline answer filter(std::string_view text, kept_lines kept, request asked = {},
                      told_report reported = {}) {
     stream all = stream::filtering(std::move(asked), std::move(kept), std::move(reported));
@@ -414,7 +423,7 @@ inline answer filter(std::string_view text, kept_lines kept, request asked = {},
     return all.finish();
 }
 
-// Tallies the kept features of a whole stream that is in memory.
+// Tallies a whole stream that lies in memory. Returns the answer and the tally.
 inline std::pair<answer, tally> info(std::string_view text, request asked = {},
                                      told_report reported = {}) {
     stream all = stream::tallying(std::move(asked), std::move(reported));

@@ -3,9 +3,16 @@
  *     library LINE_LIMIT DEPTH [OPTION..] < STREAM     options as the program has them
  *     library rows                                     rows of requests that are wrong, of little room, and of many threads
  *
- * The stream is filtered and tallied as a header and one part; as a header and two parts, cut behind each LF; and as a header
- * and a part for each line. The answers of the parts, joined, have to be that of the one part. It is also filtered into too little
- * room, and gone on with from there. It prints the answer of the one part, the reports, and the output. Its status is 0 where all is the same, and 1 with a line on standard error where something differs. */
+ * It filters and tallies the stream in three ways:
+ *
+ * - As a header and one part.
+ * - As a header and two parts, cut after each LF.
+ * - As a header and a part for each line.
+ *
+ * The joined answers of the parts must be the answer of the one part. It also filters into too
+ * little room, and goes on from there. It prints the answer of the one part, the reports, and the
+ * output. Its status is 0 if all is the same. If something differs, it is 1, with a line on
+ * standard error. */
 #include "../c/cityseq.h"
 #include <pthread.h>
 #include <stdio.h>
@@ -14,13 +21,14 @@
 
 enum { threads = 8, rounds = 50, rooms = 9 };
 
-/* What the interface of this number has to keep: no caller is built anew for a library that is put in another's place. */
+/* This number of the interface must keep these sizes. A library may replace another of the same
+ * number, and its callers are not built again. */
 _Static_assert(CITYSEQ_INTERFACE == 2, "the sizes below are those of interface 2");
 _Static_assert(sizeof(struct cityseq_request) == 88 && sizeof(struct cityseq_report) == 32, "sizes");
 _Static_assert(sizeof(struct cityseq_answer) == 80 && sizeof(struct cityseq_feature) == 144, "sizes");
 _Static_assert(sizeof(struct cityseq_tally) == 544, "sizes");
 
-/* What came of a stream, joined of parts. */
+/* The results for a stream, joined from its parts. */
 struct joined {
     struct cityseq_answer answer;
     struct cityseq_tally tally;
@@ -69,7 +77,7 @@ static struct joined judge(struct text header, struct text part, const struct ci
     return found;
 }
 
-/* Joins what came of the parts so far with what came of the next one. */
+/* Joins the results of the parts so far with those of the next part. */
 static void join(struct joined *all, struct joined next, size_t header)
 {
     uint64_t before = all->answer.lines - 1, reports = all->answer.refused, written = all->answer.written;
@@ -97,7 +105,7 @@ static void forget(struct joined found)
     free(found.output);
 }
 
-/* Whether both are the same. The peaks of a stream that was refused are only bounded. */
+/* Whether both are the same. The peaks of a stream with an invalid line are only bounded. */
 static int same(const struct joined *a, struct joined b)
 {
     if (b.answer.status != CITYSEQ_COMPLETE) {
@@ -125,7 +133,7 @@ static struct joined judge_parts(struct text header, struct text rest, const siz
     return all;
 }
 
-/* Where the first lines of a header and the rest end, in the rest. */
+/* Where the first lines of a stream end, in bytes after the header. */
 static size_t end_of_lines(struct text rest, uint64_t lines)
 {
     size_t at = 0;
@@ -136,8 +144,8 @@ static size_t end_of_lines(struct text rest, uint64_t lines)
     return at;
 }
 
-/* Whether a filter with too little room tells of its first lines what a filter of these alone tells, and whether what follows
- * them gives the rest of the output. */
+/* Whether a filter with too little room gives for its first lines what a filter of these alone
+ * gives. The lines after them must give the rest of the output. */
 static int goes_on(struct text header, struct text rest, const struct cityseq_request *request, const struct joined *whole,
                    const struct joined *little)
 {
@@ -212,7 +220,7 @@ static void show(const struct joined *found)
     fwrite(found->output, 1, a.written, stdout);
 }
 
-/* Texts with commas between them, with LFs between them instead. */
+/* Returns texts with LFs between them, from texts with commas between them. */
 static const char *with_lfs(const char *word)
 {
     char *text = room(strlen(word));
@@ -222,7 +230,8 @@ static const char *with_lfs(const char *word)
     return text;
 }
 
-/* Takes an option of the program, with the word behind it if it has one. It answers how many words it took. */
+/* Takes an option of the program, with the word after it if it has one. Returns how many words it
+ * took. */
 static int take_option(struct cityseq_request *request, const char *word, const char *next)
 {
     if (!strcmp(word, "--tree"))
@@ -371,7 +380,7 @@ static void little_room(void)
     row("no room", a.status == CITYSEQ_NO_ROOM && a.written == 0 && a.lines == 0 && a.refused == 0);
 }
 
-/* Whether a call that judged nothing left all as it was, and tells nothing but a status and a code. */
+/* Whether a call that judged nothing left all as it was, and answers only a status and a code. */
 static int is_untouched(struct cityseq_answer answer, const char *out, size_t length, const struct cityseq_report *report,
                         const struct cityseq_tally *tally)
 {
@@ -407,7 +416,8 @@ static void nothing_judged(void)
 
 static int are_same(struct cityseq_answer a, struct cityseq_answer b) { return !memcmp(&a, &b, sizeof a); }
 
-/* Joins where the next part ends before it was judged, or before its header was written. */
+/* Joins where the next part was not judged, where its header did not fit, or where it has an
+ * invalid line. */
 static void joins(void)
 {
     struct cityseq_request r = CITYSEQ_USUAL;
@@ -462,7 +472,7 @@ static void transforms(void)
                                           !memcmp(other.translate, tally.translate, sizeof other.translate));
 }
 
-/* Where a part ends, byte by byte. */
+/* Returns where a part ends. It looks at one byte after another. */
 static size_t slow_part_end(const char *part, size_t length, size_t wanted)
 {
     size_t first = 0, last = 0;
@@ -474,7 +484,7 @@ static size_t slow_part_end(const char *part, size_t length, size_t wanted)
     return last ? last : first;
 }
 
-/* All texts of up to ten bytes, each an LF or none. */
+/* All parts of up to ten bytes, in which each byte is an LF or an x. */
 static void part_ends(void)
 {
     char part[10];
@@ -504,7 +514,7 @@ static void line_begins(void)
     row("no header", cityseq_line_begin("{}", 2, part, 10, 3) == 0 && cityseq_line_begin(NULL, 0, NULL, 0, 2) == 0);
 }
 
-/* Pointers that are NULL, where there is nothing at them. */
+/* NULL for pointers to no bytes, no reports and no texts. */
 static void nulls(void)
 {
     struct cityseq_request r = CITYSEQ_USUAL;

@@ -1,15 +1,17 @@
-/* Attacks the library for C with streams that were changed at random, and with requests that were made at random.
+/* Attacks the library for C with streams that were changed at random, and with random requests.
  *
  *     library_attack guards|memory|threads SECONDS SEED STREAM..
  *
- * guards   each text and each room lies at a page that may not be touched, once behind it and once before it, and texts may only
- *          be read; the four calls have to agree with each other
- * memory   each call of malloc and of realloc fails once: the answer is CITYSEQ_NO_MEMORY, no room has changed, and no block is
- *          left; and without a failure no block is left either
- * threads  64 threads judge parts of streams, and their answers, joined, have to be those of the whole
+ * - guards: Each text and each room lies next to a page that may not be touched. The page is once
+ *   after it and once before it. Texts may only be read. The four calls must agree with each other.
+ * - memory: Each call of malloc and realloc fails once. The answer must be CITYSEQ_NO_MEMORY, and
+ *   no room may have changed. No block may be left, also without a failure.
+ * - threads: 64 threads judge parts of streams. Their joined answers must be those of the whole
+ *   streams.
  *
- * The last line is 'N calls, M failed', and the status is 0 where none failed. A call that touches a page ends the program by a
- * signal: the line before names the seed, by which the run can be had again. */
+ * The last line is 'N calls, M failed'. The status is 0 if none failed. A call that touches a page
+ * ends the program by a signal. The line before it names the seed, and the same seed repeats the
+ * run. */
 #define _DEFAULT_SOURCE
 #include "../c/cityseq.h"
 #include <pthread.h>
@@ -97,7 +99,8 @@ static void change(struct text *all, uint64_t *chance)
     }
 }
 
-/* A stream with some changes, in room for the most bytes. Most changes are behind the header, which else refuses all. */
+/* Returns a stream with some changes, in room for the most bytes. Most changes are after the
+ * header, because an invalid header is the end of the stream. */
 static struct text changed_stream(struct text room, uint64_t *chance)
 {
     const struct text *model = &streams[below(chance, stream_count)];
@@ -189,7 +192,7 @@ static struct answers call_all(const struct places *p)
     return a;
 }
 
-/* Whether all calls tell the same; a filter may have too little room, and then tells of fewer lines. */
+/* Whether all calls answer the same. A filter with too little room may answer for fewer lines. */
 static int agree(const struct answers *a, const struct places *p)
 {
     struct cityseq_answer filter = a->filter;
@@ -224,7 +227,7 @@ static struct guarded guarded_room(size_t length)
     return g;
 }
 
-/* A place of so many bytes directly before the last page, or behind the first one. */
+/* Returns a place of `length` bytes, directly before the last page or after the first one. */
 static void *place(const struct guarded *g, size_t length, int at_end)
 {
     return g->pages + g->page + (at_end ? g->room - length : 0);
@@ -341,7 +344,8 @@ static int is_all(const void *room, size_t length, int byte)
     return 1;
 }
 
-/* A filter whose request for memory of this number is refused. It tells whether there was one. */
+/* Filters with the request for memory of this number refused. Returns whether there was such a
+ * request. */
 static int refuse_once(struct places *p, long number, const struct cityseq_answer *granted_answer)
 {
     memset(p->output, 7, p->output_room), memset(p->reports, 7, p->reports_room * sizeof *p->reports);
@@ -397,7 +401,8 @@ struct worker {
     unsigned long wrong;
 };
 
-/* What is told of a header with the lines of a part, cut at random, by what is told of the pieces. */
+/* Returns the answer for a header and a part, joined from the answers for pieces that are cut at
+ * random. */
 static struct cityseq_answer judge_pieces(struct text header, struct text part, const struct cityseq_request *r,
                                           uint64_t *chance)
 {

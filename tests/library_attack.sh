@@ -1,11 +1,12 @@
 #!/usr/bin/env bash
-# Attacks the library for C with changed streams: beside pages that may not be touched, with memory that is refused, and from 64
-# threads; and under valgrind where that is there. It stands outside the gate.
+# Attacks the library for C with changed streams: next to pages that may not be touched, with memory
+# that is refused, and from 64 threads. It also attacks it under valgrind, if that is installed. It
+# is no part of the gate.
 #
 #     tests/library_attack.sh [SECONDS [SEED]]
 #
-# SECONDS is the time of all, 600 if none is given. c/build.sh has to have built the library. The last line is
-# 'N passed, M failed', and the status is 0 where none failed.
+# SECONDS is the time of all attacks, 600 if none is given. The library must be built by c/build.sh.
+# The last line is 'N passed, M failed', and the status is 0 if none failed.
 set -u
 cd "$(dirname "$0")/.." || exit
 seconds=${1:-600} seed=${2:-$(date +%s)}

@@ -1,7 +1,7 @@
 #!/usr/bin/env bash
-# Installs the Debian packages that some tests need: distributed, zstandard and mypy for Python, valgrind, and for what packages
-# are made of mandoc, pkg-config and two shells. It says what it could not install, and its status is 0 in any case. What needs
-# such a package is left out then, and that is said too.
+# Installs the Debian packages that some tests need: distributed, zstandard and mypy for Python, and
+# valgrind. Tests of packages need mandoc, pkg-config and two shells. It prints what it could not
+# install, and its status is 0 in any case. A test without such a package is left out, and says so.
 set -u
 missing=()
 for package in python3-distributed python3-zstandard python3-mypy valgrind mandoc pkg-config zsh fish; do

@@ -1,11 +1,12 @@
-//! Where the lines of a header and a part begin.
+//! Finds where the lines of a header and a part begin.
 ghost use Rattle.std.specs.Prelude.{◌≡◌};
 ghost use Rattle.cityseq_c.specs.Features.{place_of};
 ghost use Rattle.cityseq_c.specs.Begins.{AreBehind, IsAlong};
 
 use crate::features::Cursor;
 
-/// Finds where lines begin. It goes on from the last line that it found, so that lines in order take one way along the part.
+/// Finds where lines begin. It goes on from the last line that it found. So it reads the part only
+/// once for lines in order.
 #[derive(Drop)]
 pub struct Finder<'a> {
     header: &'a [u8],
@@ -22,7 +23,8 @@ impl<'a> Finder<'a> {
     ghost use Rattle.cityseq_c.specs.Request.{AreCut};
     ghost use Rattle.cityseq_c.specs.Reports.{finder_text};
 
-    /// A way along a header and a part, which are cut behind the first line.
+    /// Returns a finder at the beginning of the part. The header and the part are cut after the
+    /// first line.
     pub fn new(header: &'a [u8], part: &'a [u8]) -> Finder<'a>
         requires { AreCut header.now part.now }
         ensures { finder_text result ≡ header.now ++ part.now }
@@ -34,7 +36,8 @@ impl<'a> Finder<'a> {
         }
     }
 
-    /// Where the line of this number begins, in bytes from the beginning of the header; the end, where there is no such line.
+    /// Returns where the line of this number begins, in bytes from the beginning of the header. If
+    /// there is no such line, it is the end of the part.
     pub fn begin(&mut self, line: u64) -> u64
         ensures begin { result ≡ begin_of (finder_text self.old) line }
         ensures text { finder_text self.new ≡ finder_text self.old }

@@ -1,16 +1,16 @@
-//! The room that C lends for reports: the sink of reports that writes to it.
+//! The sink that writes reports to a slice of the caller.
 ghost use Rattle.std.specs.Prelude.{◌≤◌, length};
 
 use crate::finder::Finder;
 use cj_stream::{Report, ReportSink};
 
-/// A report, as C has it.
+/// An invalid line after which reading went on, as C has it.
 #[repr(C)]
 #[derive(Clone, Copy, Debug, PartialEq, Eq)]
 pub struct Told {
-    /// The line's number, from 1.
+    /// The number of the line in the header and the part, from 1.
     pub line: u64,
-    /// Where it begins in the header and the part, in bytes from 0.
+    /// Where the line begins in the header and the part, in bytes from 0.
     pub begin: u64,
     /// The byte in its content, from 0.
     pub place: u64,
@@ -22,7 +22,7 @@ impl Told {
     ghost use Rattle.std.specs.Prelude.{◌≡◌};
     ghost use Rattle.cityseq_c.specs.Reports.{finder_text, told as told_of};
 
-    /// A report, as C has it.
+    /// Returns a report as C has it. `finder` finds where its line begins.
     fn of(report: Report, finder: &mut Finder<'_>) -> Told
         ensures told { result ≡ told_of (finder_text finder.old) report }
         ensures text { finder_text finder.new ≡ finder_text finder.old }
@@ -36,7 +36,8 @@ impl Told {
     }
 }
 
-/// Room that is lent for reports of a header and a part, and how many are in it. Those that do not fit are left out.
+/// A slice of the caller for the reports of a header and a part, and the number of reports in it.
+/// Reports that do not fit are left out.
 #[derive(Drop)]
 pub struct Noted<'a> {
     finder: Finder<'a>,
@@ -49,7 +50,7 @@ impl<'a> Noted<'a> {
     ghost use Rattle.std.specs.Prelude.{◌≡◌};
     ghost use Rattle.cityseq_c.specs.Reports.{count_of, finder_text, noted_loan, noted_room, noted_text};
 
-    /// Room with no report in it, for those of a header and a part.
+    /// Returns a sink that has written no report. Lines begin where `finder` finds them.
     pub fn new(finder: Finder<'a>, reports: &'a mut [Told]) -> Noted<'a>
         ensures text { noted_text result ≡ finder_text finder.entry }
         ensures loan { noted_loan result ≡ reports.entry.ghost_name }

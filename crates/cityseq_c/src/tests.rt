@@ -1,4 +1,5 @@
-//! Each export, run with ample memory: on a header and a feature, on lines that are invalid, and on requests that are wrong.
+//! Runs each export with enough memory. The inputs are a header and a feature, invalid lines, and
+//! wrong requests.
 use crate::features::FeatureRecord;
 use crate::reports::Told;
 use crate::request::Request;
@@ -19,11 +20,11 @@ const HEADER: &[u8] =
 const FEATURE: &[u8] =
     b"{\"type\":\"CityJSONFeature\",\"id\":\"b1\",\"CityObjects\":{\"b1\":{\"type\":\"Building\",\"geometry\":[{\"type\":\"MultiSurface\",\"lod\":\"2.2\",\"boundaries\":[[[0,1,2,3]]]}]}},\"vertices\":[[0,0,0],[1000,0,0],[1000,1000,0],[0,1000,0]]}\n";
 
-/// The same with an index that is one too great, and a line that is no JSON text.
+/// The same feature with an index that is one too great, and then a line that is no JSON text.
 const BROKEN: &[u8] =
     b"{\"type\":\"CityJSONFeature\",\"id\":\"b1\",\"CityObjects\":{\"b1\":{\"type\":\"Building\",\"geometry\":[{\"type\":\"MultiSurface\",\"lod\":\"2.2\",\"boundaries\":[[[0,1,2,4]]]}]}},\"vertices\":[[0,0,0],[1000,0,0],[1000,1000,0],[0,1000,0]]}\n{\n";
 
-/// Room for no report.
+/// A report of nothing.
 const NO_REPORT: Told = Told {
     line: 0,
     begin: 0,
@@ -31,7 +32,7 @@ const NO_REPORT: Told = Told {
     code: 0,
 };
 
-/// A request for all features at the usual limits.
+/// Returns a request for all features, at the usual limits.
 fn usual<'a>() -> Request<'a> {
     Request {
         line_limit: 8_388_608,
@@ -50,13 +51,13 @@ fn usual<'a>() -> Request<'a> {
     }
 }
 
-/// Compares how a call ended.
+/// Checks how a call ended: status, code, line and place.
 fn check_ended(rt: &impl Abort, answer: Answer, wanted: (u32, u32, u64, u64)) {
     let ended = (answer.status, answer.code, answer.line, answer.place);
     assert_eq!(rt; ended, wanted);
 }
 
-/// Compares what was counted.
+/// Checks the counts of an answer: lines, kept features, reported lines, and bytes of output.
 fn check_counts(rt: &impl Abort, answer: Answer, wanted: (u64, u64, u64, u64)) {
     let counts = (answer.lines, answer.kept, answer.refused, answer.written);
     assert_eq!(rt; counts, wanted);
@@ -132,7 +133,7 @@ fn an_output_that_does_not_fit_is_cut(rt: HostRuntime) -> Result<(), Fail> {
     Ok(())
 }
 
-/// The number `low * 10^power`.
+/// Returns the number `low * 10^power`.
 fn number(low: u64, power: i32) -> Number {
     Number {
         negative: 0,
@@ -142,7 +143,7 @@ fn number(low: u64, power: i32) -> Number {
     }
 }
 
-/// The tally of nothing.
+/// Returns the tally of nothing.
 fn no_tally() -> Tally {
     Tally {
         features: 0,
@@ -290,7 +291,7 @@ fn a_part_is_cut(rt: HostRuntime) -> Result<(), Fail> {
     Ok(())
 }
 
-/// Compares bytes.
+/// Checks bytes.
 fn check_text(rt: &impl Abort, got: &[u8], wanted: &[u8]) {
     assert_eq!(rt; got, wanted);
 }
