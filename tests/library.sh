@@ -72,6 +72,8 @@ done
 row 'the example on no file' eval '! "$scratch/example" "$scratch/none"'
 count "$scratch/library" rows
 count "$scratch/shared" rows
+row 'the tests of the stack are compiled' "$compiler" $strict tests/library_stack.c c/out/libcityseq.a -pthread -o "$scratch/stack"
+count "$scratch/stack"
 cpp_compiler=${CXX:-c++}
 strict_cpp='-std=c++17 -Wall -Wextra -Wpedantic -Werror -O1 -g'
 if ! command -v "$cpp_compiler" > "$scratch/unread"; then

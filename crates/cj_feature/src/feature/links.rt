@@ -162,11 +162,15 @@ fn check_object_links(objects: Node, name: Node, object: Node, found: &mut Least
     check_part(objects, name, object, found);
 }
 
-/// At most so many city objects and items of their lists are searched one after another.
+/// Fewer city objects and items of their lists are searched one after another.
 const FEW: usize = 64;
 
 /// At most so many bytes have few of them that matter.
 const FEW_BYTES: usize = 1_000;
+
+/// City objects of at most so many bytes are searched in a room of middle size, so that a short line takes little of the
+/// stack.
+pub const SHORT: usize = 65_536;
 
 /// What is left of a count after the items of a city object's list of this name; 0 where they are more.
 fn count_items(object: Node, list: &str, count: usize) -> usize {
@@ -183,12 +187,9 @@ fn count_items(object: Node, list: &str, count: usize) -> usize {
     left
 }
 
-/// Whether there are more than `FEW` city objects and items of their lists.
-pub fn has_many(objects: Node) -> bool {
-    if objects.bytes().len() <= FEW_BYTES {
-        return false;
-    }
-    let mut left = FEW;
+/// Whether there are so many city objects and items of their lists, or more.
+pub fn has_as_many(objects: Node, count: usize) -> bool {
+    let mut left = count;
     for (_, object) in objects.members() {
         if left == 0 {
             return true;
@@ -197,6 +198,11 @@ pub fn has_many(objects: Node) -> bool {
         left = count_items(object, "parents", left);
     }
     left == 0
+}
+
+/// Whether there are `FEW` city objects and items of their lists, or more, and not too few bytes for that.
+pub fn has_many(objects: Node) -> bool {
+    objects.bytes().len() > FEW_BYTES && has_as_many(objects, FEW)
 }
 
 /// The links of few city objects.

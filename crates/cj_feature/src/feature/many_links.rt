@@ -1,6 +1,6 @@
 //! Links between many city objects: the children of all are gone over, and then the parents of all. Whether a text is
 //! an id, and whether its city object lists the one that is gone over, is asked of many at once.
-ghost use Rattle.std.specs.Prelude.{◌≡◌, [], ◌++◌, true, codes};
+ghost use Rattle.std.specs.Prelude.{◌≡◌, ◌<◌, ◌^◌, [], ◌++◌, true, codes};
 ghost use Rattle.std.specs.List.{flat_map, list_any};
 ghost use Rattle.std.specs.Str.{chars};
 ghost use Rattle.cj_spans.specs.Finding.{least};
@@ -10,18 +10,36 @@ ghost use Rattle.cj_feature.specs.Links.{is_known as is_known_in, listed_in, chi
 ghost use Rattle.cj_feature.specs.Questions.{noted_in, AreAnswered};
 
 use crate::feature::ids::is_known;
-use crate::feature::links::{self, is_group};
+use crate::feature::links::{self, SHORT, has_as_many, is_group};
 use crate::feature::questions::{Ahead, Answer, Noted, Questions};
 use crate::feature::tagged::tag_of;
 use cj_geometry::rule::{add, is_told_before};
 use cj_spans::{Least, Members, Node, Reason};
 
+/// So many questions are noted at once where there are fewer city objects and items of their lists, in 34 KiB of the stack.
+const SOME_QUESTIONS: usize = 1_536;
+
+/// So many first texts are at hand then.
+const SOME_KEPT: usize = 256;
+
+/// So many questions are noted at once for city objects of at most `SHORT` bytes, in 86 KiB of the stack.
+const MORE_QUESTIONS: usize = 4_096;
+
+/// So many first texts are at hand then.
+const MORE_KEPT: usize = 512;
+
+/// So many questions are noted at once where there are more, in 503 KiB of the stack.
+const MANY_QUESTIONS: usize = 27_000;
+
+/// So many first texts are at hand then.
+const MANY_KEPT: usize = 1_024;
+
 /// A child is in the feature, and lists the city object that is gone over as a parent.
-fn check_child<'a>(
+fn check_child<'a, const ROOM: usize, const KEPT: usize>(
     objects: Node<'a>,
     item: Node<'a>,
     ahead: Ahead<'a>,
-    questions: &mut Questions,
+    questions: &mut Questions<ROOM, KEPT>,
     found: &mut Least,
 )
     requires { AreAnswered (chars (codes "parents")) objects [] questions.old }
@@ -40,12 +58,12 @@ fn check_child<'a>(
 }
 
 /// The children of a city object of the name that has this number in the line, unless it is a group.
-fn check_children<'a>(
+fn check_children<'a, const ROOM: usize, const KEPT: usize>(
     objects: Node<'a>,
     number: u32,
     object: Node<'a>,
     later: Members<'a>,
-    questions: &mut Questions,
+    questions: &mut Questions<ROOM, KEPT>,
     found: &mut Least,
 )
     requires { AreAnswered (chars (codes "parents")) objects [] questions.old }
@@ -72,7 +90,11 @@ fn check_children<'a>(
 }
 
 /// The children of all city objects.
-fn check_all_children<'a>(objects: Node<'a>, questions: &mut Questions, found: &mut Least)
+fn check_all_children<'a, const ROOM: usize, const KEPT: usize>(
+    objects: Node<'a>,
+    questions: &mut Questions<ROOM, KEPT>,
+    found: &mut Least,
+)
     requires { AreAnswered (chars (codes "parents")) objects [] questions.old }
     ensures { let all = members_of (tree objects.entry) in found.new ≡ least found.old (flat_map (children all) all) }
 {
@@ -84,11 +106,11 @@ fn check_all_children<'a>(objects: Node<'a>, questions: &mut Questions, found: &
 
 /// A parent that is in the feature lists the city object that is gone over as a child; answers whether it is known to be
 /// an id in the feature.
-fn check_parent<'a>(
+fn check_parent<'a, const ROOM: usize, const KEPT: usize>(
     objects: Node<'a>,
     item: Node<'a>,
     ahead: Ahead<'a>,
-    questions: &mut Questions,
+    questions: &mut Questions<ROOM, KEPT>,
     found: &mut Least,
 ) -> bool
     requires { AreAnswered (chars (codes "children")) objects [] questions.old }
@@ -113,12 +135,12 @@ fn check_parent<'a>(
 
 /// The parents of a city object of the name that has this number in the line; answers whether one of them is known to be
 /// an id in the feature.
-fn check_parents<'a>(
+fn check_parents<'a, const ROOM: usize, const KEPT: usize>(
     objects: Node<'a>,
     number: u32,
     object: Node<'a>,
     later: Members<'a>,
-    questions: &mut Questions,
+    questions: &mut Questions<ROOM, KEPT>,
     found: &mut Least,
 ) -> bool
     requires { AreAnswered (chars (codes "children")) objects [] questions.old }
@@ -148,11 +170,11 @@ fn check_parents<'a>(
 }
 
 /// Whether a parent of the city object that is gone over is an id in the feature.
-fn is_known_parent<'a>(
+fn is_known_parent<'a, const ROOM: usize, const KEPT: usize>(
     objects: Node<'a>,
     item: Node<'a>,
     ahead: Ahead<'a>,
-    questions: &mut Questions,
+    questions: &mut Questions<ROOM, KEPT>,
 ) -> bool
     requires { AreAnswered (chars (codes "children")) objects [] questions.old }
     ensures known { result ≡ is_known_in (members_of (tree objects.entry)) (tree item.entry) }
@@ -166,12 +188,12 @@ fn is_known_parent<'a>(
 }
 
 /// Whether an item of the array of parents is an id in the feature.
-fn has_known_item<'a>(
+fn has_known_item<'a, const ROOM: usize, const KEPT: usize>(
     objects: Node<'a>,
     name: Noted,
     array: Node<'a>,
     later: Members<'a>,
-    questions: &mut Questions,
+    questions: &mut Questions<ROOM, KEPT>,
 ) -> bool
     requires { AreAnswered (chars (codes "children")) objects [] questions.old }
     ensures known { result ≡ list_any (is_known_in (members_of (tree objects.entry))) (items_of (tree array.entry)) }
@@ -188,12 +210,12 @@ fn has_known_item<'a>(
 }
 
 /// Of the parents of a city object of the second level, of the name that has this number, one is in the feature.
-fn check_part<'a>(
+fn check_part<'a, const ROOM: usize, const KEPT: usize>(
     objects: Node<'a>,
     number: u32,
     object: Node<'a>,
     later: Members<'a>,
-    questions: &mut Questions,
+    questions: &mut Questions<ROOM, KEPT>,
     found: &mut Least,
 )
     requires { AreAnswered (chars (codes "children")) objects [] questions.old }
@@ -218,7 +240,11 @@ fn check_part<'a>(
 }
 
 /// The parents of all city objects.
-fn check_all_parents<'a>(objects: Node<'a>, questions: &mut Questions, found: &mut Least)
+fn check_all_parents<'a, const ROOM: usize, const KEPT: usize>(
+    objects: Node<'a>,
+    questions: &mut Questions<ROOM, KEPT>,
+    found: &mut Least,
+)
     requires { AreAnswered (chars (codes "children")) objects [] questions.old }
     ensures { let all = members_of (tree objects.entry) in
         found.new ≡ least found.old (flat_map (λ m. parents all m ++ part all m) all) }
@@ -232,15 +258,34 @@ fn check_all_parents<'a>(objects: Node<'a>, questions: &mut Questions, found: &m
     }
 }
 
-/// The links of many city objects. The questions take 507 KiB of the stack.
+/// The links of many city objects, by so many questions at once.
+///
+/// It is kept apart, so that fewer links need none of its room on the stack.
+#[cold]
+#[inline(never)]
+fn check_by<const ROOM: usize, const KEPT: usize>(objects: Node, found: &mut Least)
+    requires { ROOM < 2 ^ 32 × KEPT < 2 ^ 32 }
+    ensures { let all = members_of (tree objects.entry) in
+        found.new ≡ least found.old (flat_map (object_links all) all) }
+{
+    let mut questions: Questions<ROOM, KEPT> = Questions::new();
+    check_all_children(objects, &mut questions, found);
+    questions.clear();
+    check_all_parents(objects, &mut questions, found);
+}
+
+/// The links of many city objects. There is room for the questions that they can need, or for many.
 #[cold]
 #[inline(never)]
 pub fn check_many_links(objects: Node, found: &mut Least)
     ensures { let all = members_of (tree objects.entry) in
         found.new ≡ least found.old (flat_map (object_links all) all) }
 {
-    let mut questions = Questions::new();
-    check_all_children(objects, &mut questions, found);
-    questions.clear();
-    check_all_parents(objects, &mut questions, found);
+    if !has_as_many(objects, SOME_QUESTIONS) {
+        check_by::<SOME_QUESTIONS, SOME_KEPT>(objects, found);
+    } else if objects.bytes().len() <= SHORT {
+        check_by::<MORE_QUESTIONS, MORE_KEPT>(objects, found);
+    } else {
+        check_by::<MANY_QUESTIONS, MANY_KEPT>(objects, found);
+    }
 }

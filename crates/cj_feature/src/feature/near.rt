@@ -19,9 +19,6 @@ const LONG: usize = 32;
 /// What is added to the number of a city object that is done with.
 const DONE: u32 = 2_147_483_648;
 
-/// So many wait to be marked.
-const PENDING: usize = 16_384;
-
 /// So often the city objects are gone over.
 const ROUNDS: usize = 64;
 
@@ -33,12 +30,11 @@ pub enum Meant {
     Others,
 }
 
-/// City objects at hand, at most `OBJECTS`, and those that wait to be marked, by their numbers; 0 is none. Those at hand
-/// stand list after list, each from where it starts to where it ends.
+/// City objects at hand, at most `OBJECTS`, and those that wait to be marked, at most `PENDING`, by their numbers; 0 is
+/// none. Those at hand stand list after list, each from where the one before it ends to where it ends itself.
 #[derive(Drop)]
-pub struct Near<const OBJECTS: usize, const LISTS: usize> {
+pub struct Near<const OBJECTS: usize, const LISTS: usize, const PENDING: usize> {
     objects: [u32; OBJECTS],
-    starts: [u32; LISTS],
     ends: [u32; LISTS],
     meant: Meant,
     count: usize,
@@ -47,7 +43,7 @@ pub struct Near<const OBJECTS: usize, const LISTS: usize> {
     /// Whether so many waited that no more could, so that some may have been left out.
     full: bool,
     changed: bool,
-    ghost room: { waiting ≤ 16384 },
+    ghost room: { waiting ≤ PENDING },
     ghost lists: { 0 < LISTS },
 }
 
@@ -112,7 +108,7 @@ fn add_up(lengths: &mut [u32]) {
     }
 }
 
-impl<const OBJECTS: usize, const LISTS: usize> Near<OBJECTS, LISTS> {
+impl<const OBJECTS: usize, const LISTS: usize, const PENDING: usize> Near<OBJECTS, LISTS, PENDING> {
     ghost use Rattle.std.specs.Prelude.{IfSome, List, ℕ, ◌-◌, ◌^◌, codes};
     ghost use Rattle.std.specs.List.{Contains};
     ghost use Rattle.std.specs.Str.{chars};
@@ -133,7 +129,6 @@ impl<const OBJECTS: usize, const LISTS: usize> Near<OBJECTS, LISTS> {
     {
         Near {
             objects: [0; OBJECTS],
-            starts: [0; LISTS],
             ends: [0; LISTS],
             meant: Meant::All,
             count: 0,
@@ -183,17 +178,18 @@ impl<const OBJECTS: usize, const LISTS: usize> Near<OBJECTS, LISTS> {
         ensures pending { self.new.pending ≡ self.old.pending }
     {
         add_up(&mut self.ends);
-        let starts = self.ends;
-        self.starts = starts;
     }
 
-    /// Where a list starts and where it ends.
+    /// Where a list starts, as the one before it ends there, and where it ends.
     fn bounds(&self, list: usize) -> (usize, usize)
         requires { list < LISTS }
         ensures { result.0 ≤ result.1 × result.1 ≤ OBJECTS }
     {
         let end = (self.ends[list] as usize).min(OBJECTS);
-        let start = (self.starts[list] as usize).min(end);
+        if list == 0 {
+            return (0, end);
+        }
+        let start = (self.ends[list - 1] as usize).min(end);
         (start, end)
     }
 
@@ -279,7 +275,7 @@ impl<const OBJECTS: usize, const LISTS: usize> Near<OBJECTS, LISTS> {
 
     /// Has a city object that is reached wait.
     fn wait(&mut self, number: u32)
-        requires { self.old.waiting < 16384 }
+        requires { self.old.waiting < PENDING }
         ensures hand { AddsNone self.old self.new }
         ensures pending { (feature : Tree) (line : List ℕ) (spans : List Span) → number < length spans
             → IsReachedObject feature (tree_at line spans number)
@@ -305,7 +301,7 @@ impl<const OBJECTS: usize, const LISTS: usize> Near<OBJECTS, LISTS> {
     /// Whether the city object of this number, at this place, has this name and was not done with. If so, it is now, and
     /// waits if it has no mark.
     fn note_one(&mut self, objects: Node, place: usize, number: u32, text: Node) -> bool
-        requires room { self.old.waiting < 16384 }
+        requires room { self.old.waiting < PENDING }
         requires place { place < OBJECTS }
         requires positive { 0 < number }
         requires within { number < 2147483648 → number < length (spans_by objects) }
@@ -546,9 +542,13 @@ impl<const OBJECTS: usize, const LISTS: usize> Near<OBJECTS, LISTS> {
     }
 
     /// Marks city objects that are reached from the feature's id: all, as far as there is room for what leads to them.
+    ///
+    /// It is kept apart, so that a feature of fewer city objects needs none of its room on the stack.
+    #[inline(never)]
     pub fn mark_all(line: &[u8], tokens: &mut Bounded<Token>)
         requires lists { 0 < LISTS × LISTS < 2 ^ 32 }
         requires objects { OBJECTS < 2 ^ 32 }
+        requires pending { PENDING < 2 ^ 32 }
         requires scanned { AreOf line.now tokens.old.elements }
         requires sound { (feature : Tree) → Json line.now feature → AllReached feature line.now tokens.old.elements }
         ensures sound { (feature : Tree) → Json line.now feature → AllReached feature line.now tokens.new.elements }

@@ -3,7 +3,7 @@
 //!
 //! What is asked next is noted as far as there is room, and sorted. What is asked again is taken out, and if that is
 //! most of it, more is noted. Then a walk looks each name up among the questions by halves, and each item of its list
-//! among those that ask for the name. So n links take at most n / 27,000 walks, and each walk a search for each name
+//! among those that ask for the name. So n links take at most n / `ROOM` walks, and each walk a search for each name
 //! and for the items of the lists that are asked about, whatever the texts are and in whatever order they stand.
 //!
 //! Texts are ordered by their tags, and only those of one tag by code points: most comparisons are of two numbers. A
@@ -13,7 +13,8 @@
 //! city object lists what a question asks, and no mark is missing where a name is asked for. In the same way `runs` and
 //! `wanted` only spare time.
 //!
-//! No memory is taken: `Questions` is 510,584 bytes of the stack, and while questions are noted 8,192 more are taken.
+//! No memory is taken: `Questions` takes 18 bytes of the stack for each question that there is room for, and 28 for each text
+//! at hand.
 ghost use Rattle.std.specs.Prelude.{◌≡◌, ◌+◌, ◌≤◌, ◌<◌, ℕ, List, [], ◌∷◌, Some, IfSome, length, true, false, slice_get, slice_index_or, slice_set};
 ghost use Rattle.std.specs.Ordering.{is_lt};
 ghost use Rattle.std.specs.Str.{chars};
@@ -28,15 +29,6 @@ ghost use Rattle.cj_feature.specs.Questions.{compare_sides, text_side, noted_in,
 use crate::feature::tagged::{Text, tag_of};
 use cj_spans::{Items, Kind, Members, Node};
 use std::cmp::Ordering;
-
-/// How many questions are noted at once.
-const ROOM: usize = 27_000;
-
-/// How many first texts are kept at hand.
-const KEPT: usize = 1_024;
-
-/// By how many marks second texts are known to be asked about.
-const WANTED: usize = 8_192;
 
 /// A text that is noted: its tag, and the number of its node in the line of the city objects.
 #[derive(Clone, Copy)]
@@ -89,17 +81,18 @@ pub enum Answer {
     Untold,
 }
 
-/// Questions in order, and what was found: for the first one on each first text that it is a name, and for each that a
-/// city object of that name lists the second text. Beside these are runs that were found before, and which second texts
-/// may be asked about.
+/// Questions in order, at most `ROOM`, and what was found: for the first one on each first text that it is a name, and for
+/// each that a city object of that name lists the second text. Beside these are `KEPT` first texts that are at hand, as many
+/// runs that were found before, and 32 times as many bits by which second texts are known to be asked about.
 #[derive(Drop)]
-pub struct Questions {
+pub struct Questions<const ROOM: usize, const KEPT: usize> {
     questions: [Question; ROOM],
     count: usize,
     known: [bool; ROOM],
     listed: [bool; ROOM],
+    kept: [Noted; KEPT],
     runs: [Run; KEPT],
-    wanted: [bool; WANTED],
+    wanted: [u32; KEPT],
 }
 
 /// What room holds before a question is noted.
@@ -362,20 +355,39 @@ fn make_room(objects: Node, questions: &mut [Question], count: usize) -> usize
     }
 }
 
+/// The place for a number, of so many; 0 where there is none.
+fn place_among<const PLACES: usize>(number: u64) -> usize {
+    if PLACES == 0 {
+        0
+    } else {
+        (number % PLACES as u64) as usize
+    }
+}
+
+/// The bit for a number, of those at its place.
+fn bit_among<const PLACES: usize>(number: u64) -> u32 {
+    if PLACES == 0 {
+        0
+    } else {
+        1u32 << (number / PLACES as u64 % 32)
+    }
+}
+
 /// Where a text is kept at hand, by its tag and the bytes in its middle: so most texts that were made to have one tag have
 /// places of their own too. By another spelling a text has another place.
-fn hand_of(node: Node, tag: u32) -> usize
-    ensures { result < 1_024 }
-{
+fn hand_of<const KEPT: usize>(node: Node, tag: u32) -> usize {
     let bytes = node.bytes();
-    let middle = bytes[bytes.len() / 2] as usize + 61 * bytes[(bytes.len() - 1) / 2] as usize;
-    (tag as usize + middle) % KEPT
+    let middle = bytes[bytes.len() / 2] as u64 + 61 * bytes[(bytes.len() - 1) / 2] as u64;
+    place_among::<KEPT>(tag as u64 + middle)
 }
 
 /// The text of a node, noted by the node at hand that has it, if there is one: so most equal texts have one number.
-fn noted_at_hand(objects: Node, kept: &mut [Noted; KEPT], node: Node) -> Noted {
+fn noted_at_hand<const KEPT: usize>(objects: Node, kept: &mut [Noted], node: Node) -> Noted {
     let noted = Noted::of(node);
-    let place = hand_of(node, noted.tag);
+    let place = hand_of::<KEPT>(node, noted.tag);
+    if place >= kept.len() {
+        return noted;
+    }
     let before = kept[place];
     if before.tag == noted.tag && before.node(objects).same_text(node) {
         return before;
@@ -398,11 +410,11 @@ fn note(questions: &mut [Question], count: usize, question: Question) -> usize
 }
 
 /// Notes the questions on these items of a city object's list, as far as there is room.
-fn note_items(
+fn note_items<const KEPT: usize>(
     objects: Node,
     questions: &mut [Question],
     count: usize,
-    kept: &mut [Noted; KEPT],
+    kept: &mut [Noted],
     items: Items,
     to: Noted,
 ) -> usize
@@ -416,26 +428,26 @@ fn note_items(
         if next == questions.len() {
             return next;
         }
-        let from = noted_at_hand(objects, kept, item);
+        let from = noted_at_hand::<KEPT>(objects, kept, item);
         next = note(questions, next, Question { from, to });
     }
     next
 }
 
 /// Notes a question and those that are asked next, by lists of this name, as far as there is room.
-fn note_ahead(
+fn note_ahead<const KEPT: usize>(
     objects: Node,
     questions: &mut [Question],
+    kept: &mut [Noted],
     asked: &str,
     item: Node,
     ahead: Ahead,
 ) -> usize
     ensures { result ≤ length questions.new }
 {
-    let mut kept = [NOTHING; KEPT];
     let (from, to) = (Noted::of(item), ahead.name);
     let first = note(questions, 0, Question { from, to });
-    let mut count = note_items(objects, questions, first, &mut kept, ahead.items, to);
+    let mut count = note_items::<KEPT>(objects, questions, first, kept, ahead.items, to);
     for (name, object) in ahead.later {
         count = make_room(objects, questions, count);
         if count == questions.len() {
@@ -443,7 +455,7 @@ fn note_ahead(
         }
         if let Some(value) = object.get(asked) {
             let name = Noted::of(name);
-            count = note_items(objects, questions, count, &mut kept, value.items(), name);
+            count = note_items::<KEPT>(objects, questions, count, kept, value.items(), name);
         }
     }
     count
@@ -466,25 +478,46 @@ fn clear(marks: &mut [bool])
     }
 }
 
-/// Where it is known of a text whether it is asked about as a second one, by the number that it is mixed to: not by its
-/// tag, so that texts of one tag have places of their own.
-fn wanted_at(mix: u64) -> usize
-    ensures { result < 8_192 }
-{
-    (mix % WANTED as u64) as usize
-}
-
-/// Marks the second texts of questions as asked about.
-fn mark_wanted(objects: Node, questions: &[Question], wanted: &mut [bool; WANTED]) {
-    clear(wanted);
+/// Marks the second texts of questions as asked about. Where that is known of a text hangs on the number that it is mixed
+/// to: not on its tag, so that texts of one tag have bits of their own.
+fn mark_wanted<const KEPT: usize>(objects: Node, questions: &[Question], wanted: &mut [u32]) {
+    for one in wanted.iter_mut() {
+        *one = 0;
+    }
     for question in questions {
-        wanted[wanted_at(question.to.node(objects).text_mix())] = true;
+        let mix = question.to.node(objects).text_mix();
+        let place = place_among::<KEPT>(mix);
+        if place < wanted.len() {
+            wanted[place] |= bit_among::<KEPT>(mix);
+        }
     }
 }
 
-impl Questions {
+/// Whether a text that is mixed to this number may be asked about as a second one.
+fn is_wanted<const KEPT: usize>(wanted: &[u32], mix: u64) -> bool {
+    let place = place_among::<KEPT>(mix);
+    place < wanted.len() && wanted[place] & bit_among::<KEPT>(mix) != 0
+}
+
+/// The run at a place; an empty one where there is no place.
+fn run_at(runs: &[Run], place: usize) -> Run {
+    if place < runs.len() {
+        runs[place]
+    } else {
+        NO_RUN
+    }
+}
+
+/// Keeps a run at a place, if there is one.
+fn keep_run(runs: &mut [Run], place: usize, run: Run) {
+    if place < runs.len() {
+        runs[place] = run;
+    }
+}
+
+impl<const ROOM: usize, const KEPT: usize> Questions<ROOM, KEPT> {
     /// No questions.
-    pub fn new() -> Questions
+    pub fn new() -> Self
         ensures { (list : List ℕ) (objects : Node) → AreAnswered list objects [] result }
     {
         Questions {
@@ -495,8 +528,9 @@ impl Questions {
             count: 0,
             known: [false; ROOM],
             listed: [false; ROOM],
+            kept: [NOTHING; KEPT],
             runs: [NO_RUN; KEPT],
-            wanted: [false; WANTED],
+            wanted: [0; KEPT],
         }
     }
 
@@ -542,7 +576,7 @@ impl Questions {
         };
         for item in value.items() {
             let mix = item.text_mix();
-            if !self.wanted[wanted_at(mix)] {
+            if !is_wanted::<KEPT>(&self.wanted, mix) {
                 continue;
             }
             let pair = Pair {
@@ -587,12 +621,19 @@ impl Questions {
     fn ask(&mut self, list: &str, asked: &str, objects: Node, item: Node, ahead: Ahead)
         ensures { AreAnswered (chars list.now) objects.entry [] self.new }
     {
-        let count = note_ahead(objects, &mut self.questions, asked, item, ahead);
+        let count = note_ahead::<KEPT>(
+            objects,
+            &mut self.questions,
+            &mut self.kept,
+            asked,
+            item,
+            ahead,
+        );
         self.count = gather(objects, &mut self.questions[..count]);
         sort(objects, &mut self.questions[..self.count]);
         clear(&mut self.known);
         clear(&mut self.listed);
-        mark_wanted(objects, &self.questions[..self.count], &mut self.wanted);
+        mark_wanted::<KEPT>(objects, &self.questions[..self.count], &mut self.wanted);
         self.answer_all(list, objects);
     }
 
@@ -613,8 +654,8 @@ impl Questions {
             (IsAnswer (chars list.now) objects.entry (tree from.entry.node) (noted_in objects.entry to)) }
         ensures answered { AreAnswered (chars list.now) objects.entry [] self.new }
     {
-        let hand = hand_of(from.node, from.tag);
-        let run = self.runs[hand];
+        let hand = hand_of::<KEPT>(from.node, from.tag);
+        let run = run_at(&self.runs, hand);
         if let Some(true) = self.is_listed(list, objects, run, from, to) {
             return Some(Answer::Listed);
         }
@@ -624,7 +665,7 @@ impl Questions {
             return Some(Answer::Absent);
         }
         let run = run_on(objects, questions, from, first);
-        self.runs[hand] = run;
+        keep_run(&mut self.runs, hand, run);
         match self.is_listed(list, objects, run, from, to)? {
             true => Some(Answer::Listed),
             false => Some(Answer::Untold),

@@ -4,7 +4,7 @@
 //! Links go between ids, so what is reached is an id, and with it all city objects of that name, each with its list; a
 //! group is no exception. Where the id is no text, or names none of the city objects, nothing is reached, and the rule
 //! says nothing.
-ghost use Rattle.std.specs.Prelude.{◌≡◌, ◌<◌, IfSome, IfNone, IsTrue, true, Some, List, codes, length, option_map};
+ghost use Rattle.std.specs.Prelude.{◌≡◌, ◌<◌, ◌^◌, IfSome, IfNone, IsTrue, true, Some, List, codes, length, option_map};
 ghost use Rattle.std.specs.List.{flat_map};
 ghost use Rattle.std.specs.Str.{chars};
 ghost use Rattle.cj_spans.specs.Finding.{least};
@@ -21,7 +21,7 @@ ghost use Rattle.cj_feature.specs.Reached.{AreMarks, IsReachedObject};
 ghost use Rattle.cj_feature.specs.Unmarked.{AreInNameOrder, NotedHaveMarks, ListNotedMarks};
 
 use crate::feature::ids::is_known;
-use crate::feature::links::has_many;
+use crate::feature::links::{SHORT, has_many};
 use crate::feature::near::Near;
 use crate::feature::questions::{NOTHING, Noted};
 use crate::feature::unmarked::{gather_next, has};
@@ -29,20 +29,75 @@ use cj_budget::Bounded;
 use cj_geometry::rule::add;
 use cj_spans::{Doc, Least, Node, Reason, Token, set_mark};
 
-/// So many city objects a small guide has at hand at once.
+/// So many city objects a small guide has at hand at once, and so many can wait, in 36 KiB of the stack. So many names of
+/// those without marks are looked for at once then, in 32 KiB.
 const SOME_OBJECTS: usize = 4_096;
 
 /// So many lists of them it has: a prime.
 const SOME_LISTS: usize = 1_021;
 
-/// So many a large guide has at hand at once: a line of 8 MiB has fewer that list a child.
-const MANY_OBJECTS: usize = 440_000;
+/// So many a guide of middle size has, in 106 KiB of the stack: those of at most `SHORT` bytes are fewer.
+const MORE_OBJECTS: usize = 13_108;
+
+/// So many lists of them it has: a prime.
+const MORE_LISTS: usize = 1_021;
+
+/// So many names are looked for at once then, in 64 KiB of the stack.
+const MORE_NAMES: usize = 8_192;
+
+/// So many a large guide has at hand at once, in 1.9 MB of the stack: a line of 8 MiB has fewer that list a child.
+const MANY_OBJECTS: usize = 400_000;
 
 /// So many lists of them it has: a prime.
 const MANY_LISTS: usize = 65_521;
 
-/// So many names of city objects without marks are looked for at once, where there are more than a small guide has at hand.
-const MANY_NAMES: usize = 262_144;
+/// So many can wait there.
+const MANY_PENDING: usize = 16_384;
+
+/// So many names are looked for at once then, in 1.9 MB of the stack.
+const MANY_NAMES: usize = 240_000;
+
+/// How many city objects there are, as far as what is searched for them takes another room on the stack.
+#[derive(Clone, Copy, Drop)]
+enum Size {
+    Few,
+    Small,
+    Middle,
+    Large,
+}
+
+/// Whether there are so many city objects, or more.
+fn has_more(objects: Node, count: usize) -> bool {
+    let mut left = count;
+    for _ in objects.members() {
+        if left <= 1 {
+            return true;
+        }
+        left -= 1;
+    }
+    false
+}
+
+/// How many city objects there are; few have no long lists either.
+fn size_of(objects: Node) -> Size {
+    if !has_many(objects) {
+        Size::Few
+    } else if !has_more(objects, SOME_OBJECTS) {
+        Size::Small
+    } else if objects.bytes().len() <= SHORT {
+        Size::Middle
+    } else {
+        Size::Large
+    }
+}
+
+/// How many city objects a feature has.
+fn size_of_feature(doc: Doc) -> Size {
+    match doc.root().get("CityObjects") {
+        Some(objects) => size_of(objects),
+        None => Size::Few,
+    }
+}
 
 /// The first city object of this name that has no mark, by its number.
 fn find_unmarked(objects: Node, id: Node) -> Option<u32>
@@ -143,37 +198,15 @@ fn find_by_names(objects: Node, names: &mut [Noted]) -> Option<u32>
     }
 }
 
-/// The same with room for the names of a small guide's city objects, which is 32 KiB of the stack.
+/// The same with room for so many names. It is kept apart, so that fewer need none of its room on the stack.
 #[inline(never)]
-fn find_by_some(objects: Node) -> Option<u32>
+fn find_by<const NAMES: usize>(objects: Node) -> Option<u32>
+    requires { 0 < NAMES × NAMES < 2 ^ 32 }
     ensures found { IfSome result (IsNext objects.entry) }
     ensures none { IfNone result (ListMarks objects.entry (members_of (tree objects.entry))) }
 {
-    let mut names = [NOTHING; SOME_OBJECTS];
+    let mut names = [NOTHING; NAMES];
     find_by_names(objects, &mut names)
-}
-
-/// The same with room for more names, which is 2 MiB of the stack.
-#[inline(never)]
-fn find_by_many(objects: Node) -> Option<u32>
-    ensures found { IfSome result (IsNext objects.entry) }
-    ensures none { IfNone result (ListMarks objects.entry (members_of (tree objects.entry))) }
-{
-    let mut names = [NOTHING; MANY_NAMES];
-    find_by_names(objects, &mut names)
-}
-
-/// As `find_listed_of_few`, where there are many. It is kept apart, so that few need none of its room on the stack.
-#[inline(never)]
-fn find_listed_of_many(objects: Node) -> Option<u32>
-    ensures found { IfSome result (IsNext objects.entry) }
-    ensures none { IfNone result (ListMarks objects.entry (members_of (tree objects.entry))) }
-{
-    if needs_many(objects) {
-        find_by_many(objects)
-    } else {
-        find_by_some(objects)
-    }
 }
 
 /// The first city object that one with a mark lists as a child and that has none, by its number.
@@ -182,11 +215,13 @@ fn find_listed(objects: Node) -> Option<u32>
     ensures none { IfNone result (ListMarks objects.entry (members_of (tree objects.entry))) }
 {
     if are_marked(objects) {
-        None
-    } else if has_many(objects) {
-        find_listed_of_many(objects)
-    } else {
-        find_listed_of_few(objects)
+        return None;
+    }
+    match size_of(objects) {
+        Size::Few => find_listed_of_few(objects),
+        Size::Small => find_by::<SOME_OBJECTS>(objects),
+        Size::Middle => find_by::<MORE_NAMES>(objects),
+        Size::Large => find_by::<MANY_NAMES>(objects),
     }
 }
 
@@ -223,74 +258,18 @@ fn find_next(doc: Doc) -> Option<u32>
     }
 }
 
-/// Whether a feature has many city objects, or long lists.
-fn is_large(doc: Doc) -> bool {
-    match doc.root().get("CityObjects") {
-        Some(objects) => has_many(objects),
-        None => false,
-    }
-}
-
-/// Whether there are more city objects than a small guide has room for.
-fn needs_many(objects: Node) -> bool {
-    let mut room = SOME_OBJECTS;
-    for _ in objects.members() {
-        if room == 0 {
-            return true;
-        }
-        room -= 1;
-    }
-    false
-}
-
-/// Whether a feature has more city objects than a small guide has room for.
-fn is_huge(doc: Doc) -> bool {
-    match doc.root().get("CityObjects") {
-        Some(objects) => needs_many(objects),
-        None => false,
-    }
-}
-
-/// Marks city objects that are reached from the feature's id, by a small guide.
-///
-/// It is kept apart, so that a feature of few city objects needs none of its room on the stack.
-#[inline(never)]
-fn mark_some(line: &[u8], tokens: &mut Bounded<Token>)
-    requires scanned { AreOf line.now tokens.old.elements }
-    requires sound { (feature : Tree) → Json line.now feature → AllReached feature line.now tokens.old.elements }
-    ensures sound { (feature : Tree) → Json line.now feature → AllReached feature line.now tokens.new.elements }
-    ensures marks { OnlyMarks tokens.old tokens.new }
-{
-    Near::<SOME_OBJECTS, SOME_LISTS>::mark_all(line, tokens);
-}
-
-/// Marks city objects that are reached from the feature's id, by a large guide.
-///
-/// It is kept apart, so that a feature of fewer city objects needs none of its room on the stack.
-#[inline(never)]
-fn mark_many(line: &[u8], tokens: &mut Bounded<Token>)
-    requires scanned { AreOf line.now tokens.old.elements }
-    requires sound { (feature : Tree) → Json line.now feature → AllReached feature line.now tokens.old.elements }
-    ensures sound { (feature : Tree) → Json line.now feature → AllReached feature line.now tokens.new.elements }
-    ensures marks { OnlyMarks tokens.old tokens.new }
-{
-    Near::<MANY_OBJECTS, MANY_LISTS>::mark_all(line, tokens);
-}
-
-/// Marks most of those that are reached, or none where there are few.
+/// Marks most of those that are reached, or none where there are few. The guide is the least that has room for all.
 fn mark_most(line: &[u8], tokens: &mut Bounded<Token>)
     requires scanned { AreOf line.now tokens.old.elements }
     requires sound { (t : Tree) → Json line.now t → AllReached t line.now tokens.old.elements }
     ensures sound { (t : Tree) → Json line.now t → AllReached t line.now tokens.new.elements }
     ensures marks { OnlyMarks tokens.old tokens.new }
 {
-    if !is_large(Doc::of(line, tokens.as_slice())) {
-        return;
-    }
-    if is_huge(Doc::of(line, tokens.as_slice())) {
-        mark_many(line, tokens);
-    } else {
-        mark_some(line, tokens);
+    match size_of_feature(Doc::of(line, tokens.as_slice())) {
+        Size::Few => {}
+        Size::Small => Near::<SOME_OBJECTS, SOME_LISTS, SOME_OBJECTS>::mark_all(line, tokens),
+        Size::Middle => Near::<MORE_OBJECTS, MORE_LISTS, MORE_OBJECTS>::mark_all(line, tokens),
+        Size::Large => Near::<MANY_OBJECTS, MANY_LISTS, MANY_PENDING>::mark_all(line, tokens),
     }
 }
 

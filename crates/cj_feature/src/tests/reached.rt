@@ -273,6 +273,30 @@ fn chains_from_the_end(rt: HostRuntime) -> Result<(), Fail> {
     Ok(())
 }
 
+/// Chains for the large guide.
+#[test]
+fn long_chains_from_the_end(rt: HostRuntime) -> Result<(), Fail> {
+    let want = "59 31 not reached from the main object";
+    chain_meets(&rt, rt.alloc(), 5_000, 0, 5_000, "none")?;
+    chain_meets(&rt, rt.alloc(), 5_000, 400, 4_600, want)?;
+    Ok(())
+}
+
+/// A group of so many short city objects of one name, and one apart: for the guide of middle size.
+#[test]
+fn many_short_ones(rt: HostRuntime) -> Result<(), Fail> {
+    let mut objects = String::new(rt.alloc());
+    for _ in 0..5_000 {
+        objects.push_str(r#","c":0"#)?;
+    }
+    let group = r#""b":{"type":"CityObjectGroup","children":["c"]}"#;
+    let line = format!(in rt.alloc();
+        "{{\"type\":\"CityJSONFeature\",\"id\":\"b\",\"CityObjects\":{{{group}{objects},\"d\":0}},\"vertices\":[]}}"
+    )?;
+    line_meets(&rt, rt.alloc(), line.as_bytes(), 5_001, "102 12 wrong kind")?;
+    Ok(())
+}
+
 /// A city object apart, and behind it so many groups of the name of the main one, each of which lists that name.
 fn namesakes(alloc: Global, count: u32) -> Result<String, AllocError> {
     let mut objects = String::new(alloc);

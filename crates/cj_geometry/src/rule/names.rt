@@ -7,9 +7,10 @@
 //! ceiling. What is kept is copied to a second array and back, since contracts say nothing of what a selection leaves
 //! behind.
 //!
-//! So n names take about n / 16,000 walks and n * log n comparisons, in whatever order they come and whatever their texts
-//! are, and no memory is asked for. The room takes 12 KiB of the stack for up to 1,000 names, and 512 KiB for more.
-ghost use Rattle.std.specs.Prelude.{◌≡◌, ◌<◌, ◌≤◌, [], length, take, Some, IsSome, IfSome, All};
+//! So n names take about n / `KEPT` walks and n * log n comparisons, in whatever order they come and whatever their texts
+//! are, and no memory is asked for. The room takes 12 KiB of the stack for up to 1,000 names, 72 KiB for an object of up to 64
+//! KiB, and 512 KiB for another.
+ghost use Rattle.std.specs.Prelude.{◌≡◌, ◌<◌, ◌≤◌, ◌^◌, [], length, take, Some, IsSome, IfSome, All};
 ghost use Rattle.std.specs.List.Sorted.{IsPermutation};
 ghost use Rattle.cj_spans.specs.Finding.{least};
 ghost use Rattle.cj_spans.specs.Parts.{members_of, AreInOrder};
@@ -37,10 +38,18 @@ const SOME: usize = 1_000;
 /// How many names the small room has place for: more than it is asked to hold, so one walk gathers all.
 const SMALL_ROOM: usize = 1_024;
 
-/// How many names the room has place for, and how many are kept where it is full.
-const ROOM: usize = 29_120;
+/// An object of more names and of at most so many bytes has a room of middle size.
+const SHORT: usize = 65_536;
 
-const KEPT: usize = 14_560;
+/// How many names that room has place for, and how many are kept where it is full.
+const MIDDLE_ROOM: usize = 4_096;
+
+const MIDDLE_KEPT: usize = 2_048;
+
+/// The same of the large room.
+const LARGE_ROOM: usize = 29_120;
+
+const LARGE_KEPT: usize = 14_560;
 
 /// No later name has the text of this one.
 fn check_later(name: Node, rest: Members, found: &mut Least)
@@ -242,21 +251,14 @@ fn check_in_order(object: Node, room: &mut [Entry], kept: &mut [Entry], found: &
     }
 }
 
-/// The names of an object are distinct, of which there are some. The room takes 12 KiB of the stack.
+/// The names of an object are distinct, of which there are not few, by a room for so many.
+///
+/// It is kept apart, so that an object of fewer names needs none of its room on the stack.
 #[cold]
 #[inline(never)]
-fn check_some(object: Node, found: &mut Least)
-    ensures { found.new ≡ least found.old (distinct (tree object.entry)) }
-{
-    let mut room = [NO_NAME; SMALL_ROOM];
-    let mut kept = [NO_NAME; 1];
-    check_in_order(object, &mut room, &mut kept, found);
-}
-
-/// The names of an object are distinct, of which there are many. The room takes 512 KiB of the stack.
-#[cold]
-#[inline(never)]
-fn check_many(object: Node, found: &mut Least)
+fn check_by<const ROOM: usize, const KEPT: usize>(object: Node, found: &mut Least)
+    requires kept { 0 < KEPT }
+    requires room { KEPT < ROOM × ROOM < 2 ^ 32 }
     ensures { found.new ≡ least found.old (distinct (tree object.entry)) }
 {
     let mut room = [NO_NAME; ROOM];
@@ -283,9 +285,11 @@ pub fn check_names(object: Node, found: &mut Least)
 {
     if object.size() <= FEW_SIZE || !has_more(object, FEW) {
         check_few(object, found);
-    } else if has_more(object, SOME) {
-        check_many(object, found);
+    } else if !has_more(object, SOME) {
+        check_by::<SMALL_ROOM, 1>(object, found);
+    } else if object.bytes().len() <= SHORT {
+        check_by::<MIDDLE_ROOM, MIDDLE_KEPT>(object, found);
     } else {
-        check_some(object, found);
+        check_by::<LARGE_ROOM, LARGE_KEPT>(object, found);
     }
 }

@@ -163,7 +163,7 @@ fn found_behind(
     Ok((found.get(), 1u64.wrapping_add(members.len() as u64)))
 }
 
-/// A name behind so many others is found, or is another one.
+/// A name behind some thousands of others is found, or is another one: in the room of middle size, and in the large one.
 fn meets_behind(
     rt: &impl Abort,
     alloc: Global,
@@ -171,21 +171,23 @@ fn meets_behind(
     name: &str,
     is_repeated: bool,
 ) -> Result<(), AllocError> {
-    let (found, place) = found_behind(rt, alloc, 30_000, rise, name)?;
-    let reason = Reason::DuplicateName;
-    let want = if is_repeated {
-        Some(Finding { place, reason })
-    } else {
-        None
-    };
-    assert_eq!(rt; found, want, "{name}");
+    for count in [6_000, 30_000] {
+        let (found, place) = found_behind(rt, alloc, count, rise, name)?;
+        let reason = Reason::DuplicateName;
+        let want = if is_repeated {
+            Some(Finding { place, reason })
+        } else {
+            None
+        };
+        assert_eq!(rt; found, want, "{name} behind {count}");
+    }
     Ok(())
 }
 
 #[test]
 fn more_names_than_the_room_holds(rt: HostRuntime) -> Result<(), Fail> {
     meets_behind(&rt, rt.alloc(), true, "a", false)?;
-    meets_behind(&rt, rt.alloc(), true, "9999", true)?;
+    meets_behind(&rt, rt.alloc(), true, "5999", true)?;
     meets_behind(&rt, rt.alloc(), false, "a", false)?;
     meets_behind(&rt, rt.alloc(), false, "\\u0031", true)?;
     Ok(())
