@@ -87,16 +87,20 @@ _CALLS = {
     "cityseq_filter": (RawAnswer, _COMMON + [c_char_p, c_size_t] + _ROOM),
     "cityseq_info": (RawAnswer, _COMMON + [POINTER(RawTally)] + _ROOM),
     "cityseq_features": (RawAnswer, _COMMON + [POINTER(RawFeature), c_size_t] + _ROOM),
+    "cityseq_answer_then": (RawAnswer, [POINTER(RawAnswer), POINTER(RawAnswer), c_size_t]),
+    "cityseq_tally_then": (RawTally, [POINTER(RawTally), POINTER(RawTally)]),
+    "cityseq_part_end": (c_size_t, [c_char_p, c_size_t, c_size_t]),
     "cityseq_reason_text": (c_size_t, [c_uint64, c_char_p, c_size_t]),
     "cityseq_type_name": (c_size_t, [c_uint64, c_char_p, c_size_t]),
 }
 
 
-def _pointed(text: Text) -> Any:
-    """What a call takes as the pointer to these bytes, of which nothing is copied."""
-    if isinstance(text, (bytearray, memoryview)) and text:
-        return ctypes.byref(ctypes.c_char.from_buffer(text))
-    return bytes(text)
+def _pointed(text: Text, begin: int = 0) -> Any:
+    """What a call takes as the pointer to these bytes, from one of them on. Nothing is copied,
+    except from the middle of bytes that cannot change."""
+    if isinstance(text, (bytearray, memoryview)) and begin < len(text):
+        return ctypes.byref(ctypes.c_char.from_buffer(text, begin))
+    return bytes(text[begin:] if begin else text)
 
 
 class Library:
@@ -133,6 +137,22 @@ class Library:
         report, records = (RawReport * 1)(), (RawFeature * max(room, 1))()
         answer = self._calls.cityseq_features(*self._given(header, part, request), records, room, report, 0)
         return answer, report, records[:min(answer.kept, room)]
+
+    def answer_then(self, first: RawAnswer, after: RawAnswer, header_length: int) -> RawAnswer:
+        """Returns the answer for a header with two parts, by those for the header with each."""
+        joined: RawAnswer = self._calls.cityseq_answer_then(first, after, header_length)
+        return joined
+
+    def tally_then(self, first: RawTally, after: RawTally) -> RawTally:
+        """Returns the tally for a header with two parts, by those for the header with each."""
+        joined: RawTally = self._calls.cityseq_tally_then(first, after)
+        return joined
+
+    def part_end(self, text: Text, wanted: int, begin: int = 0) -> int:
+        """Returns where a part ends that begins at a byte of a text and has about so many bytes:
+        after the last LF among these, else after the first LF, else 0."""
+        end: int = self._calls.cityseq_part_end(_pointed(text, begin), len(text) - begin, wanted)
+        return begin + end if end else 0
 
     def reason_text(self, code: int) -> str:
         """The words of a reason; none where no reason has this code."""

@@ -13,9 +13,9 @@ from dataclasses import replace
 from functools import partial
 from typing import Any, Callable, Iterator, Optional, Tuple
 
-from ._library import COMPLETE, NO_MEMORY, Text, library
+from ._library import COMPLETE, NO_MEMORY, RawAnswer, Text, library
 from .faults import read_fault
-from .parts import Answer, judge
+from .parts import Answer, judge, whole_lines
 from .query import Work
 from .sources import PIECE
 
@@ -118,7 +118,7 @@ class Places:
             piece = self._file.look(begin, end)
             if piece is None or len(piece) < end - begin:
                 return None
-            found = piece.rfind(b"\n") + 1
+            found = whole_lines(piece)
             if found or begin == self.begin:
                 return begin + found
             look *= 4
@@ -131,7 +131,7 @@ class Places:
             piece = self._file.look(place, min(place + PIECE, last))
             if not piece:
                 return None
-            found = piece.find(b"\n") + 1
+            found = library().part_end(piece, 1)
             if found:
                 return place + found
             place += len(piece)
@@ -174,7 +174,7 @@ class Turns:
                 return room[:count], fault
             if count < len(room):
                 return room[:0], None
-            end = self._room.rfind(b"\n", 0, count) + 1
+            end = whole_lines(room[:count])
             if end or count == self._end - self.begin or count > self._line_limit:
                 return room[:end], None
             self._size = 2 * count if self._end == sys.maxsize else self._end - self.begin
@@ -191,7 +191,8 @@ class Turns:
     def counted(self, work: Work, header: bytes, most: int) -> Optional[Answer]:
         """Judges parts as long as they are valid, until they have so many bytes, and answers what
         comes of them together: nothing where the next part is not valid or not read, or is left."""
-        answer, begin = Answer(lines=1, parts=0), self.begin
+        joined: Optional[RawAnswer] = None
+        begin = self.begin
         with suppress(MemoryError):  # the next part tells of it
             while self.begin < begin + most:
                 part, fault = self._next()
@@ -200,9 +201,11 @@ class Turns:
                 told, _ = library().check(header, part, work.request(header, part), 0)
                 if told.status != COMPLETE:
                     break
-                answer.count(told, len(part))
+                if joined is not None:
+                    told = library().answer_then(joined, told, len(header))
+                joined = told
                 self.begin += len(part)
-        return answer if answer.parts else None
+        return None if joined is None else Answer(joined, size=self.begin - begin)
 
 
 def given(part: Text, fault: Optional[OSError] = None) -> Tuple[Text, Optional[OSError]]:
@@ -216,10 +219,10 @@ def judge_read(work: Work, file: str, header: bytes, read: Read, first: bool) ->
     try:
         part, fault = read()
     except MemoryError:
-        return Answer(NO_MEMORY)
+        return Answer(RawAnswer(NO_MEMORY))
     if fault is None:
         return judge(work, file, header, part, first)
-    answer = judge(work, file, header, part[: bytes(part).rfind(b"\n") + 1], first)
+    answer = judge(work, file, header, part[: whole_lines(part)], first)
     return replace(answer, fault=read_fault(fault, file)) if answer.status == COMPLETE else answer
 
 

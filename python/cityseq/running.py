@@ -264,7 +264,7 @@ class Stream:
     def add(self, answer: Answer) -> None:
         """Joins the answer of the next part."""
         size = self._done(answer)
-        self._joined.add(answer, self._tell)
+        self._joined.add(answer, len(self._header), self._tell)
         if answer.status == NO_MEMORY:
             self._fault = MemoryFault("out of memory", None, self.file)
         if self._output is not None and self._fault is None:

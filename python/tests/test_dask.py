@@ -30,7 +30,7 @@ def by_ranges(path, each, work):
     for left, right in list(cut(begin, seen.size, each) if seen.header.endswith(b"\n") else ()) or [(begin, begin)]:
         if joined.status == 0:
             answer = judge_range(work, path, left, right, first)
-            joined.add(answer, reports.append)
+            joined.add(answer, begin, reports.append)
             output, first = output + answer.output, False
     return output, numbered(reports), joined.lines, joined.kept, joined.refused, joined.peaks
 
