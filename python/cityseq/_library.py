@@ -103,6 +103,22 @@ def _pointed(text: Text, begin: int = 0) -> Any:
     return bytes(text[begin:] if begin else text)
 
 
+def _address(text: Union[bytearray, memoryview]) -> int:
+    return ctypes.addressof(ctypes.c_char.from_buffer(text))
+
+
+def searchable(text: Text) -> Tuple[Union[bytes, bytearray], int, int]:
+    """Returns an object with methods like `find` that has the bytes of a text, and from where to
+    where it has them. A memoryview of a bytearray is not copied."""
+    if not isinstance(text, memoryview):
+        return text, 0, len(text)
+    whole: Any = text.obj
+    if not isinstance(whole, bytearray) or not text:
+        return bytes(text), 0, len(text)
+    begin = _address(text) - _address(whole)
+    return whole, begin, begin + len(text)
+
+
 class Library:
     """The calls of the library. Any number of threads may make them at once."""
 

@@ -7,6 +7,7 @@ from typing import Dict, FrozenSet, Optional, Tuple
 from ._library import LOD_CLASSES, RawTally, library
 
 Range = Optional[Tuple[int, int]]
+MOST_TEXTS = 4_096  # of LoDs
 MOST_UNASKED = 1_000  # so many are kept, and those of one part more
 
 
@@ -44,6 +45,7 @@ class Tally:
     def joined(self, after: "Tally") -> "Tally":
         """Returns the tally of both. The library has no texts of LoDs, so Python joins these."""
         lods = None if self.lods is None or after.lods is None else _added(self.lods, after.lods)
+        lods = None if lods is not None and len(lods) > MOST_TEXTS else lods
         is_full = len(self.unasked) > MOST_UNASKED
         return Tally(
             library().tally_then(self.told, after.told),

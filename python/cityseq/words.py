@@ -35,7 +35,7 @@ class Asked:
     output: str = "-"
     output_dir: Optional[str] = None
     keep_partial: bool = False
-    lods: bool = True
+    lods: bool = False
     files_from: Optional[str] = None
     jobs: Optional[int] = None
     part_size: Optional[int] = None
@@ -263,13 +263,13 @@ each later one that is not valid. See '{0} --help' for the exit status."""
 INFO_AFTER = """\
 Examples:
   {0} info < town.city.jsonl
-  {0} info --no-lods town.city.jsonl.gz
+  {0} info --lods town.city.jsonl.gz
 
 Writes a report where the whole stream is valid, and nothing otherwise: lines and features, scale
 and translation, city objects by type, geometries by LoD, the least and the greatest number of the
 vertices on each axis, and the most bytes, tokens and open containers that were held; of a FILE also
-the box in world coordinates, and the features by the texts of their LoDs. See '{0} --help' for the
-exit status."""
+the box in world coordinates. With --lods it counts the features with each text of an LoD, as 2.2,
+which takes longer. See '{0} --help' for the exit status."""
 COMMANDS = {
     command.name: command
     for command in (
@@ -291,11 +291,7 @@ COMMANDS = {
             (
                 *LIMITS,
                 TREE,
-                Option(
-                    "no-lods",
-                    "Do not count the texts of LoDs, which takes as long again for each",
-                    sets=("lods", False),
-                ),
+                Option("lods", "Count the features with each text of an LoD too"),
                 *RUNS,
                 *SAYS,
             ),

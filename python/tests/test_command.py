@@ -81,8 +81,14 @@ class Commands(InFolder):
             "lines 5", "features 4", "scale 1e-3 1e-3 1e-3", "translate 1e3 2e3 0e0", "type Building 2", "type Road 1",
             "type SolitaryVegetationObject 1", "type BuildingPart 1", "lod 0 1", "lod 1 2", "lod 2 1", "x -5000 50000", "y -10000 5000",
             "z 0 3000", "peak bytes 597", "peak tokens 105"])
-        self.assertEqual(output.decode().splitlines()[17:], ["bbox 995,1990,1050,2005"] + [
-            f'features with lod "{text}" 1' for text in ("0", "1", "1.2", "2.2")])
+        self.assertEqual(output.decode().splitlines()[17:], ["bbox 995,1990,1050,2005"])
+        with_lods = output.decode() + "".join(f'features with lod "{text}" 1\n' for text in ("0", "1", "1.2", "2.2"))
+        self.assertEqual(command("info", "--lods", example("town")), (with_lods.encode(), "", 0))
+        with open(example("town"), "rb") as town:
+            text = town.read()
+        plain = command("info", given=text)[0].decode()
+        self.assertEqual(plain + "bbox 995,1990,1050,2005\n", output.decode())
+        self.assertEqual(command("info", "--lods", given=text)[0].decode().splitlines()[17:], with_lods.splitlines()[18:])
         self.assertEqual(command("info", "-", given=BROKEN)[::2], (b"", 1))
 
     @unittest.skipUnless(os.path.exists(support.PROGRAM), "the program is not built")

@@ -87,7 +87,8 @@ class Objects(Documented):
             self.assertIsNone(objects[1].get("info"))
 
     def test_info(self):
-        (told,), _, status = self.told("info", "--json", example("town"))
+        self.assertIsNone(self.told("info", "--json", example("town"))[0][0]["info"]["lods"])
+        (told,), _, status = self.told("info", "--json", "--lods", example("town"))
         info = told["info"]
         self.assertEqual((status, info["scale"], info["translate"], info["bbox"]), (0, ["0.001"] * 3, [1000, 2000, 0], [995, 1990, 1050, 2005]))
         self.assertEqual((info["x"], info["types"]["Building"], info["lod_classes"]["1"], info["lods"]["2.2"]), ([-5000, 50000], 2, 2, 1))

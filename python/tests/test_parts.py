@@ -159,7 +159,7 @@ class Chance(unittest.TestCase):
             with self.subTest(seed=seed):
                 text = in_one(text, line_limit=1_000, keep_going=True).output or text  # what is valid of it
                 one = in_one(bytes(text), "info", line_limit=1_000, exact_lods=True)
-                many = cityseq.info(text, line_limit=1_000, part_size=chance.randrange(1, 900), jobs=3)
+                many = cityseq.info(text, exact_lods=True, line_limit=1_000, part_size=chance.randrange(1, 900), jobs=3)
                 self.assertEqual((many.features, many.lines), (one.kept, one.lines))
                 if one.end is None:
                     self.assertEqual([many.x, many.y, many.z], list(one.tally.ranges))

@@ -203,13 +203,14 @@ class Runs(InFolder):
             with self.subTest(seed=seed):
                 self.assertEqual(self.filtered(self.file(text), **cut, **options), self.filtered(text, **options))
                 text = self.filtered(text, **options)[0] or text  # what is valid of it
-                one, many = (cityseq.info(source, line_limit=1_000, part_size=cut["part_size"]) for source in (text, self.file(text)))
+                one, many = (cityseq.info(source, exact_lods=True, line_limit=1_000, part_size=cut["part_size"])
+                             for source in (text, self.file(text)))
                 self.assertEqual((one.lines, one.features, one.types, one.lods, one.box),
                                  (many.lines, many.features, many.types, many.lods, many.box))
 
     def test_lods_by_escapes(self):
         path = self.file(HEADER + feature("a").replace(b'"lod"', b'"l\\u006fd"') * 3)
-        self.assertEqual([cityseq.info(path, part_size=size).lods for size in (1, 300, 1_000)], [{"2.2": 3}] * 3)
+        self.assertEqual([cityseq.info(path, exact_lods=True, part_size=size).lods for size in (1, 300, 1_000)], [{"2.2": 3}] * 3)
 
     def test_a_read_that_fails(self):
         text = HEADER + feature("a") * 2_000 + feature("b", last=4) + feature("c") * 2_000

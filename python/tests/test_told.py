@@ -188,24 +188,11 @@ class Infos(support.InFolder):
 
     def test_the_example(self):
         for size in (1, 1 << 20):
-            info = cityseq.info(example("town"), part_size=size, jobs=2)
+            info = cityseq.info(example("town"), part_size=size, jobs=2, exact_lods=True)
             self.assertEqual((info.lines, info.features, info.box), (5, 4, "995,1990,1050,2005"))
             self.assertEqual(info.types, {"Building": 2, "Road": 1, "SolitaryVegetationObject": 1, "BuildingPart": 1})
             self.assertEqual((info.classes, info.lods), ({"0": 1, "1": 2, "2": 1}, {"2.2": 1, "1.2": 1, "0": 1, "1": 1}))
             self.assertEqual((info.x, info.y, info.z), ((-5000, 50000), (-10000, 5000), (0, 3000)))
-
-    def test_the_texts_of_lods(self):
-        text = HEADER + b"".join(feature("b", lod=lod) for lod in ("2.2", "\\u0032.2", "x\\n", "\\ud800"))
-        text += feature("c").replace(b'"lod"', b'"l\\u006Fd"')
-        text += PLAIN.replace(b'"Building"', b'"Building","attributes":{"lod":"none"}')
-        for size in (1, 1 << 20):
-            info = cityseq.info(text, part_size=size)
-            self.assertEqual((info.lods, info.unasked), ({"2.2": 3}, ("x\n", "\ud800")))
-        others = (PLAIN.replace(b'"Building"', b'"Building","attributes":{"lod":"%d"}' % number) for number in range(500))
-        many = HEADER + b"".join(others) + feature("z")
-        self.assertEqual(cityseq.info(many).lods, {"2.2": 1})
-        self.assertIsNone(cityseq.info(HEADER + b"".join(feature("b", lod=str(n)) for n in range(500))).lods)
-        self.assertIsNone(cityseq.info(many, exact_lods=False).lods or None)
 
     def test_the_box_is_taken_and_exact(self):
         header = HEADER.replace(b"[0.001,0.001,0.001]", b"[0.000000000000000001,1e-3,7]").replace(b"[10,20,0]", b"[-0.5E1,99999999999,0]")
