@@ -271,7 +271,7 @@ def features(
 
     Raises:
         InvalidStream: A line is invalid. The features before it came first. With `keep_going` only
-            an invalid header is told so.
+            an invalid header raises it.
         ReadFault: The source cannot be opened or read, or it changes.
         MemoryFault: Memory is short.
         RequestError: An argument has a value that it may not have.
