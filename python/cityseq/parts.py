@@ -174,9 +174,7 @@ class Answer:
         """The most bytes, tokens, and open arrays and objects that were held."""
         return self.told.peak_bytes, self.told.peak_tokens, self.told.peak_depth
 
-    def add(
-        self, answer: "Answer", header_length: int, tell: Callable[[Report], None]
-    ) -> None:
+    def add(self, answer: "Answer", header_length: int, tell: Callable[[Report], None]) -> None:
         """Joins the answer of the next part, and tells its reports as those of the stream."""
         before = self.lines - 1 if self.parts else 0  # the header's line counts once
         for report in answer.reports:
@@ -232,7 +230,8 @@ def _judge(work: Work, file: str, header: bytes, part: Text, first: bool) -> Ans
         answer, raws, output, tally = _call(work, header, part, answer.refused)
     if answer.status not in (COMPLETE, REFUSED, NO_MEMORY):
         raise CityseqError(
-            f"the library answered {answer.status}, code {answer.code}, of a part of {len(part)} bytes"
+            f"the library answered {answer.status}, code {answer.code},"
+            f" of a part of {len(part)} bytes"
         )
     if tally is not None and work.exact_lods and answer.status == COMPLETE:
         from . import lods  # few runs need it

@@ -151,7 +151,7 @@ class Turns:
 
     Each part is judged before the next one is read, because all are read into one room. A part
     begins after the last LF of the part before. If a line is longer than the room, the room becomes
-    twice as long, or as long as all bytes up to the end. The parts after it are as long as the room.
+    twice as long, or as long as all bytes up to the end. Later parts are as long as the room.
     The rest is the same as that of `Places`."""
 
     def __init__(

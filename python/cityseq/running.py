@@ -393,8 +393,8 @@ def results(
 ) -> Results:
     """Yields the result of each stream, in order.
 
-    `submit` begins a task and returns its future. `ahead` tasks are begun before the first is waited
-    for. After the end of a stream its other tasks are cancelled."""
+    `submit` begins a task and returns its future. `ahead` tasks begin before the first is awaited.
+    After the end of a stream its other tasks are cancelled."""
     waiting: Deque[Tuple[Union[Stream, Whole], Any]] = deque()
     last: Optional[Stream] = None
 

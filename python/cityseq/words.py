@@ -178,7 +178,8 @@ QUERY = (
     ),
     Option(
         "bbox",
-        "Keep a feature that reaches into this box, in world coordinates; written --bbox=-5,0,5,9 where it begins with a minus",
+        "Keep a feature that reaches into this box, in world coordinates;"
+        " written --bbox=-5,0,5,9 where it begins with a minus",
         "MINX,MINY,MAXX,MAXY",
     ),
 )
@@ -214,12 +215,14 @@ RUNS = (
 SAYS = (
     Option(
         "json",
-        "Write an object a line, as docs/json.md says: one for each report, and one for each FILE at its end",
+        "Write an object a line, as docs/json.md says: one for each report,"
+        " and one for each FILE at its end",
     ),
     Option("sha256", "Say the SHA-256 of each FILE, with --json"),
     Option(
         "max-reports",
-        "Say so many reports of each FILE, and then how many more there are [default: 1000 on a terminal]",
+        "Say so many reports of each FILE, and then how many more there are"
+        " [default: 1000 on a terminal]",
         "N",
         whole_number(0, MOST_BYTES),
     ),
@@ -247,8 +250,8 @@ Exit status, the greatest of all FILEs:
   70  something that nobody expected: please report it
   130, 143 and 129 tell of an interrupt, and of the signals that ask a process to end.
 
-A CityJSONSeq stream is a CityJSON 2.0 header, then a CityJSONFeature a line. Without FILE it is read
-from standard input, and what is said is what the program says. A FILE may be packed by gzip or
+A CityJSONSeq stream is a CityJSON 2.0 header, then a CityJSONFeature a line. Without FILE it is
+read from standard input, and what is said is what the program says. A FILE may be packed by gzip or
 Zstandard, and - is standard input. docs/RULES.md explains each reason, and docs/GUIDE.md shows the
 command at work."""
 CHECK_AFTER = """\
@@ -268,11 +271,11 @@ Examples:
   {0} filter --keep-going < town.city.jsonl > good.city.jsonl 2> invalid-lines.txt
   {0} filter --bbox=-5,0,5000,5000 --output part.city.jsonl.gz town.city.jsonl.gz
 
-Kept lines leave byte for byte, in order. A feature is kept if it meets each of the options from --id
-to --bbox that is given, or, with --exclude, if it does not; without these all meet them. The run
-stops at the first line that is not valid, with what was kept before it written to standard output,
-and OUTPUT not made. With --keep-going it stops at the first line of the stream alone, and leaves out
-each later one that is not valid. See '{0} --help' for the exit status."""
+Kept lines leave byte for byte, in order. A feature is kept if it meets each of the options from
+--id to --bbox that is given, or, with --exclude, if it does not; without these all meet them. The
+run stops at the first line that is not valid, with what was kept before it written to standard
+output, and OUTPUT not made. With --keep-going it stops at the first line of the stream alone, and
+leaves out each later one that is not valid. See '{0} --help' for the exit status."""
 INFO_AFTER = """\
 Examples:
   {0} info < town.city.jsonl
@@ -411,7 +414,8 @@ class Reader:
         if option.value is None:
             if equals:
                 raise _mistake(
-                    f"unexpected value '{shown(value)}' for '{option.usage}' found; no more were expected",
+                    f"unexpected value '{shown(value)}' for '{option.usage}' found;"
+                    " no more were expected",
                     usage=_usage(self._program, self._command),
                 )
             self._set(option, option.sets[1] if option.sets else True)
