@@ -60,7 +60,9 @@ def streams():
     for seed in range(STREAMS):
         chance, text = random.Random(seed), support.stream_by_chance(seed)
         if seed % 4 == 0:  # a valid one
-            lines = (feature(f"b{number}", chance.choice(("Road", "Bridge"))) for number in range(30))
+            lines = (
+                feature(f"b{number}", chance.choice(("Road", "Bridge"))) for number in range(30)
+            )
             text = HEADER + b"".join(lines)
         yield seed, text, chance
 
@@ -130,7 +132,10 @@ class Tallies(unittest.TestCase):
 
     def test_of_zeros_and_another(self):
         tally = self.tally(HEADER, feature("a") + PLAIN, asked("info"))[1]
-        for joined in (library().tally_then(RawTally(), tally), library().tally_then(tally, RawTally())):
+        for joined in (
+            library().tally_then(RawTally(), tally),
+            library().tally_then(tally, RawTally()),
+        ):
             self.assertEqual(bytes(joined), bytes(tally))
 
 

@@ -1,4 +1,5 @@
-"""The example that loads features into PostgreSQL, over a server of Debian's in a folder of its own."""
+"""The example that loads features into PostgreSQL, over a server of Debian's in a folder of its
+own."""
 import json
 import os
 import subprocess
@@ -13,14 +14,20 @@ import postgres  # noqa: E402
 
 LOADER = os.path.join(support.ROOT, "examples", "load", "load.py")
 TOWN, BROKEN, SAMPLE = (
-    os.path.join(support.ROOT, "examples", f"{name}.city.jsonl") for name in ("town", "broken", "sample")
+    os.path.join(support.ROOT, "examples", f"{name}.city.jsonl")
+    for name in ("town", "broken", "sample")
 )
 COLUMNS = ("line", "id", "types", "lods", "min_x", "max_x", "min_y", "max_y", "min_z", "max_z")
 
 
 def with_id(name, end="\n"):
     """A feature without vertices of any id, as Python's JSON writer escapes it."""
-    told = {"type": "CityJSONFeature", "id": name, "CityObjects": {name: {"type": "Building"}}, "vertices": []}
+    told = {
+        "type": "CityJSONFeature",
+        "id": name,
+        "CityObjects": {name: {"type": "Building"}},
+        "vertices": [],
+    }
     return (json.dumps(told) + end).encode()
 
 
@@ -33,7 +40,9 @@ def read_by_python(text):
         objects = list(told["CityObjects"].values())
         geometries = [each for one in objects for each in one.get("geometry", [])]
         edges = []
-        for axis, scale, shift in zip(zip(*told["vertices"]), transform["scale"], transform["translate"]):
+        for axis, scale, shift in zip(
+            zip(*told["vertices"]), transform["scale"], transform["translate"]
+        ):
             edges += [min(axis) * scale + shift, max(axis) * scale + shift]
         types, lods = {one["type"] for one in objects}, {each["lod"][0] for each in geometries}
         yield line, (number, told["id"], types, lods), edges
@@ -66,15 +75,25 @@ class Loads(InFolder):
 
     def load(self, *words):
         """What the loader writes, says and answers."""
-        ran = subprocess.run([sys.executable, LOADER, self.database, *map(str, words)], timeout=60, text=True,
-                             capture_output=True, env={**os.environ, "PYTHONPATH": os.path.join(support.ROOT, "python")})
+        ran = subprocess.run(
+            [sys.executable, LOADER, self.database, *map(str, words)],
+            timeout=60,
+            text=True,
+            capture_output=True,
+            env={**os.environ, "PYTHONPATH": os.path.join(support.ROOT, "python")},
+        )
         return ran.stdout, ran.stderr, ran.returncode
 
     def rows(self):
         """The features that are loaded, with their lines as bytes."""
-        told = self.select(f"SELECT {', '.join(COLUMNS)}, convert_to(feature::text, 'UTF8') FROM features"
-                           " ORDER BY stream, line")
-        return [(bytes(row[-1]), (row[0], row[1], set(row[2]), set(row[3])), list(row[4:10])) for row in told]
+        told = self.select(
+            f"SELECT {', '.join(COLUMNS)}, convert_to(feature::text, 'UTF8') FROM features"
+            " ORDER BY stream, line"
+        )
+        return [
+            (bytes(row[-1]), (row[0], row[1], set(row[2]), set(row[3])), list(row[4:10]))
+            for row in told
+        ]
 
     def test_each_column_is_what_python_reads(self):
         self.assertEqual(self.load(SAMPLE), ("loaded features=120\n", "", 0))
@@ -91,7 +110,9 @@ class Loads(InFolder):
     def test_a_query_selects(self):
         self.assertEqual(self.load("--type", "Road,Bridge", TOWN, SAMPLE)[0], "loaded features=1\n")
         self.assertEqual(self.select("SELECT id, types FROM features"), [("road-1", ["Road"])])
-        self.assertEqual(self.load("--bbox=995,1990,1050,2005", "--lod", "1,1.2", TOWN)[0], "loaded features=2\n")
+        self.assertEqual(
+            self.load("--bbox=995,1990,1050,2005", "--lod", "1,1.2", TOWN)[0], "loaded features=2\n"
+        )
 
     def test_all_or_nothing(self):
         self.assertEqual(self.load(TOWN)[2], 0)
@@ -102,7 +123,9 @@ class Loads(InFolder):
         self.assertIn("line 3, byte 144: 25 vertex index out of range", said)
         self.assertEqual(self.rows(), before)
         self.assertEqual(self.load(SAMPLE, self.folder / "none")[2], 1)
-        self.assertEqual((self.rows(), self.select("SELECT count(*) FROM streams")), (before, [(1,)]))
+        self.assertEqual(
+            (self.rows(), self.select("SELECT count(*) FROM streams")), (before, [(1,)])
+        )
 
     def test_a_fault_after_rows_were_sent(self):
         path = self.file(HEADER + feature("a") * 250 + b"{}\n")
@@ -110,9 +133,22 @@ class Loads(InFolder):
         self.assertEqual(self.select("SELECT to_regclass('features')"), [(None,)])
 
     def test_texts_that_are_hostile(self):
-        ids = ["\\N", "\\.", "a\tb\nc\rd\\", "'; DROP TABLE features; --", "{\"", "\u202e", "", "\u0000", "\ud800", "築🏠"]
+        ids = [
+            "\\N",
+            "\\.",
+            "a\tb\nc\rd\\",
+            "'; DROP TABLE features; --",
+            '{"',
+            "\u202e",
+            "",
+            "\u0000",
+            "\ud800",
+            "築🏠",
+        ]
         lines = [with_id(each, end) for each, end in zip(ids, ("\n", " \t\n", "\r\n", "\n") * 3)]
-        self.assertEqual(self.load(self.file(HEADER + b"".join(lines)))[0], f"loaded features={len(ids)}\n")
+        self.assertEqual(
+            self.load(self.file(HEADER + b"".join(lines)))[0], f"loaded features={len(ids)}\n"
+        )
         found = self.rows()
         self.assertEqual([row[1][1] for row in found],
                          [None if each in ("\u0000", "\ud800") else each for each in ids])
@@ -120,12 +156,17 @@ class Loads(InFolder):
         self.assertEqual({edge for row in found for edge in row[2]}, {None})
 
     def test_coordinates_of_many_digits(self):
-        header = HEADER.replace(b"[0.001,0.001,0.001]", b"[1e-300,1,1]").replace(b"[10,20,0]", b"[1e300,1e308,0]")
+        header = HEADER.replace(b"[0.001,0.001,0.001]", b"[1e-300,1,1]").replace(
+            b"[10,20,0]", b"[1e300,1e308,0]"
+        )
         self.assertEqual(self.load(self.file(header + feature("a")))[0], "loaded features=1\n")
         self.assertEqual(self.rows()[0][2], [None] * 6)
 
     def test_streams_of_no_feature(self):
-        self.assertEqual(self.load(self.file(HEADER), self.file(HEADER + PLAIN, "b.jsonl.gz"))[0], "loaded features=1\n")
+        self.assertEqual(
+            self.load(self.file(HEADER), self.file(HEADER + PLAIN, "b.jsonl.gz"))[0],
+            "loaded features=1\n",
+        )
         self.assertEqual(self.select("SELECT count(*) FROM streams"), [(1,)])
 
 

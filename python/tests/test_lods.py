@@ -25,9 +25,31 @@ INSTANCE = (
     '{{"type":"GeometryInstance","template":{},"boundaries":[0],'
     '"transformationMatrix":[1,0,0,0,0,1,0,0,0,0,1,0,0,0,0,1]}}'
 )
-TEXTS = ("0", "1.2", "1.3", "2.2", "2.20", "", "x", "\\u0032.2", "\\ud83c\\udfe0", "築", 'a\\"lod', "\\\\")
-ATTRIBUTES = ('"lod":"2.2"', '"lod":"none"', '"lod":3', '"lod":["lod","lod"]', '"a\\"lod":"2.2"', '"a":"lod"',
-              '"a":"\\"lod\\":\\"2.2\\""', '"LOD":"1"', '"a":{"lod":{"lod":"0"}}')
+TEXTS = (
+    "0",
+    "1.2",
+    "1.3",
+    "2.2",
+    "2.20",
+    "",
+    "x",
+    "\\u0032.2",
+    "\\ud83c\\udfe0",
+    "築",
+    'a\\"lod',
+    "\\\\",
+)
+ATTRIBUTES = (
+    '"lod":"2.2"',
+    '"lod":"none"',
+    '"lod":3',
+    '"lod":["lod","lod"]',
+    '"a\\"lod":"2.2"',
+    '"a":"lod"',
+    '"a":"\\"lod\\":\\"2.2\\""',
+    '"LOD":"1"',
+    '"a":{"lod":{"lod":"0"}}',
+)
 
 
 def building(geometries, attributes=""):
@@ -70,10 +92,14 @@ def by_python(text):
     told, counts = json.loads(header), Counter()
     for line in filter(bytes.strip, lines):
         templates = told.get("geometry-templates", {}).get("templates", [])
-        counts.update({
-            templates[each["template"]]["lod"] if each["type"] == "GeometryInstance" else each["lod"]
-            for each in geometries_of(line)
-        })
+        counts.update(
+            {
+                templates[each["template"]]["lod"]
+                if each["type"] == "GeometryInstance"
+                else each["lod"]
+                for each in geometries_of(line)
+            }
+        )
     return dict(counts)
 
 
@@ -112,7 +138,9 @@ class Chance(unittest.TestCase):
             wanted = (by_python(text), ())
             for size in (chance.randrange(1, 400), chance.randrange(400, 4_000), 1 << 20):
                 with self.subTest(seed=seed, size=size):
-                    self.assertEqual(counted(text, part_size=size, jobs=chance.randrange(1, 4)), wanted)
+                    self.assertEqual(
+                        counted(text, part_size=size, jobs=chance.randrange(1, 4)), wanted
+                    )
             self.assertEqual(by_queries(text), wanted)
 
     def test_windows_of_any_length(self):
@@ -133,29 +161,45 @@ class Ways(unittest.TestCase):
 
     def test_one_pass_is_enough(self):
         four = [POINTS.format(text) for text in ("0", "1.2", "1.3", "2.2")]
-        for text in (HEADER, HEADER + PLAIN, HEADER + building(four) * 9,
-                     HEADER + building(four, '"a":"lod","LoD":"1","lod":2'), WITH_TEMPLATES + building(four),
-                     HEADER + building(four, '"street":"Stra\\u00dfe\\n"'),
-                     HEADER.replace(b'"2.0"', b'"2.0","title":"\\u00e9"') + building(four)):
+        for text in (
+            HEADER,
+            HEADER + PLAIN,
+            HEADER + building(four) * 9,
+            HEADER + building(four, '"a":"lod","LoD":"1","lod":2'),
+            WITH_TEMPLATES + building(four),
+            HEADER + building(four, '"street":"Stra\\u00dfe\\n"'),
+            HEADER.replace(b'"2.0"', b'"2.0","title":"\\u00e9"') + building(four),
+        ):
             self.assertTrue(self.is_by_one_pass(text), text)
 
     def test_what_is_no_lod(self):
         two, other = [POINTS.format("1"), SPACED.format("2.2")], INSTANCE.format(0)
-        for text in (HEADER + building(two, '"lod":"1"'), HEADER + building([ESCAPED.format("1")], '"lod":"1"'),
-                     WITH_TEMPLATES + building([other], '"lod":"7"'), WITH_TEMPLATES + building([*two, other]),
-                     WITH_TEMPLATES.replace(b"geometry-t", b"geometry\\u002dt") + building([other], '"lod":"7"'),
-                     WITH_TEMPLATES + building([other.replace("GeometryI", "Geometry\\u0049")], '"lod":"7"')):
+        for text in (
+            HEADER + building(two, '"lod":"1"'),
+            HEADER + building([ESCAPED.format("1")], '"lod":"1"'),
+            WITH_TEMPLATES + building([other], '"lod":"7"'),
+            WITH_TEMPLATES + building([*two, other]),
+            WITH_TEMPLATES.replace(b"geometry-t", b"geometry\\u002dt")
+            + building([other], '"lod":"7"'),
+            WITH_TEMPLATES + building([other.replace("GeometryI", "Geometry\\u0049")], '"lod":"7"'),
+        ):
             self.assertFalse(self.is_by_one_pass(text), text)
 
     def test_parts_of_each_kind_are_joined(self):
-        text = HEADER + building([POINTS.format("1")]) * 40 + building([POINTS.format("2")], '"lod":"1"') * 40
+        text = (
+            HEADER
+            + building([POINTS.format("1")]) * 40
+            + building([POINTS.format("2")], '"lod":"1"') * 40
+        )
         for size in (300, 3_000):
             self.assertEqual(counted(text, part_size=size), ({"1": 40, "2": 40}, ()))
 
 
 class Texts(unittest.TestCase):
     def test_texts_that_no_query_can_ask_for(self):
-        text = HEADER + b"".join(feature("b", lod=lod) for lod in ("2.2", "\\u0032.2", "x\\n", "\\ud800"))
+        text = HEADER + b"".join(
+            feature("b", lod=lod) for lod in ("2.2", "\\u0032.2", "x\\n", "\\ud800")
+        )
         text += feature("c").replace(b'"lod"', b'"l\\u006Fd"')
         text += PLAIN.replace(b'"Building"', b'"Building","attributes":{"lod":"none"}')
         for size in (1, 1 << 20):
@@ -169,7 +213,9 @@ class Texts(unittest.TestCase):
             text = HEADER + b"".join(feature("b", lod=str(number)) for number in range(count))
             for size in (10_000, 1 << 22):
                 found = counted(text, part_size=size)[0]
-                self.assertEqual(None if found is None else len(found), count if count <= MOST_TEXTS else None)
+                self.assertEqual(
+                    None if found is None else len(found), count if count <= MOST_TEXTS else None
+                )
 
     def test_they_are_counted_on_request(self):
         self.assertIsNone(cityseq.info(HEADER + feature("a")).lods)
