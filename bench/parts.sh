@@ -46,9 +46,9 @@ def run(words):
 base = [program, "check"]
 python = [sys.executable, "-m", "cityseq"]
 cases = {f"program, {name}": [program, name] for name in ("check", "filter", "info")}
-for name, jobs, options in (("check", (1, 2, 4), []), ("filter", (1, 4), []), ("info", (1, 4), ["--no-lods"]), ("info", (4,), [])):
+for name, jobs, options in (("check", (1, 2, 4), []), ("filter", (1, 4), []), ("info", (1, 4), []), ("info", (1, 4), ["--lods"])):
     for count in jobs:
-        shown = name if options or name != "info" else "info and LoDs"
+        shown = " ".join([name, *options])
         cases[f"{shown}, {count} jobs"] = [*python, name, "--jobs", str(count), *options, stream]
 if not set(wanted) <= set(cases):
     sys.exit(f"the cases are: {'; '.join(cases)}")

@@ -50,7 +50,7 @@ _cityseq_run() {
       ;;
     info)
       options='
-        --line-limit --depth --tree --no-lods --files-from --jobs --part-size --json --sha256
+        --line-limit --depth --tree --lods --files-from --jobs --part-size --json --sha256
         --max-reports --summary --progress --quiet -h --help'
       files=yes
       ;;

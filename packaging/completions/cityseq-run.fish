@@ -65,7 +65,7 @@ complete -c cityseq-run -n '__fish_seen_subcommand_from info' -F
 complete -c cityseq-run -n '__fish_seen_subcommand_from info' -l line-limit -x -d 'Refuse a line that is longer'
 complete -c cityseq-run -n '__fish_seen_subcommand_from info' -l depth -x -d 'Refuse a line with more arrays and objects open at once'
 complete -c cityseq-run -n '__fish_seen_subcommand_from info' -l tree -d 'Refuse a feature of which a city object is not reached from the main one'
-complete -c cityseq-run -n '__fish_seen_subcommand_from info' -l no-lods -d 'Do not count the texts of LoDs'
+complete -c cityseq-run -n '__fish_seen_subcommand_from info' -l lods -d 'Count the features with each text of an LoD too'
 complete -c cityseq-run -n '__fish_seen_subcommand_from info' -l files-from -r -F -d 'Read the names of files from this file'
 complete -c cityseq-run -n '__fish_seen_subcommand_from info' -l jobs -x -d 'Judge so many parts at once'
 complete -c cityseq-run -n '__fish_seen_subcommand_from info' -l part-size -x -d 'Judge parts of so many bytes'

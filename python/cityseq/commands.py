@@ -120,7 +120,7 @@ def _work(wanted: Asked) -> Work:
         )
     return asked(
         wanted.command,
-        exact_lods=wanted.command == "info" and wanted.lods and not wanted.is_plain,
+        exact_lods=wanted.command == "info" and wanted.lods,
         **common,
     )
 
