@@ -1,7 +1,7 @@
 #!/usr/bin/env bash
-# Installs the Debian packages that some tests need: distributed, zstandard, mypy and geopandas for Python, valgrind, for what
-# packages are made of mandoc, pkg-config and two shells, and for indexes GDAL and nginx. It says what it could not install, and its status is 0 in any case. What needs
-# such a package is left out then, and that is said too.
+# Installs the Debian packages that some tests need: distributed, zstandard, mypy and geopandas for Python, valgrind, GDAL, nginx,
+# and for what packages are made of mandoc, pkg-config and two shells. It says what it could not install, and its status is 0 in
+# any case. What needs such a package is left out then, and that is said too.
 set -u
 missing=()
 for package in python3-distributed python3-zstandard python3-mypy python3-geopandas python3-gdal gdal-bin nginx-light \

@@ -137,7 +137,8 @@ class Library:
     def records(
         self, header: bytes, part: Text, request: RawRequest, room: memoryview, reports_room: int
     ) -> Tuple[RawAnswer, RawReports, bytes]:
-        """The same, where the records are written to this room. The third are the bytes of those that there was room for."""
+        """The same, where the records are written to this room. The third are the bytes of those
+        that there was room for."""
         reports, size = (RawReport * max(reports_room, 1))(), ctypes.sizeof(RawFeature)
         given, most = self._given(header, part, request), len(room) // size
         first = ctypes.byref(RawFeature.from_buffer(room))
