@@ -1,12 +1,12 @@
 #!/usr/bin/env bash
-# Installs the Debian packages that some tests need: distributed, zstandard, mypy and psycopg2 for
-# Python, PostgreSQL and valgrind. Tests of packages need mandoc, pkg-config and two shells. It prints
-# what it could not install, and its status is 0 in any case. A test without such a package is left
-# out, and says so.
+# Installs the Debian packages that some tests need: distributed, zstandard, mypy, psycopg2 and geopandas
+# for Python, PostgreSQL, GDAL, nginx and valgrind. Tests of packages need mandoc, pkg-config and two
+# shells. It prints what it could not install, and its status is 0 in any case. A test without such a
+# package is left out, and says so.
 set -u
 missing=()
-for package in python3-distributed python3-zstandard python3-mypy python3-psycopg2 postgresql valgrind mandoc pkg-config zsh \
-  fish; do
+for package in python3-distributed python3-zstandard python3-mypy python3-psycopg2 python3-geopandas python3-gdal \
+  gdal-bin nginx-light postgresql valgrind mandoc pkg-config zsh fish; do
   dpkg -s "$package" > /dev/null 2>&1 || missing+=("$package")
 done
 [ ${#missing[@]} = 0 ] && exit 0

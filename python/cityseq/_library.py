@@ -230,6 +230,17 @@ class Library:
         end: int = self._calls.cityseq_part_end(_pointed(text, begin), len(text) - begin, wanted)
         return begin + end if end else 0
 
+    def records(
+        self, header: bytes, part: Text, request: RawRequest, room: memoryview, reports_room: int
+    ) -> Tuple[RawAnswer, RawReports, bytes]:
+        """The same, where the records are written to this room. The third are the bytes of those
+        that there was room for."""
+        reports, size = (RawReport * max(reports_room, 1))(), ctypes.sizeof(RawFeature)
+        given, most = self._given(header, part, request), len(room) // size
+        first = ctypes.byref(RawFeature.from_buffer(room))
+        answer = self._calls.cityseq_features(*given, first, most, reports, reports_room)
+        return answer, reports, bytes(room[:min(answer.kept, most) * size])
+
     def reason_text(self, code: int) -> str:
         """The words of a reason; none where no reason has this code."""
         return self._text(self._calls.cityseq_reason_text, code)

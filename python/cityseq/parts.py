@@ -53,6 +53,11 @@ class Cutter:
         self._line_limit, self._keep_going = line_limit, keep_going
         self._is_waiting = False
 
+    @property
+    def left(self) -> int:
+        """How many bytes have been read behind the part that was given last."""
+        return len(self._rest)
+
     def _is_idle(self, size: int) -> bool:
         """Whether fewer bytes are there, and nothing has come for some time. It is said once before
         each read."""
@@ -216,7 +221,7 @@ def judge(work: Work, file: str, header: bytes, part: Text, first: bool) -> Answ
         return Answer(RawAnswer(NO_MEMORY))
 
 
-def _held(part: Text) -> Union[bytes, bytearray]:
+def held(part: Text) -> Union[bytes, bytearray]:
     """The bytes of a part, which may be lent for as long as it is judged, to be kept."""
     return bytes(part) if isinstance(part, memoryview) else part
 
@@ -237,7 +242,7 @@ def _judge(work: Work, file: str, header: bytes, part: Text, first: bool) -> Ans
         from . import lods  # few runs need it
 
         lods.count(tally, work, header, part)
-    told = _held(part) if answer.refused or answer.status == REFUSED else b""
+    told = held(part) if answer.refused or answer.status == REFUSED else b""
     return Answer(
         answer,
         end=next(describe([answer], header, told, file)) if answer.status == REFUSED else None,
