@@ -51,7 +51,7 @@ class Asked:
 
     @property
     def is_plain(self) -> bool:
-        """Whether standard input alone is read, and all is said as the program says it."""
+        """Whether only standard input is read. Then all output is as the program's."""
         no_files = not self.files and self.files_from is None
         return no_files and self.index is None and self.command != "index"
 
