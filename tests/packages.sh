@@ -8,11 +8,24 @@ for package in python3-distributed python3-zstandard python3-mypy python3-geopan
   valgrind mandoc pkg-config zsh fish; do
   dpkg -s "$package" > /dev/null 2>&1 || missing+=("$package")
 done
-[ ${#missing[@]} = 0 ] && exit 0
+# for the page of a report
+for package in python3-jinja2 python3-matplotlib python3-jsonschema; do
+  dpkg -s "$package" > /dev/null 2>&1 || missing+=("$package")
+done
+# A browser loads the page. It takes 330 MB, and is installed by itself: the others do without it.
+browser=(chromium)
+command -v chromium > /dev/null && browser=()
+[ $((${#missing[@]} + ${#browser[@]})) = 0 ] && exit 0
 if [ "$(id -u)" != 0 ] || ! command -v apt-get > /dev/null; then
-  echo "not installed, as this user may not: ${missing[*]}"
+  echo "not installed, as this user may not: ${missing[*]} ${browser[*]}"
   exit 0
 fi
 export DEBIAN_FRONTEND=noninteractive
-{ timeout 120 apt-get update && timeout 480 apt-get install -y --no-install-recommends "${missing[@]}"; } > /dev/null 2>&1 ||
-  echo "not installed, as that failed: ${missing[*]}"
+# Installs packages, or says that this failed.
+install() {
+  [ $# = 0 ] || timeout 480 apt-get install -y --no-install-recommends "$@" > /dev/null 2>&1 ||
+    echo "not installed, as that failed: $*"
+}
+timeout 120 apt-get update > /dev/null 2>&1
+install "${missing[@]}"
+install "${browser[@]}"

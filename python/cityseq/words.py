@@ -50,12 +50,13 @@ class Asked:
     index: Optional[str] = None
     base: Optional[str] = None
     show: Optional[str] = None
+    title: Optional[str] = None
 
     @property
     def is_plain(self) -> bool:
         """Whether standard input alone is read, and all is said as the program says it."""
         no_files = not self.files and self.files_from is None
-        return no_files and self.index is None and self.command != "index"
+        return no_files and self.index is None and self.command not in ("index", "report")
 
 
 class Mistake(RequestError):
@@ -239,6 +240,18 @@ INDEX_OPTIONS = (
     Option("output", "Write the index to this file once all streams were read", "OUTPUT"),
     Option("show", "Say what an index covers, and which ids it has more than once", "INDEX"),
 )
+PAGE = (
+    Option(
+        "output",
+        "Write the page to this file, and all reports next to it to NAME.reports.csv and .jsonl",
+        "OUTPUT",
+    ),
+    Option("title", "Head the page with these words [default: the name of OUTPUT]", "TITLE"),
+)
+PAGE_SAYS = (
+    Option("json", "Write all facts as one object, as docs/report.schema.json says"),
+    *(option for option in SAYS if option.name in ("progress", "quiet")),
+)
 STATUSES = """\
 Exit status, the greatest of all FILEs:
   0   the stream is valid up to its end
@@ -297,6 +310,15 @@ Judges each FILE as check does. OUTPUT is a GeoPackage with the extent of each f
 show, and with the place of its line. No index is left where a stream is not valid. With
 --keep-going each line that is not valid is left out, and listed in the table reports. An index is
 of the files as they are: build it again where one changes. See '{0} --help' for the exit status."""
+REPORT_AFTER = """\
+Examples:
+  {0} report --output delivery.html north.city.jsonl.gz south.city.jsonl.gz
+  {0} report --json delivery/*.gz > delivery.json
+
+Judges each FILE as check --keep-going does. OUTPUT is one page of HTML, which needs nothing else: is
+each FILE valid, what is in it, where that is on a map, which lines are not valid and how to fix them,
+which ids appear twice. The page needs Jinja2 and matplotlib. Its status is that of check. See
+'{0} --help' for the exit status."""
 COMMANDS = {
     command.name: command
     for command in (
@@ -333,6 +355,12 @@ COMMANDS = {
             "Write an index of streams, by which filter cuts them: a GeoPackage",
             (*LIMITS, KEEP_GOING, TREE, *INDEX_OPTIONS, *RUNS, *INDEX_SAYS),
             INDEX_AFTER,
+        ),
+        Command(
+            "report",
+            "Write a page about a delivery: verdicts, contents, a map, and what is invalid",
+            (*LIMITS, TREE, *PAGE, *RUNS, *PAGE_SAYS),
+            REPORT_AFTER,
         ),
         Command(
             "explain",

@@ -1,4 +1,4 @@
-"""The page about a delivery, of facts that no stream was read for: its text, its size, its drawings, and what is beside it."""
+"""The page about a delivery, of facts that no stream was read for: its text, its size, its drawings, and what is next to it."""
 import csv
 import html.parser
 import json
@@ -113,7 +113,7 @@ class Page(unittest.TestCase):
     def test_each_table_has_heads_of_columns(self):
         text = page.html(made_up.usual())
         for head in re.findall(r"<thead>(.*?)</thead>", text, re.DOTALL):
-            self.assertEqual(len(re.findall("<th ", head)), len(re.findall('scope="col"', head)))
+            self.assertEqual(len(re.findall(r"<th\b", head)), len(re.findall('<th scope="col"', head)))
 
     def test_ids_are_those_of_one_element(self):
         ids = [value for _, name, value in Elements(page.html(made_up.usual())).attributes if name == "id"]
@@ -266,7 +266,7 @@ class Beside(InFolder):
 
     def test_names(self):
         for name, wanted in (("a/delivery.html", "a/delivery"), ("x.HTM", "x"), ("x", "x"), ("x.txt", "x.txt")):
-            self.assertEqual(lists.names_beside(name), (f"{wanted}.reports.csv", f"{wanted}.reports.jsonl"))
+            self.assertEqual(lists.names_of_lists(name), (f"{wanted}.reports.csv", f"{wanted}.reports.jsonl"))
 
     def test_what_is_not_whole_leaves_nothing(self):
         made = lists.Lists(str(self.folder / "page.html"))

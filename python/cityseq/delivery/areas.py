@@ -115,6 +115,11 @@ class Place:
         else:
             self._extents = []
 
+    @property
+    def is_marked(self) -> bool:
+        """Whether enough invalid features are marked."""
+        return len(self._spots) >= MOST_SPOTS
+
     def mark(self, spots: List[Point]) -> None:
         """Takes the places of invalid features, in world coordinates."""
         spots = [spot for spot in spots if all(abs(edge) < FARTHEST for edge in spot)]

@@ -11,7 +11,7 @@ from .facts import Area, Point, Rectangle
 
 np: Any = needed("numpy")
 
-LEFT, BOTTOM = 84, 28  # pixels beside and below a map, for its numbers
+LEFT, BOTTOM = 84, 28  # pixels left of and below a map, for its numbers
 FLATTEST, STEEPEST = 0.4, 1.0  # height of a map, as a share of its width
 MARGIN = 0.04  # of a map, around what lies in it
 LEAST = 1.6  # pixels of the smallest extent that is drawn

@@ -204,7 +204,8 @@ class Delivery:
 
     Attributes:
         reports: The first invalid lines, for the table in the page. `invalid` counts all.
-        beside: The names of the files beside the page that have all reports; none without a page.
+        report_files: The names of the files next to the page that have all reports. There are none
+            without a page.
     """
 
     title: str
@@ -214,7 +215,7 @@ class Delivery:
     reasons: List[Reason] = field(default_factory=list)
     repeated: Repeated = field(default_factory=Repeated)
     reports: List[Report] = field(default_factory=list)
-    beside: Tuple[str, ...] = ()
+    report_files: Tuple[str, ...] = ()
 
     @property
     def status(self) -> int:

@@ -1,4 +1,4 @@
-"""All reports of a delivery, in two files beside the page: for spreadsheets and for programs."""
+"""All reports of a delivery, in two files next to the page: for spreadsheets and for programs."""
 from __future__ import annotations
 
 import csv
@@ -19,8 +19,8 @@ TOGETHER = 1 << 16  # so many signs are written at once
 MARK = "\ufeff"  # by which spreadsheets know UTF-8
 
 
-def names_beside(page: str) -> Tuple[str, str]:
-    """Returns the names of the CSV file and of the JSON lines beside a page."""
+def names_of_lists(page: str) -> Tuple[str, str]:
+    """Returns the names of the CSV file and of the JSON lines next to a page."""
     stem, suffix = os.path.splitext(page)
     start = stem if suffix.lower() in (".html", ".htm") else page
     return f"{start}.reports.csv", f"{start}.reports.jsonl"
@@ -50,7 +50,7 @@ class Lists:
         Raises:
             WriteFault: One cannot be opened.
         """
-        self.names = names_beside(page)
+        self.names = names_of_lists(page)
         self._csv, self._json = (Writer(name) for name in self.names)
         try:
             self._csv.write(b"")  # so that a folder that takes nothing is told at once

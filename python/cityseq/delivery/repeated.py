@@ -1,7 +1,8 @@
 """Finds the ids that several features of a delivery have, in bounded memory.
 
-Each id goes to a temporary file, and a record with its hash to another one. At the end the records
-are sorted by their hash, so many at once as memory allows."""
+Each id goes to a temporary file, and a record with its digest to another one. At the end the
+records are sorted by their digests, as many at once as memory allows. Digests have 128 bits: no two
+ids are known that have the same."""
 from __future__ import annotations
 
 import tempfile
@@ -14,21 +15,19 @@ from .facts import Repeated, RepeatedId
 
 np: Any = needed("numpy")
 
-RECORD = np.dtype([("hash", "i8"), ("line", "u8"), ("at", "u8"), ("file", "u4"), ("length", "u4")])
+RECORD = np.dtype([("high", "u8"), ("low", "u8"), ("line", "u8"), ("at", "u8"), ("file", "u4"),
+                   ("length", "u4")])
+DIGEST = 16  # bytes
 AT_ONCE = 1 << 20  # records that are sorted or read at once
-LONGEST = 256  # bytes of an id that is kept whole
-BEGINNING = 200  # bytes of a longer id that are kept, with a digest of the whole
+LONGEST = 256  # bytes of an id that are kept
 MOST_IDS = 100  # so many ids are listed,
 MOST_PLACES = 10  # and so many places of each
 Places = List[Tuple[int, int]]  # number of the file, and line
-Group = Tuple[int, Any]  # how many features have the hash, and the records of the first ones
+Group = Tuple[int, Any]  # how many features have the id, and the records of the first ones
 
 
-def key_of(id: bytes) -> bytes:
-    """Returns a short text that no other id has: the id itself, or its beginning and a digest."""
-    if len(id) < LONGEST:
-        return id
-    return id[:BEGINNING] + blake2b(id, digest_size=LONGEST - BEGINNING).digest()
+def _digest(id: bytes) -> bytes:
+    return blake2b(id, digest_size=DIGEST).digest()
 
 
 class Ids:
@@ -55,20 +54,21 @@ class Ids:
         Raises:
             WriteFault: The temporary folder takes no more.
         """
-        keys = list(map(key_of, ids))
-        records = np.empty(len(keys), RECORD)
-        records["hash"] = np.fromiter(map(hash, keys), "i8", len(keys))
-        records["length"] = np.fromiter(map(len, keys), "u4", len(keys))
-        ends = self._at + np.cumsum(records["length"], dtype="u8")
+        digests = np.frombuffer(b"".join(map(_digest, ids)), "u8").reshape(-1, 2)
+        texts = [id[:LONGEST] for id in ids]
+        records = np.empty(len(ids), RECORD)
+        records["high"], records["low"] = digests[:, 0], digests[:, 1]
+        records["length"] = np.fromiter(map(len, texts), "u4", len(ids))
+        ends = np.cumsum(records["length"], dtype="u8") + np.uint64(self._at)
         records["at"] = ends - records["length"]
         records["line"], records["file"] = lines, file
         try:
-            self._texts.write(b"".join(keys))
+            self._texts.write(b"".join(texts))
             self._records.write(records.tobytes())
         except OSError as fault:
             raise write_fault(fault, tempfile.gettempdir()) from fault
-        self._count += len(keys)
-        self._at = int(ends[-1]) if len(keys) else self._at
+        self._count += len(ids)
+        self._at = int(ends[-1]) if len(ids) else self._at
 
     def repeated(self, names: List[str]) -> Repeated:
         """Returns the ids that appear twice or more. The names are those of the files, by number.
@@ -88,15 +88,16 @@ class Ids:
         return Repeated(ids, features, told)
 
     def _groups(self) -> Iterator[Tuple[int, int, List[Group]]]:
-        """Yields for each share of the hashes how many appear twice, in how many features, and
+        """Yields for each share of the digests how many appear twice, in how many features, and
         the first ones."""
         shares = 1 + self._count // AT_ONCE
         for share in range(shares):
             records = np.concatenate(list(self._share(share, shares)) or [np.empty(0, RECORD)])
-            records = records[np.argsort(records["hash"], kind="stable")]
-            hashes = records["hash"]
-            begins = np.flatnonzero(np.append(True, hashes[1:] != hashes[:-1])[: len(hashes)])
-            counts = np.diff(np.append(begins, len(hashes)))
+            records = records[np.lexsort((records["low"], records["high"]))]
+            high, low = records["high"], records["low"]
+            differs = (high[1:] != high[:-1]) | (low[1:] != low[:-1])
+            begins = np.flatnonzero(np.append(True, differs)[: len(records)])
+            counts = np.diff(np.append(begins, len(records)))
             twice = np.flatnonzero(counts > 1)
             lines = records["line"][begins[twice]].astype("i8")
             order = np.lexsort((lines, records["file"][begins[twice]]))[:MOST_IDS]
@@ -107,25 +108,23 @@ class Ids:
             yield len(twice), int(counts[twice].sum()), first
 
     def _share(self, share: int, shares: int) -> Iterator[Any]:
-        """Yields the records whose hash is in a share of all, in the order of files and lines."""
+        """Yields the records whose digest is in a share of all, in the order of files and lines."""
         self._records.seek(0)
         while True:
             piece = self._records.read(AT_ONCE * RECORD.itemsize)
             if not piece:
                 return
             records = np.frombuffer(piece, RECORD)
-            yield records[records["hash"] % shares == share]
+            yield records[records["high"] % np.uint64(shares) == share]
 
     def _told(self, group: Group, names: List[str]) -> RepeatedId:
         count, records = group
         first = records[0]
         self._texts.seek(int(first["at"]))
-        key = self._texts.read(int(first["length"]))
-        text = key.decode("utf-8", "surrogatepass") if len(key) < LONGEST else _beginning(key)
+        kept = self._texts.read(int(first["length"]))
+        if len(kept) < LONGEST:
+            text = kept.decode("utf-8", "surrogatepass")
+        else:
+            text = kept.decode("utf-8", "ignore") + "\u2026"
         places = [(names[int(each["file"])], int(each["line"])) for each in records]
         return RepeatedId(text, count, places)
-
-
-def _beginning(key: bytes) -> str:
-    """Returns what is kept of a long id."""
-    return key[:BEGINNING].decode("utf-8", "ignore") + "\u2026"

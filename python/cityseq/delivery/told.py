@@ -32,7 +32,7 @@ def delivery_object(delivery: Delivery) -> Object:
         "areas": list(map(_area, delivery.areas)),
         "reasons": [_reason(reason, delivery.invalid) for reason in delivery.reasons],
         "repeated_ids": _repeated(delivery.repeated),
-        "beside": list(delivery.beside),
+        "report_files": list(delivery.report_files),
     }
 
 
