@@ -30,7 +30,7 @@ _cityseq_run() {
       mapfile -t COMPREPLY < <(compgen -f -- "$current")
       return
       ;;
-    --line-limit | --depth | --jobs | --part-size | --max-reports | --id | --lod | --bbox | --base | --title)
+    --line-limit | --depth | --jobs | --part-size | --max-reports | --format | --id | --lod | --bbox | --base | --title)
       return
       ;;
   esac
@@ -38,7 +38,7 @@ _cityseq_run() {
     check)
       options='
         --line-limit --depth --keep-going --tree --files-from --jobs --part-size --json --sha256
-        --max-reports --summary --progress --quiet --record --resume -h --help'
+        --max-reports --summary --progress --quiet --format --record --resume -h --help'
       files=yes
       ;;
     filter)

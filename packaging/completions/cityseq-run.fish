@@ -34,6 +34,7 @@ complete -c cityseq-run -n '__fish_seen_subcommand_from check' -l max-reports -x
 complete -c cityseq-run -n '__fish_seen_subcommand_from check' -l summary -d 'Say how often each reason comes'
 complete -c cityseq-run -n '__fish_seen_subcommand_from check' -l progress -d 'Show on standard error how far it is'
 complete -c cityseq-run -n '__fish_seen_subcommand_from check' -l quiet -d 'Say nothing but faults'
+complete -c cityseq-run -n '__fish_seen_subcommand_from check' -l format -x -d 'Write reports so that a pull request shows them next to their lines'
 complete -c cityseq-run -n '__fish_seen_subcommand_from check' -l record -r -F -d 'Append a line for each FILE to this file'
 complete -c cityseq-run -n '__fish_seen_subcommand_from check' -l resume -d 'Skip each FILE that is in the record as it is now'
 complete -c cityseq-run -n '__fish_seen_subcommand_from check' -s h -l help -d 'Print help'

@@ -51,6 +51,7 @@ class Asked:
     base: Optional[str] = None
     show: Optional[str] = None
     title: Optional[str] = None
+    format: Optional[str] = None
 
     @property
     def is_plain(self) -> bool:
@@ -124,6 +125,17 @@ def whole_number(least: int, greatest: int) -> Callable[[str], int]:
         if not least <= int(digits) <= greatest:
             raise ValueError(f"{digits} is not in {least}..={greatest}")
         return int(digits)
+
+    return read
+
+
+def one_of(*words: str) -> Callable[[str], str]:
+    """What reads one of these words."""
+
+    def read(text: str) -> str:
+        if text not in words:
+            raise ValueError(f"it is {' or '.join(words)}")
+        return text
 
     return read
 
@@ -218,6 +230,12 @@ SAYS = (
     Option("summary", "Say how often each reason comes, instead of each report"),
     Option("progress", "Show on standard error how far it is"),
     Option("quiet", "Say nothing but faults: the status tells the rest"),
+)
+FORMAT = Option(
+    "format",
+    "Write reports so that a pull request shows them next to their lines: sarif",
+    "FORMAT",
+    one_of("sarif"),
 )
 RECORDS = (
     Option(
@@ -325,7 +343,7 @@ COMMANDS = {
         Command(
             "check",
             "Say whether a stream is valid, and count its lines and features",
-            (*LIMITS, KEEP_GOING, TREE, *RUNS, *SAYS, *RECORDS),
+            (*LIMITS, KEEP_GOING, TREE, *RUNS, *SAYS, FORMAT, *RECORDS),
             CHECK_AFTER,
         ),
         Command(
