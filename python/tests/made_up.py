@@ -48,7 +48,7 @@ def file(name, status=0, invalid=0, **more):
     return facts.File(name, status, 123_456_789, "ab" * 32, 1_201, invalid, scale=[Decimal("0.001")] * 3,
                       translate=[Decimal("84616.468"), Decimal("447422.999"), Decimal("-0.452")], reference_system=SYSTEM,
                       ranges=((0, 9), (0, 9), (0, 9)), box="84616.468,447422.999,85199.1,448101.25", extent=tuple(edges),
-                      peaks=(81_234, 900, 11), contents=contents, **more)
+                      longest=80_900, peaks=(81_234, 900, 11), contents=contents, **more)
 
 
 def delivery(reports, files=None, cells=False, title="delivery"):

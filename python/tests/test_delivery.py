@@ -43,6 +43,13 @@ def lists_of(page):
         return rows, [json.loads(line) for line in lines]
 
 
+def header_of(path):
+    """The first line of a file, which may be packed, without its LF."""
+    with open(path, "rb") as file:
+        text = file.read()
+    return (gzip.decompress(text) if text.startswith(b"\x1f\x8b") else text).split(b"\n", 1)[0]
+
+
 @unittest.skipIf(MISSING, MISSING)
 class Facts(InFolder):
     """The facts are those that the other calls of the package tell of the same files."""
@@ -58,6 +65,7 @@ class Facts(InFolder):
             self.assertEqual(file.peaks, (check.peak_bytes, check.peak_tokens, check.peak_depth))
             if check.end is None and check.fault is None:
                 self.same_contents(file, list(cityseq.features(file.name, keep_going=True)))
+                self.assertLessEqual(file.longest, file.peaks[0])
         reports = [report for check in checks for report in check.reports]
         self.assertEqual(made.reports, reports)
         self.assertEqual({reason.code: reason.lines for reason in made.reasons}, Counter(report.code for report in reports))
@@ -70,6 +78,7 @@ class Facts(InFolder):
 
     def same_contents(self, file, features):
         contents = file.contents
+        self.assertEqual(file.longest, max([len(each.bytes) for each in features] + [len(header_of(file.name))]))
         self.assertEqual(contents.types, dict(Counter(name for each in features for name in each.types)))
         self.assertEqual(contents.lods, dict(Counter(name for each in features for name in each.lods)))
         self.assertEqual(contents.lengths, dict(Counter(len(each.bytes).bit_length() - 1 for each in features)))

@@ -194,7 +194,7 @@ def histogram(lengths: Dict[int, int], name: str) -> str:
     axes.xaxis.set_ticks([place - 0.05 for place in places],
                          [size_of_power(powers[0] + place) for place in places])
     locator = needed("matplotlib.ticker").MaxNLocator(4, integer=True)
-    ticks = [value for value in locator.tick_values(0, max(counts)) if value <= max(counts)]
+    ticks = [value for value in locator.tick_values(0, max(counts)) if 0 < value <= max(counts)]
     axes.yaxis.set_ticks(ticks, [f"{value:,.0f}" for value in ticks])
     axes.grid(axis="y", color=ROLES["rule"], linewidth=0.5)
     axes.set_axisbelow(True)

@@ -62,6 +62,7 @@ class File:
         ranges: The least and greatest vertex on each axis.
         box: The box round all vertices, as `--bbox` takes it. None if none can be asked for.
         extent: The least and greatest world coordinate on each axis, exactly.
+        longest: The bytes of the longest of its header and valid features.
         peaks: The most bytes, tokens, and open arrays and objects that were held.
     """
 
@@ -80,6 +81,7 @@ class File:
     ranges: Tuple[Range, Range, Range] = (None, None, None)
     box: Optional[str] = None
     extent: Tuple["Extent", "Extent", "Extent"] = (None, None, None)
+    longest: int = 0
     peaks: Tuple[int, int, int] = (0, 0, 0)
     contents: Contents = field(default_factory=Contents)
 
@@ -244,6 +246,11 @@ class Delivery:
         for file in self.files:
             whole.add(file.contents)
         return whole
+
+    @property
+    def longest(self) -> int:
+        """The bytes of the longest valid line."""
+        return max((file.longest for file in self.files), default=0)
 
     @property
     def peaks(self) -> Tuple[int, ...]:

@@ -21,7 +21,7 @@ MOST_MAPS = 3
 MOST_DETAILED = 300  # files with details; all others have their row
 MOST_FILES = 2_000  # rows of files
 NEAR = 24  # signs of an excerpt on each side of the place, in the table
-END = "\u2424"  # stands for the end of a line where the place is there
+END = "\u00b6"  # stands for the end of a line where the place is there
 WORDS = {"valid": "valid", "invalid": "invalid", "fault": "not judged"}
 
 

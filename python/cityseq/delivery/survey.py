@@ -120,6 +120,7 @@ class Entry:
     lods: Any = field(default_factory=_zeros)
     lengths: Any = field(default_factory=_zeros)
     features: int = 0
+    longest: int = 0
     ranges: Ranges = (None, None, None)
 
     def world(self, axis: int, vertices: Any) -> Any:
@@ -130,6 +131,7 @@ class Entry:
     def add(self, records: Any) -> None:
         """Takes the records of features."""
         self.features += len(records)
+        self.longest = max(self.longest, int(records["length"].max(initial=0)))
         self.types += _bits(records["types"])
         self.lods += _bits(records["lods"])
         self.lengths += np.bincount(np.frexp(records["length"].astype("f8"))[1], minlength=64)
@@ -199,7 +201,9 @@ class Survey:
         place = self._places.setdefault(system, Place(system))
         place.files += 1
         transform = told["transform"]
-        return Entry(number, place, transform["scale"], transform["translate"], system)
+        entry = Entry(number, place, transform["scale"], transform["translate"], system)
+        entry.longest = len(header.rstrip(b"\n"))
+        return entry
 
     def add(self, entry: Entry, records: Records, lines: int) -> None:
         """Takes the records of the next part of a file, before which so many lines came."""
@@ -241,7 +245,7 @@ class Survey:
             return
         file.scale, file.translate = entry.scale, entry.translate
         file.reference_system, file.ranges = entry.reference_system, entry.ranges
-        file.contents = entry.contents()
+        file.contents, file.longest = entry.contents(), entry.longest
         file.box = box_of(entry.ranges, entry.scale, entry.translate)
         with suppress(DecimalException):  # of more digits than anyone writes
             file.extent = extent_of(entry.ranges, entry.scale, entry.translate)

@@ -73,6 +73,7 @@ def _file(file: File) -> Object:
         "translate": list(map(exact, file.translate)) or None,
         "bbox": _box(file.box),
         **axes,
+        "longest_line": file.longest,
         "peak_bytes": file.peaks[0],
         "peak_tokens": file.peaks[1],
         "peak_depth": file.peaks[2],
