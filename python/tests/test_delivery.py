@@ -94,8 +94,10 @@ class Facts(InFolder):
         self.assertEqual([area.files for area in made.areas], [1, 3])
 
     def test_streams_by_chance(self):
+        self.addCleanup(setattr, survey, "TOGETHER", survey.TOGETHER)
         for seed in range(60):
             chance = random.Random(seed)
+            survey.TOGETHER = chance.choice((1, 5, 8_192))
             paths = [self.file(stream_by_chance(seed + 100 * number), f"{number}.jsonl" + ".gz" * chance.randrange(2)) for number in range(3)]
             self.same_as_others(paths, part_size=chance.choice((100, 400, 100_000)), jobs=chance.choice((1, 4)))
 

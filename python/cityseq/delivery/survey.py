@@ -33,6 +33,7 @@ RECORD = np.dtype(
     + [pair for axis in AXES
        for pair in ((axis, "u8"), (f"{axis}min", "i8"), (f"{axis}max", "i8"))]
 )
+TOGETHER = 8_192  # so many records are taken at once: a part may have but a few
 MOST_REPORTS = 10_000  # so many are kept for the table in the page
 NEAR_THE_END = 16 << 20  # bytes of an invalid line that are looked through for vertices
 Ranges = Tuple[Range, Range, Range]
@@ -122,6 +123,8 @@ class Entry:
     features: int = 0
     longest: int = 0
     ranges: Ranges = (None, None, None)
+    waiting: List[Tuple[Records, int]] = field(default_factory=list)
+    waits: int = 0
 
     def world(self, axis: int, vertices: Any) -> Any:
         """Returns the world coordinates of vertices on an axis, nearly."""
@@ -206,15 +209,32 @@ class Survey:
         return entry
 
     def add(self, entry: Entry, records: Records, lines: int) -> None:
-        """Takes the records of the next part of a file, before which so many lines came."""
-        found = np.frombuffer(records.raw, RECORD)
+        """Takes the records of the next part of a file, before which so many lines came.
+
+        Raises:
+            WriteFault: The temporary folder takes no more.
+        """
+        if records.ids:
+            entry.waiting.append((records, lines))
+            entry.waits += len(records.ids)
+        if entry.waits >= TOGETHER:
+            self._take(entry)
+
+    def _take(self, entry: Entry) -> None:
+        """Takes the records of a file that have been waiting."""
+        waiting, entry.waiting, entry.waits = entry.waiting, [], 0
+        if not waiting:
+            return
+        found = np.frombuffer(b"".join(records.raw for records, _ in waiting), RECORD)
+        before = np.repeat(
+            np.array([lines for _, lines in waiting], "u8"), [len(each.ids) for each, _ in waiting]
+        )
         entry.add(found)
-        ids = [
+        self._ids.add(entry.number, found["line"] + before, [
             spelling if b"\\" not in spelling
             else unescaped(spelling).encode("utf-8", "surrogatepass")
-            for spelling in records.ids
-        ]
-        self._ids.add(entry.number, found["line"] + np.uint64(lines), ids)
+            for records, _ in waiting for spelling in records.ids
+        ])
 
     def mark(self, entry: Entry, middles: List[Point]) -> None:
         """Takes the middles of invalid features, as vertices of the file."""
@@ -243,6 +263,7 @@ class Survey:
         file.peaks = result.peak_bytes, result.peak_tokens, result.peak_depth
         if entry is None:
             return
+        self._take(entry)
         file.scale, file.translate = entry.scale, entry.translate
         file.reference_system, file.ranges = entry.reference_system, entry.ranges
         file.contents, file.longest = entry.contents(), entry.longest
