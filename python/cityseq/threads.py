@@ -107,7 +107,7 @@ class Crew:
     def __exit__(self, *_: Any) -> None:
         # one more than there are threads: an interrupt may have come when one had just been started,
         # which is not in the list then
-        for _ in range(len(self._ends) + 1):
+        for _sign in range(len(self._ends) + 1):
             self._jobs.put(None)
         while self._ends:
             self._ends.pop().acquire()
