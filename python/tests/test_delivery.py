@@ -141,6 +141,18 @@ class Facts(InFolder):
                          {None: (2, 2), "EPSG:7415": (2, 2), "<b>": (1, 1)})
         self.assertEqual({area.reference_system: area.box for area in made.areas}["EPSG:7415"], "10,20,12,21")
 
+    def test_many_coordinate_systems(self):
+        header = json.loads(HEADER)
+        paths = []
+        for number in range(8):
+            header["metadata"] = {"referenceSystem": f"EPSG:{number}"}
+            paths.append(self.file(json.dumps(header).encode() + b"\n" + feature("a") * (1 + number), f"{number}.jsonl"))
+        made = cityseq.report(paths, self.folder / "page.html")
+        self.assertEqual([area.features for area in made.areas], [8, 7, 6, 5, 4, 3, 2, 1])
+        text = (self.folder / "page.html").read_text("utf-8")
+        self.assertEqual(text.count('role="img" viewBox'), 4)  # three maps, and the histogram
+        self.assertIn("5 other coordinate systems of this delivery have no map here", text)
+
     def test_extreme_transforms(self):
         for scale, shift in (("1e-18", "-1e17"), ("123456789012345678", "5e17"), ("-0.001", "1e-18"), ("1e300", "-1e300"), ("1e-300", "1")):
             header = HEADER.replace(b"[0.001,0.001,0.001]", f"[{scale},{scale},1]".encode()).replace(b"[10,20,0]", f"[{shift},{shift},0]".encode())
@@ -330,6 +342,17 @@ class Command(InFolder):
             _, said = run.communicate(timeout=60)
             self.assertEqual((said.decode(), run.returncode), (words, 128 + number))
             self.assertEqual(self.names(), ["good.jsonl", "long.jsonl"])
+
+    def test_names_that_are_no_text(self):
+        path = os.path.join(os.fsencode(self.folder), b"\xff<b>\x1b=\n.jsonl")
+        with open(path, "wb") as file:
+            file.write(HEADER + feature("a", last=9))
+        output, said, status = command("report", "--json", "--output", self.page, "--title", b"\xfe", path)
+        self.assertEqual((said, status), ("", 1))
+        self.assertEqual(os.fsencode(json.loads(output)["files"][0]["file"]), path)
+        rows, objects = lists_of(self.page)
+        self.assertEqual((os.fsencode(objects[0]["file"]), len(rows)), (path, 1))
+        self.assertIn("\\udcff&lt;b&gt;\\u001b=\\u000a.jsonl", self.page.read_text("utf-8"))
 
     def test_a_title_and_a_list_of_files(self):
         listed = self.file(f"{self.good}\n".encode(), "list")

@@ -105,6 +105,13 @@ class Page(unittest.TestCase):
         self.assertLess(len(text.encode()), 700_000)
         self.assertIn("All 200 files are valid.", text)
 
+    def test_very_many_files(self):
+        files = [made_up.file(f"{number}.city.jsonl.gz") for number in range(5_000)]
+        text = page.html(made_up.delivery(made_up.usual(10_000).reports, files))
+        self.assertEqual((text.count('<tr class="row">'), text.count("<summary>Details")), (page.MOST_FILES, page.MOST_DETAILED))
+        self.assertIn("The first 2,000 of 5,000 files are listed", text)
+        self.assertLess(len(text.encode()), 2_000_000)
+
     def test_headings_go_down_by_one(self):
         levels = [int(tag[1]) for tag in Elements(page.html(made_up.usual())).tags if re.fullmatch(r"h\d", tag)]
         self.assertEqual((levels[0], levels.count(1)), (1, 1))
