@@ -135,14 +135,14 @@ class Library:
         return answer, report, records[:min(answer.kept, room)]
 
     def records(
-        self, header: bytes, part: Text, request: RawRequest, room: int, reports_room: int
+        self, header: bytes, part: Text, request: RawRequest, room: memoryview, reports_room: int
     ) -> Tuple[RawAnswer, RawReports, bytes]:
-        """The same, and the third are the bytes of the records that there was room for."""
-        reports, records = (RawReport * max(reports_room, 1))(), bytearray(max(room, 1) * ctypes.sizeof(RawFeature))
-        given = self._given(header, part, request)
-        first = ctypes.byref(RawFeature.from_buffer(records))
-        answer = self._calls.cityseq_features(*given, first, room, reports, reports_room)
-        return answer, reports, bytes(memoryview(records)[:min(answer.kept, room) * ctypes.sizeof(RawFeature)])
+        """The same, where the records are written to this room. The third are the bytes of those that there was room for."""
+        reports, size = (RawReport * max(reports_room, 1))(), ctypes.sizeof(RawFeature)
+        given, most = self._given(header, part, request), len(room) // size
+        first = ctypes.byref(RawFeature.from_buffer(room))
+        answer = self._calls.cityseq_features(*given, first, most, reports, reports_room)
+        return answer, reports, bytes(room[:min(answer.kept, most) * size])
 
     def reason_text(self, code: int) -> str:
         """The words of a reason; none where no reason has this code."""

@@ -215,7 +215,7 @@ def judge(work: Work, file: str, header: bytes, part: Text, first: bool) -> Answ
         return Answer(NO_MEMORY)
 
 
-def _held(part: Text) -> Union[bytes, bytearray]:
+def held(part: Text) -> Union[bytes, bytearray]:
     """The bytes of a part, which may be lent for as long as it is judged, to be kept."""
     return bytes(part) if isinstance(part, memoryview) else part
 
@@ -235,7 +235,7 @@ def _judge(work: Work, file: str, header: bytes, part: Text, first: bool) -> Ans
         from . import lods  # few runs need it
 
         lods.count(tally, work, header, part)
-    told = _held(part) if answer.refused or answer.status == REFUSED else b""
+    told = held(part) if answer.refused or answer.status == REFUSED else b""
     return Answer(
         status=answer.status,
         lines=answer.lines,
