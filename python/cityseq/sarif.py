@@ -17,7 +17,8 @@ from .telling import Object, Teller
 from .words import Asked
 
 CODES = tuple(code for code in range(1, 32) if not 6 <= code <= 9)
-SCHEMA = "https://docs.oasis-open.org/sarif/sarif/v2.1.0/errata01/os/schemas/sarif-schema-2.1.0.json"
+STANDARD = "https://docs.oasis-open.org/sarif/sarif/v2.1.0/errata01/os"
+SCHEMA = f"{STANDARD}/schemas/sarif-schema-2.1.0.json"
 
 
 def _message(report: Report) -> str:

@@ -102,8 +102,9 @@ class Place:
 
     def add(self, xmin: Any, xmax: Any, ymin: Any, ymax: Any) -> None:
         """Takes the extents of features, in world coordinates, as arrays."""
-        x, y = xmin / 2 + xmax / 2, ymin / 2 + ymax / 2
-        near = (np.abs(x) < FARTHEST) & (np.abs(y) < FARTHEST)  # which no infinite number is
+        with np.errstate(all="ignore"):
+            x, y = xmin / 2 + xmax / 2, ymin / 2 + ymax / 2
+            near = (np.abs(x) < FARTHEST) & (np.abs(y) < FARTHEST)  # which no infinite number is
         if not near.all():
             xmin, xmax, ymin, ymax, x, y = (each[near] for each in (xmin, xmax, ymin, ymax, x, y))
         if not len(x):

@@ -154,7 +154,7 @@ def _survey(
     clock = time.monotonic()
     with Survey(names, lists) as survey, Hashes(names) as hashes:
         streams = (
-            Surveyed(number, name, work, survey, how.size, how.progress)
+            Surveyed(number, name, work, survey, how)
             for number, name in enumerate(names)
         )
         for file in survey.files:

@@ -6,7 +6,7 @@ import json
 from contextlib import ExitStack, suppress
 from dataclasses import dataclass, field
 from decimal import DecimalException
-from typing import Any, Callable, Dict, Iterator, List, Optional, Sequence, Tuple
+from typing import TYPE_CHECKING, Any, Callable, Dict, Iterator, List, Optional, Sequence, Tuple
 
 from .._library import LOD_CLASSES, NO_MEMORY, Text, library
 from ..indexing import Recorded
@@ -23,6 +23,9 @@ from .extras import needed
 from .facts import Area, Contents, File, Point, Reasons, Repeated
 from .lists import Lists
 from .repeated import Ids
+
+if TYPE_CHECKING:
+    from .making import How
 
 np: Any = needed("numpy")
 
@@ -286,11 +289,9 @@ class Survey:
 class Surveyed(Recorded):
     """A file whose records go to a survey."""
 
-    def __init__(
-        self, number: int, path: str, work: Work, survey: Survey, size: Any, progress: Any
-    ) -> None:
-        """Takes the number of the file, from 0. The others are those of `Stream`."""
-        super().__init__(path, work, size, None, survey.report, progress)
+    def __init__(self, number: int, path: str, work: Work, survey: Survey, how: "How") -> None:
+        """Takes the number of the file, from 0, and what the parts' size and progress are."""
+        super().__init__(path, work, how.size, None, survey.report, how.progress)
         self._number, self._survey = number, survey
         self._entry: Optional[Entry] = None
 
