@@ -57,8 +57,10 @@ class SarifTeller(Teller):
 
     def __init__(self, asked: Asked, bar: Bar) -> None:
         super().__init__(asked, bar)
-        if asked.json or asked.summary or asked.quiet:
-            raise RequestError("--format says all: leave --json, --summary and --quiet out")
+        if asked.json or asked.summary or asked.quiet or asked.resume:
+            raise RequestError(
+                "--format says all: leave --json, --summary, --quiet and --resume out"
+            )
         self._most = asked.max_reports  # also on a terminal
         self._faults: List[Object] = []
         rules = json.dumps(list(map(_rule, CODES)))

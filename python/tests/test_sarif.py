@@ -49,7 +49,7 @@ class Log(InFolder):
         self.assertIn("\\u202e\\ud800", result["message"]["text"])
 
     def test_requests_that_are_refused(self):
-        for words in (["--json"], ["--quiet"], ["--summary"]):
+        for words in (["--json"], ["--quiet"], ["--summary"], ["--record", self.folder / "record", "--resume"]):
             self.assertEqual(command("check", "--format", "sarif", *words, example("town"))[::2], (b"", 2))
         self.assertEqual(command("check", "--format", "xml", example("town"))[::2], (b"", 2))
 
