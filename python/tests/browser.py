@@ -119,9 +119,12 @@ class Browser:
 @contextmanager
 def browser():
     """A browser that leaves nothing."""
-    with tempfile.TemporaryDirectory(ignore_cleanup_errors=True) as folder:
+    folder = tempfile.mkdtemp()
+    try:
         made = Browser(folder)
         try:
             yield made
         finally:
             made.close()
+    finally:
+        shutil.rmtree(folder, ignore_errors=True)

@@ -105,6 +105,10 @@ class Page(unittest.TestCase):
         self.assertLess(len(text.encode()), 700_000)
         self.assertIn("All 200 files are valid.", text)
 
+    def test_the_details_of_the_only_file_are_open(self):
+        self.assertEqual(page.html(made_up.delivery([], [made_up.file("a")])).count("<details open>"), 1)
+        self.assertEqual(page.html(made_up.usual()).count("<details open>"), 0)
+
     def test_very_many_files(self):
         files = [made_up.file(f"{number}.city.jsonl.gz") for number in range(5_000)]
         text = page.html(made_up.delivery(made_up.usual(10_000).reports, files))

@@ -9,6 +9,7 @@ from decimal import DecimalException
 from typing import TYPE_CHECKING, Any, Callable, Dict, Iterator, List, Optional, Sequence, Tuple
 
 from .._library import LOD_CLASSES, NO_MEMORY, Text, library
+from ..geopackage import system_of
 from ..indexing import Recorded
 from ..parts import Answer
 from ..places import Read
@@ -188,7 +189,6 @@ class Survey:
         self.reports: List[Report] = []
         self._lists = lists
         self._places: Dict[Optional[str], Place] = {}
-        self._entry: Optional[Entry] = None
         self._stack = ExitStack()
         self._ids = self._stack.enter_context(Ids())
 
@@ -201,9 +201,7 @@ class Survey:
     def begin(self, number: int, header: bytes) -> Entry:
         """Begins a file, by its number from 0. Its header is valid."""
         told = read_json(header.decode("utf-8"))
-        metadata = told.get("metadata")
-        system = metadata.get("referenceSystem") if isinstance(metadata, dict) else None
-        system = system if isinstance(system, str) else None
+        system, _ = system_of(told.get("metadata"))
         place = self._places.setdefault(system, Place(system))
         place.files += 1
         transform = told["transform"]
