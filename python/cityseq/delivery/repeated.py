@@ -18,7 +18,7 @@ np: Any = needed("numpy")
 RECORD = np.dtype([("high", "u8"), ("low", "u8"), ("line", "u8"), ("at", "u8"), ("file", "u4"),
                    ("length", "u4")])
 DIGEST = 16  # bytes
-AT_ONCE = 1 << 20  # records that are sorted or read at once
+AT_ONCE = 1 << 19  # records that are sorted or read at once
 LONGEST = 256  # bytes of an id that are kept
 MOST_IDS = 100  # so many ids are listed,
 MOST_PLACES = 10  # and so many places of each
