@@ -1,18 +1,15 @@
 #!/usr/bin/env bash
 # Installs the Debian packages that some tests need: distributed, zstandard, mypy and geopandas for Python, valgrind, for what
-# packages are made of mandoc, pkg-config and two shells, and for indexes GDAL and nginx. It says what it could not install, and its status is 0 in any case. What needs
-# such a package is left out then, and that is said too.
+# packages are made of mandoc, pkg-config and two shells, for indexes GDAL and nginx, and for the page of a report Jinja2, matplotlib,
+# jsonschema and a browser. It says what it could not install, and its status is 0 in any case. What needs such a package is left out
+# then, and that is said too.
 set -u
 missing=()
 for package in python3-distributed python3-zstandard python3-mypy python3-geopandas python3-gdal gdal-bin nginx-light \
-  valgrind mandoc pkg-config zsh fish; do
+  python3-jinja2 python3-matplotlib python3-jsonschema valgrind mandoc pkg-config zsh fish; do
   dpkg -s "$package" > /dev/null 2>&1 || missing+=("$package")
 done
-# for the page of a report
-for package in python3-jinja2 python3-matplotlib python3-jsonschema; do
-  dpkg -s "$package" > /dev/null 2>&1 || missing+=("$package")
-done
-# A browser loads the page. It takes 330 MB, and is installed by itself: the others do without it.
+# The browser takes 330 MB. It is installed by itself, so that the others are there without it.
 browser=(chromium)
 command -v chromium > /dev/null && browser=()
 [ $((${#missing[@]} + ${#browser[@]})) = 0 ] && exit 0
@@ -21,11 +18,13 @@ if [ "$(id -u)" != 0 ] || ! command -v apt-get > /dev/null; then
   exit 0
 fi
 export DEBIAN_FRONTEND=noninteractive
+
 # Installs packages, or says that this failed.
 install() {
   [ $# = 0 ] || timeout 480 apt-get install -y --no-install-recommends "$@" > /dev/null 2>&1 ||
     echo "not installed, as that failed: $*"
 }
+
 timeout 120 apt-get update > /dev/null 2>&1
 install "${missing[@]}"
 install "${browser[@]}"
