@@ -249,6 +249,10 @@ def brief(words: str) -> str:
 
 def teller_of(asked: Asked, bar: Bar, has_many: bool) -> Teller:
     """What says all as it is asked for."""
+    if asked.format is not None:
+        from .sarif import SarifTeller  # few runs need it
+
+        return SarifTeller(asked, bar)
     if asked.json:
         keeps = asked.command == "filter" and asked.output == "-" and asked.output_dir is None
         return JsonTeller(asked, bar, keeps)

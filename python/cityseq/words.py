@@ -48,12 +48,14 @@ class Asked:
     index: Optional[str] = None
     base: Optional[str] = None
     show: Optional[str] = None
+    title: Optional[str] = None
+    format: Optional[str] = None
 
     @property
     def is_plain(self) -> bool:
         """Whether only standard input is read. Then all output is as the program's."""
         no_files = not self.files and self.files_from is None
-        return no_files and self.index is None and self.command != "index"
+        return no_files and self.index is None and self.command not in ("index", "report")
 
 
 class Mistake(RequestError):
@@ -136,6 +138,17 @@ def whole_number(least: int, greatest: int) -> Callable[[str], int]:
         if not least <= int(digits) <= greatest:
             raise ValueError(f"{digits} is not in {least}..={greatest}")
         return int(digits)
+
+    return read
+
+
+def one_of(*words: str) -> Callable[[str], str]:
+    """What reads one of these words."""
+
+    def read(text: str) -> str:
+        if text not in words:
+            raise ValueError(f"it is {' or '.join(words)}")
+        return text
 
     return read
 
@@ -234,6 +247,12 @@ SAYS = (
     Option("progress", "Show on standard error how far it is"),
     Option("quiet", "Say nothing but faults: the status tells the rest"),
 )
+FORMAT = Option(
+    "format",
+    "Write reports so that a pull request shows them next to their lines: sarif",
+    "FORMAT",
+    one_of("sarif"),
+)
 RECORDS = (
     Option(
         "record",
@@ -254,6 +273,18 @@ INDEX_SAYS = tuple(option for option in SAYS if option.name != "sha256")
 INDEX_OPTIONS = (
     Option("output", "Write the index to this file once all streams were read", "OUTPUT"),
     Option("show", "Say what an index covers, and which ids it has more than once", "INDEX"),
+)
+PAGE = (
+    Option(
+        "output",
+        "Write the page to this file, and all reports next to it to NAME.reports.csv and .jsonl",
+        "OUTPUT",
+    ),
+    Option("title", "Head the page with these words [default: the name of OUTPUT]", "TITLE"),
+)
+PAGE_SAYS = (
+    Option("json", "Write all facts as one object, as docs/report.schema.json says"),
+    *(option for option in SAYS if option.name in ("progress", "quiet")),
 )
 STATUSES = """\
 Exit status, the greatest of all FILEs:
@@ -313,13 +344,22 @@ Judges each FILE as check does. OUTPUT is a GeoPackage with the extent of each f
 show, and with the place of its line. No index is left where a stream is not valid. With
 --keep-going each line that is not valid is left out, and listed in the table reports. An index is
 of the files as they are: build it again where one changes. See '{0} --help' for the exit status."""
+REPORT_AFTER = """\
+Examples:
+  {0} report --output delivery.html north.city.jsonl.gz south.city.jsonl.gz
+  {0} report --json delivery/*.gz > delivery.json
+
+Judges each FILE as check --keep-going does. OUTPUT is one page of HTML, which needs nothing else: is
+each FILE valid, what is in it, where that is on a map, which lines are not valid and how to fix them,
+which ids appear twice. The page needs Jinja2 and matplotlib. Its status is that of check. See
+'{0} --help' for the exit status."""
 COMMANDS = {
     command.name: command
     for command in (
         Command(
             "check",
             "Say whether a stream is valid, and count its lines and features",
-            (*LIMITS, KEEP_GOING, TREE, *RUNS, *SAYS, *RECORDS),
+            (*LIMITS, KEEP_GOING, TREE, *RUNS, *SAYS, FORMAT, *RECORDS),
             CHECK_AFTER,
         ),
         Command(
@@ -345,6 +385,12 @@ COMMANDS = {
             "Write an index of streams, by which filter cuts them: a GeoPackage",
             (*LIMITS, KEEP_GOING, TREE, *INDEX_OPTIONS, *RUNS, *INDEX_SAYS),
             INDEX_AFTER,
+        ),
+        Command(
+            "report",
+            "Write a page about a delivery: verdicts, contents, a map, and what is invalid",
+            (*LIMITS, TREE, *PAGE, *RUNS, *PAGE_SAYS),
+            REPORT_AFTER,
         ),
         Command(
             "explain",

@@ -9,6 +9,7 @@ from . import support
 from .support import HEADER, PLAIN
 
 import cityseq
+from cityseq import threads
 from cityseq.threads import STACK, Crew, in_thread
 
 START = _thread.start_new_thread
@@ -85,6 +86,27 @@ class Crews(unittest.TestCase):
             crew.submit(lambda: None).result()
             crew._jobs.put(None)
             self.assertEqual(crew.submit(lambda: 5).result(), 5)
+
+    def test_an_interrupt_when_a_thread_was_just_started(self):
+        """The crew does not know that thread, which takes the sign of the end before the other one does."""
+        started, ended = [], threading.Event()
+        start = threads._start
+
+        def interrupted(call, *given):
+            start(call, *given)
+            started.append(call)
+            if len(started) == 2:
+                raise KeyboardInterrupt
+
+        def run():
+            with self.assertRaises(KeyboardInterrupt), Crew(2) as crew:
+                crew.submit(lambda: time.sleep(0.3))
+                crew.submit(lambda: None)
+            ended.set()
+
+        with mock.patch("cityseq.threads._start", interrupted):
+            START(run, ())
+            self.assertTrue(ended.wait(10))
 
     def test_no_thread_and_a_short_stack(self):
         patch, _ = starting(0)
