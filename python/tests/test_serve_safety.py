@@ -1,0 +1,222 @@
+"""The server: what it refuses, how it ends, and its parts one by one."""
+import asyncio
+import json
+import os
+import pathlib
+import re
+import signal
+import socket
+import subprocess
+import sys
+import threading
+import time
+import unittest
+from contextlib import contextmanager
+from http.server import ThreadingHTTPServer
+from unittest import mock
+
+from .serving import MISSING, RD, Served, Serving
+from .support import HEADER, ROOT, command, feature
+from .test_web import Handler
+
+import cityseq.serve
+
+if not MISSING:
+    import aiohttp.web
+    from cityseq.serve.cityjson import whole
+    from cityseq.serve.formats import CITY_JSON_SEQ, GEOJSON, HTML, choose
+    from cityseq.serve.links import is_known
+    from cityseq.serve.logs import _quoted
+    from cityseq.serve.problems import Problem
+    from cityseq.serve.queries import Query
+    from cityseq.serve.settings import Limits, Settings
+    from cityseq.serve.systems import System
+
+
+@contextmanager
+def web_server(folder):
+    """A web server of the files of a folder, by ranges: its URL, and the server itself."""
+    web = ThreadingHTTPServer(("127.0.0.1", 0), Handler)
+    web.mode, web.folder, web.ranges = "", str(folder), []
+    web.handle_error = lambda *_: None  # a client may go away
+    thread = threading.Thread(target=web.serve_forever, args=(0.01,))
+    thread.start()
+    try:
+        yield f"http://127.0.0.1:{web.server_address[1]}", web
+    finally:
+        web.shutdown()
+        thread.join()
+        web.server_close()
+
+
+@unittest.skipIf(MISSING, MISSING)
+class Safety(Served):
+    def test_hosts(self):
+        for host, wanted in (("localhost:8080", True), ("127.0.0.1", True), ("[::1]:80", True), ("10.1.2.3:9", True),
+                             ("a.localhost", True), ("evil.example", False), ("", False), ("localhost.evil.example", False),
+                             ("user@localhost", False), ("localhost/x", False), ("localhost:x", False), ("[::1", False)):
+            self.assertEqual(is_known(host, Settings()), wanted, host)
+        settings = Settings(url="https://city.example.org/cities", names=("models.example",))
+        self.assertTrue(is_known("city.example.org", settings) and is_known("models.example:80", settings))
+        self.assertEqual(self.server.ask("/", Host="evil.example").status, 421)
+
+    def test_links_begin_with_the_url_that_is_set(self):
+        with Serving("--url", "https://city.example.org/cities/", self.folder / "all.gpkg") as far:
+            told = far.ask("/collections", Host="city.example.org").json()
+            for link in told["links"] + [link for each in told["collections"] for link in each["links"]]:
+                self.assertTrue(link["href"].startswith("https://city.example.org/cities/collections"), link)
+
+    def test_settings_are_checked(self):
+        for words in (("--url", "ftp://x"), ("--url", "https://x/?a=b"), ("--cors", "https://x/y"), ("--cors", "x"),
+                      ("--port", "65536"), ("--max-requests", "0"), ("--base", "x", str(self.folder / "all.gpkg"))):
+            _, said, status = command("serve", *words)
+            self.assertEqual(status, 2, (words, said))
+        for words in ((str(self.folder / "none.gpkg"),), (str(self.folder / "town.city.jsonl"),), ("--host", "192.0.2.1")):
+            _, said, status = command("serve", "--port", "0", *words)
+            self.assertEqual((status, said.count("\n")), (3, 1), said)
+
+    def test_pages_elsewhere(self):
+        self.assertEqual(self.server.ask("/check", "POST", HEADER, Origin="https://evil.example").status, 403)
+        self.assertEqual(self.server.ask("/check", "POST", HEADER, Origin=f"http://{self.server.host}:{self.server.port}").status, 200)
+        self.assertEqual(self.server.ask("/check", "OPTIONS").status, 405)
+        with Serving("--cors", "https://maps.example", self.folder / "all.gpkg") as open_server:
+            answer = open_server.ask("/", Origin="https://maps.example")
+            self.assertEqual(answer.headers["Access-Control-Allow-Origin"], "https://maps.example")
+            self.assertEqual(open_server.ask("/check", "OPTIONS").status, 204)
+            self.assertEqual(open_server.ask("/check", "POST", HEADER, Origin="https://maps.example").status, 200)
+            self.assertEqual(open_server.ask("/check", "POST", HEADER, Origin="https://evil.example").status, 403)
+
+    def test_log_lines(self):
+        self.server.ask('/collections/x%0ay"\\?a', User_Agent="x\"\\y\x1b[31m")
+        wanted = re.compile(r'[0-9a-f.:]+ - - \[\d\d/[A-Z][a-z]{2}/\d{4}:\d\d:\d\d:\d\d \+0000\] "(?:[^"\\]|\\.)*" \d{3} \d+'
+                            r' "(?:[^"\\]|\\.)*" "(?:[^"\\]|\\.)*"\n\Z')
+        time.sleep(0.3)
+        self.assertTrue(self.server.log)
+        for line in list(self.server.log):
+            self.assertRegex(line, wanted)
+            self.assertTrue(line[:-1].isprintable(), line)
+        self.assertEqual(_quoted("a\"b\\c\r\n\x1b\u202e"), '"a\\"b\\\\c\\u000d\\u000a\\u001b\\u202e"')
+
+    def test_a_stop_ends_open_answers(self):
+        with Serving("--stop-seconds", "1", self.folder / "all.gpkg") as ending:
+            with socket.create_connection((ending.host, ending.port), 30) as connection:
+                connection.sendall(b"POST /check HTTP/1.1\r\nHost: localhost\r\nContent-Length: 100\r\n\r\n")
+                time.sleep(0.3)
+                begin = time.monotonic()
+                self.assertEqual(ending.stop(), 0)
+                self.assertLess(time.monotonic() - begin, 5)
+                try:
+                    self.assertEqual(connection.recv(100), b"")
+                except ConnectionError:
+                    pass
+
+    def test_a_stop_waits_for_open_answers(self):
+        with Serving(self.folder / "all.gpkg") as ending:
+            with socket.create_connection((ending.host, ending.port), 30) as connection:
+                connection.sendall(b"POST /check HTTP/1.1\r\nHost: localhost\r\nContent-Length: %d\r\n\r\n" % len(HEADER))
+                time.sleep(0.3)
+                ending.process.terminate()
+                time.sleep(0.3)
+                with self.assertRaises(OSError):
+                    socket.create_connection((ending.host, ending.port), 5)
+                connection.sendall(HEADER)
+                answer = b"".join(iter(lambda: connection.recv(4096), b""))
+                self.assertIn(b'"verdict": "valid"', answer)
+            self.assertEqual(ending.stop(), 0)
+
+    def test_many_processes(self):
+        with Serving("--processes", "3", self.folder / "all.gpkg") as many:
+            children = pathlib.Path(f"/proc/{many.process.pid}/task/{many.process.pid}/children")
+            for _ in range(2):
+                for _ in range(20):
+                    self.assertEqual(many.ask("/collections/town/items").status, 200)
+                pids = list(map(int, children.read_text().split()))
+                self.assertEqual(len(pids), 3)
+                os.kill(pids[0], signal.SIGKILL)
+                time.sleep(1.5)
+            self.assertTrue(any("another one is started" in line for line in many.said))
+            pids = list(map(int, children.read_text().split()))
+            self.assertEqual(many.stop(), 0)
+            self.assertFalse([pid for pid in pids if os.path.exists(f"/proc/{pid}")])
+
+    def test_streams_on_a_web_server(self):
+        with web_server(self.folder) as (url, state):
+            with Serving("--base", url, self.folder / "all.gpkg") as far:
+                path = "/collections/town/items?f=city-json-seq&type=Road"
+                self.assertEqual(far.ask(path).body, self.filtered("town", "--type", "Road"))
+                state.mode = "missing"
+                self.assertEqual(far.ask(path).status, 502)
+                state.mode = ""
+                text = (self.folder / "town.city.jsonl").read_bytes()
+                changed = self.folder / "town.city.jsonl"
+                changed.write_bytes(text + b"\n")
+                answer = far.ask(path)
+                changed.write_bytes(text)
+                self.assertEqual((answer.status, answer.headers["Content-Type"]), (502, "application/problem+json"))
+                self.assertIn("out of date", answer.json()["detail"])
+
+    def test_bad_requests(self):
+        """The script of the repository, with few idle connections."""
+        ran = subprocess.run([sys.executable, os.path.join(ROOT, "tests", "serve_attack.py"), "--connections", "500", sys.executable],
+                             stdout=subprocess.PIPE, timeout=120)
+        self.assertEqual(ran.returncode, 0, ran.stdout.decode())
+
+    def test_what_is_missing_is_said(self):
+        (self.folder / "aiohttp.py").write_text("raise ImportError('none')")
+        code = f"import sys; sys.path.insert(0, {str(self.folder)!r}); from cityseq.commands import main; sys.exit(main(['serve']))"
+        ran = subprocess.run([sys.executable, "-c", code], stderr=subprocess.PIPE, timeout=30,
+                             env={**os.environ, "PYTHONPATH": os.path.join(ROOT, "python")})
+        (self.folder / "aiohttp.py").unlink()
+        self.assertEqual(ran.returncode, 2)
+        self.assertRegex(ran.stderr.decode(), r"\Athere is no aiohttp for Python: install python3-aiohttp.*\n\Z")
+
+
+@unittest.skipIf(MISSING, MISSING)
+class Parts(Served):
+    def test_queries(self):
+        query = Query("a=x%2Cy,z&b=1+2&c", ("a", "b", "c"))
+        self.assertEqual((query.texts("a"), query.text("b"), query.flag("c")), (["x,y", "z"], "1 2", True))
+        for raw in ("d=1", "a=1&a=2", "a%ff=1"):
+            with self.assertRaises(Problem):
+                Query(raw, ("a",))
+
+    def test_formats(self):
+        formats = (GEOJSON, CITY_JSON_SEQ, HTML)
+        for accept, wanted in (("", GEOJSON), ("*/*", GEOJSON), ("text/html;q=0.5, application/geo+json;q=0.4", HTML),
+                               ("application/*", GEOJSON), ("application/city+json-seq, */*;q=0.1", CITY_JSON_SEQ),
+                               ("text/html, */*;q=0.9", HTML), ("application/json;q=x, text/html", HTML)):
+            self.assertEqual(choose(formats, None, accept), wanted, accept)
+
+    def test_a_feature_as_cityjson_keeps_each_number(self):
+        header = HEADER.replace(b"0.001", b"1.0e-3")
+        line = feature("b").replace(b"[0,0,0]", b"[0 , 0,-0]").replace(b'"type":"CityJSONFeature",', b'"type":"CityJSONFeature","x":1e400,"appearance" : {"a":1.10},')
+        text = whole(header, line)
+        for piece in (b'"scale":[1.0e-3,1.0e-3,1.0e-3]', b"[0 , 0,-0]", b'"appearance":{"a":1.10}'):
+            self.assertIn(piece, text)
+        self.assertNotIn(b"1e400", text)
+        self.assertEqual(json.loads(text)["type"], "CityJSON")
+
+    def test_without_pyproj(self):
+        with mock.patch("cityseq.serve.systems.find_spec", return_value=None):
+            system = System("https://www.opengis.net/def/crs/EPSG/0/7415")
+            self.assertEqual(system.listed(), [RD])
+            self.assertEqual(system.asked(RD, "crs"), RD)
+            with self.assertRaisesRegex(Problem, "for want of pyproj"):
+                system.asked(None, "crs")
+
+    def test_an_application_for_another_server(self):
+        async def run():
+            runner = aiohttp.web.AppRunner(cityseq.serve.app(self.folder / "all.gpkg", limits=Limits(features=3)))
+            await runner.setup()
+            site = aiohttp.web.TCPSite(runner, "127.0.0.1", 0)
+            await site.start()
+            port = runner.addresses[0][1]
+            async with aiohttp.ClientSession() as session:
+                async with session.get(f"http://127.0.0.1:{port}/collections/sample/items?f=city-json-seq&limit=9") as answer:
+                    lines = (await answer.read()).splitlines()
+                async with session.post(f"http://127.0.0.1:{port}/check", data=HEADER) as answer:
+                    told = json.loads(await answer.read())
+            await runner.cleanup()
+            return len(lines), told["verdict"]
+
+        self.assertEqual(asyncio.run(run()), (4, "valid"))
