@@ -305,7 +305,7 @@ def client_that_does_not_read(server):
 
 def invalid_stream_to_filter(server):
     """What is kept before an invalid line is not taken for the whole."""
-    text = HEADER + FEATURE * 9_000 + b"{}\n" + FEATURE * 9_000
+    text = HEADER + FEATURE * 100_000 + b"{}\n" + FEATURE * 9_000
     answer = exchange(server, sized("/filter", text))
     if not answer.startswith(b"HTTP/1.1 200"):
         return f"{answer[:100]}"

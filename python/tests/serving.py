@@ -40,9 +40,10 @@ class Serving:
     """The command `serve`, over some indexes."""
 
     def __init__(self, *words):
+        port = () if "--port" in words else ("--port", "0")
         environment = {**os.environ, "PYTHONPATH": os.path.join(ROOT, "python")}
         self.process = subprocess.Popen(
-            [sys.executable, "-W", "ignore", "-m", "cityseq", "serve", "--port", "0", *map(str, words)],
+            [sys.executable, "-W", "ignore", "-m", "cityseq", "serve", *port, *map(str, words)],
             stdout=subprocess.PIPE, stderr=subprocess.PIPE, env=environment)
         first = self.process.stderr.readline().decode()
         if not first.startswith("http://"):

@@ -8,6 +8,7 @@ import re
 import shutil
 import subprocess
 import threading
+import time
 import unittest
 from urllib.parse import quote
 
@@ -260,6 +261,12 @@ class Cuts(Served):
             self.assertEqual((answer.status, answer.headers["Content-Type"]), (502, "application/problem+json"))
             self.assertIn("out of date", answer.json()["detail"])
             self.assertNotIn(str(self.folder), answer.body.decode())
+            command("index", "--output", str(self.folder / "later.gpkg"), str(path))
+            time.sleep(1.1)
+            self.assertEqual(later.ask("/collections/later/items").json()["features"][0]["id"], "b")
+            (self.folder / "later.gpkg").unlink()
+            time.sleep(1.1)
+            self.assertEqual(later.ask("/collections/later/items").status, 200)
 
     def test_client_that_read_the_api_before(self):
         """ETag or not, the same request has the same bytes."""

@@ -71,8 +71,10 @@ class Verdicts(Served):
                 while body:
                     pieces = [body[:size] for size in [chance.randrange(1, 900)]]
                     body = body[len(pieces[0]):]
-                    kept += b"".join(map(bytes, fed.feed(pieces)))
-                kept += b"".join(map(bytes, fed.end()))
+                    # parts that are judged late, and none of them in order
+                    answers = [task() for task in reversed(fed.cut(pieces))][::-1]
+                    kept += b"".join(bytes(fed.take(answer)) for answer in answers)
+                kept += b"".join(bytes(fed.take(task())) for task in fed.end())
             told = fed.result()
             self.assertEqual(kept, result.getvalue(), seed)
             self.assertEqual((told.status, told.lines, told.features, told.refused),
@@ -122,10 +124,16 @@ class Verdicts(Served):
         self.assertEqual(kept, output)
 
     def test_an_invalid_stream_is_broken_off(self):
-        text = HEADER + feature("b") * 4_000 + b"{}\n" + feature("b") * 4_000
+        text = HEADER + feature("b") * 40_000 + b"{}\n" + feature("b") * 4_000
         answer = self.raw("/filter", text)
         self.assertTrue(answer.startswith(b"HTTP/1.1 200"))
         self.assertNotRegex(answer, rb"\r\n0\r\n")
+
+    def test_an_invalid_stream_that_is_short_is_answered(self):
+        answer = self.server.ask("/filter", "POST", HEADER + feature("b") + b"{}\n")
+        self.assertEqual(answer.status, 422)
+        report, result = answer.lines()
+        self.assertEqual((report["line"], result["verdict"], result["ended_at"]), (3, "invalid", 3))
 
     def test_an_invalid_header_is_answered(self):
         answer = self.server.ask("/filter", "POST", b"[]\n")

@@ -4,6 +4,7 @@ import json
 import os
 import pathlib
 import re
+import shutil
 import signal
 import socket
 import subprocess
@@ -17,7 +18,7 @@ from unittest import mock
 
 from .serving import MISSING, RD, Served, Serving
 from .support import HEADER, ROOT, command, feature
-from .test_web import Handler
+from .test_web import NGINX, Handler
 
 import cityseq.serve
 
@@ -31,6 +32,12 @@ if not MISSING:
     from cityseq.serve.queries import Query
     from cityseq.serve.settings import Limits, Settings
     from cityseq.serve.systems import System
+
+
+def free_port():
+    with socket.socket() as found:
+        found.bind(("127.0.0.1", 0))
+        return found.getsockname()[1]
 
 
 @contextmanager
@@ -154,6 +161,43 @@ class Safety(Served):
                 changed.write_bytes(text)
                 self.assertEqual((answer.status, answer.headers["Content-Type"]), (502, "application/problem+json"))
                 self.assertIn("out of date", answer.json()["detail"])
+
+    @unittest.skipIf(NGINX is None, "nginx is not there")
+    def test_the_example_of_nginx(self):
+        """Two servers behind nginx, and a store of streams, on ports that are free."""
+        text = (pathlib.Path(ROOT) / "examples" / "serve" / "nginx.conf").read_text("utf-8")
+        names = {name: free_port() for name in ("8080", "8081", "8082", "8090")}
+        for name, port in names.items():
+            self.assertIn(f"127.0.0.1:{name}", text)
+            text = text.replace(f"127.0.0.1:{name}", f"127.0.0.1:{port}")
+        if os.getuid() == 0:
+            text = f"user root;\n{text}"  # else its processes may not read this folder
+        place = self.folder / "nginx"
+        (place / "streams").mkdir(parents=True)
+        (place / "temporary").mkdir()
+        (place / "nginx.conf").write_text(text, "utf-8")
+        shutil.copy(self.folder / "town.city.jsonl", place / "streams")
+        index = place / "streams" / "all.gpkg"
+        command("index", "--output", str(index), str(place / "streams" / "town.city.jsonl"))
+        web = subprocess.Popen([NGINX, "-p", str(place), "-c", "nginx.conf"], stderr=subprocess.DEVNULL)
+        try:
+            store = f"http://127.0.0.1:{names['8090']}/"
+            with Serving("--port", names["8081"], "--base", store, index) as one, \
+                    Serving("--port", names["8082"], "--base", store, index) as other:
+                one.port = names["8080"]
+                for _ in range(20):
+                    self.assertEqual(one.ask("/collections/town/items?f=city-json-seq&type=Road").body,
+                                     self.filtered("town", "--type", "Road"))
+                link = one.ask("/", Host="localhost:80").json()["links"][0]["href"]
+                self.assertTrue(link.startswith("http://localhost:80/"), link)
+                body = HEADER + feature("b") * 30_000
+                self.assertEqual(one.ask("/check", "POST", body).lines()[-1]["features"], 30_000)
+                self.assertEqual(one.ask("/filter", "POST", body).body, body)
+                time.sleep(0.2)
+                self.assertTrue(one.log and other.log)
+        finally:
+            web.terminate()
+            web.wait(10)
 
     def test_bad_requests(self):
         """The script of the repository, with few idle connections."""

@@ -117,6 +117,16 @@ def gathered(page: Page, form: Any, is_first: bool) -> Tuple[List[bytes], bool]:
     return pieces, True
 
 
+def begun(make: Callable[[], Page], form: Any) -> Tuple[Page, List[bytes], bool]:
+    """Returns a page, its first pieces, and whether nothing follows. A thread calls it."""
+    page = make()
+    try:
+        return (page, *gathered(page, form, True))
+    except BaseException:
+        page.close()
+        raise
+
+
 async def write(response: web.StreamResponse, text: bytes, patience: Patience) -> None:
     """Writes all of a text, as far as the client reads."""
     view = memoryview(text)
@@ -125,16 +135,18 @@ async def write(response: web.StreamResponse, text: bytes, patience: Patience) -
             await response.write(view[begin : begin + PIECE])
 
 
-async def send_page(request: web.Request, calls: Calls, page: Page, form: Any,
+async def send_page(request: web.Request, calls: Calls, make: Callable[[], Page], form: Any,
                     head: Callable[[Page], Dict[str, str]]) -> web.StreamResponse:
-    """Sends a page of features. `head` makes the headers of the answer when the page has begun."""
+    """Sends the page of features that a thread makes. `head` makes the headers of the answer when
+    the page has begun."""
     patience: Patience = request["patience"]
+    page, pieces, is_last = await calls.call(begun, make, form)
     try:
-        pieces, is_last = await calls.call(gathered, page, form, True)
         if is_last:
             return web.Response(body=b"".join(pieces), headers=head(page))
         response = web.StreamResponse(headers=head(page))
         if request.method == "HEAD":
+            response.force_close()
             return response
         request["begun"] = response
         await response.prepare(request)

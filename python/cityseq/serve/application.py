@@ -1,12 +1,14 @@
 """The application: which request gets which answer."""
 from __future__ import annotations
 
+import asyncio
 import re
 from typing import Any, Awaitable, Callable, Dict, Optional, Set, Tuple
 
 from aiohttp import web
 
 from ..console import say
+from ..faults import CityseqError
 from . import bodies, items, openapi, resources
 from .answers import dumped, item_path
 from .calls import Calls
@@ -32,6 +34,7 @@ HEADERS = {
     "Cross-Origin-Resource-Policy": "same-origin",
     "Server": "cityseq",
 }
+LOOK = 1.0  # seconds between two looks whether an index was built again
 MOST_HOSTS = 100  # that are remembered
 VERSIONS = ((1, 0), (1, 1))
 TOKEN = re.compile(r"[!#$%&'*+.^_`|~0-9A-Za-z-]+\Z")
@@ -55,6 +58,7 @@ class Server:
         self.catalogue = Catalogue(settings)
         self.calls, self.pages = Calls(settings.jobs), Pages()
         self._open = 0  # requests that are answered
+        self._looked = 0.0  # when it looked last whether an index is another one
         self._hosts: Set[str] = set()  # which were found to be this server
 
     async def close(self, _: web.Application) -> None:
@@ -72,6 +76,7 @@ class Server:
         self._open += 1
         try:
             self._check(request)
+            await self._look()
             return await (self.preflight if request.method == "OPTIONS" else handler)(request)
         except BaseException as fault:
             return self._failed(request, fault, patience)
@@ -149,6 +154,21 @@ class Server:
             response.headers["Access-Control-Expose-Headers"] = "Content-Crs, Link"
             response.headers.add("Vary", "Origin")
         response.headers.add("Vary", "Accept")
+
+    async def _look(self) -> None:
+        """Takes an index that was built again. One that cannot be read leaves the one before."""
+        now = asyncio.get_running_loop().time()
+        if now - self._looked < LOOK:
+            return
+        self._looked = now
+        if await self.calls.call(self.catalogue.is_changed):
+            try:
+                before, self.catalogue = self.catalogue, await self.calls.call(
+                    Catalogue, self.settings)
+            except CityseqError as fault:
+                say(logged(fault) or str(fault))
+            else:
+                before.close()
 
     # ---- requests
 

@@ -6,17 +6,18 @@ from __future__ import annotations
 
 import asyncio
 import json
-from contextlib import suppress
-from typing import Any, Dict, List, Optional, Tuple
+from collections import deque
+from typing import Any, Deque, Dict, List, Optional, Tuple
 
 from aiohttp import web
 
 from .. import __version__
 from .._library import USUAL_DEPTH, USUAL_LINE, Text
 from ..objects import reasons_object, report_object, result_object
+from ..parts import Answer
 from ..places import SMALL
 from ..query import asked
-from ..running import Result
+from ..running import Result, Task
 from ..words import Asked
 from .answers import write
 from .calls import Calls
@@ -138,7 +139,8 @@ class Judgement:
         self._fed = _fed(wanted, query, _is_packed(request, limits), limits)
         self._body = Body(request, limits)
         self._next: "Optional[asyncio.Future[List[bytes]]]" = None
-        self.is_over = False
+        self._judged: "Deque[asyncio.Future[Answer]]" = deque()
+        self._is_read = self.is_over = False
 
     @property
     def has_header(self) -> bool:
@@ -151,25 +153,55 @@ class Judgement:
         return self._fed.ended
 
     async def outputs(self) -> List[Text]:
-        """Returns what is kept of the next pieces, while those behind them are read.
+        """Returns what is kept of the parts that are judged by now, while others are read.
 
         Raises:
             Problem: The body is broken, or too long.
         """
+        if not self._is_read:
+            for task in await self._tasks():
+                self._judged.append(asyncio.ensure_future(self._calls.call(task)))
+        outputs = []
+        while self._judged and (self._is_read or len(self._judged) > self._ahead()):
+            answer = await self._judged.popleft()
+            if answer.refused or answer.end is not None:  # which takes time to describe
+                outputs.append(await self._calls.call(self._fed.take, answer))
+            else:
+                outputs.append(self._fed.take(answer))
+        self.is_over = self._is_read
+        return outputs
+
+    async def _tasks(self) -> List[Task]:
+        """Returns what judges the next parts, while what follows them is read."""
         pieces = await (self._next or self._body.pieces())
         self._next = None
         if not pieces:
-            self.is_over = True
+            self._is_read = True
             return await self._calls.call(self._fed.end)
         self._next = asyncio.ensure_future(self._body.pieces())
-        return await self._calls.call(self._fed.feed, pieces)
+        return await self._calls.call(self._fed.cut, pieces)
 
-    async def close(self) -> None:
-        """Ends what still reads."""
+    def _ahead(self) -> int:
+        """Returns how many parts may wait: few if there are many bodies."""
+        return max(self._calls.jobs - self._calls.bodies + 1, 0)
+
+    async def __aenter__(self) -> "Judgement":
+        self._calls.bodies += 1
+        return self
+
+    async def __aexit__(self, *_: Any) -> None:
+        """Ends what still reads, and what is not judged yet."""
+        self._calls.bodies -= 1
+        ending: "List[asyncio.Future[Any]]" = [*self._judged]
         if self._next is not None:
-            self._next.cancel()
-            with suppress(asyncio.CancelledError, Exception):
-                await self._next
+            ending.append(self._next)
+        for each in ending:
+            each.cancel()
+        if ending:
+            await asyncio.wait(ending)
+            for each in ending:
+                if not each.cancelled():
+                    each.exception()  # which nobody waits for
 
     def told(self) -> Tuple[List[Dict[str, Any]], Dict[str, Any]]:
         """Returns the objects of the reports, or how often each reason came, and that of the
@@ -190,11 +222,9 @@ async def check(request: web.Request, calls: Calls, limits: Limits) -> web.Strea
     query = Query(request.raw_path.partition("?")[2], CHECK)
     judgement = Judgement(request, calls, limits, asked_of("check", query, limits), query)
     await _go_on(request)
-    try:
+    async with judgement:
         while not judgement.is_over:
             await judgement.outputs()
-    finally:
-        await judgement.close()
     reports, result = judgement.told()
     objects = [result, *reports] if judgement.wanted.summary else [*reports, result]
     return web.Response(body=_lines(objects), content_type=LINES)
@@ -232,8 +262,8 @@ async def filter(request: web.Request, calls: Calls, limits: Limits) -> web.Stre
     judgement = Judgement(request, calls, limits, asked_of("filter", query, limits), query)
     await _go_on(request)
     response = Trailed(LINES if is_last else SEQUENCE)
-    try:
-        kept: List[Text] = []
+    kept: List[Text] = []
+    async with judgement:
         while not judgement.is_over:
             kept += await judgement.outputs()
             if judgement.has_header or is_last:
@@ -241,15 +271,13 @@ async def filter(request: web.Request, calls: Calls, limits: Limits) -> web.Stre
                 kept = []
             if judgement.has_ended and "begun" in request and not is_last:
                 raise Problem(400, "a line of the stream is not valid")
-        reports, result = judgement.told()
-        if "begun" not in request and not is_last:
-            return _refused(reports, result)
-        if is_last:
-            await _send(request, response, [_lines([*reports, result])])
-        await response.finish(json.dumps(result))
-        return response
-    finally:
-        await judgement.close()
+    reports, result = judgement.told()
+    if "begun" not in request and not is_last:
+        return _refused(reports, result)
+    if is_last:
+        await _send(request, response, [_lines([*reports, result])])
+    await response.finish(json.dumps(result))
+    return response
 
 
 async def _send(request: web.Request, response: Trailed, kept: List[Text]) -> None:
@@ -261,5 +289,5 @@ async def _send(request: web.Request, response: Trailed, kept: List[Text]) -> No
 
 
 def _refused(reports: List[Dict[str, Any]], result: Dict[str, Any]) -> web.Response:
-    """Returns the answer to a stream that ended before anything was sent."""
+    """Returns the answer to a stream that is found to be invalid before anything was sent."""
     return web.Response(status=422, body=_lines([*reports, result]), content_type=LINES)

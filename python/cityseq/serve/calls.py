@@ -17,7 +17,9 @@ class Calls:
 
     def __init__(self, jobs: Any = None) -> None:
         """Takes the number of threads; None is one for each processor."""
-        self._crew = Crew(usual_jobs() if jobs is None else jobs)
+        self.jobs: int = usual_jobs() if jobs is None else jobs
+        self.bodies = 0  # that are judged now
+        self._crew = Crew(self.jobs)
 
     def start(self) -> None:
         """Starts the first thread.

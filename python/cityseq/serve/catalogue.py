@@ -8,7 +8,7 @@ from contextlib import contextmanager
 from dataclasses import dataclass, field
 from decimal import Decimal
 from queue import Empty, LifoQueue
-from typing import Dict, Iterator, List, Optional, Tuple
+from typing import Any, Dict, Iterator, List, Optional, Tuple
 
 from ..extents import World
 from ..fetching import IndexedStream
@@ -21,20 +21,44 @@ ENDINGS = re.compile(r"(?:\.city)?(?:\.jsonl|\.json)?(?:\.gz|\.zst)?\Z")
 NO_SIGN_OF_A_NAME = re.compile(r"[^A-Za-z0-9._-]+")
 
 
+def _state_of(path: str) -> Any:
+    """Returns what a file is now; None if it is not there."""
+    try:
+        told = os.stat(path)
+        return told.st_dev, told.st_ino, told.st_size, told.st_mtime_ns
+    except OSError:
+        return None
+
+
 class Pool:
     """An index that many threads use: each call has one to itself."""
 
     def __init__(self, path: str, base: Optional[str]) -> None:
         self._path, self._base = path, base
+        self._state = _state_of(path)
         self._free: "LifoQueue[Index]" = LifoQueue()
+
+    @property
+    def is_changed(self) -> bool:
+        """Whether the file of the index is another one now."""
+        return bool(_state_of(self._path) != self._state)
 
     @contextmanager
     def index(self) -> Iterator[Index]:
-        """Gives the index, in a `with` block."""
+        """Gives the index, in a `with` block.
+
+        Raises:
+            Problem: Another index has taken its place.
+            ReadFault: It cannot be read.
+        """
         try:
             index = self._free.get_nowait()
         except Empty:
             index = Index(self._path, base=self._base)
+            if self.is_changed:
+                index.close()
+                raise Problem(503, "the index was built again: ask again", {"Retry-After": "1"}
+                              ) from None
         try:
             yield index
         finally:
@@ -130,6 +154,10 @@ class Catalogue:
             return self._collections[name]
         except KeyError:
             raise Problem(404, f"there is no collection {name}") from None
+
+    def is_changed(self) -> bool:
+        """Returns whether the file of an index is another one now."""
+        return any(pool.is_changed for pool in self._pools)
 
     def close(self) -> None:
         """Closes the indexes."""

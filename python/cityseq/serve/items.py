@@ -146,12 +146,11 @@ class Items:
 async def send_items(request: web.Request, calls: Calls, items: Items, links: Links
                      ) -> web.StreamResponse:
     """Sends a page as GeoJSON or as CityJSONSeq."""
-    page = await calls.call(items.page)
     form: Any = Sequence()
     if items.chosen == GEOJSON:
         form = FeatureCollection(items.collection.system, items.system, items.own_links(links),
                                  lambda after: items.following(links, after), items.matched())
-    return await send_page(request, calls, page, form, lambda page: items.head(page, links))
+    return await send_page(request, calls, items.page, form, lambda page: items.head(page, links))
 
 
 def listed(page: Page) -> Tuple[List[Any], Optional[int]]:

@@ -13,7 +13,7 @@ from ..parts import Answer
 from ..places import SMALL, given, judge_read
 from ..query import Work
 from ..reports import Report
-from ..running import Result, Stream
+from ..running import Result, Stream, Task
 from .problems import Problem
 
 UNPACKED = 1 << 19  # bytes that are unpacked at once
@@ -83,7 +83,14 @@ def too_long(limit: int) -> Problem:
 
 
 class Fed(Stream):
-    """A stream that is fed. One thread after another may do so."""
+    """A stream that is fed. One thread after another may do so.
+
+    What comes is cut into parts, which any threads judge. Their answers are taken in order.
+
+    Attributes:
+        reports: The first reports, as many as are kept.
+        codes: How often each reason came.
+    """
 
     def __init__(
         self, work: Work, unpacking: Unpacking, most_reports: int, counts_codes: bool
@@ -96,7 +103,7 @@ class Fed(Stream):
         self._rest = bytearray()
         self._seen = 0  # bytes of the rest that have no LF
         self._line: Optional[bytes] = None  # the first one, once it is whole
-        self._is_first = True
+        self._is_first = self._is_open = True
         self._too_long: Optional[bytearray] = None  # the begin of a line whose end is looked for
         self.reports: List[Report] = []
         self.codes: "Counter[int]" = Counter()
@@ -109,46 +116,52 @@ class Fed(Stream):
     @property
     def has_header(self) -> bool:
         """Whether the first line is known to be valid."""
-        return not self._is_first and not self.ended
+        return self._joined.parts > 0 and not self.ended
 
-    def feed(self, pieces: Iterable[bytes]) -> List[Text]:
-        """Judges what comes next, and returns what is kept of it.
+    def cut(self, pieces: Iterable[bytes]) -> List[Task]:
+        """Returns what judges the parts that have come with some pieces.
 
         Raises:
             Problem: The body is broken, or too long.
         """
-        outputs: List[Text] = []
+        tasks: List[Task] = []
         for piece in pieces:
             for text in self._unpacking.feed(piece):
-                if not self.ended:
+                if self._is_open and not self.ended:
                     self._rest += text
-                    self._cut(outputs)
-        return outputs
+                    tasks += self._parts_of_rest()
+        return tasks
 
-    def end(self) -> List[Text]:
-        """Judges what is left, and returns what is kept of it.
+    def end(self) -> List[Task]:
+        """Returns what judges what is left.
 
         Raises:
             Problem: The body is cut short.
         """
-        outputs: List[Text] = []
         self._rest += self._unpacking.end()
-        if self.ended:
-            return outputs
+        if self.ended or not self._is_open:
+            return []
         if self._line is None:
             self._begin(bytes(self._rest), bytearray())
         if self._too_long is not None:
             self._rest, self._too_long = self._too_long, None
-        if self._rest or self._is_first:
-            self._judge(self._rest, outputs)
-        return outputs
+        return [self._part(self._rest)] if self._rest or self._is_first else []
+
+    def take(self, answer: Answer) -> Text:
+        """Joins the answer of the next part, and returns what is kept of it."""
+        if self.ended:
+            return b""
+        if len(self.reports) >= self._most_reports and not self._counts_codes:
+            answer.reports = ()  # each takes time to describe, and there may be millions
+        self.add(answer)
+        return answer.output
 
     def _begin(self, line: bytes, rest: bytearray) -> None:
         self._line, self._rest = line, rest
         self.heads(line, bytes(rest[:HEAD]))
 
-    def _cut(self, outputs: List[Text]) -> None:
-        """Judges the whole lines that are there, where they are enough."""
+    def _parts_of_rest(self) -> Iterator[Task]:
+        """Yields what judges the whole lines that are there, if they are enough."""
         limit = self.work.line_limit
         if self._line is None:
             end = self._rest.find(b"\n", self._seen, limit + 1) + 1
@@ -159,26 +172,28 @@ class Fed(Stream):
             self._begin(bytes(line), rest)
             self._seen = 0
             if not end:
-                self._judge(rest, outputs)  # the first line is too long
+                self._is_open = False
+                yield self._part(rest)  # the first line is too long
                 return
         if self._too_long is not None and not self._find_end():
             return
         if len(self._rest) >= self._part_size(SMALL, self._line or b""):
-            self._judge_lines(outputs)
+            yield from self._lines_of_rest()
 
-    def _judge_lines(self, outputs: List[Text]) -> None:
+    def _lines_of_rest(self) -> Iterator[Task]:
         end = self._rest.rfind(b"\n", self._seen) + 1
         if end:
             part, self._rest = self._rest, self._rest[end:]
             del part[end:]
-            self._judge(part, outputs)
+            yield self._part(part)
         self._seen = len(self._rest)
-        if len(self._rest) > self.work.line_limit and not self.ended:
+        if len(self._rest) > self.work.line_limit:
             part, self._rest, self._seen = self._rest[: self.work.line_limit + 1], bytearray(), 0
             if self.work.keep_going:
                 self._too_long = part
             else:
-                self._judge(part, outputs)
+                self._is_open = False
+                yield self._part(part)
 
     def _find_end(self) -> bool:
         """Looks for the end of a line that is too long. Whether it is there."""
@@ -190,16 +205,11 @@ class Fed(Stream):
         self._too_long, self._seen = None, 0
         return True
 
-    def _judge(self, part: bytearray, outputs: List[Text]) -> None:
-        answer: Answer = judge_read(
-            self.work, self.file, self._line or b"", partial(given, part), self._is_first
+    def _part(self, part: bytearray) -> Task:
+        is_first, self._is_first = self._is_first, False
+        return partial(
+            judge_read, self.work, self.file, self._line or b"", partial(given, part), is_first
         )
-        self._is_first = False
-        if len(answer.output):
-            outputs.append(answer.output)
-        if len(self.reports) >= self._most_reports and not self._counts_codes:
-            answer.reports = ()  # each takes time to describe, and there may be millions
-        self.add(answer)
 
     def result(self) -> Result:
         """Returns what came of the stream.

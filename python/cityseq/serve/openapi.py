@@ -150,7 +150,7 @@ def _judging_paths(limits: Limits) -> Object:
                    {"type": "string", "enum": ["last"]}),
     ]
     kept = {SEQUENCE: {"schema": STRING}, **lines}
-    refused = {"422": {"description": "The header is not valid.", "content": lines}}
+    refused = {"422": {"description": "The stream is not valid, and nothing was sent.", "content": lines}}
     return {
         "/check": _post(
             "check", "The verdict on a stream", "An object a line: each report, then the result.",

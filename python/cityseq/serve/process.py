@@ -27,7 +27,7 @@ BACKLOG = 1_024
 READ = 1 << 18  # bytes of a body that wait in a connection
 LINGER = 2.0  # seconds in which what a client still sends is read and dropped
 LOOK = 0.05  # seconds between two looks whether all is answered
-FILES = 64  # descriptors beside those of connections
+FILES = 512  # descriptors beside those of connections
 
 
 def settings_of(wanted: Asked) -> Settings:
