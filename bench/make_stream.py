@@ -1,14 +1,16 @@
 #!/usr/bin/env python3
 """Writes a CityJSONSeq stream of a given shape and size to standard output.
 
-    make_stream.py usual|spread|tiny|named|huge|text|linked MEGABYTES
+    make_stream.py usual|spread|grid|tiny|named|huge|text|linked MEGABYTES
 
 usual: features of 5 to 125 KB, about 4 bytes a JSON token, as city models have them;
 spread: the same, each of 60 features in a square of 100 m of its own, one beside the other along x;
+grid: features of about 2 KB, each in a square of 10 m of its own, 1,000 in a row along x;
 tiny: features of about 300 bytes; named: the same, with ids that begin alike; huge: features of about
 6 MB; text: features of 2 to 30 KB, most of it long attributes of which half of the letters are not
 ASCII; linked: features of 10,000 city objects, one parent and its children, at least one line. The
 same arguments give the same bytes."""
+import itertools
 import random
 import sys
 
@@ -28,6 +30,21 @@ def feature(rng, number, vertices, left=0, side=1000000):
             f'"geometry":[{{"type":"Solid","lod":"2.2","boundaries":[[{surfaces}]],"semantics":{{"surfaces":'
             f'[{{"type":"GroundSurface"}},{{"type":"RoofSurface"}},{{"type":"WallSurface"}}],"values":[[{values}]]}}}}]}}}},'
             f'"vertices":[{points}]}}\n')
+
+
+GRID = 1000  # features in a row
+# a box as a solid, and text as long as usual attributes have
+BOX = "[[[[0,1,2,3]],[[4,5,6,7]],[[0,1,5,4]],[[1,2,6,5]],[[2,3,7,6]],[[3,0,4,7]]]]"
+NOTE = "".join(f'"measure {i}":{i}.25,' for i in range(80))
+
+
+def on_grid(number):
+    """A building of eight vertices in a square of 10 m of its own."""
+    left, low, high = number % GRID * 10000, number // GRID * 10000, 5000 + number % 97 * 100
+    corners = ((left + x, low + y, z) for z in (0, high) for x, y in ((1000, 1000), (9000, 1000), (9000, 9000), (1000, 9000)))
+    return (f'{{"type":"CityJSONFeature","id":"b{number}","CityObjects":{{"b{number}":{{"type":"Building",'
+            f'"attributes":{{{NOTE}"year":{1500 + number % 500}}},"geometry":[{{"type":"Solid","lod":"2.2",'
+            f'"boundaries":{BOX}}}]}}}},"vertices":[{",".join("[%d,%d,%d]" % corner for corner in corners)}]}}\n')
 
 
 def tiny(rng, number):
@@ -82,6 +99,11 @@ def main():
     rng = random.Random(shape)
     out = sys.stdout.buffer
     written = out.write(HEADER.encode())
+    if shape == "grid":
+        for number in itertools.count():
+            if written >= size and number:
+                return
+            written += out.write(on_grid(number).encode())
     # a few lines, written over and over: making each line anew would take longer than reading it
     if shape == "tiny":
         lines = [tiny(rng, i).encode() for i in range(2000)]

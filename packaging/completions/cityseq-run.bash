@@ -11,7 +11,7 @@ _cityseq_run() {
     TunnelInstallation TunnelPart'
   COMPREPLY=()
   if [ "$COMP_CWORD" = 1 ]; then
-    options='check filter info explain help -h --help -V --version'
+    options='check filter info index explain help -h --help -V --version'
     mapfile -t COMPREPLY < <(compgen -W "$options" -- "$current")
     return
   fi
@@ -26,11 +26,11 @@ _cityseq_run() {
       mapfile -t COMPREPLY < <(compgen -d -- "$current")
       return
       ;;
-    --files-from | --record | --ids-from | --output)
+    --files-from | --record | --ids-from | --index | --output | --show)
       mapfile -t COMPREPLY < <(compgen -f -- "$current")
       return
       ;;
-    --line-limit | --depth | --jobs | --part-size | --max-reports | --id | --lod | --bbox)
+    --line-limit | --depth | --jobs | --part-size | --max-reports | --id | --lod | --bbox | --base)
       return
       ;;
   esac
@@ -44,8 +44,8 @@ _cityseq_run() {
     filter)
       options='
         --line-limit --depth --keep-going --tree --exclude --id --ids-from --type --lod --bbox
-        --output --output-dir --keep-partial --files-from --jobs --part-size --json --sha256
-        --max-reports --summary --progress --quiet -h --help'
+        --index --base --output --output-dir --keep-partial --files-from --jobs --part-size
+        --json --sha256 --max-reports --summary --progress --quiet -h --help'
       files=yes
       ;;
     info)
@@ -54,12 +54,18 @@ _cityseq_run() {
         --max-reports --summary --progress --quiet -h --help'
       files=yes
       ;;
+    index)
+      options='
+        --line-limit --depth --keep-going --tree --output --show --files-from --jobs --part-size
+        --json --max-reports --summary --progress --quiet -h --help'
+      files=yes
+      ;;
     explain)
       options='
         -h --help'
       files=
       ;;
-    help) options='check filter info explain' ;;
+    help) options='check filter info index explain' ;;
   esac
   if [ -n "$files" ] && [[ $current != -* ]]; then
     mapfile -t COMPREPLY < <(compgen -f -- "$current")

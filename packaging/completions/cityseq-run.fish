@@ -1,6 +1,6 @@
 # Completion of cityseq-run for fish. packaging/options.py writes this file.
 
-set -l commands check filter info explain help
+set -l commands check filter info index explain help
 set -g __cityseq_run_types \
     Bridge Building CityFurniture CityObjectGroup GenericCityObject LandUse OtherConstruction \
     PlantCover Railway Road SolitaryVegetationObject TINRelief TransportSquare Tunnel WaterBody \
@@ -13,6 +13,7 @@ complete -c cityseq-run -n "not __fish_seen_subcommand_from $commands" -f
 complete -c cityseq-run -n "not __fish_seen_subcommand_from $commands" -a check -d 'Say whether a stream is valid'
 complete -c cityseq-run -n "not __fish_seen_subcommand_from $commands" -a filter -d 'Copy the header and the features that are wanted'
 complete -c cityseq-run -n "not __fish_seen_subcommand_from $commands" -a info -d 'Report what is in a stream'
+complete -c cityseq-run -n "not __fish_seen_subcommand_from $commands" -a index -d 'Write an index of streams'
 complete -c cityseq-run -n "not __fish_seen_subcommand_from $commands" -a explain -d 'Say what the code of a reason means'
 complete -c cityseq-run -n "not __fish_seen_subcommand_from $commands" -a help -d 'Print this message or the help of the given subcommand(s)'
 complete -c cityseq-run -n "not __fish_seen_subcommand_from $commands" -s h -l help -d 'Print help'
@@ -47,6 +48,8 @@ complete -c cityseq-run -n '__fish_seen_subcommand_from filter' -l ids-from -r -
 complete -c cityseq-run -n '__fish_seen_subcommand_from filter' -l type -x -a '(__fish_complete_list , "string join \n $__cityseq_run_types")' -d 'Keep a feature that has a city object of one of these types'
 complete -c cityseq-run -n '__fish_seen_subcommand_from filter' -l lod -x -d 'Keep a feature that has a geometry with one of these as its lod'
 complete -c cityseq-run -n '__fish_seen_subcommand_from filter' -l bbox -x -d 'Keep a feature that reaches into this box'
+complete -c cityseq-run -n '__fish_seen_subcommand_from filter' -l index -r -F -d 'Read the selected lines alone'
+complete -c cityseq-run -n '__fish_seen_subcommand_from filter' -l base -x -d 'With --index'
 complete -c cityseq-run -n '__fish_seen_subcommand_from filter' -l output -r -F -d 'Write to this file once the run has ended well'
 complete -c cityseq-run -n '__fish_seen_subcommand_from filter' -l output-dir -x -a '(__fish_complete_directories)' -d 'Write what is kept of each FILE to a file of its name in here'
 complete -c cityseq-run -n '__fish_seen_subcommand_from filter' -l keep-partial -d 'Leave what was kept as OUTPUT.part where the run has not ended well'
@@ -77,7 +80,24 @@ complete -c cityseq-run -n '__fish_seen_subcommand_from info' -l progress -d 'Sh
 complete -c cityseq-run -n '__fish_seen_subcommand_from info' -l quiet -d 'Say nothing but faults'
 complete -c cityseq-run -n '__fish_seen_subcommand_from info' -s h -l help -d 'Print help'
 
+complete -c cityseq-run -n '__fish_seen_subcommand_from index' -F
+complete -c cityseq-run -n '__fish_seen_subcommand_from index' -l line-limit -x -d 'Refuse a line that is longer'
+complete -c cityseq-run -n '__fish_seen_subcommand_from index' -l depth -x -d 'Refuse a line with more arrays and objects open at once'
+complete -c cityseq-run -n '__fish_seen_subcommand_from index' -l keep-going -d 'Report each line that is not valid'
+complete -c cityseq-run -n '__fish_seen_subcommand_from index' -l tree -d 'Refuse a feature of which a city object is not reached from the main one'
+complete -c cityseq-run -n '__fish_seen_subcommand_from index' -l output -r -F -d 'Write the index to this file once all streams were read'
+complete -c cityseq-run -n '__fish_seen_subcommand_from index' -l show -r -F -d 'Say what an index covers'
+complete -c cityseq-run -n '__fish_seen_subcommand_from index' -l files-from -r -F -d 'Read the names of files from this file'
+complete -c cityseq-run -n '__fish_seen_subcommand_from index' -l jobs -x -d 'Judge so many parts at once'
+complete -c cityseq-run -n '__fish_seen_subcommand_from index' -l part-size -x -d 'Judge parts of so many bytes'
+complete -c cityseq-run -n '__fish_seen_subcommand_from index' -l json -d 'Write an object a line'
+complete -c cityseq-run -n '__fish_seen_subcommand_from index' -l max-reports -x -d 'Say so many reports of each FILE'
+complete -c cityseq-run -n '__fish_seen_subcommand_from index' -l summary -d 'Say how often each reason comes'
+complete -c cityseq-run -n '__fish_seen_subcommand_from index' -l progress -d 'Show on standard error how far it is'
+complete -c cityseq-run -n '__fish_seen_subcommand_from index' -l quiet -d 'Say nothing but faults'
+complete -c cityseq-run -n '__fish_seen_subcommand_from index' -s h -l help -d 'Print help'
+
 complete -c cityseq-run -n '__fish_seen_subcommand_from explain' -f
 complete -c cityseq-run -n '__fish_seen_subcommand_from explain' -s h -l help -d 'Print help'
 
-complete -c cityseq-run -n '__fish_seen_subcommand_from help' -f -a 'check filter info explain'
+complete -c cityseq-run -n '__fish_seen_subcommand_from help' -f -a 'check filter info index explain'

@@ -15,7 +15,8 @@ file that is packed by gzip or Zstandard is unpacked.
 """
 from __future__ import annotations
 
-from typing import TYPE_CHECKING, Any, Callable, Dict, Iterable, Iterator, Optional
+import os
+from typing import TYPE_CHECKING, Any, Callable, Dict, Iterable, Iterator, List, Optional, Union
 
 from ._library import USUAL_DEPTH, USUAL_LINE
 from .faults import (
@@ -23,6 +24,7 @@ from .faults import (
     InvalidStream,
     LibraryMissing,
     MemoryFault,
+    OutOfDate,
     ReadFault,
     RequestError,
     WriteFault,
@@ -36,14 +38,17 @@ from .sources import Source
 
 if TYPE_CHECKING:
     from .listing import Feature
+    from .lookup import Index
 
 __all__ = [
     "CityseqError",
     "Explanation",
+    "Index",
     "Info",
     "InvalidStream",
     "LibraryMissing",
     "MemoryFault",
+    "OutOfDate",
     "ReadFault",
     "Report",
     "RequestError",
@@ -54,6 +59,7 @@ __all__ = [
     "explain",
     "features",
     "filter",
+    "index",
     "info",
     "table",
 ]
@@ -312,3 +318,54 @@ def table(source: Source, **query: Any) -> Dict[str, Any]:
     from .listing import table as tabled  # few runs need it
 
     return tabled(source, asked("filter", **query))
+
+
+def index(
+    paths: Union[str, "os.PathLike[str]", Iterable[Union[str, "os.PathLike[str]"]]],
+    output: Union[str, "os.PathLike[str]"],
+    *,
+    jobs: Optional[int] = None,
+    line_limit: int = USUAL_LINE,
+    depth: int = USUAL_DEPTH,
+    keep_going: bool = False,
+    tree: bool = False,
+    on_report: OnReport = None,
+    progress: Progress = None,
+    part_size: Optional[int] = None,
+) -> List[Result]:
+    """Writes an index of streams, with which `Index` cuts them without reading them whole.
+
+    The index is a GeoPackage, which docs/geopackage.md describes. It is written as `NAME.part`, and
+    renamed when it is whole. The options that are not listed here are those of `check`.
+
+    Args:
+        paths: The paths of the streams, or the only one. They are regular files, which may be
+            packed.
+        output: The path of the index.
+        keep_going: Whether to leave invalid lines out, which the table `reports` lists then.
+
+    Returns:
+        What came of each stream, in order.
+
+    Raises:
+        InvalidStream: A stream is invalid. With `keep_going` only an invalid header is.
+        ReadFault: A stream cannot be opened or read, or it changes.
+        WriteFault: The index cannot be opened or written.
+        MemoryFault: Memory is short.
+        RequestError: An argument has a value that it may not have, or the output is a stream.
+        LibraryMissing: The library is not there, or it is another version.
+    """
+    from .indexing import checked, index as indexed  # few runs need it
+
+    work = asked("check", line_limit=line_limit, depth=depth, keep_going=keep_going, tree=tree)
+    named = checked(paths, output)
+    return indexed(named, output, work, jobs, _part_size(part_size), on_report, progress)
+
+
+def __getattr__(name: str) -> Any:
+    """Loads `Index` when it is first used: few programs need it, and it takes long to load."""
+    if name == "Index":
+        from .lookup import Index
+
+        return Index
+    raise AttributeError(f"module {__name__!r} has no attribute {name!r}")

@@ -134,6 +134,16 @@ class Library:
         answer = self._calls.cityseq_features(*self._given(header, part, request), records, room, report, 0)
         return answer, report, records[:min(answer.kept, room)]
 
+    def records(
+        self, header: bytes, part: Text, request: RawRequest, room: int, reports_room: int
+    ) -> Tuple[RawAnswer, RawReports, bytes]:
+        """The same, and the third are the bytes of the records that there was room for."""
+        reports, records = (RawReport * max(reports_room, 1))(), bytearray(max(room, 1) * ctypes.sizeof(RawFeature))
+        given = self._given(header, part, request)
+        first = ctypes.byref(RawFeature.from_buffer(records))
+        answer = self._calls.cityseq_features(*given, first, room, reports, reports_room)
+        return answer, reports, bytes(memoryview(records)[:min(answer.kept, room) * ctypes.sizeof(RawFeature)])
+
     def reason_text(self, code: int) -> str:
         """The words of a reason; none where no reason has this code."""
         return self._text(self._calls.cityseq_reason_text, code)

@@ -71,7 +71,7 @@ def _listed(path: str, what: str) -> bytes:
     return text.strip(b"\n") if b"\n\n" not in text else b"\n".join(filter(None, text.split(b"\n")))
 
 
-def _files(wanted: Asked) -> Tuple[str, ...]:
+def files_of(wanted: Asked) -> Tuple[str, ...]:
     """The files that are read."""
     listed = b"" if wanted.files_from is None else _listed(wanted.files_from, "a list of files")
     named = (*wanted.files, *(map(os.fsdecode, listed.split(b"\n")) if listed else ()))
@@ -81,15 +81,15 @@ def _files(wanted: Asked) -> Tuple[str, ...]:
     return files
 
 
-def _texts(text: Optional[str]) -> Optional[List[str]]:
+def texts_of(text: Optional[str]) -> Optional[List[str]]:
     return None if text is None else text.split(",")
 
 
-def _ids(wanted: Asked) -> Union[List[str], bytes, None]:
+def ids_of(wanted: Asked) -> Union[List[str], bytes, None]:
     """The ids that are asked for, by the option and by the list, of which there may be very
     many."""
     if wanted.ids_from is None:
-        return _texts(wanted.id)
+        return texts_of(wanted.id)
     listed = _listed(wanted.ids_from, "a list of ids")
     try:
         listed.decode("utf-8")
@@ -112,9 +112,9 @@ def _work(wanted: Asked) -> Work:
         return asked(
             "filter",
             exclude=wanted.exclude,
-            ids=_ids(wanted),
-            types=_texts(wanted.type),
-            lods=_texts(wanted.lod),
+            ids=ids_of(wanted),
+            types=texts_of(wanted.type),
+            lods=texts_of(wanted.lod),
             box=wanted.bbox,
             **common,
         )
@@ -156,7 +156,7 @@ def _refuse_same(wanted: Asked, files: Iterable[str], outputs: Iterable[Optional
     )
 
 
-def _make_folder(path: str) -> None:
+def make_folder(path: str) -> None:
     try:
         os.makedirs(path, exist_ok=True)
     except OSError as fault:
@@ -261,10 +261,10 @@ class Run:
 
 def _run(wanted: Asked) -> int:
     """Does what is asked with each file, in order, and answers the greatest status."""
-    files, work = _files(wanted), _work(wanted)
+    files, work = files_of(wanted), _work(wanted)
     outputs = _outputs(wanted, files)
     if wanted.output_dir is not None:
-        _make_folder(wanted.output_dir)
+        make_folder(wanted.output_dir)
     _refuse_same(wanted, files, outputs)
     if wanted.command == "check" and (wanted.resume or wanted.record is not None):
         from .record import refuse_unrecorded
@@ -298,6 +298,21 @@ def _explain(words: Sequence[str]) -> int:
         raise RequestError(f"no reason has the code {words[0]}") from None
     put(f"{code} {told.text}\n\n{told.meaning}\n\nFix: {told.fix}")
     return 0
+
+
+def _by_command(wanted: Asked) -> int:
+    """Does what is asked. Few runs need an index, or what cuts by one."""
+    if wanted.command == "explain":
+        return _explain(wanted.files)
+    if wanted.command == "index":
+        from .index_commands import run
+
+        return run(wanted)
+    if wanted.index is not None or wanted.base is not None:
+        from .cut_commands import run as run_cut
+
+        return run_cut(wanted)
+    return _run(wanted)
 
 
 # ---- how it ends
@@ -350,7 +365,7 @@ def main(words: Optional[Sequence[str]] = None) -> int:
     try:
         try:
             wanted = read_words(_program(), __version__, sys.argv[1:] if words is None else words)
-            status = _explain(wanted.files) if wanted.command == "explain" else _run(wanted)
+            status = _by_command(wanted)
         except Told as text:
             put(str(text))
             status = 0

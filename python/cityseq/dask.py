@@ -14,19 +14,21 @@ from __future__ import annotations
 import os
 from functools import partial
 from itertools import islice
-from typing import Any, Callable, Iterable, Iterator, List, Optional
+from typing import Any, Callable, Iterable, Iterator, List, Optional, Tuple
 
 from ._library import USUAL_DEPTH, USUAL_LINE
+from .builder import Builder
 from .faults import CityseqError, RequestError
+from .indexing import Indexed, checked, written
 from .packed import packing_by_name
 from .parts import Answer
 from .query import Box, Texts, Work, asked
-from .ranges import Seen, cut, judge_range, judge_whole, look
+from .ranges import Seen, cut, find_range, judge_range, judge_whole, look
 from .reports import Report
-from .running import HEADERS, Info, Result, Stream, Tasks, results
+from .running import HEADERS, Info, Result, Results, Stream, Tasks, results
 from .outputs import Target, Writer
 from .same import refuse_same
-from .sources import is_packed, is_path
+from .sources import State, is_packed, is_path
 from .threads import in_thread
 
 PART = 32 << 20  # how long the parts of tasks are
@@ -35,6 +37,28 @@ AHEAD = 2  # how many tasks there are at once for each thread of a worker
 RETRIES = 3  # how often a task that fails is tried again
 
 OnReport = Optional[Callable[[Report], None]]
+
+
+def _ranges_of(
+    stream: Stream, path: str, size: int, seen: Seen, judged: Callable[..., Answer]
+) -> Tasks:
+    """What is to be called for each part of a file, of a size where its bytes can be gone to."""
+    stream.heads(seen.header, seen.behind)
+    if seen.fault is not None and not seen.header.endswith(b"\n"):
+        stream.fail(seen.fault)
+        return
+    if seen.size is None:
+        yield partial(judge_whole, stream.work, path)
+        return
+    begin = len(seen.header)
+    first = True
+    for left, right in (
+        cut(begin, seen.size, max(size, HEADERS * begin)) if seen.header.endswith(b"\n") else ()
+    ):
+        yield partial(judged, stream.work, path, left, right, first, seen.state)
+        first = False
+    if first:
+        yield partial(judged, stream.work, path, begin, begin, True, seen.state)
 
 
 class _Ranged(Stream):
@@ -48,50 +72,52 @@ class _Ranged(Stream):
 
     def tasks(self) -> Tasks:
         """What is to be called for each part."""
-        seen = self._seen
-        self.heads(seen.header, seen.behind)
-        if seen.fault is not None and not seen.header.endswith(b"\n"):
-            self.fail(seen.fault)
-            return
-        if seen.size is None:
-            yield partial(judge_whole, self.work, self._path)
-            return
-        begin = len(seen.header)
-        first = True
-        for left, right in (
-            cut(begin, seen.size, max(self._each, HEADERS * begin))
-            if seen.header.endswith(b"\n")
-            else ()
-        ):
-            yield partial(judge_range, self.work, self._path, left, right, first, seen.state)
-            first = False
-        if first:
-            yield partial(judge_range, self.work, self._path, begin, begin, True, seen.state)
+        return _ranges_of(self, self._path, self._each, self._seen, judge_range)
 
 
-def _streams(
-    client: Any,
-    paths: Iterable[str],
-    work: Work,
-    size: int,
-    output: Optional[Writer],
-    tell: OnReport,
-) -> Iterator[Stream]:
-    """The files as streams, whose beginnings are looked at by the workers, many at once."""
+class _IndexedRanges(Indexed):
+    """The same, whose records go to an index."""
+
+    def __init__(self, number: int, seen: Seen, size: int, *given: Any) -> None:
+        super().__init__(number, *given)
+        self._seen, self._each = seen, size
+
+    def tasks(self) -> Tasks:
+        """What is to be called for each part."""
+        return _ranges_of(self, self.file, self._each, self._seen, find_range)
+
+    def state(self) -> State:
+        """The size and the time that the file had at the beginning."""
+        assert self._seen.state is not None
+        return self._seen.state
+
+
+def _seen(client: Any, paths: Iterable[str], work: Work) -> Iterator[Tuple[str, Seen]]:
+    """The files and their beginnings, which are looked at by the workers, many at once."""
     left = iter(paths)
     while True:
         group = list(islice(left, LOOKED_AT))
         if not group:
             return
         looks = client.map(look, group, line_limit=work.line_limit, pure=False, retries=RETRIES)
-        for path, seen in zip(group, client.gather(looks)):
-            yield _Ranged(path, work, size, seen, output, tell)
+        yield from zip(group, client.gather(looks))
 
 
 def _run(
     client: Any, paths: Any, work: Work, size: int, output: Optional[Writer], tell: OnReport
-) -> Iterator[Result]:
+) -> Results:
     """What comes of each file, in order."""
+
+    def made(path: str, seen: Seen) -> Stream:
+        return _Ranged(path, work, size, seen, output, tell)
+
+    return _run_each(client, paths, work, made)
+
+
+def _run_each(
+    client: Any, paths: Any, work: Work, made: Callable[[str, Seen], Stream]
+) -> Results:
+    """What comes of each file, in order, by the stream that is made of it."""
     try:
         import distributed
     except ImportError as fault:
@@ -110,9 +136,8 @@ def _run(
 
     threads: Any = client.nthreads()  # type: ignore[no-untyped-call]
     ahead = AHEAD * max(sum(threads.values()), 1)
-    return results(
-        _streams(client, list(map(os.fsdecode, paths)), work, size, output, tell), submit, ahead
-    )
+    listed = list(map(os.fsdecode, paths))
+    return results((made(*each) for each in _seen(client, listed, work)), submit, ahead)
 
 
 def check(
@@ -188,3 +213,37 @@ def filter(
         _run(client, [path], work, part_size, Writer(output, keep_partial), on_report)
     )
     return found[0].raised_if_invalid(keep_going)
+
+
+def index(
+    client: Any,
+    paths: Any,
+    output: Any,
+    *,
+    line_limit: int = USUAL_LINE,
+    depth: int = USUAL_DEPTH,
+    keep_going: bool = False,
+    tree: bool = False,
+    on_report: OnReport = None,
+    part_size: int = PART,
+) -> List[Result]:
+    """Writes an index of files where this is called, as `cityseq.index` does. The workers judge
+    the files, and hand on where each feature is. Packed files have no parts, and are refused."""
+    work = asked("check", line_limit=line_limit, depth=depth, keep_going=keep_going, tree=tree)
+    named = checked(paths, output)
+    for path in named:
+        if packing_by_name(path) is not None or is_packed(path):
+            raise RequestError(f"{path}: a packed file has no parts: unpack it, or use threads")
+    builder = Builder(os.fsdecode(output))
+    numbers = {path: number for number, path in enumerate(named, 1)}
+    found: List[Result] = []
+
+    def made(path: str, seen: Seen) -> Stream:
+        return _IndexedRanges(
+            numbers[path], seen, part_size, path, work, builder, part_size, on_report
+        )
+
+    written(builder, lambda: _run_each(client, named, work, made), work, found.append)
+    for result in found:
+        result.raised_if_invalid(keep_going and result.end is None)
+    return found

@@ -57,6 +57,15 @@ class ReadFault(CityseqError, OSError):
     status = 3
 
 
+class OutOfDate(ReadFault):
+    """An index is of another state of a stream than the one that is there now: build it again."""
+
+    @classmethod
+    def because(cls, why: str, file: str) -> "OutOfDate":
+        """The fault that has this reason, which is told of the stream."""
+        return cls(f"index is out of date: {why}, build it again", None, file)
+
+
 class WriteFault(CityseqError, OSError):
     """An output could not be opened, or a write failed."""
 

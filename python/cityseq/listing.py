@@ -78,7 +78,7 @@ def _set_bits(bits: int, names: Tuple[str, ...]) -> Tuple[str, ...]:
     return tuple(name for number, name in enumerate(names) if bits >> number & 1)
 
 
-def _feature_of(raw: RawFeature, header: bytes, part: Text, lines: int) -> Feature:
+def feature_of(raw: RawFeature, header: bytes, part: Text, lines: int) -> Feature:
     """The feature of a record, where so many lines came before the part's own."""
     line = bytes(part[raw.begin : raw.begin + raw.length])
     ranges = tuple((axis.least, axis.greatest) if axis.some else None for axis in raw.ranges)
@@ -95,7 +95,7 @@ def _feature_of(raw: RawFeature, header: bytes, part: Text, lines: int) -> Featu
     )
 
 
-def _fault_of(answer: RawAnswer, header: bytes, part: Text, lines: int, file: str) -> CityseqError:
+def fault_of(answer: RawAnswer, header: bytes, part: Text, lines: int, file: str) -> CityseqError:
     """The fault that an answer tells."""
     if answer.status == NO_MEMORY:
         return MemoryFault("out of memory", None, file)
@@ -126,9 +126,9 @@ def features(source: Source, work: Work) -> Iterator[Feature]:
             room = part.count(b"\n") + 1
             answer, _, raws = library().features(header, part, work.request(header, part), room)
             for raw in raws:
-                yield _feature_of(raw, header, part, lines)
+                yield feature_of(raw, header, part, lines)
             if answer.status != COMPLETE:
-                raise _fault_of(answer, header, part, lines, file)
+                raise fault_of(answer, header, part, lines, file)
             lines += answer.lines - 1
         if reader.fault is not None:
             raise reader.fault

@@ -17,7 +17,7 @@ MOST = 1 << 53  # up to which a double holds every whole number
 Object = Dict[str, Any]
 
 
-def _object(kind: str, members: Object) -> Object:
+def object_of(kind: str, members: Object) -> Object:
     return {"kind": kind, "version": VERSION, **members}
 
 
@@ -38,7 +38,7 @@ def exact(number: "Decimal") -> Union[int, float, str]:
 
 def report_object(report: Report) -> Object:
     """An invalid line."""
-    return _object(
+    return object_of(
         "report",
         {
             "file": report.file,
@@ -125,12 +125,12 @@ def result_object(
     }
     if isinstance(result, Info):
         members["info"] = _of_info(result) if result.valid else None
-    return _object("result", members)
+    return object_of("result", members)
 
 
 def reasons_object(codes: "Counter[int]") -> Object:
     """How often each reason came."""
-    return _object(
+    return object_of(
         "reasons",
         {
             "reasons": [
@@ -143,7 +143,7 @@ def reasons_object(codes: "Counter[int]") -> Object:
 
 def record_object(result: Result, asked: Asked, program: str, state: Object) -> Object:
     """What a file is, and what came of it: a line of a record."""
-    return _object(
+    return object_of(
         "record",
         {
             "file": result.file,

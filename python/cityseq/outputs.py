@@ -118,11 +118,11 @@ class Writer:
             self._part = part
             self._file = file if self.packing is None else Packer(file, self.packing)
             if part is not None:
-                _hand_mode_on(self._path, part)
+                hand_mode_on(self._path, part)
         return self._file
 
 
-def _hand_mode_on(before: str, behind: str) -> None:
+def hand_mode_on(before: str, behind: str) -> None:
     """Gives a file the mode of the one that it will take the place of, where there is one."""
     with suppress(OSError):
         os.chmod(behind, stat.S_IMODE(os.stat(before).st_mode))

@@ -48,6 +48,11 @@ class Cutter:
         self._line_limit, self._keep_going = line_limit, keep_going
         self._is_waiting = False
 
+    @property
+    def left(self) -> int:
+        """How many bytes have been read behind the part that was given last."""
+        return len(self._rest)
+
     def _is_idle(self, size: int) -> bool:
         """Whether fewer bytes are there, and nothing has come for some time. It is said once before
         each read."""

@@ -3,13 +3,16 @@ bytes."""
 from __future__ import annotations
 
 from dataclasses import dataclass, replace
+from functools import partial
 from typing import IO, Iterator, Optional, Tuple
 
 from .faults import ReadFault, read_fault
 from .hints import HEAD
 from .packed import Unpacker
 from .parts import Answer, judge, read_header
+from .places import given
 from .query import Work
+from .records import find_read
 from .running import Stream, in_turn
 from .sources import CHANGED, PIECE, READ_FAULTS, Reader, State, opened, size_of, state_of
 
@@ -89,18 +92,41 @@ def _lines_from(file: IO[bytes], begin: int, end: int, work: Work) -> bytearray:
     return lines
 
 
+def _read_range(
+    work: Work, path: str, begin: int, end: int, state: Optional[State]
+) -> Tuple[bytes, int, bytearray]:
+    """The header of a file, and the lines that begin in a range of it, behind where they begin. It
+    has to be in this state, if one is given."""
+    with open(path, "rb") as file:
+        header = file.readline(work.line_limit + 1)
+        left = max(_first_line(file, begin, end), begin) if begin < end else end
+        part = _lines_from(file, left, end, work) if left < end else bytearray()
+        if state is not None and state_of(file.fileno()) != state:
+            raise OSError(CHANGED)
+    return header, left, part
+
+
+def find_range(
+    work: Work, path: str, begin: int, end: int, first: bool, state: Optional[State] = None
+) -> Answer:
+    """Judges the same lines as `judge_range`, and returns the records of their features."""
+    try:
+        header, left, part = _read_range(work, path, begin, end, state)
+    except READ_FAULTS as fault:
+        return Answer(lines=int(not first), fault=read_fault(fault, path))
+    if not part and not first:
+        return Answer(lines=1, size=end - begin)
+    answer = find_read(work, path, header, partial(given, part), left, first)
+    return replace(answer, reports=list(answer.reports))
+
+
 def judge_range(
     work: Work, path: str, begin: int, end: int, first: bool, state: Optional[State] = None
 ) -> Answer:
     """Judges the header of a file and the lines that begin in a range of it. It has to be in this
     state, if one is given."""
     try:
-        with open(path, "rb") as file:
-            header = file.readline(work.line_limit + 1)
-            left = max(_first_line(file, begin, end), begin) if begin < end else end
-            part = _lines_from(file, left, end, work) if left < end else bytearray()
-            if state is not None and state_of(file.fileno()) != state:
-                raise OSError(CHANGED)
+        header, _, part = _read_range(work, path, begin, end, state)
     except READ_FAULTS as fault:
         return Answer(lines=int(not first), fault=read_fault(fault, path))
     if not part and not first:

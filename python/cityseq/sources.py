@@ -153,7 +153,7 @@ class Watch:
     def __init__(self, descriptor: int) -> None:
         self._descriptor = -1
         self._descriptor = os.dup(descriptor)
-        self._state = state_of(descriptor)
+        self.state = state_of(descriptor)
 
     def __del__(self) -> None:
         if self._descriptor >= 0:
@@ -170,7 +170,7 @@ class Watch:
 
     def is_changed(self) -> bool:
         """Whether the file is in another state than at first."""
-        return state_of(self._descriptor) != self._state
+        return state_of(self._descriptor) != self.state
 
 
 @contextlib.contextmanager

@@ -189,7 +189,7 @@ class TextTeller(Teller):
             self._put(
                 [self._of(result.file) + line for line in info_lines(result, self._asked.is_plain)]
             )
-        elif result.end is None and self._asked.command == "check":
+        elif result.end is None and self._asked.command in ("check", "index"):
             verdict = "invalid" if result.refused else "valid"
             counts = _counts(result.lines, result.features, result.refused)
             self._put([f"{self._of(result.file)}{verdict} {counts}"])

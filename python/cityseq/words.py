@@ -47,11 +47,15 @@ class Asked:
     summary: bool = False
     record: Optional[str] = None
     resume: bool = False
+    index: Optional[str] = None
+    base: Optional[str] = None
+    show: Optional[str] = None
 
     @property
     def is_plain(self) -> bool:
         """Whether standard input alone is read, and all is said as the program says it."""
-        return not self.files and self.files_from is None
+        no_files = not self.files and self.files_from is None
+        return no_files and self.index is None and self.command != "index"
 
 
 class Mistake(RequestError):
@@ -222,6 +226,19 @@ RECORDS = (
     ),
     Option("resume", "Skip each FILE that is in the record as it is now, with the same options"),
 )
+CUTS = (
+    Option(
+        "index",
+        "Read the selected lines alone, of the streams that this index is of; no FILE is named then",
+        "INDEX",
+    ),
+    Option("base", "With --index: read the streams from a web server, below this URL", "URL"),
+)
+INDEX_SAYS = tuple(option for option in SAYS if option.name != "sha256")
+INDEX_OPTIONS = (
+    Option("output", "Write the index to this file once all streams were read", "OUTPUT"),
+    Option("show", "Say what an index covers, and which ids it has more than once", "INDEX"),
+)
 STATUSES = """\
 Exit status, the greatest of all FILEs:
   0   the stream is valid up to its end
@@ -270,6 +287,16 @@ and translation, city objects by type, geometries by LoD, the least and the grea
 vertices on each axis, and the most bytes, tokens and open containers that were held; of a FILE also
 the box in world coordinates, and the features by the texts of their LoDs. See '{0} --help' for the
 exit status."""
+INDEX_AFTER = """\
+Examples:
+  {0} index --output region.gpkg region.city.jsonl more.city.jsonl
+  {0} filter --index region.gpkg --bbox 84000,447000,85000,448000 > tile.city.jsonl
+  {0} index --show region.gpkg
+
+Judges each FILE as check does. OUTPUT is a GeoPackage with the extent of each feature, which maps
+show, and with the place of its line. No index is left where a stream is not valid. With
+--keep-going each line that is not valid is left out, and listed in the table reports. An index is
+of the files as they are: build it again where one changes. See '{0} --help' for the exit status."""
 COMMANDS = {
     command.name: command
     for command in (
@@ -282,7 +309,7 @@ COMMANDS = {
         Command(
             "filter",
             "Copy the header and the features that are wanted",
-            (*LIMITS, KEEP_GOING, TREE, *QUERY, *OUTPUTS, *RUNS, *SAYS),
+            (*LIMITS, KEEP_GOING, TREE, *QUERY, *CUTS, *OUTPUTS, *RUNS, *SAYS),
             FILTER_AFTER,
         ),
         Command(
@@ -300,6 +327,12 @@ COMMANDS = {
                 *SAYS,
             ),
             INFO_AFTER,
+        ),
+        Command(
+            "index",
+            "Write an index of streams, by which filter cuts them: a GeoPackage",
+            (*LIMITS, KEEP_GOING, TREE, *INDEX_OPTIONS, *RUNS, *INDEX_SAYS),
+            INDEX_AFTER,
         ),
         Command(
             "explain",

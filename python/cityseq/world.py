@@ -14,7 +14,7 @@ UNITS, GREATEST = -18, Decimal(10) ** 18  # a box takes multiples of 10^-18 that
 NESTED = 1_100  # arrays and objects that a header may have open at once, and some more
 
 
-def _read_json(text: str) -> Any:
+def read_json(text: str) -> Any:
     """Reads JSON with all numbers exact. A valid header may be nested deeper than Python reads by itself."""
     try:
         return json.loads(text, parse_float=Decimal, parse_int=Decimal)
@@ -29,7 +29,7 @@ def _read_json(text: str) -> Any:
 
 def transform_of(header: bytes) -> Tuple[List[Decimal], List[Decimal]]:
     """The scale and the translation of a valid header."""
-    transform = _read_json(header.decode("utf-8"))["transform"]
+    transform = read_json(header.decode("utf-8"))["transform"]
     return transform["scale"], transform["translate"]
 
 

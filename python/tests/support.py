@@ -4,6 +4,7 @@ import io
 import os
 import pathlib
 import random
+import struct
 import subprocess
 import sys
 import tempfile
@@ -66,6 +67,15 @@ def in_one(text, kind="filter", **options):
 def numbered(reports):
     """Reports as numbers alone."""
     return [(report.line, report.byte, report.code) for report in reports]
+
+
+def box_of_polygon(geometry):
+    """The least and greatest x and y of a polygon of a GeoPackage, without envelope and little-endian."""
+    kind, rings, points = struct.unpack_from("<III", geometry, 9)
+    if (geometry[:4], kind, rings, points) != (b"GP\0\1", 3, 1, 5):
+        raise AssertionError(f"no polygon of five points: {geometry[:21].hex()}")
+    numbers = struct.unpack_from("<10d", geometry, 21)
+    return min(numbers[::2]), max(numbers[::2]), min(numbers[1::2]), max(numbers[1::2])
 
 
 def lines_by_chance(chance, count):

@@ -113,6 +113,26 @@ class Clusters(InFolder):
             self.assertRaises(cityseq.RequestError, call)
         self.assertRaises(cityseq.ReadFault, cityseq.dask.filter, self.client, "/nowhere", io.BytesIO())
 
+    def test_an_index(self):
+        from .test_index import dump
+        texts = [support.HEADER + b"".join(support.lines_by_chance(random.Random(seed), 300)) for seed in range(3)]
+        paths = [self.file(text, f"s{number}") for number, text in enumerate(texts)]
+        here, there = self.folder / "here.gpkg", self.folder / "there.gpkg"
+        wanted = cityseq.index(paths, here, keep_going=True, line_limit=1_000)
+        self.assertGreater(sum(result.refused for result in wanted), 10)
+        for size in (700, 5_000, 32 << 20):
+            found = cityseq.dask.index(self.client, paths, there, keep_going=True, line_limit=1_000, part_size=size)
+            self.assertEqual((found, dump(there)), (wanted, dump(here)))
+        before = there.read_bytes()
+        town, broken = (os.path.join(support.ROOT, "examples", f"{name}.city.jsonl") for name in ("town", "broken"))
+        for kind, path in ((cityseq.InvalidStream, broken), (cityseq.ReadFault, self.folder / "none"),
+                           (cityseq.RequestError, self.file(HEADER, "a.city.jsonl.gz")), (cityseq.RequestError, "-")):
+            with self.assertRaises(kind):
+                cityseq.dask.index(self.client, [town, path], there)
+            self.assertEqual(there.read_bytes(), before)
+        self.assertRaises(cityseq.RequestError, cityseq.dask.index, None, paths, there)
+        self.assertEqual(sorted(name for name in os.listdir(self.folder) if "part" in name), [])
+
     def test_a_worker_that_dies(self):
         lasts = (4 if number % 1_000 == 999 else 3 for number in range(200_000))
         path = self.file(HEADER + b"".join(feature("b", last=last) for last in lasts))

@@ -16,7 +16,8 @@ import cityseq
 from cityseq.objects import exact
 
 TYPES = {"string": str, "number": (int, float), "boolean": bool, "object": dict, "null": type(None), "array of strings": list,
-         "array of objects": list, "array of three decimals": list, "array of four decimals": list, "array of two numbers": list}
+         "array of objects": list, "array of three decimals": list, "array of four decimals": list, "array of two numbers": list,
+         "array of four numbers": list}
 
 
 def tables():
@@ -97,6 +98,20 @@ class Objects(Documented):
         self.assertEqual((objects[0]["features"], objects[0]["options"]["type"], said), (1, "Road", ""))
         self.assertEqual(command("filter", "--json", "-", given=GOOD)[0], GOOD)
         self.told("filter", "--json", "-", given=GOOD)
+
+    def test_index(self):
+        index, paths = str(self.folder / "it.gpkg"), [example("town"), str(self.file(HEADER + PLAIN + PLAIN, "two.gz"))]
+        objects, said, status = self.told("index", "--json", "--output", index, *paths)
+        self.assertEqual(([(one["file"], one["command"], one["features"]) for one in objects], said, status),
+                         ([(paths[0], "index", 4), (paths[1], "index", 2)], "", 0))
+        (told,), _, _ = self.told("index", "--json", "--show", index)
+        self.assertEqual((told["features"], told["bbox"], [one["packing"] for one in told["streams"]]),
+                         (6, [995, 1990, 1050, 2005], [None, "gzip"]))
+        self.assertEqual(told["repeated_ids"], [{"id": "b", "places": [{"file": paths[1], "line": 2}, {"file": paths[1], "line": 3}]}])
+        for one in told["streams"]:
+            self.fits(one, TABLES["streams"])
+        self.fits(told["repeated_ids"][0], TABLES["repeated_ids"])
+        self.assertEqual(told["streams"][1]["bbox"], None)
 
     def test_the_digest(self):
         for path in (self.file(GOOD), self.file(GOOD, "a.gz")):

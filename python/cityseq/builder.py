@@ -1,0 +1,253 @@
+"""Writes an index: one thread takes the records of all parts, in order."""
+from __future__ import annotations
+
+import hashlib
+import json
+import os
+import sqlite3
+from contextlib import contextmanager, suppress
+from dataclasses import dataclass, field
+from functools import lru_cache
+from typing import Any, Callable, Dict, Iterator, List, Optional, Set, Tuple
+
+from . import geopackage
+from ._library import LOD_CLASSES, library
+from .extents import World, wider
+from .faults import WriteFault, write_fault
+from .geopackage import TREE, UNDEFINED, geometry_start, polygon, system_of
+from .outputs import PART, hand_mode_on, part_of
+from .query import Work
+from .records import Records, stored, unescaped
+from .reports import Report
+from .rtree import Tree, cell_of, key_of
+from .running import Result
+from .sources import State
+from .tally import Range
+from .world import read_json
+
+CACHE = 8 << 20  # bytes of the database that are held, and that a sort holds
+COLUMNS = 14  # of a feature
+Ranges = Tuple[Range, Range, Range]
+Row = Tuple[Any, ...]
+
+
+@lru_cache(maxsize=4_096)
+def names_of_types(bits: int) -> str:
+    """Returns the names of a set of types, with commas between them."""
+    return ",".join(name for n, name in enumerate(library().type_names()) if bits >> n & 1)
+
+
+@lru_cache(maxsize=64)
+def names_of_lods(bits: int) -> str:
+    """Returns the classes of a set of LoDs, with commas between them."""
+    return ",".join(name for n, name in enumerate(LOD_CLASSES) if bits >> n & 1)
+
+
+@dataclass
+class Entry:
+    """A stream of an index, as far as it has been read.
+
+    Attributes:
+        number: Its number in the index, from 1.
+        header: Its first line, with the LF.
+        ranges: The least and greatest vertex on each axis.
+    """
+
+    number: int
+    header: bytes
+    first_fid: int
+    world: World = field(init=False)
+    system: int = field(init=False)
+    reference: Optional[str] = field(init=False)
+    transform: Dict[str, Any] = field(init=False)
+    ranges: Ranges = (None, None, None)
+
+    def __post_init__(self) -> None:
+        told = read_json(self.header.decode("utf-8"))
+        self.transform = told["transform"]
+        self.world = World(self.transform["scale"], self.transform["translate"])
+        self.reference, self.system = system_of(told.get("metadata"))
+
+    def widen(self, records: Records) -> None:
+        """Takes the vertices of some more features."""
+        vertices = [raw[9:] for raw, _ in records if raw[9]]
+        if vertices:
+            _, *x, _, least_y, most_y, _, least_z, most_z = zip(*vertices)
+            axes = (*x,), (least_y, most_y), (least_z, most_z)
+            ranges = ((min(least), max(most)) for least, most in axes)
+            self.ranges = tuple(map(wider, self.ranges, ranges))  # type: ignore[assignment]
+
+    def extent(self) -> Tuple[Optional[float], ...]:
+        """Returns the least and greatest x, y and z of the stream; None where there is none."""
+        axes = (self.world.x, self.world.y, self.world.z)
+        return tuple(
+            edge
+            for axis, vertices in zip(axes, self.ranges)
+            for edge in (
+                (None, None) if axis is None or vertices is None else axis.interval(*vertices)
+            )
+        )
+
+
+@contextmanager
+def telling_of(name: str) -> Iterator[None]:
+    """Makes a write fault of what SQLite says."""
+    try:
+        yield
+    except sqlite3.Error as fault:
+        raise write_fault(fault, name) from fault
+
+
+class Builder:
+    """Writes an index to `NAME.part`, which gets its name when it is whole."""
+
+    def __init__(self, path: str) -> None:
+        """Begins the file.
+
+        Raises:
+            WriteFault: It cannot be opened or written.
+        """
+        self.name, self._path, self._fid = path, part_of(path), 0
+        self._systems: Set[int] = set()  # of coordinates
+        if self._path is None:
+            what = "Is a directory" if os.path.isdir(path) else "an index is a regular file"
+            raise WriteFault(f"write fault: {what}", None, path)
+        try:
+            with open(self._path, "wb"):
+                hand_mode_on(path, self._path)
+        except OSError as fault:
+            raise write_fault(fault, path) from fault
+        self._base = sqlite3.connect(self._path, isolation_level=None)
+        with telling_of(path):
+            for setting in ("journal_mode = OFF", "synchronous = OFF", "locking_mode = EXCLUSIVE",
+                            f"cache_size = -{CACHE >> 10}", f"temp.cache_size = -{CACHE >> 10}",
+                            "temp_store = FILE"):
+                self._base.execute(f"PRAGMA {setting}")
+            self._base.execute("BEGIN")
+            geopackage.create(self._base)
+            self._base.execute("CREATE TEMP TABLE cells (key INTEGER, cell BLOB)")
+
+    def begin(self, number: int, header: bytes) -> Entry:
+        """Begins the next stream, whose header is valid."""
+        return Entry(number, header, self._fid + 1)
+
+    def add(self, entry: Entry, records: Records, lines: int) -> None:
+        """Writes the records of the next part of a stream, before which so many lines came.
+
+        Raises:
+            WriteFault: They cannot be written.
+        """
+        cells: List[Tuple[int, bytes]] = []
+        marks = ",".join("?" * COLUMNS)
+        entry.widen(records)
+        with telling_of(self.name):
+            self._base.executemany(
+                f"INSERT INTO features VALUES ({marks})", self._rows(entry, records, lines, cells)
+            )
+            self._base.executemany("INSERT INTO temp.cells VALUES (?,?)", cells)
+
+    def _rows(
+        self, entry: Entry, records: Records, lines: int, cells: List[Tuple[int, bytes]]
+    ) -> Iterator[Row]:
+        """Yields the row of each feature, and adds its cell to those of the spatial index."""
+        start = geometry_start(entry.system)
+        x_axis, y_axis, z_axis = entry.world.x, entry.world.y, entry.world.z
+        for raw, spelling in records:
+            (line, begin, length, _, _, objects, geometries, types, lods,
+             some, x_least, x_most, _, y_least, y_most, _, z_least, z_most) = raw
+            self._fid += 1
+            geometry, z_low, z_high = None, None, None
+            if some:
+                if z_axis is not None:
+                    z_low, z_high = z_axis.interval(z_least, z_most)
+                if x_axis is not None and y_axis is not None:
+                    box = *x_axis.interval(x_least, x_most), *y_axis.interval(y_least, y_most)
+                    geometry = polygon(start, *box)
+                    cells.append((key_of(box[0], box[2]), cell_of(self._fid, *box)))
+            yield (self._fid, geometry, entry.number, line + lines, begin + records.begin, length,
+                   *stored(unescaped(spelling)), objects, geometries, names_of_types(types),
+                   names_of_lods(lods), z_low, z_high)
+
+    def report(self, number: int, report: Report) -> None:
+        """Writes that a line of a stream is invalid, and left out.
+
+        Raises:
+            WriteFault: It cannot be written.
+        """
+        name = None if report.id is None else stored(report.id)[0]
+        row = (number, report.line, report.byte, report.code, report.text, name, report.excerpt)
+        with telling_of(self.name):
+            self._base.execute("INSERT INTO reports VALUES (NULL,?,?,?,?,?,?,?)", row)
+
+    def end(self, entry: Entry, path: str, state: State, packing: Optional[str], result: Result
+            ) -> None:
+        """Writes what a stream is, when all of it was read.
+
+        Raises:
+            WriteFault: It cannot be written.
+        """
+        self._systems.add(entry.system)
+        texts = (
+            json.dumps([str(number) for number in entry.transform[name]])
+            for name in ("scale", "translate")
+        )
+        row = (
+            entry.number, *_path_columns(path, self.name), packing, *state, len(entry.header),
+            hashlib.sha256(entry.header).hexdigest(), *texts, entry.reference, result.lines,
+            result.features, result.refused, entry.first_fid, *entry.extent(),
+        )
+        with telling_of(self.name):
+            self._base.execute(f"INSERT INTO streams VALUES ({','.join('?' * len(row))})", row)
+
+    def finish(self, work: Work, program: str) -> None:
+        """Writes the rest, and gives the file its name.
+
+        Raises:
+            WriteFault: It cannot be written.
+        """
+        assert self._path is not None
+        base = self._base
+        with telling_of(self.name):
+            system = self._one_system()
+            base.execute("CREATE INDEX features_id ON features (id, id_exact)")
+            (count,) = base.execute("SELECT count(*) FROM temp.cells").fetchone()
+            ordered = base.execute("SELECT cell FROM temp.cells ORDER BY key")
+            Tree(base, TREE).write((cell for cell, in ordered), count)
+            geopackage.describe(base, system)
+            options = (work.tree, work.keep_going, work.line_limit, work.depth)
+            base.execute("INSERT INTO cityseq_index VALUES (?,?,?,?,?,?)",
+                         (geopackage.VERSION, program, *options))
+            base.execute("COMMIT")
+            base.close()
+        try:
+            os.replace(self._path, self._path[: -len(PART)])
+        except OSError as fault:
+            raise write_fault(fault, self.name) from fault
+
+    def _one_system(self) -> int:
+        """Returns the system of all streams, or -1 if they differ. All polygons have it then."""
+        if len(self._systems) == 1:
+            return next(iter(self._systems))
+        if len(self._systems) > 1:
+            start = geometry_start(UNDEFINED)
+            moved: Callable[[bytes], bytes] = lambda geom: start + geom[len(start) :]
+            self._base.create_function("moved", 1, moved)
+            self._base.execute("UPDATE features SET geom = moved(geom) WHERE geom NOT NULL")
+        return UNDEFINED
+
+    def discard(self) -> None:
+        """Removes what was written, if the index is not whole."""
+        with suppress(sqlite3.Error):
+            self._base.close()
+        with suppress(OSError):
+            os.unlink(self._path or "")
+
+
+def _path_columns(path: str, index: str) -> Tuple[str, Optional[bytes]]:
+    """Returns the path of a stream for an index: from the folder of the index on, if it is below
+    it, so that both can be moved together."""
+    folder, whole = os.path.dirname(os.path.realpath(index)), os.path.abspath(path)
+    inside = os.path.relpath(whole, folder)
+    told = whole if inside.split(os.sep)[0] == os.pardir else inside
+    text, exact = stored(told)
+    return text, None if exact is None else os.fsencode(told)

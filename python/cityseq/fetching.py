@@ -1,0 +1,199 @@
+"""Lines of a stream by their places in it: of a file, of a packed file, or from a web server."""
+from __future__ import annotations
+
+import hashlib
+import os
+from contextlib import contextmanager
+from dataclasses import dataclass
+from typing import Any, Iterable, Iterator, List, NamedTuple, Optional, Tuple
+
+from .faults import OutOfDate, read_fault
+from .places import Placed
+from .sources import READ_FAULTS, Reader, opened, state_of
+
+NEAR = 1 << 16  # bytes: lines that are nearer than this are read together
+MOST = 4 << 20  # bytes that are read together, unless one line has more
+SHORTER, OTHER_LINES = "the stream is shorter", "the stream has other lines"
+
+
+class Row(NamedTuple):
+    """Where the line of a feature is: the number of its stream, its line, its first byte in the
+    stream, and its bytes without LF."""
+
+    stream: int
+    line: int
+    begin: int
+    length: int
+
+
+@dataclass(frozen=True)
+class IndexedStream:
+    """A stream as an index has it. docs/geopackage.md describes the columns.
+
+    Attributes:
+        number: The `fid` of its row.
+        path: Where the stream is, from the folder of the index on if that is how it was stored.
+        told_path: The path as it was stored.
+    """
+
+    number: int
+    path: str
+    told_path: str
+    packing: Optional[str]
+    size: int
+    mtime_ns: int
+    header_length: int
+    header_sha256: str
+    scale: str
+    translate: str
+    reference_system: Optional[str]
+    lines: int
+    features: int
+    refused: int
+    first_fid: int
+    xmin: Optional[float]
+    xmax: Optional[float]
+    ymin: Optional[float]
+    ymax: Optional[float]
+    zmin: Optional[float]
+    zmax: Optional[float]
+
+    def compare(self, size: int, mtime_ns: int) -> None:
+        """Raises `OutOfDate` if the file has another size or time."""
+        if size != self.size:
+            told = "longer" if size > self.size else "shorter"
+        elif mtime_ns != self.mtime_ns:
+            told = "newer" if mtime_ns > self.mtime_ns else "older"
+        else:
+            return
+        raise OutOfDate.because(f"the stream is {told}", self.path)
+
+
+class FilePlace:
+    """A plain file."""
+
+    def __init__(self, stream: IndexedStream, reader: Reader) -> None:
+        self._stream, self._file = stream, reader.file
+        stream.compare(*state_of(reader.file.fileno()))
+        self._placed = Placed(reader.file.fileno())
+
+    def read(self, begin: int, end: int) -> bytes:
+        """Returns the bytes from one place to another, or as many as there are."""
+        room = bytearray(max(min(end, self._stream.size) - begin, 0))
+        count, fault = self._placed.fill(memoryview(room), begin)
+        if fault is not None:
+            raise read_fault(fault, self._stream.path)
+        return bytes(room[:count])
+
+
+class PackedPlace:
+    """A packed file, which is read from its beginning. Places may only rise, or fall by one."""
+
+    def __init__(self, stream: IndexedStream, reader: Reader) -> None:
+        self._reader, self._held, self._begin = reader, bytearray(), 0
+        stream.compare(*state_of(reader.file.fileno()))
+
+    def read(self, begin: int, end: int) -> bytes:
+        """Returns the bytes from one place to another of what is packed, or as many as there
+        are."""
+        while self._begin + len(self._held) < end:
+            if self._begin + len(self._held) <= begin:
+                self._begin += len(self._held)
+                self._held.clear()
+            piece = self._reader.read(MOST)
+            if self._reader.fault is not None:
+                raise self._reader.fault
+            if not piece:
+                break
+            self._held += piece
+        if begin > self._begin:
+            del self._held[: begin - self._begin]
+            self._begin = begin
+        return bytes(self._held[: end - begin])
+
+
+@contextmanager
+def placed(stream: IndexedStream, base: Optional[str]) -> Iterator[Any]:
+    """Gives what reads a stream by places: from a file, or from a web server below a URL.
+
+    Raises:
+        OutOfDate: The stream is not as the index has it.
+        ReadFault: It cannot be opened or read.
+    """
+    if base is not None:
+        from .web import WebPlace  # few runs need it
+
+        with WebPlace(stream, base) as place:
+            yield place
+        return
+    with opened(stream.path) as reader:
+        kind: Any = FilePlace if stream.packing is None else PackedPlace
+        try:
+            of_file = kind(stream, reader)
+        except READ_FAULTS as fault:
+            raise read_fault(fault, stream.path) from fault
+        yield of_file
+
+
+def header_of(stream: IndexedStream, place: Any) -> bytes:
+    """Reads the header of a stream. Raises `OutOfDate` if it is another one."""
+    header: bytes = place.read(0, stream.header_length)
+    if hashlib.sha256(header).hexdigest() != stream.header_sha256:
+        raise OutOfDate.because("the stream has another header", stream.path)
+    return header
+
+
+def check_file(stream: IndexedStream) -> None:
+    """Raises `OutOfDate` if the file of a stream has another size or time than the index has."""
+    try:
+        state = os.stat(stream.path)
+    except OSError as fault:
+        raise read_fault(fault, stream.path) from fault
+    stream.compare(state.st_size, state.st_mtime_ns)
+
+
+def _groups(stream: IndexedStream, rows: Iterable[Row]) -> Iterator[List[Row]]:
+    """Yields the rows of lines that are read together."""
+    group: List[Row] = []
+    for row in rows:
+        if any(type(each) is not int or each < 0 for each in row) or row.begin == 0:
+            raise OutOfDate.because("it was changed", stream.path)
+        if group and (
+            row.begin - (group[-1].begin + group[-1].length) > NEAR
+            or row.begin + row.length - group[0].begin > MOST
+        ):
+            yield group
+            group = []
+        group.append(row)
+    if group:
+        yield group
+
+
+def _line(stream: IndexedStream, text: bytes, begin: int, length: int) -> bytes:
+    """Returns a line with its LF, if it has one. It begins behind an LF of the text."""
+    end = begin + length
+    if len(text) < end:
+        raise OutOfDate.because(SHORTER, stream.path)
+    line = text[begin : end + 1]
+    if text[begin - 1 : begin] != b"\n" or (len(text) > end and line[-1:] != b"\n"):
+        raise OutOfDate.because(OTHER_LINES, stream.path)
+    return line
+
+
+def lines_of(
+    stream: IndexedStream, place: Any, rows: Iterable[Row]
+) -> Iterator[Tuple[bytes, List[int]]]:
+    """Yields lines of a stream, some together, and their numbers. Lines that are near each other
+    are read together with what is between them.
+
+    Raises:
+        OutOfDate: They are not there as the index has them.
+        ReadFault: A read failed.
+    """
+    for group in _groups(stream, rows):
+        first, last = group[0].begin - 1, group[-1].begin + group[-1].length + 1
+        text = place.read(first, last)
+        lines = [_line(stream, text, row.begin - first, row.length) for row in group]
+        if any(not line.endswith(b"\n") for line in lines[:-1]):
+            raise OutOfDate.because(OTHER_LINES, stream.path)
+        yield b"".join(lines), [row.line for row in group]

@@ -1,0 +1,130 @@
+"""The records of a part's features, as the threads that judge the part hand them on."""
+from __future__ import annotations
+
+import json
+import struct
+from dataclasses import dataclass, field, replace
+from itertools import islice
+from typing import Iterator, List, Optional, Tuple
+
+from ._library import COMPLETE, NO_MEMORY, REFUSED, RawAnswer, RawReports, Text, library
+from .faults import CityseqError, read_fault
+from .parts import ROOM, Answer
+from .places import Read
+from .query import Work
+from .reports import describe
+
+RECORD = struct.Struct("=9Q" + "Qqq" * 3)  # `struct cityseq_feature`
+SHORTEST = 64  # bytes: every feature is longer
+LONGEST = 1_024  # bytes of an id that is stored as it is
+Id = Tuple[str, Optional[bytes]]
+
+
+@dataclass(frozen=True)
+class Records:
+    """The records of the features of a part.
+
+    Attributes:
+        begin: Where the part begins in the stream, in bytes.
+        raw: The records, one behind another, as the library writes them.
+        ids: The id of each feature as its line spells it, without quotes.
+    """
+
+    begin: int
+    raw: bytes
+    ids: List[bytes]
+
+    def __iter__(self) -> Iterator[Tuple[Tuple[int, ...], bytes]]:
+        return zip(RECORD.iter_unpack(self.raw), self.ids)
+
+
+@dataclass
+class Found(Answer):
+    """What came of a part, with its records."""
+
+    records: Records = field(default_factory=lambda: Records(0, b"", []))
+
+
+def stored(text: str) -> Id:
+    """Returns an id as two columns have it: as text, and exactly where the text is not the id.
+
+    An id with NUL or half a character, or one of more than 1,024 bytes, is no text that every
+    program can read. Its text is then the beginning, escaped as in JSON, and the second is the
+    whole id in UTF-8, with half a character as three bytes.
+    """
+    exact = text.encode("utf-8", "surrogatepass")
+    if len(exact) <= LONGEST and "\0" not in text:
+        try:
+            text.encode("utf-8")
+            return text, None
+        except UnicodeEncodeError:
+            pass
+    return json.dumps(text[:LONGEST])[1:-1], exact
+
+
+def id_of(text: str, exact: Optional[bytes]) -> str:
+    """Returns the id that is stored so."""
+    return text if exact is None else exact.decode("utf-8", "surrogatepass")
+
+
+def unescaped(spelling: bytes) -> str:
+    """Returns the text of a string of JSON, which is spelled so between its quotes."""
+    if b"\\" not in spelling:
+        return spelling.decode("utf-8")
+    text: str = json.loads(b'"' + spelling + b'"')
+    return text
+
+
+def _called(
+    work: Work, header: bytes, part: bytes, reports_room: int
+) -> Tuple[RawAnswer, RawReports, bytes]:
+    """Returns what the library answers. It is asked again where records or reports do not fit."""
+    room = min(part.count(b"\n"), len(part) // SHORTEST) + 1
+    while True:
+        answer, reports, raw = library().records(
+            header, part, work.request(header, part), room, reports_room
+        )
+        if answer.kept <= room and (answer.refused <= reports_room or not work.keep_going):
+            return answer, reports, raw
+        room, reports_room = max(room, answer.kept), max(reports_room, answer.refused)
+
+
+def _ids(text: bytes, raw: bytes) -> List[bytes]:
+    return [
+        text[one[1] + one[3] + 1 : one[1] + one[3] + one[4] - 1] for one in RECORD.iter_unpack(raw)
+    ]
+
+
+def find(work: Work, file: str, header: bytes, part: Text, begin: int) -> Found:
+    """Judges a header and a part that begins at this byte, and returns records and reports."""
+    text = bytes(part)
+    answer, reports, raw = _called(work, header, text, ROOM if work.keep_going else 0)
+    if answer.status not in (COMPLETE, REFUSED, NO_MEMORY):
+        raise CityseqError(f"the library answered {answer.status}, code {answer.code}")
+    return Found(
+        status=answer.status,
+        lines=answer.lines,
+        kept=answer.kept,
+        refused=answer.refused,
+        peaks=(answer.peak_bytes, answer.peak_tokens, answer.peak_depth),
+        end=next(describe([answer], header, text, file)) if answer.status == REFUSED else None,
+        # they are read when they are joined, as there may be very many
+        reports=describe(islice(reports, answer.refused), header, text, file)
+        if answer.refused
+        else (),
+        size=len(text),
+        records=Records(begin, raw, _ids(text, raw)),
+    )
+
+
+def find_read(work: Work, file: str, header: bytes, read: Read, begin: int, _first: bool) -> Answer:
+    """Does the same with the part that a read gives. If the read failed, the fault counts after
+    the whole lines before it."""
+    try:
+        part, fault = read()
+        if fault is None:
+            return find(work, file, header, part, begin)
+        found = find(work, file, header, part[: bytes(part).rfind(b"\n") + 1], begin)
+    except MemoryError:
+        return Answer(NO_MEMORY)
+    return replace(found, fault=read_fault(fault, file)) if found.status == COMPLETE else found

@@ -1,0 +1,238 @@
+"""Cuts of streams that lie on a web server, also on one that answers as it should not."""
+import io
+import os
+import re
+import shutil
+import subprocess
+import threading
+import time
+import unittest
+from contextlib import contextmanager
+from http.server import BaseHTTPRequestHandler, ThreadingHTTPServer
+from urllib.parse import unquote
+
+from .support import HEADER, InFolder, command, feature
+
+import cityseq
+
+NGINX = shutil.which("nginx") or shutil.which("nginx", path="/usr/sbin")
+
+
+class Handler(BaseHTTPRequestHandler):
+    """Serves the files of a folder by ranges, or as the server's `mode` says."""
+
+    protocol_version = "HTTP/1.1"
+
+    def log_message(self, *_):
+        pass
+
+    def _send(self, status, headers, body=b"", cut=None):
+        self.send_response(status)
+        for name, value in headers.items():
+            self.send_header(name, value)
+        self.send_header("Content-Length", str(len(body)))
+        self.end_headers()
+        self.wfile.write(body if cut is None else body[:cut])
+
+    def do_GET(self):
+        server, mode = self.server, self.server.mode
+        begin, last = map(int, re.fullmatch(r"bytes=(\d+)-(\d+)", self.headers["Range"]).groups())
+        server.ranges.append((begin, last + 1))
+        if self.path.startswith("/moved/"):
+            return self._send(302, {"Location": self.path[len("/moved"):]})
+        if mode == "around":
+            return self._send(302, {"Location": self.path})
+        if mode == "away":
+            return self._send(302, {"Location": "file:///etc/passwd"})
+        path = os.path.join(server.folder, unquote(self.path.split("?")[0]).lstrip("/"))
+        if mode == "missing" or not os.path.isfile(path):
+            return self._send(404, {})
+        with open(path, "rb") as file:
+            text = file.read()
+        if mode == "no ranges":
+            return self._send(200, {}, text)
+        if mode == "slow" and begin:
+            time.sleep(1)
+        if last >= len(text):
+            return self._send(416, {"Content-Range": f"bytes */{len(text)}"})
+        tag = f'"{len(server.ranges)}"' if mode == "changes" else '"a"'
+        shift = 1 if mode == "another range" and begin else 0
+        told = {"Content-Range": f"bytes {begin + shift}-{last + shift}/{len(text)}", "ETag": tag}
+        if mode == "packs":
+            told["Content-Encoding"] = "gzip"
+        self.close_connection = mode == "closes" or (mode in ("breaks", "resets") and begin > 0)
+        if mode == "resets" and begin:
+            return self.connection.close()
+        return self._send(206, told, text[begin:last + 1], 5 if mode == "breaks" and begin else None)
+
+
+class Web(InFolder):
+    """An index and a server of its stream, which has two groups of lines far from each other."""
+
+    def setUp(self):
+        super().setUp()
+        # 200 KB between the first roads and the last one
+        lines = [feature(f"b{i}", "Road" if i % 10 == 0 and (i < 100 or i > 890) else "Building") for i in range(1_000)]
+        self.text = HEADER + b"".join(lines)
+        (self.folder / "served").mkdir()
+        self.path = self.file(self.text, "served/a b.city.jsonl")
+        self.index = self.folder / "it.gpkg"
+        cityseq.index(self.path, self.index)
+        self.wanted = io.BytesIO()
+        cityseq.filter(self.text, self.wanted, types="Road")
+
+    @contextmanager
+    def served(self, mode=None):
+        server = ThreadingHTTPServer(("127.0.0.1", 0), Handler)
+        server.mode, server.folder, server.ranges = mode, str(self.folder), []
+        thread = threading.Thread(target=server.serve_forever, args=(0.01,))
+        thread.start()
+        try:
+            yield server, f"http://127.0.0.1:{server.server_address[1]}"
+        finally:
+            server.shutdown()
+            thread.join()
+            server.server_close()
+
+    def cut(self, base, **query):
+        output = io.BytesIO()
+        with cityseq.Index(self.index, base=base) as index:
+            index.filter(output, **(query or {"types": "Road"}))
+        return output.getvalue()
+
+    def test_it_reads_the_ranges_that_it_needs(self):
+        with self.served() as (server, base):
+            self.assertEqual(self.cut(base), self.wanted.getvalue())
+        first, *others = server.ranges
+        self.assertEqual((first, len(others)), ((0, len(HEADER)), 2))
+        self.assertLess(sum(end - begin for begin, end in others), len(self.text) // 3)
+
+    def test_all_ways_to_the_same(self):
+        for mode in (None, "closes"):
+            with self.served(mode) as (_, base):
+                for each in (base, base + "/", base + "/moved", base + "/?key=1"):
+                    self.assertEqual(self.cut(each), self.wanted.getvalue())
+                self.assertEqual(self.cut(base, ids="b999")[len(HEADER):], feature("b999"))
+                with cityseq.Index(self.index, base=base) as index:
+                    with index.select(ids=["b3", "b999"]) as features:
+                        self.assertEqual([each.line for each in features], [5, 1_001])
+
+    def test_the_command(self):
+        with self.served() as (_, base):
+            found = command("filter", "--index", str(self.index), "--base", base, "--type", "Road")
+            self.assertEqual(found, (self.wanted.getvalue(), "", 0))
+
+    def refused(self, mode, words, kind=cityseq.ReadFault, base=""):
+        with self.served(mode) as (_, url):
+            with self.subTest(mode=mode):
+                with self.assertRaises(kind) as caught:
+                    self.cut(url + base)
+                self.assertIn(words, str(caught.exception))
+                self.assertEqual(caught.exception.status, 3)
+                words = ("filter", "--index", str(self.index), "--base", url + base, "--type", "Road")
+                for more in ((), ("--output", str(self.folder / "out"))):
+                    output, said, status = command(*words, *more)
+                    self.assertEqual((output, status, said.count("\n")), (b"", 3, 1))
+                self.assertEqual(sorted(os.listdir(self.folder)), ["it.gpkg", "served"])
+
+    def test_servers_that_answer_otherwise(self):
+        self.refused("no ranges", "the server has no ranges")
+        self.refused("missing", "the server answers 404 Not Found")
+        self.refused("breaks", "the connection broke")
+        self.refused("resets", "read fault: ")
+        self.refused("changes", "the stream changed while it was read")
+        self.refused("another range", "the server answers with another range")
+        self.refused("packs", "the server answers with another range")
+        self.refused("around", "the server leads elsewhere more than 5 times")
+        self.refused("away", "the server leads to what is no URL of http")
+        self.refused(None, "404", base="/no/folder")
+
+    def test_a_stream_that_changed(self):
+        for text, words in ((self.text + b"\n", "the stream is longer"), (self.text[:-1], "the stream is shorter"),
+                            (self.text[:100], "the stream is shorter"),
+                            (self.text.replace(b"[10,20,0]", b"[10,20,1]", 1), "the stream has another header"),
+                            (self.text.replace(b'"id":"b10"', b'"id":b10" ', 1), "the stream has other lines"),
+                            (self.text.replace(b"\n", b" "), "the stream has another header"),
+                            (HEADER + self.text[len(HEADER):].replace(b"\n", b" "), "the stream has other lines")):
+            self.path.write_bytes(text)
+            self.refused(None, words, cityseq.OutOfDate)
+
+    def test_no_server(self):
+        with self.served() as (_, base):
+            pass
+        with self.assertRaises(cityseq.ReadFault) as caught:
+            self.cut(base)
+        self.assertIn("Connection refused", str(caught.exception))
+
+    def test_a_server_that_does_not_answer(self):
+        from cityseq import web
+        before, web.PATIENCE = web.PATIENCE, 0.2
+        self.addCleanup(setattr, web, "PATIENCE", before)
+        with self.served("slow") as (_, base):
+            with self.assertRaises(cityseq.ReadFault) as caught:
+                self.cut(base)
+        self.assertIn("timed out", str(caught.exception))
+
+    def test_a_base_that_is_no_url(self):
+        for base in ("", "x", "http://", "ftp://host", "http://host:x/", "http://a b/", "https://host/\n", "//host"):
+            with self.assertRaises(cityseq.RequestError):
+                cityseq.Index(self.index, base=base)
+
+    def test_packed_streams_have_no_ranges(self):
+        path = self.file(self.text, "served/it.city.jsonl.gz")
+        cityseq.index(path, self.index)
+        with self.served() as (_, base):
+            with self.assertRaises(cityseq.RequestError) as caught:
+                self.cut(base)
+        self.assertIn("serve it unpacked", str(caught.exception))
+
+
+@unittest.skipIf(NGINX is None, "nginx is not there")
+class Nginx(Web):
+    """The same cut of a stream that nginx serves on loopback."""
+
+    @contextmanager
+    def served(self, mode=None):
+        if mode is not None:
+            self.skipTest("nginx answers as it should")
+        port = 20_000 + os.getpid() % 20_000
+        folder, settings = str(self.folder), self.folder / "settings"
+        settings.write_text(
+            f"daemon off; master_process off; pid {folder}/pid; error_log {folder}/errors; events {{}}\n"
+            f"http {{ access_log off; client_body_temp_path {folder}; proxy_temp_path {folder}; fastcgi_temp_path {folder};"
+            f" uwsgi_temp_path {folder}; scgi_temp_path {folder}; server {{ listen 127.0.0.1:{port}; root {folder}; }} }}\n")
+        child = subprocess.Popen([NGINX, "-c", str(settings), "-e", f"{folder}/errors"], stderr=subprocess.DEVNULL)
+        try:
+            yield None, f"http://127.0.0.1:{port}"
+        finally:
+            child.terminate()
+            child.wait()
+
+    def tries(self, call):
+        for _ in range(200):
+            try:
+                return call()
+            except cityseq.ReadFault as fault:
+                if "refused" not in str(fault):
+                    raise
+                time.sleep(0.02)
+        return self.fail("nginx does not answer")
+
+    def test_it_reads_the_ranges_that_it_needs(self):
+        with self.served() as (_, base):
+            self.assertEqual(self.tries(lambda: self.cut(base)), self.wanted.getvalue())
+
+    test_all_ways_to_the_same = test_the_command = test_servers_that_answer_otherwise = None
+    test_a_server_that_does_not_answer = test_a_base_that_is_no_url = test_packed_streams_have_no_ranges = None
+    test_no_server = None
+
+    def test_a_stream_that_changed(self):
+        with self.served() as (_, base):
+            self.tries(lambda: self.cut(base))
+            self.path.write_bytes(self.text + b"\n")
+            with self.assertRaises(cityseq.OutOfDate):
+                self.cut(base)
+
+
+if __name__ == "__main__":
+    unittest.main()
