@@ -1,11 +1,12 @@
 #!/usr/bin/env bash
 # Installs the Debian packages that some tests need: distributed, zstandard, mypy and geopandas for Python, valgrind, for what
-# packages are made of mandoc, pkg-config and two shells, and for indexes GDAL and nginx. It says what it could not install, and its status is 0 in any case. What needs
-# such a package is left out then, and that is said too.
+# packages are made of mandoc, pkg-config and two shells, for indexes GDAL and nginx, and for the server what it stands on and what
+# asks it. It says what it could not install, and its status is 0 in any case. What needs such a package is left out then, and that
+# is said too.
 set -u
 missing=()
 for package in python3-distributed python3-zstandard python3-mypy python3-geopandas python3-gdal gdal-bin nginx-light \
-  valgrind mandoc pkg-config zsh fish; do
+  python3-aiohttp python3-jinja2 python3-pyproj python3-owslib python3-jsonschema curl valgrind mandoc pkg-config zsh fish; do
   dpkg -s "$package" > /dev/null 2>&1 || missing+=("$package")
 done
 [ ${#missing[@]} = 0 ] && exit 0

@@ -301,13 +301,17 @@ def _explain(words: Sequence[str]) -> int:
 
 
 def _by_command(wanted: Asked) -> int:
-    """Does what is asked. Few runs need an index, or what cuts by one."""
+    """Does what is asked. Few runs need an index, what cuts by one, or a server."""
     if wanted.command == "explain":
         return _explain(wanted.files)
     if wanted.command == "index":
         from .index_commands import run
 
         return run(wanted)
+    if wanted.command == "serve":
+        from .serve import run as run_server
+
+        return run_server(wanted)
     if wanted.index is not None or wanted.base is not None:
         from .cut_commands import run as run_cut
 

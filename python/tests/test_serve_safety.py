@@ -250,17 +250,23 @@ class Parts(Served):
 
     def test_an_application_for_another_server(self):
         async def run():
-            runner = aiohttp.web.AppRunner(cityseq.serve.app(self.folder / "all.gpkg", limits=Limits(features=3)))
+            outer = aiohttp.web.Application()
+            outer.add_subapp("/cities", cityseq.serve.app(
+                self.folder / "all.gpkg", url="https://example.org/cities", limits=Limits(features=3)))
+            runner = aiohttp.web.AppRunner(outer)
             await runner.setup()
             site = aiohttp.web.TCPSite(runner, "127.0.0.1", 0)
             await site.start()
             port = runner.addresses[0][1]
+            base = f"http://127.0.0.1:{port}/cities"
             async with aiohttp.ClientSession() as session:
-                async with session.get(f"http://127.0.0.1:{port}/collections/sample/items?f=city-json-seq&limit=9") as answer:
-                    lines = (await answer.read()).splitlines()
-                async with session.post(f"http://127.0.0.1:{port}/check", data=HEADER) as answer:
+                async with session.get(f"{base}/collections/sample/items?f=city-json-seq&limit=9") as answer:
+                    lines, link = (await answer.read()).splitlines(), answer.headers["Link"]
+                async with session.post(f"{base}/check", data=HEADER) as answer:
                     told = json.loads(await answer.read())
+                async with session.get(f"{base}/none") as answer:
+                    problem = await answer.json(content_type="application/problem+json")
             await runner.cleanup()
-            return len(lines), told["verdict"]
+            return len(lines), link.partition("?")[0], told["verdict"], problem["status"]
 
-        self.assertEqual(asyncio.run(run()), (4, "valid"))
+        self.assertEqual(asyncio.run(run()), (4, "<https://example.org/cities/collections/sample/items", "valid", 404))
