@@ -3,7 +3,8 @@
 #
 #   tile    wrk with 64 connections asks for a box of 100 features, of PROCESSES processes; then for
 #           the same bytes as a file of nginx: requests a second, their 50th and 99th percentile, and
-#           the memory of the server
+#           the memory of the server. A server gives the answer to a request again for a second
+#   boxes   the same of boxes by chance, of which none is asked for again within a second
 #   one     one connection: the time of such an answer beyond that of the cut by `Index.filter`
 #   check   POST /check of the whole stream by curl, as a ratio to `cityseq check` of the file
 #   memory  64 clients send the stream slowly: the memory beyond that of the idle server
@@ -19,7 +20,7 @@ cd "$(dirname "$0")"
 mkdir -p out/serve
 export PYTHONPYCACHEPREFIX=$PWD/out/compiled PATH=$PATH:/usr/sbin
 unset PYTHONDONTWRITEBYTECODE
-[ $# -gt 0 ] || set -- tile one check memory
+[ $# -gt 0 ] || set -- tile boxes one check memory
 megabytes=${MEGABYTES:-1000}
 stream=out/serve/grid-$megabytes.city.jsonl
 [ -s "$stream" ] || { ./make_stream.py grid "$megabytes" > "$stream.part" && mv "$stream.part" "$stream"; }
@@ -120,21 +121,27 @@ http {{ access_log off; sendfile on; tcp_nopush on; keepalive_requests 100000000
         web.wait(10)
 
 
-def wrk(url):
+def wrk(url, *script):
     """Requests a second, and the 50th and 99th percentile, as wrk has them."""
-    ran = subprocess.run(["wrk", "-t2", f"-c{CLIENTS}", f"-d{seconds}s", "--latency", "--timeout", "30s", url],
+    ran = subprocess.run(["wrk", "-t2", f"-c{CLIENTS}", f"-d{seconds}s", "--latency", "--timeout", "30s", *script, url],
                          stdout=subprocess.PIPE, check=True)
     said = ran.stdout.decode()
     if "Non-2xx" in said or "Socket errors" in said:
         print(said)
     rate = float(re.search(r"Requests/sec:\s+([\d.]+)", said).group(1))
-    return rate, *(re.search(rf"{share}%\s+(\S+)", said).group(1) for share in (50, 99))
+    return rate, *(re.search(rf"^ +{share}% +(\S+)", said, re.M).group(1) for share in (50, 99))
+
+
+def corner():
+    """The least x and y of the stream."""
+    with cityseq.Index(index) as opened:
+        return [float(edge) for edge in opened.streams[0].translate[1:-1].replace('"', "").split(",")[:2]]
 
 
 def box():
     """A box of 100 features in the middle of the stream: ten in each of ten rows, of 10 m each."""
     rows = max(os.path.getsize(stream) // 2_000 // 1_000 // 2, 12)
-    left, low = [float(edge) for edge in cityseq.Index(index).streams[0].translate[1:-1].replace('"', "").split(",")[:2]]
+    left, low = corner()
     low += (rows - 12) * 10
     return f"{left + 5000:.3f},{low:.3f},{left + 5099.5:.3f},{low + 99.5:.3f}"
 
@@ -168,17 +175,35 @@ def tile():
     print(f"tile: {rate / beside:.3f} of nginx")
 
 
+def boxes():
+    """Boxes by chance, so that no answer is given again."""
+    rows = max(os.path.getsize(stream) // 2_000 // 1_000 - 12, 1)
+    left, low = corner()
+    script = folder / "boxes.lua"
+    script.write_text(f"""
+request = function()
+  local x, y = {left} + math.random(0, 989) * 10, {low} + math.random(0, {rows}) * 10
+  return wrk.format("GET", string.format("/collections/{name}/items?f=city-json-seq&bbox=%.3f,%.3f,%.3f,%.3f",
+                                         x, y, x + 99.5, y + 99.5))
+end
+""")
+    with served("--processes", str(processes), str(index)) as (port, pid):
+        rate, *latency = wrk(f"http://127.0.0.1:{port}", "-s", str(script))
+        print(f"boxes: {processes} processes: {rate:.0f} requests/s, 50 % {latency[0]}, 99 % {latency[1]},"
+              f" {memory(pid):.0f} MB in all")
+
+
 def one():
     which, cut, ask = box(), [], []
     with served(str(index)) as (port, _):
         connection = http.client.HTTPConnection("127.0.0.1", port)
         with cityseq.Index(index) as opened:
-            for _ in range(rounds * 20):
+            for number in range(rounds * 20):
                 begin = time.perf_counter()
                 opened.filter(io.BytesIO(), box=which, jobs=1)
                 cut.append(time.perf_counter() - begin)
                 begin = time.perf_counter()
-                connection.request("GET", path_of(which))
+                connection.request("GET", f"{path_of(which)}&limit={1_000 + number}")  # none is given again
                 connection.getresponse().read()
                 ask.append(time.perf_counter() - begin)
     print(f"one: cut {median(cut) * 1e3:.2f} ms, answer {median(ask) * 1e3:.2f} ms,"
@@ -235,5 +260,5 @@ def memory_of_many():
 
 built_index()
 for case in cases:
-    {"tile": tile, "one": one, "check": check, "memory": memory_of_many}[case]()
+    {"tile": tile, "boxes": boxes, "one": one, "check": check, "memory": memory_of_many}[case]()
 MEASURE

@@ -257,6 +257,7 @@ class Cuts(Served):
         with Serving(self.folder / "later.gpkg") as later:
             self.assertEqual(later.ask("/collections/later/items").status, 200)
             path.write_bytes(HEADER + feature("b"))
+            time.sleep(1.1)  # an answer is given again for a second
             answer = later.ask("/collections/later/items")
             self.assertEqual((answer.status, answer.headers["Content-Type"]), (502, "application/problem+json"))
             self.assertIn("out of date", answer.json()["detail"])
@@ -267,11 +268,6 @@ class Cuts(Served):
             (self.folder / "later.gpkg").unlink()
             time.sleep(1.1)
             self.assertEqual(later.ask("/collections/later/items").status, 200)
-
-    def test_client_that_read_the_api_before(self):
-        """ETag or not, the same request has the same bytes."""
-        path = "/collections/sample/items?f=city-json-seq&limit=9"
-        self.assertEqual(self.server.ask(path).body, self.server.ask(path).body)
 
     def test_many_clients_at_once(self):
         wanted = self.filtered("sample")

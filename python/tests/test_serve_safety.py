@@ -30,6 +30,7 @@ if not MISSING:
     from cityseq.serve.logs import _quoted
     from cityseq.serve.problems import Problem
     from cityseq.serve.queries import Query
+    from cityseq.serve.replies import Replies, Reply
     from cityseq.serve.settings import Limits, Settings
     from cityseq.serve.systems import System
 
@@ -104,6 +105,37 @@ class Safety(Served):
             self.assertTrue(line[:-1].isprintable(), line)
         self.assertEqual(_quoted("a\"b\\c\r\n\x1b\u202e"), '"a\\"b\\\\c\\u000d\\u000a\\u001b\\u202e"')
 
+    def test_answers_that_are_given_again(self):
+        """The same request has the same answer, on the same connection and on others, in any pieces."""
+        path = "/collections/sample/items?f=city-json-seq&limit=9&ids=given-again"
+        request = f"GET {path} HTTP/1.1\r\nHost: localhost\r\nUser-Agent: again\r\n\r\n".encode()
+
+        def read(file):
+            head = b"".join(iter(file.readline, b"\r\n"))
+            return head, file.read(int(re.search(rb"Content-Length: (\d+)", head).group(1)))
+
+        answers = []
+        for pieces in ([request] * 3, [request + request], [request[:30], request[30:]], [request[:-1], b"\n" + request]):
+            with socket.create_connection((self.server.host, self.server.port), 30) as connection, connection.makefile("rb") as file:
+                for piece in pieces:
+                    connection.sendall(piece)
+                    time.sleep(0.02)
+                for _ in range(b"".join(pieces).count(request)):
+                    answers.append(read(file))
+        self.assertEqual(len(answers), 8)
+        self.assertEqual({body for _, body in answers}, {self.server.ask(path).body})
+        self.assertEqual({re.sub(rb"Date: .*", b"", head) for head, _ in answers}, {re.sub(rb"Date: .*", b"", answers[0][0])})
+        time.sleep(0.3)
+        self.assertEqual(sum("given-again" in line and '"again"' in line for line in self.server.log), 8)
+
+    def test_replies_are_bounded(self):
+        replies = Replies()
+        for number in range(40):
+            replies.keep(b"%d" % number, Reply(bytes(1 << 20), "", 0.001 * number))
+        found = [number for number in range(40) if replies.find(b"%d" % number, 0.1)]
+        self.assertEqual(found, list(range(25, 40)))
+        self.assertIsNone(replies.find(b"39", 1.04))
+
     def test_a_stop_ends_open_answers(self):
         with Serving("--stop-seconds", "1", self.folder / "all.gpkg") as ending:
             with socket.create_connection((ending.host, ending.port), 30) as connection:
@@ -152,11 +184,13 @@ class Safety(Served):
                 path = "/collections/town/items?f=city-json-seq&type=Road"
                 self.assertEqual(far.ask(path).body, self.filtered("town", "--type", "Road"))
                 state.mode = "missing"
+                time.sleep(1.1)  # an answer is given again for a second
                 self.assertEqual(far.ask(path).status, 502)
                 state.mode = ""
                 text = (self.folder / "town.city.jsonl").read_bytes()
                 changed = self.folder / "town.city.jsonl"
                 changed.write_bytes(text + b"\n")
+                time.sleep(1.1)
                 answer = far.ask(path)
                 changed.write_bytes(text)
                 self.assertEqual((answer.status, answer.headers["Content-Type"]), (502, "application/problem+json"))

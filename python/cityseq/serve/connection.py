@@ -10,7 +10,9 @@ from aiohttp import web
 from aiohttp.http_exceptions import LineTooLong
 
 from ..console import say
+from .logs import Combined
 from .problems import MEDIA_TYPE, Problem, logged
+from .replies import Replies, Reply, is_whole, text_of
 from .settings import Limits
 
 PENDING = 32  # requests that a connection may send before the first of them is answered
@@ -20,12 +22,13 @@ LOOK = 1.0  # seconds between two looks at silent connections
 class Connection(web.RequestHandler):
     """A connection of a client."""
 
-    __slots__ = ("_crowd", "since", "has_bytes", "asked", "answered")
+    __slots__ = ("_crowd", "_raw", "since", "has_bytes", "asked", "answered")
 
     def __init__(self, crowd: "Crowd", manager: Any, **options: Any) -> None:
         """Takes all connections, and what aiohttp hands on."""
         super().__init__(manager, **options)
         self._crowd = crowd
+        self._raw: Optional[bytes] = None  # the bytes of a request that has no body
         self.since = 0.0  # when it became silent
         self.has_bytes = False  # since then
         self.asked = self.answered = 0  # requests
@@ -44,6 +47,8 @@ class Connection(web.RequestHandler):
         super().connection_lost(exc)
 
     def data_received(self, data: bytes) -> None:
+        if self._is_answered_again(data):
+            return
         self.has_bytes = True
         before, request = self._request_count, self._current_request
         super().data_received(data)
@@ -55,8 +60,32 @@ class Connection(web.RequestHandler):
         if self.asked - self.answered > PENDING:
             self.drop()
 
+    def _is_answered_again(self, data: bytes) -> bool:
+        """Answers a request that was answered a moment ago. Whether it has done so."""
+        self._raw = None
+        if self.is_busy or self.has_bytes or self.transport is None:
+            return False
+        reply = self._crowd.replies.find(data, self._loop.time())
+        if reply is None or self.transport.get_write_buffer_size():
+            self._raw = data if is_whole(data) else None
+            return False
+        self.transport.write(reply.text)
+        if isinstance(self.access_logger, Combined):
+            place = self.transport.get_extra_info("peername")
+            self.access_logger.write(place[0] if place else None, reply.logged)
+        self._crowd.quiet(self)
+        return True
+
+    def _keep(self, request: Any, response: Any) -> None:
+        """Keeps an answer, to be given again."""
+        text = None if self._raw is None else text_of(response)
+        if text is not None and isinstance(self.access_logger, Combined):
+            told = self.access_logger.told(request, response)
+            self._crowd.replies.keep(self._raw or b"", Reply(text, told, self._loop.time()))
+
     def log_access(self, request: Any, response: Any, time: float) -> None:
         super().log_access(request, response, time)
+        self._keep(request, response)
         self.answered += 1
         if not self.is_busy:
             self._crowd.quiet(self)
@@ -113,6 +142,7 @@ class Crowd:
 
     def __init__(self, limits: Limits) -> None:
         self._limits, self._loop = limits, asyncio.get_running_loop()
+        self.replies = Replies()
         # those that are silent come in the order in which they became so
         self._connections: Dict[Connection, None] = {}
         self._handle: Any = self._loop.call_later(LOOK, self._look)

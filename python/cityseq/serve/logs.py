@@ -48,14 +48,20 @@ class Combined(AbstractAccessLogger):
 
     def log(self, request: Any, response: Any, time: float) -> None:
         """Logs a request that was answered."""
+        if self.logger.handlers:
+            self.write(request.remote, self.told(request, response))
+
+    def told(self, request: Any, response: Any) -> str:
+        """Returns what a line says behind the client and the time."""
         if not self.logger.handlers:
-            return
-        version = request.version
+            return ""
+        version, headers = request.version, request.headers
         line = f"{request.method} {request.raw_path} HTTP/{version[0]}.{version[1]}"
-        host = shown(str(request.remote or "-"))
-        headers = request.headers
-        self.logger.info(
-            "%s - - [%s] %s %d %d %s %s", host, _when(clock.time()), _quoted(line), response.status,
-            response.content_length or response.body_length, _quoted(headers.get("Referer")),
-            _quoted(headers.get("User-Agent")),
-        )
+        size = response.content_length or response.body_length
+        return (f"{_quoted(line)} {response.status} {size} {_quoted(headers.get('Referer'))}"
+                f" {_quoted(headers.get('User-Agent'))}")
+
+    def write(self, client: Any, told: str) -> None:
+        """Writes a line."""
+        if self.logger.handlers:
+            self.logger.info("%s - - [%s] %s", shown(str(client or "-")), _when(clock.time()), told)

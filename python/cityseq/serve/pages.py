@@ -20,6 +20,9 @@ from .catalogue import Collection
 from .systems import Extent
 
 
+TOGETHER = 1 << 18  # bytes of lines that are judged together
+
+
 class Found(NamedTuple):
     """A feature that is kept.
 
@@ -92,6 +95,22 @@ class Block:
         return extent, heights
 
 
+def _joined(parts: Iterator[Tuple[bytes, List[int]]]) -> Iterator[Tuple[bytes, List[int]]]:
+    """Yields lines, more of them together: each call of the library judges the header again."""
+    texts: List[bytes] = []
+    numbers: List[int] = []
+    size = 0
+    for text, more in parts:
+        texts.append(text)
+        numbers += more
+        size += len(text)
+        if size >= TOGETHER:
+            yield b"".join(texts), numbers
+            texts, numbers, size = [], [], 0
+    if texts:
+        yield b"".join(texts), numbers
+
+
 class Page:
     """The features of a page, block by block. The calls may be made by one thread after another.
 
@@ -130,7 +149,7 @@ class Page:
             while is_empty and more:
                 rows, more = self._candidates()
                 self.next = self._after if more else None
-                for part, numbers in lines_of(stream, place, rows):
+                for part, numbers in _joined(lines_of(stream, place, rows)):
                     block = self._judged(part, numbers)
                     if block.raws:
                         is_empty = False

@@ -26,6 +26,7 @@ from .workers import Workers
 BACKLOG = 1_024
 READ = 1 << 18  # bytes of a body that wait in a connection
 LINGER = 2.0  # seconds in which what a client still sends is read and dropped
+FOREVER = 365 * 86_400.0  # seconds: a crowd ends the connections that are silent
 LOOK = 0.05  # seconds between two looks whether all is answered
 FILES = 512  # descriptors beside those of connections
 
@@ -111,7 +112,7 @@ class Process:
         made: Any = partial(
             Connection, crowd, runner.server, loop=self._loop, access_log=log,
             access_log_class=Combined, auto_decompress=False, read_bufsize=READ,
-            lingering_time=LINGER, keepalive_timeout=self._limits.idle,
+            lingering_time=LINGER, keepalive_timeout=FOREVER,
         )
         servers = [await self._loop.create_server(made, sock=each, backlog=BACKLOG)
                    for each in listeners]
