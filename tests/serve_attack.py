@@ -300,7 +300,7 @@ def client_that_does_not_read(server):
         time.sleep(IDLE + 3)
         connection.settimeout(TIMEOUT)
         answer = read_all(connection)
-    return "the answer looks whole" if answer.rstrip().endswith(b"}") or b"\r\n0\r\n" in answer else ""
+    return "the answer looks whole" if b"\r\n0\r\n" in answer else ""
 
 
 def invalid_stream_to_filter(server):
@@ -332,6 +332,25 @@ def requests_without_reading(server):
             connection.sendall(get("/api").replace(b"Connection: close\r\n", b"") * 50)
         return "it is still open"
     return ""
+
+
+def another_protocol(server):
+    """What follows a request for another protocol is not held, however much it is."""
+    before = memory(server)
+    with server.connect() as connection, contextlib.suppress(OSError):
+        connection.settimeout(3)
+        connection.sendall(get("/collections/sample/items?limit=100", "Upgrade: websocket").replace(
+            b"Connection: close", b"Connection: Upgrade"))
+        for _ in range(1_000):
+            connection.sendall(bytes(100_000))
+    grown = memory(server) - before
+    return f"it holds {grown >> 20} MB more" if grown > 32 << 20 else ""
+
+
+def memory(server):
+    """The resident memory of a server, in bytes."""
+    text = pathlib.Path(f"/proc/{server.process.pid}/status").read_text(encoding="utf-8")
+    return int(text.split("VmRSS:")[1].split()[0]) << 10
 
 
 def silent_connections(count):
@@ -381,6 +400,7 @@ def rows(connections):
     yield "an invalid stream to filter", invalid_stream_to_filter
     yield "many requests at once", many_requests_at_once
     yield "requests without reading", requests_without_reading
+    yield "another protocol", another_protocol
     yield f"{connections} connections that send nothing", silent_connections(connections)
 
 

@@ -16,6 +16,7 @@ from .replies import Replies, Reply, is_whole, text_of
 from .settings import Limits
 
 PENDING = 32  # requests that a connection may send before the first of them is answered
+MOST_HELD = 1 << 18  # bytes behind a request for another protocol
 LOOK = 1.0  # seconds between two looks at silent connections
 
 
@@ -57,7 +58,8 @@ class Connection(web.RequestHandler):
         if found and request is not None and not request.content.is_eof():
             # no request follows a body that has not ended: it cannot be read
             request.content.set_exception(web.RequestPayloadError())
-        if self.asked - self.answered > PENDING:
+        # what follows a request for another protocol is held until that is refused
+        if self.asked - self.answered > PENDING or len(self._message_tail) > MOST_HELD:
             self.drop()
 
     def _is_answered_again(self, data: bytes) -> bool:
