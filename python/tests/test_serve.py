@@ -119,6 +119,32 @@ class Documents(Served):
             "/", "/conformance", "/api", "/collections", "/collections/{collectionId}", "/check", "/filter",
             "/collections/{collectionId}/items", "/collections/{collectionId}/items/{featureId}"})
 
+    def test_the_definition_of_the_api_is_whole(self):
+        told = self.server.ask("/api").json()
+
+        def followed(value):
+            if isinstance(value, dict):
+                if "$ref" in value:
+                    found = told
+                    for name in value["$ref"].split("/")[1:]:
+                        found = found[name]
+                    return followed(found)
+                return {name: followed(each) for name, each in value.items()}
+            return [followed(each) for each in value] if isinstance(value, list) else value
+
+        names = []
+        for path, operations in followed(told["paths"]).items():
+            for operation in operations.values():
+                names.append(operation["operationId"])
+                given = {each["name"] for each in operation["parameters"] if each["in"] == "path"}
+                self.assertEqual(given, set(re.findall(r"{(\w+)}", path)))
+                for each in operation["parameters"]:
+                    self.assertTrue(each["schema"] and each["description"])
+                for status, answer in operation["responses"].items():
+                    self.assertRegex(status, r"[1-5]\d\d|default")
+                    self.assertTrue(answer["description"] and answer["content"])
+        self.assertEqual(len(names), len(set(names)))
+
     def test_every_answer_has_the_security_headers(self):
         for path in ("/", "/?f=html", "/none", "/static/page.js", "/collections/sample/items?f=city-json-seq"):
             headers = self.server.ask(path).headers
@@ -190,6 +216,25 @@ class Cuts(Served):
             link = re.match(r'<([^>]*)>; rel="next"', answer.headers["Link"] or "")
             path = link.group(1)[len(self.server.url) - 1:] if link else ""
         self.assertEqual(header + b"\n" + text, self.filtered("sample", "--lod", "2.2"))
+
+    def test_candidates_are_the_rows_of_the_index_page_by_page(self):
+        chance = random.Random(7)
+        with cityseq.Index(self.folder / "all.gpkg") as index:
+            for _ in range(60):
+                x, y = chance.uniform(84500, 85200), chance.uniform(447300, 447800)
+                work = index.work(types=chance.choice((None, "BuildingPart")), lods=chance.choice((None, ["2.2", "0"])),
+                                  box=chance.choice((None, (x, y, x + 200, y + 200))))
+                rows = list(index.rows(work))
+                for stream in index.streams:
+                    found, after, most = [], 0, chance.randrange(1, 50)
+                    while True:
+                        page = index.candidates(work, stream, after, most)
+                        found += page
+                        if len(page) < most:
+                            break
+                        after = page[-1][0]
+                    self.assertEqual([row for _, row in found], [row for row in rows if row.stream == stream.number])
+                    self.assertEqual([number for number, _ in found], sorted({number for number, _ in found}))
 
     def test_no_page_but_the_last_is_empty(self):
         """Where many candidates are not kept, the page goes on to those that are."""

@@ -48,8 +48,8 @@ def _parameters(limits: Limits) -> Object:
             _whole(1, limits.features, USUAL_LIMIT)),
         "bbox": _parameter(
             "bbox", "Features whose extent reaches into this box: minx,miny,maxx,maxy. The system"
-            " is that of bbox-crs, CRS84 if that is left out. Then a box that cannot be longitudes and"
-            " latitudes is in the system of the stream.", NUMBERS),
+            " is that of bbox-crs, CRS84 if that is left out. Then a box that cannot be longitudes"
+            " and latitudes is in the system of the stream.", NUMBERS),
         "bbox-crs": _parameter("bbox-crs", "The system of bbox.", URI),
         "crs": _parameter("crs", "The system of geometries in GeoJSON, CRS84 if left out.", URI),
         "datetime": _parameter(
@@ -150,7 +150,8 @@ def _judging_paths(limits: Limits) -> Object:
                    {"type": "string", "enum": ["last"]}),
     ]
     kept = {SEQUENCE: {"schema": STRING}, **lines}
-    refused = {"422": {"description": "The stream is not valid, and nothing was sent.", "content": lines}}
+    refused = {"422": {"description": "The stream is not valid, and nothing was sent.",
+                       "content": lines}}
     return {
         "/check": _post(
             "check", "The verdict on a stream", "An object a line: each report, then the result.",

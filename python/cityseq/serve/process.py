@@ -145,9 +145,9 @@ class Process:
 
 def _greet(listeners: List[socket.socket], collections: int, host: str) -> None:
     """Says where the server is."""
+    what = f"{collections} collection{'' if collections == 1 else 's'}"
     for listener in listeners:
-        say(f"{url_of(listener)} serves {collections} collections, and checks files; Ctrl-C stops"
-            " it")
+        say(f"{url_of(listener)} serves {what}, and checks files; Ctrl-C stops it")
     if host not in LOOPBACK:
         say("anybody who reaches this address may read the collections and have files checked:"
             " there is no password, and no encryption")
