@@ -49,5 +49,6 @@ parts='own_tests edges program types'
 for part in $parts; do "$part" > "$scratch/$part" 2>&1 & done
 wait
 for part in $parts; do count "$part"; done
+echo 'left out: the page of the server in a browser, which tests/serve_browser.py tries'
 echo "$passed passed, $failed failed"
 [ "$failed" = 0 ]

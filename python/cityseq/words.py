@@ -11,6 +11,11 @@ from .faults import RequestError
 from .shown import shown
 
 MOST_JOBS, MOST_BYTES = 4_096, 1 << 40
+MOST_SECONDS = 1_000_000
+# the usual values of a server
+HOST, PORT = "127.0.0.1", 8080
+REQUESTS, FEATURES, BODY = 100, 100_000, 16 << 30
+SECONDS, IDLE, STOP = 3_600, 30, 10
 ALIKE = 0.7  # how similar a word must be to be suggested
 
 
@@ -50,12 +55,23 @@ class Asked:
     show: Optional[str] = None
     title: Optional[str] = None
     format: Optional[str] = None
+    host: str = HOST
+    port: int = PORT
+    url: Optional[str] = None
+    cors: Optional[str] = None
+    processes: int = 1
+    max_requests: int = REQUESTS
+    max_body: int = BODY
+    max_seconds: int = SECONDS
+    idle_seconds: int = IDLE
+    stop_seconds: int = STOP
+    max_features: int = FEATURES
 
     @property
     def is_plain(self) -> bool:
         """Whether only standard input is read. Then all output is as the program's."""
         no_files = not self.files and self.files_from is None
-        return no_files and self.index is None and self.command not in ("index", "report")
+        return no_files and self.index is None and self.command not in ("index", "report", "serve")
 
 
 class Mistake(RequestError):
@@ -286,6 +302,33 @@ PAGE_SAYS = (
     Option("json", "Write all facts as one object, as docs/report.schema.json says"),
     *(option for option in SAYS if option.name in ("progress", "quiet")),
 )
+SERVES = (
+    Option("host", "Listen at this address, or at all of this name", "HOST", usual=HOST),
+    Option("port", "Listen at this port; 0 is one that is free", "PORT", whole_number(0, 65_535),
+           str(PORT)),
+    Option("url", "Begin links with this URL, by which clients know the server", "URL"),
+    Option("cors", "Let the pages of this origin read the answers, or those of any if it is *",
+           "ORIGIN"),
+    Option("base", "Read the streams from a web server, below this URL", "URL"),
+    Option("jobs", "Judge and cut by so many threads [default: the number of processors]", "N",
+           whole_number(1, MOST_JOBS)),
+    Option("processes", "Serve by so many processes, which share the port", "N",
+           whole_number(1, 1_000), "1"),
+    Option("max-requests", "Answer so many requests at once", "N", whole_number(1, 100_000),
+           str(REQUESTS)),
+    Option("max-body", "Refuse a body that is longer, also after it is unpacked", "BYTES",
+           whole_number(1, MOST_BYTES), str(BODY)),
+    Option("max-features", "Answer at most so many features at once", "N",
+           whole_number(1, 10_000_000), str(FEATURES)),
+    Option("max-seconds", "End a request that takes longer", "SECONDS",
+           whole_number(1, MOST_SECONDS), str(SECONDS)),
+    Option("idle-seconds", "End a request whose client is silent for longer", "SECONDS",
+           whole_number(1, MOST_SECONDS), str(IDLE)),
+    Option("stop-seconds", "Give open answers so long to end when the server is stopped", "SECONDS",
+           whole_number(0, MOST_SECONDS), str(STOP)),
+    *LIMITS,
+    Option("quiet", "Log no requests"),
+)
 STATUSES = """\
 Exit status, the greatest of all FILEs:
   0   the stream is valid up to its end
@@ -353,6 +396,17 @@ Judges each FILE as check --keep-going does. OUTPUT is one page of HTML, which n
 each FILE valid, what is in it, where that is on a map, which lines are not valid and how to fix them,
 which ids appear twice. The page needs Jinja2 and matplotlib. Its status is that of check. See
 '{0} --help' for the exit status."""
+SERVE_AFTER = """\
+Examples:
+  {0} serve region.gpkg
+  {0} serve --host 0.0.0.0 --url https://city.example.org/ region.gpkg
+  curl --data-binary @delivery.city.jsonl.gz http://127.0.0.1:8080/check
+  ogrinfo -al OAPIF:http://127.0.0.1:8080/
+
+Serves the streams of each INDEX as OGC API - Features, and a page to check files on. What is sent
+is judged as it comes, and it is not stored. Without INDEX there is the page alone. A line for each
+request goes to standard output. The server ends with status 0 where it is told to stop, by Ctrl-C
+or by a signal. It needs aiohttp and Jinja2 for Python."""
 COMMANDS = {
     command.name: command
     for command in (
@@ -391,6 +445,13 @@ COMMANDS = {
             "Write a page about a delivery: verdicts, contents, a map, and what is invalid",
             (*LIMITS, TREE, *PAGE, *RUNS, *PAGE_SAYS),
             REPORT_AFTER,
+        ),
+        Command(
+            "serve",
+            "Serve streams by their indexes to maps and tools, and a page to check files on",
+            SERVES,
+            SERVE_AFTER,
+            "[INDEX]...",
         ),
         Command(
             "explain",
