@@ -11,7 +11,7 @@ _cityseq_run() {
     TunnelInstallation TunnelPart'
   COMPREPLY=()
   if [ "$COMP_CWORD" = 1 ]; then
-    options='check filter info index explain help -h --help -V --version'
+    options='check filter info index report explain help -h --help -V --version'
     mapfile -t COMPREPLY < <(compgen -W "$options" -- "$current")
     return
   fi
@@ -30,7 +30,7 @@ _cityseq_run() {
       mapfile -t COMPREPLY < <(compgen -f -- "$current")
       return
       ;;
-    --line-limit | --depth | --jobs | --part-size | --max-reports | --id | --lod | --bbox | --base)
+    --line-limit | --depth | --jobs | --part-size | --max-reports | --format | --id | --lod | --bbox | --base | --title)
       return
       ;;
   esac
@@ -38,7 +38,7 @@ _cityseq_run() {
     check)
       options='
         --line-limit --depth --keep-going --tree --files-from --jobs --part-size --json --sha256
-        --max-reports --summary --progress --quiet --record --resume -h --help'
+        --max-reports --summary --progress --quiet --format --record --resume -h --help'
       files=yes
       ;;
     filter)
@@ -50,7 +50,7 @@ _cityseq_run() {
       ;;
     info)
       options='
-        --line-limit --depth --tree --no-lods --files-from --jobs --part-size --json --sha256
+        --line-limit --depth --tree --lods --files-from --jobs --part-size --json --sha256
         --max-reports --summary --progress --quiet -h --help'
       files=yes
       ;;
@@ -60,12 +60,18 @@ _cityseq_run() {
         --json --max-reports --summary --progress --quiet -h --help'
       files=yes
       ;;
+    report)
+      options='
+        --line-limit --depth --tree --output --title --files-from --jobs --part-size --json
+        --progress --quiet -h --help'
+      files=yes
+      ;;
     explain)
       options='
         -h --help'
       files=
       ;;
-    help) options='check filter info index explain' ;;
+    help) options='check filter info index report explain' ;;
   esac
   if [ -n "$files" ] && [[ $current != -* ]]; then
     mapfile -t COMPREPLY < <(compgen -f -- "$current")

@@ -36,29 +36,16 @@ class _Counting(Reader):
         return piece
 
 
-class Indexed(Stream):
-    """A stream whose records go to an index."""
+class Recorded(Stream):
+    """A stream whose parts answer with the records of their features."""
 
-    def __init__(
-        self,
-        number: int,
-        path: str,
-        work: Work,
-        builder: Builder,
-        size: Optional[int] = None,
-        tell: Tell = None,
-        progress: Progress = None,
-    ) -> None:
-        """Takes the number of the stream in the index, from 1. The others are those of `Stream`."""
-        super().__init__(path, work, size, None, tell, progress)
-        self._number, self._path, self._builder, self._then = number, path, builder, self._tell
-        self._tell = self._report
-        self._entry: Optional[Entry] = None
+    def take(self, found: Found, lines: int) -> None:
+        """Takes what came of the next part, before which so many lines came.
 
-    def _report(self, report: Report) -> None:
-        self._then(report)
-        if self.work.keep_going and self._fault is None and report.line > 1:
-            self._builder.report(self._number, report)
+        Raises:
+            WriteFault: It cannot be written.
+        """
+        raise NotImplementedError
 
     def _parts(self, reader: Reader, header: bytes, rest: bytearray) -> Iterator[Optional[Judged]]:
         """What judges each part behind the header: those of a file are read where they are judged,
@@ -90,14 +77,48 @@ class Indexed(Stream):
         return partial(find_read, self.work, self.file, header, read, begin)
 
     def add(self, answer: Answer) -> None:
-        """Joins the answer of the next part, and writes its records."""
+        """Joins the answer of the next part, and has its records taken."""
         lines = self._joined.lines - min(self._joined.parts, 1)
         try:
             super().add(answer)
-            if isinstance(answer, Found) and answer.records.raw and self._fault is None:
-                self._builder.add(self.entry(), answer.records, lines)
+            if isinstance(answer, Found) and self._fault is None:
+                self.take(answer, lines)
         except WriteFault as fault:
             self._fault = self._fault or fault
+
+
+class Indexed(Recorded):
+    """A stream whose records go to an index."""
+
+    def __init__(
+        self,
+        number: int,
+        path: str,
+        work: Work,
+        builder: Builder,
+        size: Optional[int] = None,
+        tell: Tell = None,
+        progress: Progress = None,
+    ) -> None:
+        """Takes the number of the stream in the index, from 1. The others are those of `Stream`."""
+        super().__init__(path, work, size, None, tell, progress)
+        self._number, self._path, self._builder, self._then = number, path, builder, self._tell
+        self._tell = self._report
+        self._entry: Optional[Entry] = None
+
+    def _report(self, report: Report) -> None:
+        self._then(report)
+        if self.work.keep_going and self._fault is None and report.line > 1:
+            self._builder.report(self._number, report)
+
+    def take(self, found: Found, lines: int) -> None:
+        """Writes the records of the next part, before which so many lines came.
+
+        Raises:
+            WriteFault: They cannot be written.
+        """
+        if found.records.raw:
+            self._builder.add(self.entry(), found.records, lines)
 
     def entry(self) -> Entry:
         """What the index has of the stream. Its header is valid."""
@@ -142,7 +163,7 @@ def _of_thread(file: Placed, begin: int, end: int) -> Any:
     return file.read(begin, end)
 
 
-def _is_special(path: Any) -> bool:
+def is_special(path: Any) -> bool:
     """Whether a path is there, and is a device, a pipe or the like."""
     return os.path.exists(path) and not (os.path.isfile(path) or os.path.isdir(path))
 
@@ -155,7 +176,7 @@ def checked(paths: Any, output: Any) -> List[str]:
     """
     listed = [paths] if isinstance(paths, (str, bytes, os.PathLike)) else list(paths)
     for path in listed:
-        if not is_path(path) or _is_special(path):
+        if not is_path(path) or is_special(path):
             raise RequestError(f"an index is of regular files by their paths: {path!r} is none")
     if not is_path(output):
         raise RequestError(f"an index is written to a path: {output!r} is none")
