@@ -1,5 +1,6 @@
 #!/usr/bin/env python3
-"""Measures indexes of the Python package, each time as a ratio within one round.
+"""Measures indexes of the Python package: each time by the clock and of the processor, as a ratio
+within one round.
 
     bench/index.py [MEGABYTES [ROUNDS [CASE..]]]      (1000, 3, and all)
 
@@ -56,30 +57,32 @@ def stream_of(shape, megabytes):
 
 
 def run(words, source=None):
-    """The seconds by the clock of a run, and its peak resident MB."""
+    """The seconds of a run by the clock and of the processor, and its peak resident MB."""
     with open(source or os.devnull, "rb") as given:
         begun = time.monotonic()
         child = subprocess.Popen(words, stdin=given, stdout=subprocess.DEVNULL, env=SETTINGS)
         _, status, used = os.wait4(child.pid, 0)
     if status:
         sys.exit(f"{' '.join(words)}: status {status}")
-    return time.monotonic() - begun, used.ru_maxrss / 1024
+    return time.monotonic() - begun, used.ru_utime + used.ru_stime, used.ru_maxrss / 1024
 
 
 def compared(name, words, bases, rounds):
-    """Prints the time of a run, and its ratio to each other run of the same round."""
-    times, memory, ratios = [], [], {base: [] for base in bases}
-    others = {}
+    """Prints the time of a run, and its ratios to each other run of the same round."""
+    own, others = [], {base: [] for base in bases}
     for _ in range(rounds):
-        seconds, peak = run(words)
-        times.append(seconds)
-        memory.append(peak)
+        own.append(run(words))
         for base, (base_words, source) in bases.items():
-            base_seconds, others[base] = run(base_words, source)
-            ratios[base].append(seconds / base_seconds)
-    print(f"{name}: {min(times):.3f} s, peak {min(memory):.0f} MB")
-    for base, found in ratios.items():
-        print(f"    of {base}: {median(found):.3f}, where the peak is {others[base]:.0f} MB")
+            others[base].append(run(base_words, source))
+    clock, processor, peak = map(min, zip(*own))
+    print(f"{name}: {clock:.3f} s, processor {processor:.3f} s, peak {peak:.0f} MB")
+    for base, found in others.items():
+        by_clock, by_processor = (
+            median(mine[kind] / other[kind] for mine, other in zip(own, found)) for kind in (0, 1)
+        )
+        least = min(other[2] for other in found)
+        print(f"    of {base}: {by_clock:.3f}, of its processor time: {by_processor:.3f},")
+        print(f"        where the peak is {least:.0f} MB")
 
 
 def build(megabytes, rounds):

@@ -17,7 +17,7 @@ from .faults import WriteFault, write_fault
 from .geopackage import TREE, UNDEFINED, geometry_start, polygon, system_of
 from .outputs import PART, hand_mode_on, part_of
 from .query import Work
-from .records import Records, stored, unescaped
+from .records import Records, stored, stored_as_spelled
 from .reports import Report
 from .rtree import Tree, cell_of, key_of
 from .running import Result
@@ -181,7 +181,7 @@ class Builder:
                 cells.append((key_of(box[0], box[2]), cell_of(self._fid, *box)))
             place = line + lines, begin + records.begin, length
             names = names_of_types(types), names_of_lods(lods)
-            name = stored(unescaped(spelling))
+            name = stored_as_spelled(spelling)
             counts = objects, geometries
             yield (self._fid, geometry, entry.number, *place, *name, *counts, *names, *heights)
 
