@@ -105,11 +105,7 @@ def find(work: Work, file: str, header: bytes, part: Text, begin: int) -> Found:
         raise CityseqError(f"the library answered {answer.status}, code {answer.code}")
     text = held(part) if answer.refused or answer.status == REFUSED else b""
     return Found(
-        status=answer.status,
-        lines=answer.lines,
-        kept=answer.kept,
-        refused=answer.refused,
-        peaks=(answer.peak_bytes, answer.peak_tokens, answer.peak_depth),
+        told=answer,
         end=next(describe([answer], header, text, file)) if answer.status == REFUSED else None,
         # they are read when they are joined, as there may be very many
         reports=describe(islice(reports, answer.refused), header, text, file)
@@ -129,5 +125,5 @@ def find_read(work: Work, file: str, header: bytes, read: Read, begin: int, _fir
             return find(work, file, header, part, begin)
         found = find(work, file, header, part[: bytes(part).rfind(b"\n") + 1], begin)
     except MemoryError:
-        return Answer(NO_MEMORY)
+        return Answer(RawAnswer(status=NO_MEMORY))
     return replace(found, fault=read_fault(fault, file)) if found.status == COMPLETE else found
