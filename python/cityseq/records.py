@@ -69,12 +69,20 @@ def id_of(text: str, exact: Optional[bytes]) -> str:
     return text if exact is None else exact.decode("utf-8", "surrogatepass")
 
 
+def unescaped(spelling: bytes) -> str:
+    """Returns the text of a string of JSON, from its spelling without quotes."""
+    if b"\\" not in spelling:
+        return spelling.decode("utf-8")
+    text: str = json.loads(b'"' + spelling + b'"')
+    return text
+
+
 def stored_as_spelled(spelling: bytes) -> Id:
     """Returns an id as two columns have it, by the string of JSON that spells it, without quotes.
     A valid string without escapes has no NUL, and no half of a character."""
     if b"\\" not in spelling and len(spelling) <= LONGEST:
         return spelling.decode("utf-8"), None
-    return stored(json.loads(b'"' + spelling + b'"'))
+    return stored(unescaped(spelling))
 
 
 def _called(
