@@ -1,5 +1,6 @@
-//! Links between many city objects: the children of all are gone over, and then the parents of all. Whether a text is
-//! an id, and whether its city object lists the one that is gone over, is asked of many at once.
+//! Links between many city objects. The children of all are checked first, and then the parents of
+//! all. Many questions are answered at once: whether a text is an id, and whether its city object
+//! lists the current one.
 ghost use Rattle.std.specs.Prelude.{◌≡◌, ◌<◌, ◌^◌, [], ◌++◌, true, codes};
 ghost use Rattle.std.specs.List.{flat_map, list_any};
 ghost use Rattle.std.specs.Str.{chars};
@@ -16,25 +17,27 @@ use crate::feature::tagged::tag_of;
 use cj_geometry::rule::{add, is_told_before};
 use cj_spans::{Least, Members, Node, Reason};
 
-/// So many questions are noted at once where there are fewer city objects and items of their lists, in 34 KiB of the stack.
+/// The number of questions at once for fewer city objects and items of their lists. They use 34 KiB
+/// of the stack.
 const SOME_QUESTIONS: usize = 1_536;
 
-/// So many first texts are at hand then.
+/// The number of first texts that are kept then.
 const SOME_KEPT: usize = 256;
 
-/// So many questions are noted at once for city objects of at most `SHORT` bytes, in 86 KiB of the stack.
+/// The number of questions at once for city objects of at most `SHORT` bytes. They use 86 KiB of
+/// the stack.
 const MORE_QUESTIONS: usize = 4_096;
 
-/// So many first texts are at hand then.
+/// The number of first texts that are kept then.
 const MORE_KEPT: usize = 512;
 
-/// So many questions are noted at once where there are more, in 503 KiB of the stack.
+/// The number of questions at once for longer ones. They use 503 KiB of the stack.
 const MANY_QUESTIONS: usize = 27_000;
 
-/// So many first texts are at hand then.
+/// The number of first texts that are kept then.
 const MANY_KEPT: usize = 1_024;
 
-/// A child is in the feature, and lists the city object that is gone over as a parent.
+/// A child is in the feature, and lists the current city object as a parent.
 fn check_child<'a, const ROOM: usize, const KEPT: usize>(
     objects: Node<'a>,
     item: Node<'a>,
@@ -57,7 +60,7 @@ fn check_child<'a, const ROOM: usize, const KEPT: usize>(
     }
 }
 
-/// The children of a city object of the name that has this number in the line, unless it is a group.
+/// The children of a city object, unless it is a group. The number is that of its name in the line.
 fn check_children<'a, const ROOM: usize, const KEPT: usize>(
     objects: Node<'a>,
     number: u32,
@@ -104,8 +107,8 @@ fn check_all_children<'a, const ROOM: usize, const KEPT: usize>(
     }
 }
 
-/// A parent that is in the feature lists the city object that is gone over as a child; answers whether it is known to be
-/// an id in the feature.
+/// A parent that is in the feature lists the current city object as a child. Returns whether the
+/// parent is known to be an id in the feature.
 fn check_parent<'a, const ROOM: usize, const KEPT: usize>(
     objects: Node<'a>,
     item: Node<'a>,
@@ -133,8 +136,8 @@ fn check_parent<'a, const ROOM: usize, const KEPT: usize>(
     }
 }
 
-/// The parents of a city object of the name that has this number in the line; answers whether one of them is known to be
-/// an id in the feature.
+/// The parents of a city object. The number is that of its name in the line. Returns whether one of
+/// the parents is known to be an id in the feature.
 fn check_parents<'a, const ROOM: usize, const KEPT: usize>(
     objects: Node<'a>,
     number: u32,
@@ -169,7 +172,7 @@ fn check_parents<'a, const ROOM: usize, const KEPT: usize>(
     known
 }
 
-/// Whether a parent of the city object that is gone over is an id in the feature.
+/// Returns whether a parent of the current city object is an id in the feature.
 fn is_known_parent<'a, const ROOM: usize, const KEPT: usize>(
     objects: Node<'a>,
     item: Node<'a>,
@@ -187,7 +190,7 @@ fn is_known_parent<'a, const ROOM: usize, const KEPT: usize>(
     }
 }
 
-/// Whether an item of the array of parents is an id in the feature.
+/// Returns whether an item of the array of parents is an id in the feature.
 fn has_known_item<'a, const ROOM: usize, const KEPT: usize>(
     objects: Node<'a>,
     name: Noted,
@@ -209,7 +212,8 @@ fn has_known_item<'a, const ROOM: usize, const KEPT: usize>(
     false
 }
 
-/// Of the parents of a city object of the second level, of the name that has this number, one is in the feature.
+/// At least one parent of a city object of the second level is in the feature. The number is that
+/// of its name in the line.
 fn check_part<'a, const ROOM: usize, const KEPT: usize>(
     objects: Node<'a>,
     number: u32,
@@ -258,9 +262,9 @@ fn check_all_parents<'a, const ROOM: usize, const KEPT: usize>(
     }
 }
 
-/// The links of many city objects, by so many questions at once.
+/// The links of many city objects, with at most `ROOM` questions at once.
 ///
-/// It is kept apart, so that fewer links need none of its room on the stack.
+/// It is never inlined, so that fewer links use none of its stack.
 #[cold]
 #[inline(never)]
 fn check_by<const ROOM: usize, const KEPT: usize>(objects: Node, found: &mut Least)
@@ -274,7 +278,7 @@ fn check_by<const ROOM: usize, const KEPT: usize>(objects: Node, found: &mut Lea
     check_all_parents(objects, &mut questions, found);
 }
 
-/// The links of many city objects. There is room for the questions that they can need, or for many.
+/// The links of many city objects. The capacity for questions is enough for all of them, or large.
 #[cold]
 #[inline(never)]
 pub fn check_many_links(objects: Node, found: &mut Least)

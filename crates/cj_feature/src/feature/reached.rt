@@ -1,9 +1,9 @@
-//! City objects that hang on the main one, which the feature's id names: by the children that each lists, one after
-//! another. They are marked at their tokens before the feature is judged.
+//! City objects that are reached from the main one, which the feature's id names. Each one leads to
+//! the children that it lists. They are marked at their tokens before the feature is judged.
 //!
-//! Links go between ids, so what is reached is an id, and with it all city objects of that name, each with its list; a
-//! group is no exception. Where the id is no text, or names none of the city objects, nothing is reached, and the rule
-//! says nothing.
+//! Links are between ids. So if an id is reached, all city objects of that name are reached, each
+//! with its list. A group is no exception. If the id is no text, or names no city object, nothing
+//! is reached, and the rule reports nothing.
 ghost use Rattle.std.specs.Prelude.{◌≡◌, ◌<◌, ◌^◌, IfSome, IfNone, IsTrue, true, Some, List, codes, length, option_map};
 ghost use Rattle.std.specs.List.{flat_map};
 ghost use Rattle.std.specs.Str.{chars};
@@ -29,35 +29,37 @@ use cj_budget::Bounded;
 use cj_geometry::rule::add;
 use cj_spans::{Doc, Least, Node, Reason, Token, set_mark};
 
-/// So many city objects a small guide has at hand at once, and so many can wait, in 36 KiB of the stack. So many names of
-/// those without marks are looked for at once then, in 32 KiB.
+/// The number of city objects that a small guide holds, and that can wait there. It uses 36 KiB of
+/// the stack. It is also the number of names without marks that are looked up at once, in 32 KiB.
 const SOME_OBJECTS: usize = 4_096;
 
-/// So many lists of them it has: a prime.
+/// The number of its lists: a prime.
 const SOME_LISTS: usize = 1_021;
 
-/// So many a guide of middle size has, in 106 KiB of the stack: those of at most `SHORT` bytes are fewer.
+/// The number of city objects that a guide of middle size holds, in 106 KiB of the stack. City
+/// objects of at most `SHORT` bytes are fewer.
 const MORE_OBJECTS: usize = 13_108;
 
-/// So many lists of them it has: a prime.
+/// The number of its lists: a prime.
 const MORE_LISTS: usize = 1_021;
 
-/// So many names are looked for at once then, in 64 KiB of the stack.
+/// The number of names that are looked up at once then, in 64 KiB of the stack.
 const MORE_NAMES: usize = 8_192;
 
-/// So many a large guide has at hand at once, in 1.9 MB of the stack: a line of 8 MiB has fewer that list a child.
+/// The number of city objects that a large guide holds, in 1.9 MB of the stack. A line of 8 MiB has
+/// fewer that list a child.
 const MANY_OBJECTS: usize = 400_000;
 
-/// So many lists of them it has: a prime.
+/// The number of its lists: a prime.
 const MANY_LISTS: usize = 65_521;
 
-/// So many can wait there.
+/// The number of city objects that can wait there.
 const MANY_PENDING: usize = 16_384;
 
-/// So many names are looked for at once then, in 1.9 MB of the stack.
+/// The number of names that are looked up at once then, in 1.9 MB of the stack.
 const MANY_NAMES: usize = 240_000;
 
-/// How many city objects there are, as far as what is searched for them takes another room on the stack.
+/// How many city objects there are. For each size, the search uses another amount of the stack.
 #[derive(Clone, Copy, Drop)]
 enum Size {
     Few,
@@ -66,7 +68,7 @@ enum Size {
     Large,
 }
 
-/// Whether there are so many city objects, or more.
+/// Returns whether there are at least `count` city objects.
 fn has_more(objects: Node, count: usize) -> bool {
     let mut left = count;
     for _ in objects.members() {
@@ -78,7 +80,7 @@ fn has_more(objects: Node, count: usize) -> bool {
     false
 }
 
-/// How many city objects there are; few have no long lists either.
+/// Returns how many city objects there are. Few have no long lists either.
 fn size_of(objects: Node) -> Size {
     if !has_many(objects) {
         Size::Few
@@ -91,7 +93,7 @@ fn size_of(objects: Node) -> Size {
     }
 }
 
-/// How many city objects a feature has.
+/// Returns how many city objects a feature has.
 fn size_of_feature(doc: Doc) -> Size {
     match doc.root().get("CityObjects") {
         Some(objects) => size_of(objects),
@@ -99,7 +101,7 @@ fn size_of_feature(doc: Doc) -> Size {
     }
 }
 
-/// The first city object of this name that has no mark, by its number.
+/// Returns the number of the first city object of this name that has no mark.
 fn find_unmarked(objects: Node, id: Node) -> Option<u32>
     ensures found { IfSome result (IsUnmarked objects.entry (tree id.entry)) }
     ensures none { IfNone result (HaveMarks objects.entry (members_of (tree objects.entry)) (tree id.entry)) }
@@ -112,7 +114,7 @@ fn find_unmarked(objects: Node, id: Node) -> Option<u32>
     None
 }
 
-/// The first city object that this one lists as a child and that has no mark, by its number.
+/// Returns the number of the first city object without a mark that this one lists as a child.
 fn find_child(objects: Node, object: Node) -> Option<u32>
     ensures found { IfSome result
         (IsListedUnmarked objects.entry (listed_in (chars (codes "children")) (tree object.entry))) }
@@ -130,7 +132,7 @@ fn find_child(objects: Node, object: Node) -> Option<u32>
     None
 }
 
-/// Whether all city objects have marks.
+/// Returns whether all city objects have marks.
 fn are_marked(objects: Node) -> bool
     ensures { result ≡ true → AllMarked objects.entry (members_of (tree objects.entry)) }
 {
@@ -142,7 +144,8 @@ fn are_marked(objects: Node) -> bool
     true
 }
 
-/// The first city object that this one lists as a child by one of these names, and that has no mark, by its number.
+/// Returns the number of the first city object without a mark that this one lists as a child by one
+/// of these names.
 fn find_noted_child(objects: Node, object: Node, names: &[Noted]) -> Option<u32>
     requires { AreInNameOrder objects names.now }
     ensures found { IfSome result
@@ -163,7 +166,8 @@ fn find_noted_child(objects: Node, object: Node, names: &[Noted]) -> Option<u32>
     None
 }
 
-/// The first city object that one with a mark lists as a child by one of these names, and that has none, by its number.
+/// Returns the number of the first city object without a mark that one with a mark lists as a
+/// child. The child has one of these names.
 fn find_noted(objects: Node, names: &[Noted]) -> Option<u32>
     requires { AreInNameOrder objects names.now }
     ensures found { IfSome result (IsNext objects.entry) }
@@ -179,8 +183,8 @@ fn find_noted(objects: Node, names: &[Noted]) -> Option<u32>
     None
 }
 
-/// As `find_listed_of_few`, where the names of city objects without marks are looked for, as many at once as there is room
-/// for.
+/// Does the same as `find_listed_of_few`. It looks up the names of city objects without marks, as
+/// many at once as `names` can hold.
 fn find_by_names(objects: Node, names: &mut [Noted]) -> Option<u32>
     requires { 0 < length names.old }
     ensures found { IfSome result (IsNext objects.entry) }
@@ -198,7 +202,8 @@ fn find_by_names(objects: Node, names: &mut [Noted]) -> Option<u32>
     }
 }
 
-/// The same with room for so many names. It is kept apart, so that fewer need none of its room on the stack.
+/// The same for `NAMES` names at once. It is never inlined, so that fewer names use none of its
+/// stack.
 #[inline(never)]
 fn find_by<const NAMES: usize>(objects: Node) -> Option<u32>
     requires { 0 < NAMES × NAMES < 2 ^ 32 }
@@ -209,7 +214,8 @@ fn find_by<const NAMES: usize>(objects: Node) -> Option<u32>
     find_by_names(objects, &mut names)
 }
 
-/// The first city object that one with a mark lists as a child and that has none, by its number.
+/// Returns the number of the first city object without a mark that one with a mark lists as a
+/// child.
 fn find_listed(objects: Node) -> Option<u32>
     ensures found { IfSome result (IsNext objects.entry) }
     ensures none { IfNone result (ListMarks objects.entry (members_of (tree objects.entry))) }
@@ -240,8 +246,8 @@ fn find_listed_of_few(objects: Node) -> Option<u32>
     None
 }
 
-/// A city object that is reached if all are that have marks, and that has none, by its number. Where there is none, all
-/// that are reached have marks.
+/// Returns the number of a city object without a mark that is reached, if all with marks are.
+/// Returns None only if all that are reached have marks.
 fn find_next(doc: Doc) -> Option<u32>
     ensures found { IfSome result
         (IsToMark (document doc.entry) (document_line doc.entry) (tokens_in (document_source doc.entry))) }
@@ -258,7 +264,8 @@ fn find_next(doc: Doc) -> Option<u32>
     }
 }
 
-/// Marks most of those that are reached, or none where there are few. The guide is the least that has room for all.
+/// Marks most of those that are reached, or none if there are few. It uses the smallest guide that
+/// can hold all.
 fn mark_most(line: &[u8], tokens: &mut Bounded<Token>)
     requires scanned { AreOf line.now tokens.old.elements }
     requires sound { (t : Tree) → Json line.now t → AllReached t line.now tokens.old.elements }
@@ -273,11 +280,12 @@ fn mark_most(line: &[u8], tokens: &mut Bounded<Token>)
     }
 }
 
-/// Marks the city objects of a feature that are reached from its id, at their tokens, and nothing else: these are all
-/// city objects of that name, and with each one all that are named as its children. Nothing is marked where there is no
-/// such id, or no city object of its name. What the tokens show stays, and no memory is taken.
+/// Marks the city objects of a feature that are reached from its id, at their tokens, and nothing
+/// else. All city objects of that name are reached. If one is reached, all city objects that it
+/// names as children are reached. Nothing is marked if there is no such id, or no city object of
+/// its name. What the tokens represent stays, and no memory is allocated.
 ///
-/// It is kept apart from its caller, which for most lines has no use for it.
+/// It is never inlined, since its caller does not use it for most lines.
 #[inline(never)]
 pub fn mark_reached(line: &[u8], tokens: &mut Bounded<Token>)
     requires scanned { AreOf line.now tokens.old.elements }
@@ -291,7 +299,7 @@ pub fn mark_reached(line: &[u8], tokens: &mut Bounded<Token>)
     }
 }
 
-/// Each city object has a mark, as those have that are reached from the id.
+/// Each city object has a mark. Those that are reached from the id have one.
 fn check_marks(objects: Node, id: Node, found: &mut Least)
     requires { MarksFit objects (tree id) }
     ensures { let all = members_of (tree objects.entry) in
@@ -304,7 +312,7 @@ fn check_marks(objects: Node, id: Node, found: &mut Least)
     }
 }
 
-/// Where the id is the name of a city object, each city object is reached from it.
+/// If the id is the name of a city object, each city object is reached from it.
 fn check_from(objects: Node, id: Node, found: &mut Least)
     requires { MarksFit objects (tree id) }
     ensures { found.new ≡ least found.old (reach_rule (Some (tree id.entry)) (Some (tree objects.entry))) }
@@ -314,7 +322,7 @@ fn check_from(objects: Node, id: Node, found: &mut Least)
     }
 }
 
-/// Where it is asked for, each city object of the feature is reached from its id.
+/// If `asked` is true, each city object of the feature is reached from its id.
 pub fn check_reached(asked: bool, feature: Node, objects: Option<Node>, found: &mut Least)
     requires objects { option_map tree objects ≡ member_of (chars (codes "CityObjects")) (tree feature) }
     requires source { IfSome objects (λ n. IsBeside feature n) }

@@ -1,5 +1,5 @@
-//! Links between many city objects, more of them than are asked about at once, in each room for questions. What is wrong
-//! with a line is told from how it is made.
+//! Links between many city objects, more than one set of questions can hold, with each capacity.
+//! The expected result follows from how a line is built.
 use super::{HEADER, features_meet};
 use std::alloc::{AllocError, Global};
 use std::process::Abort;
@@ -31,13 +31,13 @@ fn objects_meet(
     )
 }
 
-/// What stands before the i-th of some things in a row.
+/// Returns what comes before the i-th of some things in a row.
 fn comma(i: u32) -> &'static str {
     if i == 0 { "" } else { "," }
 }
 
-/// A city object of a ring: its child is the one after it, and its parent the one before it. That of the number
-/// `broken` has itself for a parent, so the child before it has the mark.
+/// A city object of a ring. Its child is the one after it, and its parent the one before it. The
+/// one of the number `broken` has itself as a parent, so the child before it has the mark.
 fn ring_member(alloc: Global, count: u32, i: u32, broken: u32) -> Result<String, AllocError> {
     let next = i as u64 + 1;
     let child = if next < count as u64 { next } else { 0 };
@@ -54,7 +54,7 @@ fn ring_member(alloc: Global, count: u32, i: u32, broken: u32) -> Result<String,
     )
 }
 
-/// A ring of so many city objects.
+/// A ring of `count` city objects.
 fn ring(alloc: Global, count: u32, broken: u32) -> Result<String, AllocError> {
     let mut objects = String::new(alloc);
     for i in 0..count {
@@ -63,7 +63,7 @@ fn ring(alloc: Global, count: u32, broken: u32) -> Result<String, AllocError> {
     Ok(objects)
 }
 
-/// Rings of so many are valid, and are not where one is broken.
+/// Rings of `count` city objects are valid. If one link is broken, they are not.
 fn rings_meet(rt: &impl Abort, alloc: Global, count: u32) -> Result<(), AllocError> {
     let whole = ring(alloc, count, count)?;
     objects_meet(rt, alloc, &whole, "none")?;
@@ -81,7 +81,7 @@ fn rings(rt: HostRuntime) -> Result<(), Fail> {
     Ok(())
 }
 
-/// Children of `p0`, the last first; the one of the number `marked` has the mark.
+/// Children of `p0`, the last first. The one of the number `marked` has the mark.
 fn backwards(alloc: Global, marked: u32) -> Result<String, AllocError> {
     let mut children = String::new(alloc);
     for i in 0..MANY {
@@ -93,8 +93,8 @@ fn backwards(alloc: Global, marked: u32) -> Result<String, AllocError> {
     Ok(children)
 }
 
-/// Parts of `p0`, but that of the number `alone`, which has another text for a parent. The first letter of their names
-/// is spelled so.
+/// Parts of `p0`. The one of the number `alone` has another text as a parent. The first letter of
+/// their names is spelled as `letter`.
 fn parts(alloc: Global, letter: &str, alone: u32, other: &str) -> Result<String, AllocError> {
     let mut parts = String::new(alloc);
     for i in 0..MANY {
@@ -160,7 +160,7 @@ fn a_part_whose_parent_is_not_there(rt: HostRuntime) -> Result<(), Fail> {
     Ok(())
 }
 
-/// These city objects before many buildings without links, and behind them.
+/// Checks these city objects before many buildings without links, and after them.
 fn meet_among_many(
     rt: &impl Abort,
     alloc: Global,
@@ -192,7 +192,7 @@ fn a_part_of_what_is_no_city_object(rt: HostRuntime) -> Result<(), Fail> {
     Ok(())
 }
 
-/// An item listed so many times.
+/// An item that is listed `count` times.
 fn again(alloc: Global, item: &str, count: u32) -> Result<String, AllocError> {
     let mut items = String::from_str(alloc, item)?;
     for _ in 1..count {
@@ -202,7 +202,8 @@ fn again(alloc: Global, item: &str, count: u32) -> Result<String, AllocError> {
     Ok(items)
 }
 
-/// A ring behind a group that lists a text so often that what is asked next ends amid the ring.
+/// A ring after a group. The group lists a text so often that the next questions end within the
+/// ring.
 fn ring_behind_a_group(alloc: Global, broken: u32) -> Result<String, AllocError> {
     let texts = again(alloc, r#""q""#, 27_000)?;
     let ring = ring(alloc, MANY, broken)?;
@@ -247,7 +248,7 @@ fn a_pair_listed_again_by_one_alone(rt: HostRuntime) -> Result<(), Fail> {
     Ok(())
 }
 
-/// So many texts, `q0`, `q1` and so on.
+/// The texts `q0`, `q1` and so on, `count` of them.
 fn absent(alloc: Global, count: u32) -> Result<String, AllocError> {
     let mut texts = String::new(alloc);
     for i in 0..count {
@@ -278,7 +279,7 @@ fn a_parent_among_those_that_are_not_there(rt: HostRuntime) -> Result<(), Fail> 
     Ok(())
 }
 
-/// A part lists its parent behind so many that are not there.
+/// A part lists its parent after `count` others that are not there.
 fn last_meets(rt: &impl Abort, alloc: Global, count: u32) -> Result<(), AllocError> {
     let others = absent(alloc, count)?;
     let parents = format!(in alloc; r#"{others},"p0""#)?;
@@ -317,7 +318,8 @@ fn children_of_a_group(rt: HostRuntime) -> Result<(), Fail> {
     Ok(())
 }
 
-/// A building `p0` whose child has this mark, and many buildings of the child's name, of which the second has that one.
+/// A building `p0` whose child has the mark `mark`, and many buildings of the child's name. The
+/// second of them has the mark `second`.
 fn of_one_name(alloc: Global, mark: &str, second: &str) -> Result<String, AllocError> {
     let mut objects = format!(in alloc;
         r#""p0":{{"type":"Building","children":[{mark}"q"]}},"q":{{"type":"Building"}},{second}"q":{{"type":"Building"}}"#
