@@ -8,19 +8,20 @@
 set -eu
 folder=$(realpath -m -- "${1:-$(dirname "$0")/../out/deb}")
 . "$(dirname "$0")/common.sh"
+need_built crates/cityseq/out/cityseq
+need_library
 need dpkg-buildpackage dpkg-dev
 need dh debhelper
 need dh_python3 dh-python
-need_built crates/cityseq/out/cityseq out/NOTICES
-need_library
+need_built out/NOTICES
 set_epoch
 /usr/bin/python3 -c 'import setuptools, wheel' 2> "$scratch/why" ||
   stop "setuptools or wheel is missing: 'apt-get install python3-setuptools python3-wheel'"
 maintainer=$(commit_line 2)
 [ -z "${DEBEMAIL:-}" ] || maintainer="${DEBFULLNAME:-cityseq} <$DEBEMAIL>"
 
-# Copies what the packages are made of. Debian's tools write beside the tree and stop at odd names,
-# so this is not done in place.
+# Copies what the packages are made of. Debian's tools write next to the folder of the sources and
+# stop at odd names, so this is not done in place.
 tree=$scratch/cityseq-$version
 mkdir -p "$tree" "$folder"
 cp --parents -r VERSION CHANGELOG.md README.md debian packaging docs examples/*.jsonl \

@@ -107,7 +107,7 @@ def parsed(text):
     commands = {name: sentences(about) for name, about in rows(text, COMMAND, COMMAND_TITLES)}
     options = [Option(short, name, value, sentences(about or ""))
                for short, name, value, about in rows(text, OPTION, OPTION_TITLES)]
-    return Help(commands, options, bool(re.search(r"^ *(?:usage|Usage): .*\bFILE\b", text, re.M)))
+    return Help(commands, options, bool(re.search(r"^ *(?:usage|Usage): .*\b(?:FILE|INDEX)\b", text, re.M)))
 
 
 def read(name, words):

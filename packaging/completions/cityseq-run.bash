@@ -11,7 +11,7 @@ _cityseq_run() {
     TunnelInstallation TunnelPart'
   COMPREPLY=()
   if [ "$COMP_CWORD" = 1 ]; then
-    options='check filter info index report explain help -h --help -V --version'
+    options='check filter info index report serve explain help -h --help -V --version'
     mapfile -t COMPREPLY < <(compgen -W "$options" -- "$current")
     return
   fi
@@ -30,7 +30,7 @@ _cityseq_run() {
       mapfile -t COMPREPLY < <(compgen -f -- "$current")
       return
       ;;
-    --line-limit | --depth | --jobs | --part-size | --max-reports | --format | --id | --lod | --bbox | --base | --title)
+    --line-limit | --depth | --jobs | --part-size | --max-reports | --format | --id | --lod | --bbox | --base | --title | --host | --port | --url | --cors | --processes | --max-requests | --max-body | --max-features | --max-seconds | --idle-seconds | --stop-seconds)
       return
       ;;
   esac
@@ -50,7 +50,7 @@ _cityseq_run() {
       ;;
     info)
       options='
-        --line-limit --depth --tree --no-lods --files-from --jobs --part-size --json --sha256
+        --line-limit --depth --tree --lods --files-from --jobs --part-size --json --sha256
         --max-reports --summary --progress --quiet -h --help'
       files=yes
       ;;
@@ -66,12 +66,19 @@ _cityseq_run() {
         --progress --quiet -h --help'
       files=yes
       ;;
+    serve)
+      options='
+        --host --port --url --cors --base --jobs --processes --max-requests --max-body
+        --max-features --max-seconds --idle-seconds --stop-seconds --line-limit --depth --quiet
+        -h --help'
+      files=yes
+      ;;
     explain)
       options='
         -h --help'
       files=
       ;;
-    help) options='check filter info index report explain' ;;
+    help) options='check filter info index report serve explain' ;;
   esac
   if [ -n "$files" ] && [[ $current != -* ]]; then
     mapfile -t COMPREPLY < <(compgen -f -- "$current")

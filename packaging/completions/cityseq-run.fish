@@ -1,6 +1,6 @@
 # Completion of cityseq-run for fish. packaging/options.py writes this file.
 
-set -l commands check filter info index report explain help
+set -l commands check filter info index report serve explain help
 set -g __cityseq_run_types \
     Bridge Building CityFurniture CityObjectGroup GenericCityObject LandUse OtherConstruction \
     PlantCover Railway Road SolitaryVegetationObject TINRelief TransportSquare Tunnel WaterBody \
@@ -15,6 +15,7 @@ complete -c cityseq-run -n "not __fish_seen_subcommand_from $commands" -a filter
 complete -c cityseq-run -n "not __fish_seen_subcommand_from $commands" -a info -d 'Report what is in a stream'
 complete -c cityseq-run -n "not __fish_seen_subcommand_from $commands" -a index -d 'Write an index of streams'
 complete -c cityseq-run -n "not __fish_seen_subcommand_from $commands" -a report -d 'Write a page about a delivery'
+complete -c cityseq-run -n "not __fish_seen_subcommand_from $commands" -a serve -d 'Serve streams by their indexes to maps and tools'
 complete -c cityseq-run -n "not __fish_seen_subcommand_from $commands" -a explain -d 'Say what the code of a reason means'
 complete -c cityseq-run -n "not __fish_seen_subcommand_from $commands" -a help -d 'Print this message or the help of the given subcommand(s)'
 complete -c cityseq-run -n "not __fish_seen_subcommand_from $commands" -s h -l help -d 'Print help'
@@ -70,7 +71,7 @@ complete -c cityseq-run -n '__fish_seen_subcommand_from info' -F
 complete -c cityseq-run -n '__fish_seen_subcommand_from info' -l line-limit -x -d 'Refuse a line that is longer'
 complete -c cityseq-run -n '__fish_seen_subcommand_from info' -l depth -x -d 'Refuse a line with more arrays and objects open at once'
 complete -c cityseq-run -n '__fish_seen_subcommand_from info' -l tree -d 'Refuse a feature of which a city object is not reached from the main one'
-complete -c cityseq-run -n '__fish_seen_subcommand_from info' -l no-lods -d 'Do not count the texts of LoDs'
+complete -c cityseq-run -n '__fish_seen_subcommand_from info' -l lods -d 'Count the features with each text of an LoD too'
 complete -c cityseq-run -n '__fish_seen_subcommand_from info' -l files-from -r -F -d 'Read the names of files from this file'
 complete -c cityseq-run -n '__fish_seen_subcommand_from info' -l jobs -x -d 'Judge so many parts at once'
 complete -c cityseq-run -n '__fish_seen_subcommand_from info' -l part-size -x -d 'Judge parts of so many bytes'
@@ -113,7 +114,26 @@ complete -c cityseq-run -n '__fish_seen_subcommand_from report' -l progress -d '
 complete -c cityseq-run -n '__fish_seen_subcommand_from report' -l quiet -d 'Say nothing but faults'
 complete -c cityseq-run -n '__fish_seen_subcommand_from report' -s h -l help -d 'Print help'
 
+complete -c cityseq-run -n '__fish_seen_subcommand_from serve' -F
+complete -c cityseq-run -n '__fish_seen_subcommand_from serve' -l host -x -d 'Listen at this address'
+complete -c cityseq-run -n '__fish_seen_subcommand_from serve' -l port -x -d 'Listen at this port'
+complete -c cityseq-run -n '__fish_seen_subcommand_from serve' -l url -x -d 'Begin links with this URL'
+complete -c cityseq-run -n '__fish_seen_subcommand_from serve' -l cors -x -d 'Let the pages of this origin read the answers'
+complete -c cityseq-run -n '__fish_seen_subcommand_from serve' -l base -x -d 'Read the streams from a web server'
+complete -c cityseq-run -n '__fish_seen_subcommand_from serve' -l jobs -x -d 'Judge and cut by so many threads'
+complete -c cityseq-run -n '__fish_seen_subcommand_from serve' -l processes -x -d 'Serve by so many processes'
+complete -c cityseq-run -n '__fish_seen_subcommand_from serve' -l max-requests -x -d 'Answer so many requests at once'
+complete -c cityseq-run -n '__fish_seen_subcommand_from serve' -l max-body -x -d 'Refuse a body that is longer'
+complete -c cityseq-run -n '__fish_seen_subcommand_from serve' -l max-features -x -d 'Answer at most so many features at once'
+complete -c cityseq-run -n '__fish_seen_subcommand_from serve' -l max-seconds -x -d 'End a request that takes longer'
+complete -c cityseq-run -n '__fish_seen_subcommand_from serve' -l idle-seconds -x -d 'End a request whose client is silent for longer'
+complete -c cityseq-run -n '__fish_seen_subcommand_from serve' -l stop-seconds -x -d 'Give open answers so long to end when the server is stopped'
+complete -c cityseq-run -n '__fish_seen_subcommand_from serve' -l line-limit -x -d 'Refuse a line that is longer'
+complete -c cityseq-run -n '__fish_seen_subcommand_from serve' -l depth -x -d 'Refuse a line with more arrays and objects open at once'
+complete -c cityseq-run -n '__fish_seen_subcommand_from serve' -l quiet -d 'Log no requests'
+complete -c cityseq-run -n '__fish_seen_subcommand_from serve' -s h -l help -d 'Print help'
+
 complete -c cityseq-run -n '__fish_seen_subcommand_from explain' -f
 complete -c cityseq-run -n '__fish_seen_subcommand_from explain' -s h -l help -d 'Print help'
 
-complete -c cityseq-run -n '__fish_seen_subcommand_from help' -f -a 'check filter info index report explain'
+complete -c cityseq-run -n '__fish_seen_subcommand_from help' -f -a 'check filter info index report serve explain'

@@ -224,7 +224,7 @@ def filter(
 def info(
     source: Source,
     *,
-    exact_lods: bool = True,
+    exact_lods: bool = False,
     jobs: Optional[int] = None,
     line_limit: int = USUAL_LINE,
     depth: int = USUAL_DEPTH,
@@ -240,8 +240,8 @@ def info(
 
     Args:
         source: The stream, as `check` takes it.
-        exact_lods: Whether to count the features of each text of an LoD. Each text takes as long
-            again as all the rest.
+        exact_lods: Whether to count the features with each text of an LoD, as 2.2. Python looks for
+            these texts, and one thread does so at a time.
 
     Returns:
         The verdict, the counts and the summary. The summary is empty if the stream is invalid.
@@ -279,7 +279,7 @@ def features(
 
     Raises:
         InvalidStream: A line is invalid. The features before it came first. With `keep_going` only
-            an invalid header is told so.
+            an invalid header raises it.
         ReadFault: The source cannot be opened or read, or it changes.
         MemoryFault: Memory is short.
         RequestError: An argument has a value that it may not have.

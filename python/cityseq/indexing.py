@@ -60,8 +60,13 @@ class Recorded(Stream):
                 begin, rest = places.begin, bytearray()
                 reader.go_to(begin)
         counting = _Counting(reader, begin + len(rest))
-        cutter = Cutter(counting, rest, self._part_size(SMALL, header), self.work.line_limit,
-                        self.work.keep_going)
+        cutter = Cutter(
+            counting,
+            rest,
+            self._part_size(SMALL, header),
+            self.work.line_limit,
+            self.work.keep_going,
+        )
         for part in cutter.parts():
             # of a line that is too long the part has only the beginning, and no record
             left = counting.taken - cutter.left - len(part)
@@ -129,7 +134,10 @@ class Indexed(Recorded):
                 self._end(result)
             except WriteFault as fault:
                 result.status, result.fault, result.fault_file = (
-                    fault.status, fault.words, fault.file)
+                    fault.status,
+                    fault.words,
+                    fault.file,
+                )
                 result.raises = fault
         return result
 

@@ -157,13 +157,43 @@ class Index:
         Raises:
             RequestError: An argument has a value that it may not have.
         """
-        return asked("filter", ids=ids, types=types, lods=lods, box=box, tree=self.tree,
-                     line_limit=self.line_limit, depth=self.depth)
+        return asked(
+            "filter",
+            ids=ids,
+            types=types,
+            lods=lods,
+            box=box,
+            tree=self.tree,
+            line_limit=self.line_limit,
+            depth=self.depth,
+        )
 
     def rows(self, work: Work) -> Iterator[Row]:
         """Yields where the lines are that a query may keep, in order. It never leaves one out."""
-        conditions: List[str] = []
-        given: List[Any] = []
+        for _, *row in self._found(work, [], []):
+            yield Row(*row)
+
+    def candidates(
+        self, work: Work, stream: IndexedStream, after: int, most: int
+    ) -> List[Tuple[int, Row]]:
+        """Returns the next features of a stream that a query may keep, at most so many: the number
+        of each in the stream, from 1, and where its line is.
+
+        Args:
+            work: The query.
+            stream: One of the streams of the index.
+            after: The number of the feature behind which it begins.
+            most: How many.
+        """
+        first = stream.first_fid - 1
+        within = [first + min(after, stream.features), first + stream.features]
+        found = self._found(work, ["fid > ? AND fid <= ?"], within, f" LIMIT {most}")
+        return [(fid - first, Row(*row)) for fid, *row in found]
+
+    def _found(
+        self, work: Work, conditions: List[str], given: List[Any], end: str = ""
+    ) -> Iterator[Any]:
+        """Yields the rows of the features that a query may keep, which meet the conditions too."""
         if work.box is not None:
             box = box_of(work.box.decode("utf-8"))
             if box is not None:
@@ -180,9 +210,8 @@ class Index:
                 self._want(work.ids)
                 conditions.append(WITH_ID)
             which = f" WHERE {' AND '.join(conditions)}" if conditions else ""
-            select = f"SELECT stream, line, begin, length FROM features{which} ORDER BY fid"
-            for row in self._base.execute(select, given):
-                yield Row(*row)
+            select = "SELECT fid, stream, line, begin, length FROM features"
+            yield from self._base.execute(f"{select}{which} ORDER BY fid{end}", given)
 
     def _want(self, ids: bytes) -> None:
         """Notes the ids that are asked for."""
@@ -298,9 +327,12 @@ class Index:
             for text, exact in found:
                 places = self._base.execute(
                     "SELECT stream, line FROM features WHERE id = ? AND id_exact IS ?"
-                    " ORDER BY fid", (text, exact))
-                yield RepeatedId(id_of(text, exact),
-                                 tuple((paths[number], line) for number, line in places))
+                    " ORDER BY fid",
+                    (text, exact),
+                )
+                yield RepeatedId(
+                    id_of(text, exact), tuple((paths[number], line) for number, line in places)
+                )
 
     def show(self) -> str:
         """Returns what the index covers, and the ids that appear more than once, as lines."""
@@ -313,8 +345,10 @@ def _classes(lods: Optional[bytes]) -> Optional[bytes]:
     """Returns the classes of the LoDs that are asked for, one a line."""
     if lods is None:
         return None
-    names = {text[:1] if text[:1] in LOD_CLASSES else LOD_CLASSES[-1]
-             for text in lods.decode("utf-8").split("\n")}
+    names = {
+        text[:1] if text[:1] in LOD_CLASSES else LOD_CLASSES[-1]
+        for text in lods.decode("utf-8").split("\n")
+    }
     return "\n".join(sorted(names)).encode("ascii")
 
 

@@ -62,7 +62,7 @@ def _zstandard() -> Any:
         raise OSError("there is no zstandard for Python: install python3-zstandard") from None
 
 
-class _Gzip:
+class Gzip:
     """Unpacks the members of a gzip archive."""
 
     def __init__(self) -> None:
@@ -111,7 +111,7 @@ class Unpacker(io.RawIOBase):
     def __init__(self, file: IO[bytes], packing: Packing) -> None:
         super().__init__()
         self._file, self._mark = file, packing.mark
-        self._kind: Union[_Gzip, _Zstd] = _Gzip() if packing is Packing.GZIP else _Zstd()
+        self._kind: Union[Gzip, _Zstd] = Gzip() if packing is Packing.GZIP else _Zstd()
         self._member: Any = None
         self._has_begun = False
         self._packed = b""

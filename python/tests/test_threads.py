@@ -16,7 +16,8 @@ START = _thread.start_new_thread
 
 
 def starting(most, silent=False):
-    """Starts so many threads, and then none: by an error, or, as with little memory, so that they end before they begin."""
+    """Starts so many threads, and then none: by an error, or, as with little memory, so that they
+    end before they begin."""
     started = []
 
     def start(call, given):
@@ -36,7 +37,10 @@ class Crews(unittest.TestCase):
     def test_calls_are_made_once_and_answered(self):
         for most in (1, 3):
             with Crew(most) as crew:
-                jobs = [crew.submit(lambda number=number: (number, threading.get_ident())) for number in range(50)]
+                jobs = [
+                    crew.submit(lambda number=number: (number, threading.get_ident()))
+                    for number in range(50)
+                ]
                 answers = [job.result() for job in jobs]
             self.assertEqual([number for number, _ in answers], list(range(50)))
             self.assertTrue(1 <= len({thread for _, thread in answers}) <= most)
@@ -68,9 +72,14 @@ class Crews(unittest.TestCase):
     def test_fewer_threads(self):
         for most, silent in ((1, False), (0, False), (1, True), (0, True)):
             patch, _ = starting(most, silent)
-            with self.subTest(most=most, silent=silent), patch, mock.patch("cityseq.threads.PATIENCE", 0.05):
+            with self.subTest(most=most, silent=silent), patch, mock.patch(
+                "cityseq.threads.PATIENCE", 0.05
+            ):
                 with Crew(4) as crew:
-                    self.assertEqual([job.result() for job in [crew.submit(lambda n=n: n) for n in range(9)]], list(range(9)))
+                    self.assertEqual(
+                        [job.result() for job in [crew.submit(lambda n=n: n) for n in range(9)]],
+                        list(range(9)),
+                    )
 
     def test_a_thread_that_ends_early(self):
         with mock.patch("cityseq.threads.PATIENCE", 0.05), Crew(1) as crew:
@@ -115,8 +124,13 @@ class Crews(unittest.TestCase):
         text = HEADER + PLAIN * 2_000 + b"{}\n"
         for most, silent in ((2, False), (0, False), (0, True)):
             patch, _ = starting(most, silent)
-            with self.subTest(most=most, silent=silent), patch, mock.patch("cityseq.threads.PATIENCE", 0.05):
-                self.assertEqual(support.numbered(cityseq.check(text, jobs=4, part_size=1_000).reports), [(2_002, 0, 10)])
+            with self.subTest(most=most, silent=silent), patch, mock.patch(
+                "cityseq.threads.PATIENCE", 0.05
+            ):
+                self.assertEqual(
+                    support.numbered(cityseq.check(text, jobs=4, part_size=1_000).reports),
+                    [(2_002, 0, 10)],
+                )
 
 
 class Callbacks(unittest.TestCase):
@@ -125,8 +139,14 @@ class Callbacks(unittest.TestCase):
     def test_reports_and_progress(self):
         threads = set()
         for jobs in (1, 3):
-            cityseq.check(HEADER + b"[]\n" * 500, jobs=jobs, part_size=100, keep_going=True,
-                          on_report=lambda _: threads.add(threading.get_ident()), progress=lambda _: threads.add(threading.get_ident()))
+            cityseq.check(
+                HEADER + b"[]\n" * 500,
+                jobs=jobs,
+                part_size=100,
+                keep_going=True,
+                on_report=lambda _: threads.add(threading.get_ident()),
+                progress=lambda _: threads.add(threading.get_ident()),
+            )
         self.assertEqual(threads, {threading.get_ident()})
 
 

@@ -1,0 +1,78 @@
+"""A server of streams: OGC API - Features over indexes, and the check of streams that are sent.
+
+    cityseq-run serve region.gpkg
+
+`app` makes the same as an application of aiohttp, for a server that is there already:
+
+    from aiohttp import web
+    import cityseq.serve
+    web.run_app(cityseq.serve.app("region.gpkg", url="https://example.org/"))
+"""
+from __future__ import annotations
+
+from typing import TYPE_CHECKING, Any, Optional
+
+from ..faults import RequestError
+
+if TYPE_CHECKING:
+    from aiohttp import web
+
+    from ..words import Asked
+
+__all__ = ["app"]
+NEEDS = (("aiohttp", "aiohttp"), ("jinja2", "Jinja2"))
+
+
+def _require() -> None:
+    """Raises `RequestError` if what the server stands on is not there."""
+    for module, name in NEEDS:
+        try:
+            __import__(module)
+        except ImportError as fault:
+            raise RequestError(
+                f"there is no {name} for Python: install python3-{module}, or cityseq with the"
+                " extra serve"
+            ) from fault
+
+
+def app(
+    *indexes: Any,
+    base: Optional[str] = None,
+    url: Optional[str] = None,
+    cors: Optional[str] = None,
+    jobs: Optional[int] = None,
+    limits: Any = None,
+) -> "web.Application":
+    """Returns an application of aiohttp that serves indexes.
+
+    Args:
+        *indexes: The paths of the indexes. Without any, the application checks and filters bodies.
+        base: The URL that the streams are below. None if they are files.
+        url: The URL that clients know the application by. Links begin with it. None if that is the
+            host that they ask for, which then has to be an address or `localhost`.
+        cors: The origin whose pages may read the answers, or `*`. None for none.
+        jobs: How many threads judge and cut. None is one for each processor.
+        limits: What it does at most, as `cityseq.serve.settings.Limits`. The server around it
+            bounds connections, and the time for the head of a request.
+
+    Raises:
+        ReadFault: An index cannot be read.
+        RequestError: An argument has a value that it may not have, or aiohttp is not there.
+    """
+    import os
+
+    _require()
+    from .application import Server, application
+    from .settings import Limits, Settings
+
+    paths = tuple(map(os.fsdecode, indexes))
+    settings = Settings(paths, base, url, (), cors, jobs, limits or Limits())
+    return application(Server(settings))
+
+
+def run(wanted: "Asked") -> int:
+    """Runs the command `serve`, and returns the status."""
+    _require()
+    from .process import run as run_process
+
+    return run_process(wanted)

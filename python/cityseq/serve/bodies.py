@@ -1,0 +1,293 @@
+"""Bodies that are judged as they come: `POST /check` and `POST /filter`.
+
+While a thread judges some pieces, the next are read. What is kept of a stream is written as the
+client reads it, so that no more is held than a part and its output."""
+from __future__ import annotations
+
+import asyncio
+import json
+from collections import deque
+from typing import Any, Deque, Dict, List, Optional, Tuple
+
+from aiohttp import web
+
+from .. import __version__
+from .._library import USUAL_DEPTH, USUAL_LINE, Text
+from ..objects import reasons_object, report_object, result_object
+from ..parts import Answer
+from ..places import SMALL
+from ..query import asked
+from ..running import Result, Task
+from ..words import Asked
+from .answers import write
+from .calls import Calls
+from .judging import Fed, Unpacking, too_long
+from .patience import Patience
+from .problems import Problem
+from .queries import Query
+from .settings import MOST_REPORTS, REPORTS, Limits
+
+LINES = "application/x-ndjson"
+SEQUENCE = "application/city+json-seq"
+TRAILER = "Cityseq-Result"
+GO_ON = "100-continue"
+JUDGED_BY = ("line_limit", "depth", "keep_going", "tree", "max_reports")
+CHECK = (*JUDGED_BY, "summary")
+FILTER = (*JUDGED_BY, "exclude", "id", "type", "lod", "bbox", "verdict")
+
+
+def asked_of(command: str, query: Query, limits: Limits) -> Asked:
+    """Returns what a request asks for, as the words of the command would.
+
+    Raises:
+        Problem: A parameter has a value that it may not have.
+    """
+    wanted = Asked(
+        command,
+        line_limit=query.number("line_limit", 1, limits.line_limit,
+                                min(USUAL_LINE, limits.line_limit)),
+        depth=query.number("depth", 1, limits.depth, min(USUAL_DEPTH, limits.depth)),
+        keep_going=query.flag("keep_going"),
+        tree=query.flag("tree"),
+        max_reports=query.number("max_reports", 0, MOST_REPORTS, REPORTS),
+    )
+    if command == "filter":
+        wanted.exclude = query.flag("exclude")
+        wanted.id, wanted.type, wanted.lod, wanted.bbox = map(
+            query.text, ("id", "type", "lod", "bbox")
+        )
+    else:
+        wanted.summary = query.flag("summary")
+    return wanted
+
+
+def _fed(wanted: Asked, query: Query, packed: Optional[bool], limits: Limits) -> Fed:
+    """Returns what a body is fed to."""
+    common: Dict[str, Any] = dict(line_limit=wanted.line_limit, depth=wanted.depth,
+                                  keep_going=wanted.keep_going, tree=wanted.tree)
+    if wanted.command == "filter":
+        common.update(exclude=wanted.exclude, ids=query.texts("id"), types=query.texts("type"),
+                      lods=query.texts("lod"), box=wanted.bbox)
+    most = 0 if wanted.summary else wanted.max_reports or 0
+    unpacking = Unpacking(packed, limits.body)
+    return Fed(asked(wanted.command, **common), unpacking, most, wanted.summary)
+
+
+def _is_packed(request: web.Request, limits: Limits) -> Optional[bool]:
+    """Returns whether a body is packed; None if its first bytes tell.
+
+    Raises:
+        Problem: It is packed in another way, or said to be too long.
+    """
+    if request.content_length is not None and request.content_length > limits.body:
+        raise too_long(limits.body)
+    coding = request.headers.get("Content-Encoding", "identity").strip().lower()
+    if coding in ("gzip", "x-gzip"):
+        return True
+    if coding != "identity":
+        raise Problem(415, f"a body is plain or packed by gzip, and not by {coding}")
+    return None
+
+
+async def expected(_: web.Request) -> None:
+    """Does nothing for a request that waits to be told to go on: it is when its body is read."""
+
+
+async def _go_on(request: web.Request) -> None:
+    """Tells a client that waits for it to send the body."""
+    if request.headers.get("Expect") and request.version >= (1, 1):
+        await request.writer.write(b"HTTP/1.1 100 Continue\r\n\r\n")
+
+
+class Body:
+    """The body of a request."""
+
+    def __init__(self, request: web.Request, limits: Limits) -> None:
+        self._content, self._limits = request.content, limits
+        self._patience: Patience = request["patience"]
+        self.size = 0  # bytes that have come
+
+    async def pieces(self) -> List[bytes]:
+        """Returns the next bytes, of which there are enough for a thread, and none at the end.
+
+        Raises:
+            Problem: There are too many.
+        """
+        found: List[bytes] = []
+        size = 0
+        while size < SMALL:
+            piece = self._content.read_nowait()
+            if not piece:
+                if self._content.at_eof():
+                    break
+                with self._patience.waiting():
+                    piece = await self._content.readany()
+            found.append(piece)
+            size += len(piece)
+            self.size += len(piece)
+            if self.size > self._limits.body:
+                raise too_long(self._limits.body)
+        return [piece for piece in found if piece]
+
+
+class Judgement:
+    """A body on its way through the threads."""
+
+    def __init__(self, request: web.Request, calls: Calls, limits: Limits, wanted: Asked,
+                 query: Query) -> None:
+        self._calls, self.wanted = calls, wanted
+        self._fed = _fed(wanted, query, _is_packed(request, limits), limits)
+        self._body = Body(request, limits)
+        self._next: "Optional[asyncio.Future[List[bytes]]]" = None
+        self._judged: "Deque[asyncio.Future[Answer]]" = deque()
+        self._is_read = self.is_over = False
+
+    @property
+    def has_header(self) -> bool:
+        """Whether the first line is known to be valid."""
+        return self._fed.has_header
+
+    @property
+    def has_ended(self) -> bool:
+        """Whether nothing that follows counts."""
+        return self._fed.ended
+
+    async def outputs(self) -> List[Text]:
+        """Returns what is kept of the parts that are judged by now, while others are read.
+
+        Raises:
+            Problem: The body is broken, or too long.
+        """
+        if not self._is_read:
+            for task in await self._tasks():
+                self._judged.append(asyncio.ensure_future(self._calls.call(task)))
+        outputs = []
+        while self._judged and (self._is_read or len(self._judged) > self._ahead()):
+            answer = await self._judged.popleft()
+            if answer.refused or answer.end is not None:  # which takes time to describe
+                outputs.append(await self._calls.call(self._fed.take, answer))
+            else:
+                outputs.append(self._fed.take(answer))
+        self.is_over = self._is_read
+        return outputs
+
+    async def _tasks(self) -> List[Task]:
+        """Returns what judges the next parts, while what follows them is read."""
+        pieces = await (self._next or self._body.pieces())
+        self._next = None
+        if not pieces:
+            self._is_read = True
+            return await self._calls.call(self._fed.end)
+        self._next = asyncio.ensure_future(self._body.pieces())
+        return await self._calls.call(self._fed.cut, pieces)
+
+    def _ahead(self) -> int:
+        """Returns how many parts may wait: few if there are many bodies."""
+        return max(self._calls.jobs - self._calls.bodies + 1, 0)
+
+    async def __aenter__(self) -> "Judgement":
+        self._calls.bodies += 1
+        return self
+
+    async def __aexit__(self, *_: Any) -> None:
+        """Ends what still reads, and what is not judged yet."""
+        self._calls.bodies -= 1
+        ending: "List[asyncio.Future[Any]]" = [*self._judged]
+        if self._next is not None:
+            ending.append(self._next)
+        for each in ending:
+            each.cancel()
+        if ending:
+            await asyncio.wait(ending)
+            for each in ending:
+                if not each.cancelled():
+                    each.exception()  # which nobody waits for
+
+    def told(self) -> Tuple[List[Dict[str, Any]], Dict[str, Any]]:
+        """Returns the objects of the reports, or how often each reason came, and that of the
+        result."""
+        result: Result = self._fed.result()
+        told = result_object(result, self.wanted, __version__, self._body.size, None)
+        if self.wanted.summary:
+            return [reasons_object(self._fed.codes)], told
+        return [report_object(report) for report in self._fed.reports], told
+
+
+def _lines(objects: List[Dict[str, Any]]) -> bytes:
+    return b"".join(json.dumps(told).encode("ascii") + b"\n" for told in objects)
+
+
+async def check(request: web.Request, calls: Calls, limits: Limits) -> web.StreamResponse:
+    """Answers `POST /check`: a line for each report, and one for the result."""
+    query = Query(request.raw_path.partition("?")[2], CHECK)
+    judgement = Judgement(request, calls, limits, asked_of("check", query, limits), query)
+    await _go_on(request)
+    async with judgement:
+        while not judgement.is_over:
+            await judgement.outputs()
+    reports, result = judgement.told()
+    objects = [result, *reports] if judgement.wanted.summary else [*reports, result]
+    return web.Response(body=_lines(objects), content_type=LINES)
+
+
+class Trailed(web.StreamResponse):
+    """An answer in chunks, with a trailer behind the last. aiohttp writes no trailers, so that the
+    chunks are made here."""
+
+    _length_check = False
+
+    def __init__(self, media_type: str) -> None:
+        super().__init__(headers={
+            "Content-Type": media_type, "Transfer-Encoding": "chunked", "Trailer": TRAILER,
+        })
+
+    async def put(self, text: Text, patience: Patience) -> None:
+        """Writes some bytes as a chunk."""
+        if len(text):
+            await write(self, b"%x\r\n%b\r\n" % (len(text), bytes(text)), patience)
+
+    async def finish(self, trailer: str) -> None:
+        """Writes the end, with the trailer."""
+        await self.write_eof(f"0\r\n{TRAILER}: {trailer}\r\n\r\n".encode("ascii"))
+
+
+async def filter(request: web.Request, calls: Calls, limits: Limits) -> web.StreamResponse:
+    """Answers `POST /filter`: the header and what is kept, and then the verdict."""
+    query = Query(request.raw_path.partition("?")[2], FILTER)
+    if query.text("verdict") not in (None, "last"):
+        raise Problem(400, "verdict is last, or is left out")
+    if request.version < (1, 1):
+        raise Problem(505, "what is kept is sent in chunks, which HTTP/1.1 has")
+    is_last = "verdict" in query
+    judgement = Judgement(request, calls, limits, asked_of("filter", query, limits), query)
+    await _go_on(request)
+    response = Trailed(LINES if is_last else SEQUENCE)
+    kept: List[Text] = []
+    async with judgement:
+        while not judgement.is_over:
+            kept += await judgement.outputs()
+            if judgement.has_header or is_last:
+                await _send(request, response, kept)
+                kept = []
+            if judgement.has_ended and "begun" in request and not is_last:
+                raise Problem(400, "a line of the stream is not valid")
+    reports, result = judgement.told()
+    if "begun" not in request and not is_last:
+        return _refused(reports, result)
+    if is_last:
+        await _send(request, response, [_lines([*reports, result])])
+    await response.finish(json.dumps(result))
+    return response
+
+
+async def _send(request: web.Request, response: Trailed, kept: List[Text]) -> None:
+    if "begun" not in request:
+        request["begun"] = response
+        await response.prepare(request)
+    for text in kept:
+        await response.put(text, request["patience"])
+
+
+def _refused(reports: List[Dict[str, Any]], result: Dict[str, Any]) -> web.Response:
+    """Returns the answer to a stream that is found to be invalid before anything was sent."""
+    return web.Response(status=422, body=_lines([*reports, result]), content_type=LINES)

@@ -1,0 +1,64 @@
+"""Calls in threads, for an event loop: what judges, reads a disk or asks an index."""
+from __future__ import annotations
+
+import asyncio
+from functools import partial
+from typing import Any, Callable, TypeVar
+
+from ..faults import MemoryFault
+from ..running import usual_jobs
+from ..threads import Crew
+
+T = TypeVar("T")
+
+
+class Calls:
+    """Threads that make calls for the tasks of an event loop, at most so many at once."""
+
+    def __init__(self, jobs: Any = None) -> None:
+        """Takes the number of threads; None is one for each processor."""
+        self.jobs: int = usual_jobs() if jobs is None else jobs
+        self.bodies = 0  # that are judged now
+        self._crew = Crew(self.jobs)
+
+    def start(self) -> None:
+        """Starts the first thread.
+
+        Raises:
+            MemoryFault: The system refuses it.
+        """
+        if not self._crew.start():
+            raise MemoryFault("out of memory: no thread is there")
+
+    def close(self) -> None:
+        """Waits until no thread is left."""
+        self._crew.__exit__()
+
+    async def call(self, function: Callable[..., T], *given: Any) -> T:
+        """Returns what a call returns that some thread makes, or raises what it raises. A task
+        that is cancelled meanwhile does not wait for it."""
+        loop = asyncio.get_running_loop()
+        future: "asyncio.Future[T]" = loop.create_future()
+        job = self._crew.submit(partial(_told, loop, future, partial(function, *given)))
+        try:
+            return await future
+        except asyncio.CancelledError:
+            job.cancel()
+            raise
+
+
+def _told(
+    loop: asyncio.AbstractEventLoop, future: "asyncio.Future[T]", call: Callable[[], T]
+) -> None:
+    """Makes a call, and tells the loop what came of it."""
+    try:
+        value = call()
+    except BaseException as fault:  # which the task gets
+        loop.call_soon_threadsafe(_set, future.set_exception, future, fault)
+    else:
+        loop.call_soon_threadsafe(_set, future.set_result, future, value)
+
+
+def _set(setter: Callable[[Any], None], future: "asyncio.Future[Any]", value: Any) -> None:
+    if not future.done():
+        setter(value)

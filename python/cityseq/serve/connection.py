@@ -1,0 +1,201 @@
+"""Connections: how many are open, how long one may be silent, and what a client is told whose
+request cannot be read."""
+from __future__ import annotations
+
+import asyncio
+import json
+from typing import Any, Dict, Optional
+
+from aiohttp import web
+from aiohttp.http_exceptions import LineTooLong
+
+from ..console import say
+from .logs import Combined
+from .problems import MEDIA_TYPE, Problem, logged
+from .replies import Replies, Reply, is_whole, text_of
+from .settings import Limits
+
+PENDING = 32  # requests that a connection may send before the first of them is answered
+MOST_HELD = 1 << 18  # bytes behind a request for another protocol
+LOOK = 1.0  # seconds between two looks at silent connections
+
+
+class Connection(web.RequestHandler):
+    """A connection of a client."""
+
+    __slots__ = ("_crowd", "_raw", "since", "has_bytes", "asked", "answered")
+
+    def __init__(self, crowd: "Crowd", manager: Any, **options: Any) -> None:
+        """Takes all connections, and what aiohttp hands on."""
+        super().__init__(manager, **options)
+        self._crowd = crowd
+        self._raw: Optional[bytes] = None  # the bytes of a request that has no body
+        self.since = 0.0  # when it became silent
+        self.has_bytes = False  # since then
+        self.asked = self.answered = 0  # requests
+
+    @property
+    def is_busy(self) -> bool:
+        """Whether a request is answered."""
+        return self.asked > self.answered
+
+    def connection_made(self, transport: asyncio.BaseTransport) -> None:
+        super().connection_made(transport)
+        self._crowd.add(self)
+
+    def connection_lost(self, exc: Optional[BaseException]) -> None:
+        self._crowd.remove(self)
+        super().connection_lost(exc)
+
+    def data_received(self, data: bytes) -> None:
+        if self._is_answered_again(data):
+            return
+        self.has_bytes = True
+        before, request = self._request_count, self._current_request
+        super().data_received(data)
+        found = self._request_count - before
+        self.asked += found
+        if found and request is not None and not request.content.is_eof():
+            # no request follows a body that has not ended: it cannot be read
+            request.content.set_exception(web.RequestPayloadError())
+        # what follows a request for another protocol is held until that is refused
+        if self.asked - self.answered > PENDING or len(self._message_tail) > MOST_HELD:
+            self.drop()
+
+    def _is_answered_again(self, data: bytes) -> bool:
+        """Answers a request that was answered a moment ago. Whether it has done so."""
+        self._raw = None
+        if self.is_busy or self.has_bytes or self.transport is None:
+            return False
+        reply = self._crowd.replies.find(data, self._loop.time())
+        if reply is None or self.transport.get_write_buffer_size():
+            self._raw = data if is_whole(data) else None
+            return False
+        self.transport.write(reply.text)
+        if isinstance(self.access_logger, Combined):
+            place = self.transport.get_extra_info("peername")
+            self.access_logger.write(place[0] if place else None, reply.logged)
+        self._crowd.quiet(self)
+        return True
+
+    def _keep(self, request: Any, response: Any) -> None:
+        """Keeps an answer, to be given again."""
+        text = None if self._raw is None else text_of(response)
+        if text is not None and isinstance(self.access_logger, Combined):
+            told = self.access_logger.told(request, response)
+            self._crowd.replies.keep(self._raw or b"", Reply(text, told, self._loop.time()))
+
+    def log_access(self, request: Any, response: Any, time: float) -> None:
+        super().log_access(request, response, time)
+        self._keep(request, response)
+        self.answered += 1
+        if not self.is_busy:
+            self._crowd.quiet(self)
+
+    def drop(self) -> None:
+        """Ends the connection at once."""
+        if self.transport is not None:
+            self.transport.abort()
+
+    def tell(self, problem: Problem) -> None:
+        """Tells the client why the connection ends, and ends it."""
+        body = json.dumps(problem.told()) + "\n"
+        head = (f"HTTP/1.1 {problem.status} {problem.told()['title']}\r\n"
+                f"Content-Type: {MEDIA_TYPE}\r\nContent-Length: {len(body)}\r\n"
+                "X-Content-Type-Options: nosniff\r\nServer: cityseq\r\nConnection: close\r\n\r\n")
+        if self.transport is not None:
+            self.transport.write((head + body).encode("ascii"))
+        self.force_close()
+
+    def handle_error(self, request: Any, status: int = 500, exc: Optional[BaseException] = None,
+                     message: Optional[str] = None) -> web.StreamResponse:
+        """Answers a request that cannot be read, or a fault that nothing else has answered."""
+        if status == 400:
+            problem = _unread(exc, str(message))
+        else:
+            problem = Problem(status, "something that nobody expected")
+            self.log_exception(exc_info=exc)
+        response = problem.response()
+        response.headers.update({"X-Content-Type-Options": "nosniff", "Server": "cityseq"})
+        response.force_close()
+        return response
+
+    def log_exception(self, *given: Any, **more: Any) -> None:
+        """Says a fault in one line. Of a connection that is lost nothing is said."""
+        fault = more.get("exc_info")
+        is_open = self.transport is not None and not self.transport.is_closing()
+        if is_open and isinstance(fault, BaseException) and not isinstance(fault, ConnectionError):
+            say(logged(fault) or "")
+
+
+def _unread(fault: Optional[BaseException], told: str) -> Problem:
+    """Returns the problem of a request that cannot be read."""
+    if isinstance(fault, LineTooLong):  # it tells how what is too long begins
+        if "(b'/" in told or "status line" in told.lower():
+            return Problem(414, "the path or what stands behind it is too long")
+        return Problem(431, "a header of the request is too long")
+    if "many headers" in told.lower():
+        return Problem(431, "the request has too many headers")
+    return Problem(400, "the request cannot be read as HTTP/1.1")
+
+
+class Crowd:
+    """All connections of a server."""
+
+    def __init__(self, limits: Limits) -> None:
+        self._limits, self._loop = limits, asyncio.get_running_loop()
+        self.replies = Replies()
+        # those that are silent come in the order in which they became so
+        self._connections: Dict[Connection, None] = {}
+        self._handle: Any = self._loop.call_later(LOOK, self._look)
+
+    def __len__(self) -> int:
+        return len(self._connections)
+
+    @property
+    def busy(self) -> int:
+        """How many requests are answered."""
+        return sum(each.is_busy for each in self._connections)
+
+    def add(self, connection: Connection) -> None:
+        """Adds a connection. If there are too many then, it ends the one that is silent for the
+        longest time."""
+        self.quiet(connection)
+        if len(self._connections) > self._limits.connections:
+            silent = next((each for each in self._connections if not each.is_busy), connection)
+            self.remove(silent)
+            silent.drop()
+
+    def quiet(self, connection: Connection) -> None:
+        """Notes that a connection is silent from now on."""
+        connection.since, connection.has_bytes = self._loop.time(), False
+        self._connections.pop(connection, None)
+        self._connections[connection] = None
+
+    def remove(self, connection: Connection) -> None:
+        """Removes a connection that is lost."""
+        self._connections.pop(connection, None)
+
+    def _look(self) -> None:
+        """Ends the connections that are silent for too long."""
+        before = self._loop.time() - self._limits.idle
+        for each in list(self._connections):
+            if each.is_busy or each.since > before:
+                continue
+            if each.has_bytes:
+                each.tell(Problem(408, f"no whole request came in {self._limits.idle:g} seconds"))
+            else:
+                each.drop()
+        self._handle = self._loop.call_later(LOOK, self._look)
+
+    def drop_silent(self) -> None:
+        """Ends all connections that have no request."""
+        for each in list(self._connections):
+            if not each.is_busy:
+                each.drop()
+
+    def close(self) -> None:
+        """Ends all connections."""
+        self._handle.cancel()
+        for each in list(self._connections):
+            each.drop()

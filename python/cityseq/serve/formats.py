@@ -1,0 +1,85 @@
+"""In which format a client gets an answer: by `f`, or by its header `Accept`."""
+from __future__ import annotations
+
+from dataclasses import dataclass
+from typing import Iterator, Optional, Sequence, Tuple
+
+from .problems import Problem
+
+
+@dataclass(frozen=True)
+class Format:
+    """A format: its value of `f`, its media type, and other media types that mean it."""
+
+    name: str
+    media_type: str
+    title: str
+    others: Tuple[str, ...] = ()
+
+    def fits(self, asked: str) -> int:
+        """Returns how well it fits a media type that a client accepts: 0 if not at all."""
+        if asked == "*/*":
+            return 1
+        if asked.endswith("/*"):
+            return 2 if self.media_type.startswith(asked[:-1]) else 0
+        return 3 if asked in (self.media_type, *self.others) else 0
+
+
+JSON = Format("json", "application/json", "JSON")
+HTML = Format("html", "text/html", "HTML", ("application/xhtml+xml",))
+GEOJSON = Format("geojson", "application/geo+json", "GeoJSON", ("application/json",
+                                                               "application/vnd.geo+json"))
+CITY_JSON = Format("city-json", "application/city+json", "CityJSON")
+CITY_JSON_SEQ = Format("city-json-seq", "application/city+json-seq", "CityJSONSeq",
+                       ("application/json-seq",))
+OPENAPI = Format("openapi", "application/vnd.oai.openapi+json;version=3.0", "OpenAPI 3.0",
+                 ("application/vnd.oai.openapi+json", "application/json"))
+ALIASES = {"json": GEOJSON, "cityjson": CITY_JSON, "cityjsonseq": CITY_JSON_SEQ}
+
+
+def _accepted(header: str) -> Iterator[Tuple[str, float]]:
+    """Yields the media types of a header `Accept`, and how much each is wanted."""
+    for item in header.split(","):
+        media_type, *parameters = (part.strip().lower() for part in item.split(";"))
+        share = 1.0
+        for name, _, value in (parameter.partition("=") for parameter in parameters):
+            if name.strip() == "q":
+                try:
+                    share = float(value)
+                except ValueError:
+                    share = 0.0
+        if media_type:
+            yield media_type, share
+
+
+def choose(formats: Sequence[Format], asked: Optional[str], accept: str) -> Format:
+    """Returns the format of an answer: the first one, if nothing else is wanted.
+
+    Args:
+        formats: Those that there are.
+        asked: The value of `f`, if it is there.
+        accept: The header `Accept`; it may be empty.
+
+    Raises:
+        Problem: None of them is wanted.
+    """
+    names = ", ".join(each.name for each in formats)
+    if asked is not None:
+        named = {each.name: each for each in formats}
+        found = named.get(asked) or ALIASES.get(asked)
+        if found not in formats or found is None:
+            raise Problem(400, f"f is one of {names}: {asked}")
+        return found
+    wanted = list(_accepted(accept))
+    if not wanted:
+        return formats[0]
+
+    def quality(each: Format) -> float:
+        fits = [(each.fits(media_type), share) for media_type, share in wanted]
+        best = max(fit for fit, _ in fits)
+        return max(share for fit, share in fits if fit == best) if best else 0
+
+    best = max(formats, key=quality)
+    if quality(best) <= 0:
+        raise Problem(406, f"there is none of the formats that are accepted: it is one of {names}")
+    return best

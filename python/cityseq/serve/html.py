@@ -1,0 +1,89 @@
+"""Pages for people, by templates that escape all texts."""
+from __future__ import annotations
+
+import os
+from typing import Any, Dict, List, Optional, Sequence, Tuple
+
+from .. import __version__
+from ..shown import shown
+from .answers import item_path
+from .pages import Found
+from .problems import Problem
+from .systems import Extent
+
+FOLDER = os.path.dirname(os.path.abspath(__file__))
+TYPES = {".css": "text/css", ".js": "text/javascript", ".svg": "image/svg+xml"}
+LONGEST = 80  # signs of an id in a list
+WIDTH, HEIGHT, MARGIN, LEAST = 640.0, 400.0, 10.0, 2.0  # of a map
+
+
+def brief(text: str) -> str:
+    """Returns a text from a stream as a page shows it: one line, of which the rest is left out if
+    it is long. Signs that are not printed are escaped, so that none turns the line."""
+    return shown(text if len(text) <= LONGEST else f"{text[:LONGEST]}\u2026")
+
+
+def number(value: Optional[float]) -> str:
+    """Returns a coordinate as a page shows it."""
+    return "" if value is None else f"{value:.3f}".rstrip("0").rstrip(".")
+
+
+def boxes(features: Sequence[Found]) -> List[Tuple[Found, Dict[str, str]]]:
+    """Returns the features that have an extent, with the rectangle of each on a map."""
+    placed = [(found, found.extent) for found in features if found.extent is not None]
+    if not placed:
+        return []
+    whole = _round([extent for _, extent in placed])
+    spans = max(whole[2] - whole[0], 1e-9), max(whole[3] - whole[1], 1e-9)
+    scale = min((WIDTH - 2 * MARGIN) / spans[0], (HEIGHT - 2 * MARGIN) / spans[1])
+    left, top = (WIDTH - spans[0] * scale) / 2, (HEIGHT - spans[1] * scale) / 2
+    found = []
+    for feature, (west, south, east, north) in placed:
+        sides = max((east - west) * scale, LEAST), max((north - south) * scale, LEAST)
+        at = left + (west - whole[0]) * scale, top + (whole[3] - north) * scale
+        names = ("x", "y", "width", "height")
+        found.append((feature, {name: f"{value:.1f}" for name, value in zip(names, at + sides)}))
+    return found
+
+
+def _round(extents: Sequence[Extent]) -> Extent:
+    west, south, east, north = zip(*extents)
+    return min(west), min(south), max(east), max(north)
+
+
+class Pages:
+    """The templates and the files that pages need, which are read once."""
+
+    def __init__(self) -> None:
+        import jinja2
+
+        loader = jinja2.FileSystemLoader(os.path.join(FOLDER, "templates"))
+        self._templates = jinja2.Environment(
+            loader=loader, autoescape=True, trim_blocks=True, lstrip_blocks=True,
+            undefined=jinja2.StrictUndefined,
+        )
+        self._templates.filters.update(brief=brief, number=number, boxes=boxes)
+        self._templates.globals.update(version=__version__, item_path=item_path,
+                                       width=f"{WIDTH:g}", height=f"{HEIGHT:g}")
+        self._static: Dict[str, Tuple[str, bytes]] = {}
+        folder = os.path.join(FOLDER, "static")
+        for name in sorted(os.listdir(folder)):
+            kind = TYPES.get(os.path.splitext(name)[1])
+            if kind is not None:
+                with open(os.path.join(folder, name), "rb") as file:
+                    self._static[name] = kind, file.read()
+
+    def render(self, name: str, **given: Any) -> str:
+        """Returns a page."""
+        return self._templates.get_template(name).render(**given)
+
+    def static(self, name: str) -> Tuple[str, bytes]:
+        """Returns the media type and the bytes of a file.
+
+        Raises:
+            Problem: There is none of this name.
+        """
+        try:
+            return self._static[name]
+        except KeyError:
+            raise Problem(404, "there is nothing at this path") from None

@@ -1,0 +1,208 @@
+"""Cuts of a collection: `items` and one of them."""
+from __future__ import annotations
+
+from decimal import ROUND_CEILING, ROUND_FLOOR, Decimal
+from typing import Any, Dict, List, Optional, Tuple
+
+from aiohttp import web
+
+from ..faults import RequestError
+from ..query import Work
+from ..world import plain
+from .answers import FeatureCollection, Sequence, dumped, geojson_feature, item_path, send_page
+from .calls import Calls
+from .catalogue import Collection
+from .cityjson import whole
+from .formats import CITY_JSON, CITY_JSON_SEQ, GEOJSON, HTML, Format, choose
+from .links import Link, Links, header_of
+from .pages import Block, Page
+from .problems import Problem
+from .queries import Query
+from .resources import ITEMS, path_of
+from .settings import Limits
+from .systems import may_be_degrees
+
+SELECTS = ("bbox", "bbox-crs", "datetime", "ids", "type", "lod")
+PARAMETERS = (*SELECTS, "crs", "limit", "after", "f")
+OF_ONE = ("f", "crs")
+ITEM = (GEOJSON, CITY_JSON, CITY_JSON_SEQ, HTML)
+USUAL_LIMIT = 10
+MOST_ON_A_PAGE = 1_000  # features as HTML
+STEP = Decimal("1e-9")  # to which a box that was moved is rounded outward
+
+
+def _box_text(query: Query, collection: Collection) -> Optional[str]:
+    """Returns the box that is asked for in the coordinates of the stream, if one is.
+
+    A box that cannot be longitudes and latitudes is taken as one of the stream's own, unless
+    `bbox-crs` is there.
+    """
+    box, uri = query.box(), query.text("bbox-crs")
+    system = collection.system
+    if box is None or (uri is None and not may_be_degrees(box)):
+        asked = system.storage if uri is None else system.asked(uri, "bbox-crs")
+    else:
+        asked = system.asked(uri, "bbox-crs")
+    if box is None:
+        return None
+    if asked == system.storage:
+        return ",".join(map(plain, box))
+    moved = system.stored(list(map(float, box)), asked)
+    ways = (ROUND_FLOOR, ROUND_FLOOR, ROUND_CEILING, ROUND_CEILING)
+    rounded = (Decimal(edge).quantize(STEP, way) for edge, way in zip(moved, ways))
+    return ",".join(map(plain, rounded))
+
+
+def _work(collection: Collection, box: Optional[str], query: Query) -> Work:
+    """Returns what a request selects."""
+    with collection.pool.index() as index:
+        return index.work(query.texts("ids"), query.texts("type"), query.texts("lod"), box)
+
+
+def _system(query: Query, collection: Collection, chosen: Format) -> Optional[str]:
+    """Returns the system of an answer.
+
+    Raises:
+        Problem: It is not to be had.
+    """
+    uri = query.text("crs")
+    if chosen == GEOJSON:
+        return collection.system.asked(uri, "crs")
+    storage = collection.system.storage
+    if uri is not None and (storage is None or collection.system.asked(uri, "crs") != storage):
+        raise Problem(400, f"crs: as {chosen.title} features have the coordinates of the stream")
+    return storage
+
+
+class Items:
+    """A request for a page of a collection."""
+
+    def __init__(self, collection: Collection, query: Query, limits: Limits, accept: str) -> None:
+        """Reads what is asked for.
+
+        Raises:
+            Problem: It cannot be asked for.
+        """
+        self.collection, self._query = collection, query
+        self.chosen = choose(ITEMS, query.text("f"), accept)
+        self.system = _system(query, collection, self.chosen)
+        self.has_limit = "limit" in query or self.chosen != CITY_JSON_SEQ
+        usual = USUAL_LIMIT if self.has_limit else limits.features
+        most = min(limits.features, MOST_ON_A_PAGE) if self.chosen == HTML else limits.features
+        self.limit = query.limit(most, usual)
+        self.after = query.number("after", 0, 1 << 53, 0)
+        query.check_time()
+        self._box = _box_text(query, collection)
+        self.selects = {name: query.text(name) for name in SELECTS if name in query}
+
+    def page(self) -> Page:
+        """Returns the page. A thread calls it.
+
+        Raises:
+            RequestError: A text of the query cannot be asked for.
+        """
+        work = _work(self.collection, self._box, self._query)
+        return Page(self.collection, work, self.after, self.limit)
+
+    def parameters(self, after: Optional[int], form: Format) -> Dict[str, Any]:
+        """Returns the parameters of a page behind a feature."""
+        return {**self.selects, "crs": self._query.text("crs"), "limit": self.limit,
+                "after": after or None, "f": form.name}
+
+    def following(self, links: Links, after: int) -> Link:
+        """Returns the link to the next page."""
+        return links.to(f"{path_of(self.collection)}/items", "next", "The next page",
+                        self.chosen.media_type, **self.parameters(after, self.chosen))
+
+    def own_links(self, links: Links) -> List[Link]:
+        """Returns the links to this page, to its other formats, and to the collection."""
+        path = path_of(self.collection)
+        found = links.formats(f"{path}/items", ITEMS, self.chosen,
+                              **self.parameters(self.after, self.chosen))
+        return [*found, links.to(path, "collection", "The collection", "application/json")]
+
+    def matched(self) -> Optional[int]:
+        """Returns how many features match, where that is known."""
+        selects = set(self.selects) - {"datetime", "bbox-crs"}
+        return None if selects else self.collection.stream.features
+
+    def head(self, page: Page, links: Links) -> Dict[str, str]:
+        """Returns the headers of the answer.
+
+        Raises:
+            Problem: All features are asked for, and they are too many.
+        """
+        if page.next is not None and not self.has_limit:
+            raise Problem(400, f"there are more than {self.limit:,} features: ask for less, or set"
+                               " limit and follow the links to the next pages")
+        head = {"Content-Type": self.chosen.media_type}
+        if self.system is not None:
+            head["Content-Crs"] = f"<{self.system}>"
+        if page.next is not None:
+            head["Link"] = header_of(self.following(links, page.next))
+        return head
+
+
+async def send_items(request: web.Request, calls: Calls, items: Items, links: Links
+                     ) -> web.StreamResponse:
+    """Sends a page as GeoJSON or as CityJSONSeq."""
+    form: Any = Sequence()
+    if items.chosen == GEOJSON:
+        form = FeatureCollection(items.collection.system, items.system, items.own_links(links),
+                                 lambda after: items.following(links, after), items.matched())
+    return await send_page(request, calls, items.page, form, lambda page: items.head(page, links))
+
+
+def listed(page: Page) -> Tuple[List[Any], Optional[int]]:
+    """Returns the features of a page, and behind which the next one begins. A thread calls it."""
+    found: List[Any] = []
+    try:
+        block = page.block()
+        while block is not None:
+            found += block.features()
+            block = page.block()
+    finally:
+        page.close()
+    return found, page.next
+
+
+def find(collection: Collection, name: str) -> Tuple[bytes, Block]:
+    """Returns the header of a stream, and the first feature that has an id. A thread calls it.
+
+    Raises:
+        Problem: None has it.
+    """
+    try:
+        with collection.pool.index() as index:
+            work = index.work(ids=[name])
+    except RequestError:
+        raise Problem(404, f"no feature has the id {name}") from None
+    page = Page(collection, work, 0, 1)
+    try:
+        block = page.block()
+        if block is None:
+            raise Problem(404, f"no feature has the id {name}")
+        return page.header, block
+    finally:
+        page.close()
+
+
+def item_answer(collection: Collection, query: Query, chosen: Format, links: Links,
+                found: Tuple[bytes, Block]) -> web.Response:
+    """Returns the answer that has one feature."""
+    header, block = found
+    system = _system(query, collection, chosen)
+    head = {"Content-Type": chosen.media_type}
+    if system is not None:
+        head["Content-Crs"] = f"<{system}>"
+    if chosen == CITY_JSON_SEQ:
+        return web.Response(body=header + block.lines(), headers=head)
+    if chosen == CITY_JSON:
+        return web.Response(body=whole(header, block.lines()), headers=head)
+    feature = next(block.features())
+    told = geojson_feature(feature, collection.system, system)
+    path = item_path(collection, feature.id)
+    told["links"] = [] if path is None else links.formats(path, ITEM, chosen)
+    told["links"].append(links.to(path_of(collection), "collection", "The collection",
+                                  "application/json"))
+    return web.Response(body=dumped(told) + b"\n", headers=head)

@@ -1,0 +1,223 @@
+"""Streams that come piece by piece, as the body of a request does: what has come is unpacked, cut
+and judged, and is not kept."""
+from __future__ import annotations
+
+from collections import Counter
+from functools import partial
+from typing import Any, Iterable, Iterator, List, Optional
+
+from .._library import Text
+from ..hints import HEAD
+from ..packed import Gzip, Packing
+from ..parts import Answer
+from ..places import SMALL, given, judge_read
+from ..query import Work
+from ..reports import Report
+from ..running import Result, Stream, Task
+from .problems import Problem
+
+UNPACKED = 1 << 19  # bytes that are unpacked at once
+BODY = "-"  # what a body is called in reports
+
+
+class Unpacking:
+    """Unpacks a body that comes piece by piece, where it is packed by gzip."""
+
+    def __init__(self, is_packed: Optional[bool], limit: int) -> None:
+        """Takes whether it is packed, None if its first bytes tell, and how long it may be."""
+        self._is_packed, self._limit = is_packed, limit
+        self._kind = Gzip()
+        self._member: Any = None
+        self._begin = b""  # of the body, as long as it does not tell
+        self._length = 0
+
+    def feed(self, piece: bytes) -> Iterator[bytes]:
+        """Yields what is in the next piece.
+
+        Raises:
+            Problem: It is broken, or too long.
+        """
+        if self._is_packed is None:
+            piece, self._begin = self._begin + piece, b""
+            if piece == Packing.GZIP.mark[: len(piece)] and len(piece) < len(Packing.GZIP.mark):
+                self._begin = piece
+                return
+            if piece.startswith(Packing.ZSTD.mark):
+                raise Problem(415, "the body is packed by Zstandard: send it unpacked, or by gzip")
+            self._is_packed = piece.startswith(Packing.GZIP.mark)
+        for text in self._members(piece) if self._is_packed else (piece,):
+            self._length += len(text)
+            if self._length > self._limit:
+                raise too_long(self._limit)
+            yield text
+
+    def _members(self, packed: bytes) -> Iterator[bytes]:
+        while packed:
+            if self._member is None:
+                self._member = self._kind.member()
+            try:
+                text = self._kind.more(self._member, packed, UNPACKED)
+            except self._kind.faults as fault:
+                raise Problem(400, f"the body is no archive of gzip: {fault}") from None
+            if self._member.eof:
+                packed, self._member = self._member.unused_data.lstrip(b"\0"), None
+            else:
+                packed = self._member.unconsumed_tail
+            if text:
+                yield text
+
+    def end(self) -> bytes:
+        """Returns what is left.
+
+        Raises:
+            Problem: The archive is cut short.
+        """
+        if self._member is not None:
+            raise Problem(400, "the body is a gzip archive that is cut short")
+        return self._begin
+
+
+def too_long(limit: int) -> Problem:
+    """Returns the problem of a body that is too long."""
+    return Problem(413, f"a body has at most {limit:,} bytes, also after it is unpacked")
+
+
+class Fed(Stream):
+    """A stream that is fed. One thread after another may do so.
+
+    What comes is cut into parts, which any threads judge. Their answers are taken in order.
+
+    Attributes:
+        reports: The first reports, as many as are kept.
+        codes: How often each reason came.
+    """
+
+    def __init__(
+        self, work: Work, unpacking: Unpacking, most_reports: int, counts_codes: bool
+    ) -> None:
+        """Takes what is asked for, what unpacks the pieces, how many reports are kept, and whether
+        the reasons of all others are counted too."""
+        super().__init__(BODY, work, tell=self._keep)
+        self._unpacking, self._most_reports = unpacking, most_reports
+        self._counts_codes = counts_codes
+        self._rest = bytearray()
+        self._seen = 0  # bytes of the rest that have no LF
+        self._line: Optional[bytes] = None  # the first one, once it is whole
+        self._is_first = self._is_open = True
+        self._too_long: Optional[bytearray] = None  # the begin of a line whose end is looked for
+        self.reports: List[Report] = []
+        self.codes: "Counter[int]" = Counter()
+
+    def _keep(self, report: Report) -> None:
+        self.codes[report.code] += 1
+        if len(self.reports) < self._most_reports:
+            self.reports.append(report)
+
+    @property
+    def has_header(self) -> bool:
+        """Whether the first line is known to be valid."""
+        return self._joined.parts > 0 and not self.ended
+
+    def cut(self, pieces: Iterable[bytes]) -> List[Task]:
+        """Returns what judges the parts that have come with some pieces.
+
+        Raises:
+            Problem: The body is broken, or too long.
+        """
+        tasks: List[Task] = []
+        for piece in pieces:
+            for text in self._unpacking.feed(piece):
+                if self._is_open and not self.ended:
+                    self._rest += text
+                    tasks += self._parts_of_rest()
+        return tasks
+
+    def end(self) -> List[Task]:
+        """Returns what judges what is left.
+
+        Raises:
+            Problem: The body is cut short.
+        """
+        self._rest += self._unpacking.end()
+        if self.ended or not self._is_open:
+            return []
+        if self._line is None:
+            self._begin(bytes(self._rest), bytearray())
+        if self._too_long is not None:
+            self._rest, self._too_long = self._too_long, None
+        return [self._part(self._rest)] if self._rest or self._is_first else []
+
+    def take(self, answer: Answer) -> Text:
+        """Joins the answer of the next part, and returns what is kept of it."""
+        if self.ended:
+            return b""
+        if len(self.reports) >= self._most_reports and not self._counts_codes:
+            answer.reports = ()  # each takes time to describe, and there may be millions
+        self.add(answer)
+        return answer.output
+
+    def _begin(self, line: bytes, rest: bytearray) -> None:
+        self._line, self._rest = line, rest
+        self.heads(line, bytes(rest[:HEAD]))
+
+    def _parts_of_rest(self) -> Iterator[Task]:
+        """Yields what judges the whole lines that are there, if they are enough."""
+        limit = self.work.line_limit
+        if self._line is None:
+            end = self._rest.find(b"\n", self._seen, limit + 1) + 1
+            if not end and len(self._rest) <= limit:
+                self._seen = len(self._rest)
+                return
+            line, rest = self._rest[: end or limit + 1], self._rest[end:] if end else bytearray()
+            self._begin(bytes(line), rest)
+            self._seen = 0
+            if not end:
+                self._is_open = False
+                yield self._part(rest)  # the first line is too long
+                return
+        if self._too_long is not None and not self._find_end():
+            return
+        if len(self._rest) >= self._part_size(SMALL, self._line or b""):
+            yield from self._lines_of_rest()
+
+    def _lines_of_rest(self) -> Iterator[Task]:
+        end = self._rest.rfind(b"\n", self._seen) + 1
+        if end:
+            part, self._rest = self._rest, self._rest[end:]
+            del part[end:]
+            yield self._part(part)
+        self._seen = len(self._rest)
+        if len(self._rest) > self.work.line_limit:
+            part, self._rest, self._seen = self._rest[: self.work.line_limit + 1], bytearray(), 0
+            if self.work.keep_going:
+                self._too_long = part
+            else:
+                self._is_open = False
+                yield self._part(part)
+
+    def _find_end(self) -> bool:
+        """Looks for the end of a line that is too long. Whether it is there."""
+        end = self._rest.find(b"\n") + 1
+        if not end or self._too_long is None:
+            self._rest.clear()
+            return False
+        self._rest = self._too_long + b"\n" + self._rest[end:]
+        self._too_long, self._seen = None, 0
+        return True
+
+    def _part(self, part: bytearray) -> Task:
+        is_first, self._is_first = self._is_first, False
+        return partial(
+            judge_read, self.work, self.file, self._line or b"", partial(given, part), is_first
+        )
+
+    def result(self) -> Result:
+        """Returns what came of the stream.
+
+        Raises:
+            CityseqError: There was no memory for it.
+        """
+        result = self.finish()
+        if result.raises is not None:
+            raise result.raises
+        return result

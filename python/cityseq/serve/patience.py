@@ -1,0 +1,57 @@
+"""How long a request may take, and how long its client may be silent."""
+from __future__ import annotations
+
+import asyncio
+from contextlib import contextmanager
+from typing import Any, Iterator, Optional
+
+from .problems import Problem
+from .settings import Limits
+
+
+class Patience:
+    """Ends the task of a request that takes too long.
+
+    Attributes:
+        problem: What the client is told, once the task was ended so.
+    """
+
+    def __init__(self, limits: Limits) -> None:
+        """Begins to watch the task that calls it."""
+        self._limits, self._loop = limits, asyncio.get_running_loop()
+        self._task: Any = asyncio.current_task()
+        self._begin = self._loop.time()
+        self._since: Optional[float] = None  # which it waits for the client
+        self.problem: Optional[Problem] = None
+        self._handle = self._loop.call_later(min(limits.idle, limits.seconds), self._look)
+
+    @contextmanager
+    def waiting(self) -> Iterator[None]:
+        """Notes that the task waits for the client."""
+        self._since = self._loop.time()
+        try:
+            yield
+        finally:
+            self._since = None
+
+    def close(self) -> None:
+        """Ends the watch."""
+        self._handle.cancel()
+
+    def end(self, problem: Problem) -> None:
+        """Ends the task."""
+        if self.problem is None and not self._task.done():
+            self.problem = problem
+            self._task.cancel()
+
+    def _look(self) -> None:
+        limits, now = self._limits, self._loop.time()
+        if now - self._begin >= limits.seconds:
+            self.end(Problem(503, f"the request took longer than {limits.seconds:g} seconds"))
+            return
+        if self._since is not None and now - self._since >= limits.idle:
+            self.end(Problem(408, f"nothing came for {limits.idle:g} seconds"))
+            return
+        silent = now if self._since is None else self._since
+        due = min(silent + limits.idle, self._begin + limits.seconds)
+        self._handle = self._loop.call_at(due, self._look)

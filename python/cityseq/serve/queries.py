@@ -1,0 +1,124 @@
+"""What stands behind the `?` of a request, read strictly: each parameter is known, and is there
+once."""
+from __future__ import annotations
+
+import re
+from decimal import Decimal
+from typing import Dict, List, Optional, Tuple
+from urllib.parse import unquote_to_bytes
+
+from ..words import whole_number
+from .problems import Problem
+
+NUMBER = re.compile(r"[-+]?(?:\d+\.?\d*|\.\d+)(?:[eE][-+]?\d+)?\Z", re.ASCII)
+LONGEST_NUMBER = 100
+DATE_TIME = re.compile(r"\d{4}-\d\d-\d\d(?:T\d\d:\d\d:\d\d(?:\.\d+)?(?:Z|[-+]\d\d:\d\d))?\Z",
+                       re.ASCII)
+FLAGS = {"": True, "true": True, "1": True, "false": False, "0": False}
+Box = Tuple[Decimal, Decimal, Decimal, Decimal]
+
+
+def unescaped(text: str) -> str:
+    """Returns a text of a URL without its escapes.
+
+    Raises:
+        Problem: It is not UTF-8.
+    """
+    try:
+        return unquote_to_bytes(text).decode("utf-8")
+    except UnicodeError:
+        raise Problem(400, f"what is escaped is not UTF-8: {text}") from None
+
+
+class Query:
+    """The parameters of a request."""
+
+    def __init__(self, raw: str, known: Tuple[str, ...]) -> None:
+        """Takes what stands behind the `?`, and the names that may be there.
+
+        Raises:
+            Problem: A parameter is not known, or is there twice.
+        """
+        self._raw: Dict[str, str] = {}
+        for pair in filter(None, raw.split("&")):
+            name, _, value = pair.replace("+", " ").partition("=")
+            name = unescaped(name)
+            if name not in known:
+                raise Problem(400, f"there is no parameter {name}: it is one of {', '.join(known)}")
+            if name in self._raw:
+                raise Problem(400, f"the parameter {name} is given twice")
+            self._raw[name] = value
+
+    def __contains__(self, name: str) -> bool:
+        return name in self._raw
+
+    def text(self, name: str) -> Optional[str]:
+        """Returns the text of a parameter, if it is there."""
+        raw = self._raw.get(name)
+        return None if raw is None else unescaped(raw)
+
+    def texts(self, name: str) -> Optional[List[str]]:
+        """Returns the texts of a parameter with commas between them. An escaped comma is part of
+        a text."""
+        raw = self._raw.get(name)
+        return None if raw is None else [unescaped(each) for each in raw.split(",")]
+
+    def flag(self, name: str) -> bool:
+        """Returns whether a parameter is `true`, or is there without a value."""
+        text = self.text(name)
+        if text is None:
+            return False
+        if text not in FLAGS:
+            raise Problem(400, f"{name} is true or false: {text}")
+        return FLAGS[text]
+
+    def number(self, name: str, least: int, greatest: int, usual: int) -> int:
+        """Returns the whole number of a parameter, or the usual one."""
+        text = self.text(name)
+        if text is None:
+            return usual
+        try:
+            return whole_number(least, greatest)(text)
+        except ValueError:
+            raise Problem(
+                400, f"{name} is a whole number from {least} to {greatest}: {text}"
+            ) from None
+
+    def limit(self, most: int, usual: int) -> int:
+        """Returns how many features are asked for: at most so many, also where more are."""
+        return min(self.number("limit", 1, 1 << 53, usual), most)
+
+    def box(self) -> Optional[Box]:
+        """Returns the box that is asked for, if one is."""
+        text = self.text("bbox")
+        if text is None:
+            return None
+        edges = text.split(",")
+        if len(edges) != 4:
+            raise Problem(400, f"bbox has four numbers, minx,miny,maxx,maxy: {text}")
+        numbers = [_number(edge.strip(), text) for edge in edges]
+        if numbers[0] > numbers[2] or numbers[1] > numbers[3]:
+            raise Problem(400, f"bbox is minx,miny,maxx,maxy, and the box is empty: {text}")
+        return numbers[0], numbers[1], numbers[2], numbers[3]
+
+    def check_time(self) -> None:
+        """Looks whether `datetime` is a time or an interval. No feature has a time, so that it
+        selects all."""
+        text = self.text("datetime")
+        if text is None:
+            return
+        parts = text.split("/")
+        is_open = len(parts) == 2
+        if len(parts) > 2 or not all(
+            DATE_TIME.match(part) or (is_open and part in ("", "..")) for part in parts
+        ):
+            raise Problem(400, f"datetime is a time as of RFC 3339, or two with / between: {text}")
+
+
+def _number(text: str, whole: str) -> Decimal:
+    if len(text) > LONGEST_NUMBER or not NUMBER.match(text):
+        raise Problem(400, f"bbox has four numbers, minx,miny,maxx,maxy: {whole}")
+    number = Decimal(text)
+    if abs(number.adjusted()) > LONGEST_NUMBER and number != 0:
+        raise Problem(400, f"a number of bbox is out of range: {whole}")
+    return number

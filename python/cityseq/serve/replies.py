@@ -1,0 +1,68 @@
+"""Answers that are given again: for a second, to a request that is the same byte for byte.
+
+Many clients ask for the same box of a map at the same time. What they get depends on the bytes of
+the request, on the streams and on nothing else, and whether a stream changed is looked for at most
+once a second anyway."""
+from __future__ import annotations
+
+from typing import Any, Dict, NamedTuple, Optional
+
+from aiohttp import web
+
+SECONDS = 1.0  # that an answer is given again
+MOST_BYTES = 16 << 20  # of all answers that are kept
+END = b"\r\n\r\n"
+
+
+class Reply(NamedTuple):
+    """An answer: its bytes, what the log says of it, and when it was made."""
+
+    text: bytes
+    logged: str
+    time: float
+
+
+def is_whole(data: bytes) -> bool:
+    """Returns whether some bytes are one request without a body."""
+    is_get = data.startswith(b"GET ") and data.find(END) == len(data) - len(END)
+    return is_get and b" HTTP/1.1\r\n" in data
+
+
+def text_of(response: web.StreamResponse) -> Optional[bytes]:
+    """Returns the bytes of an answer; None of one that is not given again."""
+    if not isinstance(response, web.Response) or response.status != 200 or not response.keep_alive:
+        return None
+    body = response.body
+    if not isinstance(body, bytes) or "Content-Length" not in response.headers:
+        return None
+    lines = [f"HTTP/1.1 200 {response.reason}"]
+    lines += [f"{name}: {value}" for name, value in response.headers.items()]
+    return "\r\n".join(lines).encode("utf-8") + END + body
+
+
+class Replies:
+    """The answers of the last second."""
+
+    def __init__(self) -> None:
+        self._replies: Dict[bytes, Reply] = {}  # the oldest first
+        self._size = 0
+
+    def find(self, request: bytes, now: float) -> Optional[Reply]:
+        """Returns the answer to a request that was answered within the last second."""
+        reply = self._replies.get(request)
+        return reply if reply is not None and now - reply.time < SECONDS else None
+
+    def keep(self, request: bytes, reply: Reply) -> None:
+        """Keeps an answer, and drops old ones."""
+        self._drop(request)
+        self._replies[request] = reply
+        self._size += len(request) + len(reply.text)
+        for each, old in list(self._replies.items()):
+            if reply.time - old.time < SECONDS and self._size <= MOST_BYTES:
+                break
+            self._drop(each)
+
+    def _drop(self, request: bytes) -> None:
+        reply: Any = self._replies.pop(request, None)
+        if reply is not None:
+            self._size -= len(request) + len(reply.text)

@@ -1,0 +1,96 @@
+"""How a server is set: where it listens, and what it refuses to do."""
+from __future__ import annotations
+
+from dataclasses import dataclass, field
+from typing import Any, Optional, Tuple
+from urllib.parse import urlsplit
+
+from .._library import USUAL_DEPTH, USUAL_LINE
+from ..faults import RequestError
+from ..words import BODY, FEATURES, IDLE, REQUESTS, SECONDS, STOP
+
+CONNECTIONS = 1_000
+REPORTS, MOST_REPORTS = 1_000, 10_000  # in an answer: where nothing is asked, and at most
+LOOPBACK = ("127.0.0.1", "::1", "localhost")
+
+
+@dataclass(frozen=True)
+class Limits:
+    """What a server does at most.
+
+    Attributes:
+        requests: Requests that it answers at once.
+        connections: Connections that are open. With one more it closes the one that is idle for
+            the longest time.
+        body: Bytes of a body, as it comes and after it is unpacked.
+        seconds: Seconds for a request in all.
+        idle: Seconds that it waits for the next byte of a client.
+        stop: Seconds that open answers have to end when it stops.
+        features: Features in an answer.
+        line_limit: Bytes of a line that a request may ask for.
+        depth: Arrays and objects open at once that a request may ask for.
+    """
+
+    requests: int = REQUESTS
+    connections: int = CONNECTIONS
+    body: int = BODY
+    seconds: float = SECONDS
+    idle: float = IDLE
+    stop: float = STOP
+    features: int = FEATURES
+    line_limit: int = USUAL_LINE
+    depth: int = USUAL_DEPTH
+
+
+@dataclass(frozen=True)
+class Settings:
+    """How a server is set.
+
+    Attributes:
+        indexes: The paths of the indexes whose streams it serves.
+        base: The URL that the streams are below. None if they are files.
+        url: The URL that clients know the server by. None if it is what they ask.
+        names: Host names that it answers to, beside that of `url` and addresses.
+        cors: The origin whose pages may read the answers; `*` for any, None for none.
+        jobs: How many threads judge and cut. None is one for each processor.
+        limits: What it does at most.
+    """
+
+    indexes: Tuple[str, ...] = ()
+    base: Optional[str] = None
+    url: Optional[str] = None
+    names: Tuple[str, ...] = ()
+    cors: Optional[str] = None
+    jobs: Optional[int] = None
+    limits: Limits = field(default_factory=Limits)
+
+    def __post_init__(self) -> None:
+        if self.url is not None:
+            _check_url(self.url)
+        if self.cors is not None and self.cors != "*":
+            _check_origin(self.cors)
+
+
+def _parts(url: str, what: str) -> Any:
+    """Returns the parts of an http or https URL. Raises `RequestError` if it is none."""
+    try:
+        parts = urlsplit(url)
+        port = parts.port
+    except ValueError as fault:
+        raise RequestError(f"{what}: {fault}: {url}") from fault
+    is_plain = url.isascii() and url.isprintable() and " " not in url
+    if parts.scheme not in ("http", "https") or not parts.hostname or not is_plain or port == 0:
+        raise RequestError(f"{what} begins with http:// or https:// and a name: {url}")
+    return parts
+
+
+def _check_url(url: str) -> None:
+    parts = _parts(url, "the URL of the server")
+    if parts.query or parts.fragment or parts.username is not None:
+        raise RequestError(f"the URL of the server is a scheme, a name and a path: {url}")
+
+
+def _check_origin(origin: str) -> None:
+    parts = _parts(origin, "an origin")
+    if origin != f"{parts.scheme}://{parts.netloc}" or parts.username is not None:
+        raise RequestError(f"an origin is a scheme and a name, without a path: {origin}")

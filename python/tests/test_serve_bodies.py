@@ -1,0 +1,153 @@
+"""The server: verdicts on bodies, which come in any pieces."""
+import gzip
+import io
+import json
+import os
+import random
+import re
+import socket
+import tempfile
+import unittest
+from unittest import mock
+
+from . import support
+from .serving import EXAMPLES, MISSING, Served
+from .support import HEADER, command, feature
+
+import cityseq
+from cityseq.query import asked
+
+if not MISSING:
+    from cityseq.serve.judging import Fed, Unpacking
+
+
+@unittest.skipIf(MISSING, MISSING)
+class Verdicts(Served):
+    def wanted(self, path, *words):
+        output, _, _ = command("check", "--json", *words, str(path))
+        lines = [json.loads(line) for line in output.splitlines()]
+        return [{**line, "file": "-"} if "file" in line else line for line in lines]
+
+    def test_check_answers_as_the_command_does(self):
+        for name in ("sample", "town", "broken", "delivery"):
+            path = EXAMPLES / f"{name}.city.jsonl"
+            text = path.read_bytes()
+            for query, words in (("", ()), ("?keep_going", ("--keep-going",)), ("?tree=true&depth=20", ("--tree", "--depth", "20")),
+                                 ("?keep_going=true&summary=true", ("--keep-going", "--summary"))):
+                answer = self.server.ask(f"/check{query}", "POST", text)
+                self.assertEqual(answer.status, 200, answer.body)
+                self.assertEqual(answer.lines(), self.wanted(path, *words), (name, query))
+
+    def test_plain_packed_and_in_chunks(self):
+        text = (EXAMPLES / "delivery.city.jsonl").read_bytes()
+        wanted = self.wanted(EXAMPLES / "delivery.city.jsonl")
+        packed, halves = gzip.compress(text), gzip.compress(text[:99]) + gzip.compress(text[99:])
+        for body, headers in ((text, {}), (packed, {}), (packed, {"Content-Encoding": "gzip"}), (halves, {}),
+                              (iter([text[:9], text[9:500], text[500:]]), {"Transfer-Encoding": "chunked"}),
+                              (iter([packed[:1], packed[1:]]), {"Transfer-Encoding": "chunked"})):
+            told = self.server.ask("/check", "POST", body, **headers).lines()
+            size = told[-1].pop("size")
+            self.assertEqual(told[-1], {name: value for name, value in wanted[-1].items() if name != "size"})
+            self.assertIn(size, (len(text), len(packed), len(halves)))
+
+    def test_reports_are_bounded(self):
+        text = HEADER + b"{}\n" * 3_000
+        told = self.server.ask("/check?keep_going=true&max_reports=7", "POST", text).lines()
+        self.assertEqual((len(told), told[-1]["refused"]), (8, 3_000))
+
+    def test_streams_by_chance_in_pieces_by_chance(self):
+        for seed in range(250):
+            text, chance = support.stream_by_chance(seed), random.Random(-seed)
+            options = dict(keep_going=chance.random() < 0.6, line_limit=chance.choice((400, 600, 1 << 20)))
+            result = io.BytesIO()
+            try:
+                wanted = cityseq.filter(io.BytesIO(text), result, jobs=1, **options)
+            except cityseq.InvalidStream as fault:
+                wanted = fault.result
+            body = gzip.compress(text) if seed % 3 == 0 else text
+            with mock.patch("cityseq.serve.judging.SMALL", chance.choice((1, 300, 1 << 19))):
+                fed = Fed(asked("filter", **options), Unpacking(None, 1 << 30), 1_000, False)
+                kept = b""
+                while body:
+                    pieces = [body[:size] for size in [chance.randrange(1, 900)]]
+                    body = body[len(pieces[0]):]
+                    # parts that are judged late, and none of them in order
+                    answers = [task() for task in reversed(fed.cut(pieces))][::-1]
+                    kept += b"".join(bytes(fed.take(answer)) for answer in answers)
+                kept += b"".join(bytes(fed.take(task())) for task in fed.end())
+            told = fed.result()
+            self.assertEqual(kept, result.getvalue(), seed)
+            self.assertEqual((told.status, told.lines, told.features, told.refused),
+                             (wanted.status, wanted.lines, wanted.features, wanted.refused), seed)
+            self.assertEqual([(each.line, each.byte, each.code) for each in fed.reports],
+                             [(each.line, each.byte, each.code) for each in wanted.reports], seed)
+
+    def test_filter_writes_what_the_command_writes(self):
+        for name, query, words in (("town", "type=Road", ("--type", "Road")), ("sample", "lod=2.2&exclude", ("--lod", "2.2", "--exclude")),
+                                   ("town", "bbox=1001,2001,1005,2005", ("--bbox", "1001,2001,1005,2005"))):
+            text = (self.folder / f"{name}.city.jsonl").read_bytes()
+            answer = self.server.ask(f"/filter?{query}", "POST", text)
+            self.assertEqual((answer.status, answer.headers["Content-Type"]), (200, "application/city+json-seq"))
+            self.assertEqual(answer.body, self.filtered(name, *words))
+
+    def raw(self, path, text):
+        with socket.create_connection((self.server.host, self.server.port), 30) as connection:
+            connection.sendall(b"POST %b HTTP/1.1\r\nHost: localhost\r\nConnection: close\r\nContent-Length: %d\r\n\r\n"
+                               % (path.encode(), len(text)) + text)
+            found = b""
+            try:
+                while True:
+                    piece = connection.recv(1 << 16)
+                    if not piece:
+                        break
+                    found += piece
+            except ConnectionError:
+                pass
+        return found
+
+    def test_the_verdict_is_a_trailer(self):
+        text = (EXAMPLES / "delivery.city.jsonl").read_bytes()
+        answer = self.raw("/filter?keep_going=true", text)
+        self.assertIn(b"\r\nTrailer: Cityseq-Result\r\n", answer)
+        trailer = re.search(rb"\r\n0\r\nCityseq-Result: ([^\r\n]*)\r\n\r\n\Z", answer)
+        told = json.loads(trailer.group(1))
+        self.assertEqual((told["kind"], told["verdict"], told["features"], told["refused"]), ("result", "invalid", 3, 5))
+
+    def test_the_verdict_is_the_last_line(self):
+        text = (EXAMPLES / "delivery.city.jsonl").read_bytes()
+        answer = self.server.ask("/filter?keep_going=true&verdict=last", "POST", text)
+        self.assertEqual(answer.headers["Content-Type"], "application/x-ndjson")
+        *_, last = answer.lines()
+        self.assertEqual((last["kind"], last["verdict"]), ("result", "invalid"))
+        kept = b"".join(line for line in answer.body.splitlines(True) if not line.startswith(b'{"kind"'))
+        output, _, _ = command("filter", "--keep-going", str(EXAMPLES / "delivery.city.jsonl"))
+        self.assertEqual(kept, output)
+
+    def test_an_invalid_stream_is_broken_off(self):
+        text = HEADER + feature("b") * 40_000 + b"{}\n" + feature("b") * 4_000
+        answer = self.raw("/filter", text)
+        self.assertTrue(answer.startswith(b"HTTP/1.1 200"))
+        self.assertNotRegex(answer, rb"\r\n0\r\n")
+
+    def test_an_invalid_stream_that_is_short_is_answered(self):
+        answer = self.server.ask("/filter", "POST", HEADER + feature("b") + b"{}\n")
+        self.assertEqual(answer.status, 422)
+        report, result = answer.lines()
+        self.assertEqual((report["line"], result["verdict"], result["ended_at"]), (3, "invalid", 3))
+
+    def test_an_invalid_header_is_answered(self):
+        answer = self.server.ask("/filter", "POST", b"[]\n")
+        self.assertEqual((answer.status, answer.lines()[-1]["verdict"]), (422, "invalid"))
+
+    def test_a_client_that_waits_to_go_on(self):
+        with socket.create_connection((self.server.host, self.server.port), 30) as connection:
+            connection.sendall(b"POST /check HTTP/1.1\r\nHost: localhost\r\nExpect: 100-continue\r\nConnection: close\r\n"
+                               b"Content-Length: %d\r\n\r\n" % len(HEADER))
+            self.assertTrue(connection.recv(100).startswith(b"HTTP/1.1 100 "))
+            connection.sendall(HEADER)
+            self.assertIn(b'"verdict": "valid"', b"".join(iter(lambda: connection.recv(4096), b"")))
+
+    def test_bodies_leave_no_file(self):
+        before = set(os.listdir(tempfile.gettempdir()))
+        self.server.ask("/check", "POST", HEADER + feature("b") * 50_000)
+        self.assertFalse({name for name in set(os.listdir(tempfile.gettempdir())) - before if "cityseq" in name})

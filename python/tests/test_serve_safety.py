@@ -1,0 +1,306 @@
+"""The server: what it refuses, how it ends, and its parts one by one."""
+import asyncio
+import json
+import os
+import pathlib
+import re
+import shutil
+import signal
+import socket
+import subprocess
+import sys
+import threading
+import time
+import unittest
+from contextlib import contextmanager
+from http.server import ThreadingHTTPServer
+from unittest import mock
+
+from .serving import MISSING, RD, Served, Serving
+from .support import HEADER, ROOT, command, feature
+from .test_web import NGINX, Handler
+
+import cityseq.serve
+
+if not MISSING:
+    import aiohttp.web
+    from cityseq.serve.cityjson import whole
+    from cityseq.serve.formats import CITY_JSON_SEQ, GEOJSON, HTML, choose
+    from cityseq.serve.links import is_known
+    from cityseq.serve.logs import _quoted
+    from cityseq.serve.problems import Problem
+    from cityseq.serve.queries import Query
+    from cityseq.serve.replies import Replies, Reply
+    from cityseq.serve.settings import Limits, Settings
+    from cityseq.serve.systems import System
+
+
+def free_port():
+    with socket.socket() as found:
+        found.bind(("127.0.0.1", 0))
+        return found.getsockname()[1]
+
+
+@contextmanager
+def web_server(folder):
+    """A web server of the files of a folder, by ranges: its URL, and the server itself."""
+    web = ThreadingHTTPServer(("127.0.0.1", 0), Handler)
+    web.mode, web.folder, web.ranges = "", str(folder), []
+    web.handle_error = lambda *_: None  # a client may go away
+    thread = threading.Thread(target=web.serve_forever, args=(0.01,))
+    thread.start()
+    try:
+        yield f"http://127.0.0.1:{web.server_address[1]}", web
+    finally:
+        web.shutdown()
+        thread.join()
+        web.server_close()
+
+
+@unittest.skipIf(MISSING, MISSING)
+class Safety(Served):
+    def test_hosts(self):
+        for host, wanted in (("localhost:8080", True), ("127.0.0.1", True), ("[::1]:80", True), ("10.1.2.3:9", True),
+                             ("a.localhost", True), ("evil.example", False), ("", False), ("localhost.evil.example", False),
+                             ("user@localhost", False), ("localhost/x", False), ("localhost:x", False), ("[::1", False)):
+            self.assertEqual(is_known(host, Settings()), wanted, host)
+        settings = Settings(url="https://city.example.org/cities", names=("models.example",))
+        self.assertTrue(is_known("city.example.org", settings) and is_known("models.example:80", settings))
+        self.assertEqual(self.server.ask("/", Host="evil.example").status, 421)
+
+    def test_links_begin_with_the_url_that_is_set(self):
+        with Serving("--url", "https://city.example.org/cities/", self.folder / "all.gpkg") as far:
+            told = far.ask("/collections", Host="city.example.org").json()
+            for link in told["links"] + [link for each in told["collections"] for link in each["links"]]:
+                self.assertTrue(link["href"].startswith("https://city.example.org/cities/collections"), link)
+
+    def test_settings_are_checked(self):
+        for words in (("--url", "ftp://x"), ("--url", "https://x/?a=b"), ("--cors", "https://x/y"), ("--cors", "x"),
+                      ("--port", "65536"), ("--max-requests", "0"), ("--base", "x", str(self.folder / "all.gpkg"))):
+            _, said, status = command("serve", *words)
+            self.assertEqual(status, 2, (words, said))
+        for words in ((str(self.folder / "none.gpkg"),), (str(self.folder / "town.city.jsonl"),), ("--host", "192.0.2.1")):
+            _, said, status = command("serve", "--port", "0", *words)
+            self.assertEqual((status, said.count("\n")), (3, 1), said)
+
+    def test_pages_elsewhere(self):
+        self.assertEqual(self.server.ask("/check", "POST", HEADER, Origin="https://evil.example").status, 403)
+        self.assertEqual(self.server.ask("/check", "POST", HEADER, Origin=f"http://{self.server.host}:{self.server.port}").status, 200)
+        self.assertEqual(self.server.ask("/check", "OPTIONS").status, 405)
+        with Serving("--cors", "https://maps.example", self.folder / "all.gpkg") as open_server:
+            answer = open_server.ask("/", Origin="https://maps.example")
+            self.assertEqual(answer.headers["Access-Control-Allow-Origin"], "https://maps.example")
+            self.assertEqual(open_server.ask("/check", "OPTIONS").status, 204)
+            self.assertEqual(open_server.ask("/check", "POST", HEADER, Origin="https://maps.example").status, 200)
+            self.assertEqual(open_server.ask("/check", "POST", HEADER, Origin="https://evil.example").status, 403)
+
+    def test_log_lines(self):
+        self.server.ask('/collections/x%0ay"\\?a', User_Agent="x\"\\y\x1b[31m")
+        wanted = re.compile(r'[0-9a-f.:]+ - - \[\d\d/[A-Z][a-z]{2}/\d{4}:\d\d:\d\d:\d\d \+0000\] "(?:[^"\\]|\\.)*" \d{3} \d+'
+                            r' "(?:[^"\\]|\\.)*" "(?:[^"\\]|\\.)*"\n\Z')
+        time.sleep(0.3)
+        self.assertTrue(self.server.log)
+        for line in list(self.server.log):
+            self.assertRegex(line, wanted)
+            self.assertTrue(line[:-1].isprintable(), line)
+        self.assertEqual(_quoted("a\"b\\c\r\n\x1b\u202e"), '"a\\"b\\\\c\\u000d\\u000a\\u001b\\u202e"')
+
+    def test_answers_that_are_given_again(self):
+        """The same request has the same answer, on the same connection and on others, in any pieces."""
+        path = "/collections/sample/items?f=city-json-seq&limit=9&ids=given-again"
+        request = f"GET {path} HTTP/1.1\r\nHost: localhost\r\nUser-Agent: again\r\n\r\n".encode()
+
+        def read(file):
+            head = b"".join(iter(file.readline, b"\r\n"))
+            return head, file.read(int(re.search(rb"Content-Length: (\d+)", head).group(1)))
+
+        answers = []
+        for pieces in ([request] * 3, [request + request], [request[:30], request[30:]], [request[:-1], b"\n" + request]):
+            with socket.create_connection((self.server.host, self.server.port), 30) as connection, connection.makefile("rb") as file:
+                for piece in pieces:
+                    connection.sendall(piece)
+                    time.sleep(0.02)
+                for _ in range(b"".join(pieces).count(request)):
+                    answers.append(read(file))
+        self.assertEqual(len(answers), 8)
+        self.assertEqual({body for _, body in answers}, {self.server.ask(path).body})
+        self.assertEqual({re.sub(rb"Date: .*", b"", head) for head, _ in answers}, {re.sub(rb"Date: .*", b"", answers[0][0])})
+        time.sleep(0.3)
+        self.assertEqual(sum("given-again" in line and '"again"' in line for line in self.server.log), 8)
+
+    def test_replies_are_bounded(self):
+        replies = Replies()
+        for number in range(40):
+            replies.keep(b"%d" % number, Reply(bytes(1 << 20), "", 0.001 * number))
+        found = [number for number in range(40) if replies.find(b"%d" % number, 0.1)]
+        self.assertEqual(found, list(range(25, 40)))
+        self.assertIsNone(replies.find(b"39", 1.04))
+
+    def test_a_stop_ends_open_answers(self):
+        with Serving("--stop-seconds", "1", self.folder / "all.gpkg") as ending:
+            with socket.create_connection((ending.host, ending.port), 30) as connection:
+                connection.sendall(b"POST /check HTTP/1.1\r\nHost: localhost\r\nContent-Length: 100\r\n\r\n")
+                time.sleep(0.3)
+                begin = time.monotonic()
+                self.assertEqual(ending.stop(), 0)
+                self.assertLess(time.monotonic() - begin, 5)
+                try:
+                    self.assertEqual(connection.recv(100), b"")
+                except ConnectionError:
+                    pass
+
+    def test_a_stop_waits_for_open_answers(self):
+        with Serving(self.folder / "all.gpkg") as ending:
+            with socket.create_connection((ending.host, ending.port), 30) as connection:
+                connection.sendall(b"POST /check HTTP/1.1\r\nHost: localhost\r\nContent-Length: %d\r\n\r\n" % len(HEADER))
+                time.sleep(0.3)
+                ending.process.terminate()
+                time.sleep(0.3)
+                with self.assertRaises(OSError):
+                    socket.create_connection((ending.host, ending.port), 5)
+                connection.sendall(HEADER)
+                answer = b"".join(iter(lambda: connection.recv(4096), b""))
+                self.assertIn(b'"verdict": "valid"', answer)
+            self.assertEqual(ending.stop(), 0)
+
+    def test_many_processes(self):
+        with Serving("--processes", "3", self.folder / "all.gpkg") as many:
+            children = pathlib.Path(f"/proc/{many.process.pid}/task/{many.process.pid}/children")
+            for _ in range(2):
+                for _ in range(20):
+                    self.assertEqual(many.ask("/collections/town/items").status, 200)
+                pids = list(map(int, children.read_text().split()))
+                self.assertEqual(len(pids), 3)
+                os.kill(pids[0], signal.SIGKILL)
+                time.sleep(1.5)
+            self.assertTrue(any("another one is started" in line for line in many.said))
+            pids = list(map(int, children.read_text().split()))
+            self.assertEqual(many.stop(), 0)
+            self.assertFalse([pid for pid in pids if os.path.exists(f"/proc/{pid}")])
+
+    def test_streams_on_a_web_server(self):
+        with web_server(self.folder) as (url, state):
+            with Serving("--base", url, self.folder / "all.gpkg") as far:
+                path = "/collections/town/items?f=city-json-seq&type=Road"
+                self.assertEqual(far.ask(path).body, self.filtered("town", "--type", "Road"))
+                state.mode = "missing"
+                time.sleep(1.1)  # an answer is given again for a second
+                self.assertEqual(far.ask(path).status, 502)
+                state.mode = ""
+                text = (self.folder / "town.city.jsonl").read_bytes()
+                changed = self.folder / "town.city.jsonl"
+                changed.write_bytes(text + b"\n")
+                time.sleep(1.1)
+                answer = far.ask(path)
+                changed.write_bytes(text)
+                self.assertEqual((answer.status, answer.headers["Content-Type"]), (502, "application/problem+json"))
+                self.assertIn("out of date", answer.json()["detail"])
+
+    @unittest.skipIf(NGINX is None, "nginx is not there")
+    def test_the_example_of_nginx(self):
+        """Two servers behind nginx, and a store of streams, on ports that are free."""
+        text = (pathlib.Path(ROOT) / "examples" / "serve" / "nginx.conf").read_text("utf-8")
+        names = {name: free_port() for name in ("8080", "8081", "8082", "8090")}
+        for name, port in names.items():
+            self.assertIn(f"127.0.0.1:{name}", text)
+            text = text.replace(f"127.0.0.1:{name}", f"127.0.0.1:{port}")
+        if os.getuid() == 0:
+            text = f"user root;\n{text}"  # else its processes may not read this folder
+        place = self.folder / "nginx"
+        (place / "streams").mkdir(parents=True)
+        (place / "temporary").mkdir()
+        (place / "nginx.conf").write_text(text, "utf-8")
+        shutil.copy(self.folder / "town.city.jsonl", place / "streams")
+        index = place / "streams" / "all.gpkg"
+        command("index", "--output", str(index), str(place / "streams" / "town.city.jsonl"))
+        web = subprocess.Popen([NGINX, "-p", str(place), "-c", "nginx.conf"], stderr=subprocess.DEVNULL)
+        try:
+            store = f"http://127.0.0.1:{names['8090']}/"
+            with Serving("--port", names["8081"], "--base", store, index) as one, \
+                    Serving("--port", names["8082"], "--base", store, index) as other:
+                one.port = names["8080"]
+                for _ in range(20):
+                    self.assertEqual(one.ask("/collections/town/items?f=city-json-seq&type=Road").body,
+                                     self.filtered("town", "--type", "Road"))
+                link = one.ask("/", Host="localhost:80").json()["links"][0]["href"]
+                self.assertTrue(link.startswith("http://localhost:80/"), link)
+                body = HEADER + feature("b") * 30_000
+                self.assertEqual(one.ask("/check", "POST", body).lines()[-1]["features"], 30_000)
+                self.assertEqual(one.ask("/filter", "POST", body).body, body)
+                time.sleep(0.2)
+                self.assertTrue(one.log and other.log)
+        finally:
+            web.terminate()
+            web.wait(10)
+
+    def test_bad_requests(self):
+        """The script of the repository, with few idle connections."""
+        ran = subprocess.run([sys.executable, os.path.join(ROOT, "tests", "serve_attack.py"), "--connections", "500", sys.executable],
+                             stdout=subprocess.PIPE, timeout=120)
+        self.assertEqual(ran.returncode, 0, ran.stdout.decode())
+
+    def test_what_is_missing_is_said(self):
+        (self.folder / "aiohttp.py").write_text("raise ImportError('none')")
+        code = f"import sys; sys.path.insert(0, {str(self.folder)!r}); from cityseq.commands import main; sys.exit(main(['serve']))"
+        ran = subprocess.run([sys.executable, "-c", code], stderr=subprocess.PIPE, timeout=30,
+                             env={**os.environ, "PYTHONPATH": os.path.join(ROOT, "python")})
+        (self.folder / "aiohttp.py").unlink()
+        self.assertEqual(ran.returncode, 2)
+        self.assertRegex(ran.stderr.decode(), r"\Athere is no aiohttp for Python: install python3-aiohttp.*\n\Z")
+
+
+@unittest.skipIf(MISSING, MISSING)
+class Parts(Served):
+    def test_queries(self):
+        query = Query("a=x%2Cy,z&b=1+2&c", ("a", "b", "c"))
+        self.assertEqual((query.texts("a"), query.text("b"), query.flag("c")), (["x,y", "z"], "1 2", True))
+        for raw in ("d=1", "a=1&a=2", "a%ff=1"):
+            with self.assertRaises(Problem):
+                Query(raw, ("a",))
+
+    def test_formats(self):
+        formats = (GEOJSON, CITY_JSON_SEQ, HTML)
+        for accept, wanted in (("", GEOJSON), ("*/*", GEOJSON), ("text/html;q=0.5, application/geo+json;q=0.4", HTML),
+                               ("application/*", GEOJSON), ("application/city+json-seq, */*;q=0.1", CITY_JSON_SEQ),
+                               ("text/html, */*;q=0.9", HTML), ("application/json;q=x, text/html", HTML)):
+            self.assertEqual(choose(formats, None, accept), wanted, accept)
+
+    def test_a_feature_as_cityjson_keeps_each_number(self):
+        header = HEADER.replace(b"0.001", b"1.0e-3")
+        line = feature("b").replace(b"[0,0,0]", b"[0 , 0,-0]").replace(b'"type":"CityJSONFeature",', b'"type":"CityJSONFeature","x":1e400,"appearance" : {"a":1.10},')
+        text = whole(header, line)
+        for piece in (b'"scale":[1.0e-3,1.0e-3,1.0e-3]', b"[0 , 0,-0]", b'"appearance":{"a":1.10}'):
+            self.assertIn(piece, text)
+        self.assertNotIn(b"1e400", text)
+        self.assertEqual(json.loads(text)["type"], "CityJSON")
+
+    def test_without_pyproj(self):
+        with mock.patch("cityseq.serve.systems.find_spec", return_value=None):
+            system = System("https://www.opengis.net/def/crs/EPSG/0/7415")
+            self.assertEqual(system.listed(), [RD])
+            self.assertEqual(system.asked(RD, "crs"), RD)
+            with self.assertRaisesRegex(Problem, "for want of pyproj"):
+                system.asked(None, "crs")
+
+    def test_an_application_for_another_server(self):
+        async def run():
+            outer = aiohttp.web.Application()
+            outer.add_subapp("/cities", cityseq.serve.app(
+                self.folder / "all.gpkg", url="https://example.org/cities", limits=Limits(features=3)))
+            runner = aiohttp.web.AppRunner(outer)
+            await runner.setup()
+            site = aiohttp.web.TCPSite(runner, "127.0.0.1", 0)
+            await site.start()
+            port = runner.addresses[0][1]
+            base = f"http://127.0.0.1:{port}/cities"
+            async with aiohttp.ClientSession() as session:
+                async with session.get(f"{base}/collections/sample/items?f=city-json-seq&limit=9") as answer:
+                    lines, link = (await answer.read()).splitlines(), answer.headers["Link"]
+                async with session.post(f"{base}/check", data=HEADER) as answer:
+                    told = json.loads(await answer.read())
+                async with session.get(f"{base}/none") as answer:
+                    problem = await answer.json(content_type="application/problem+json")
+            await runner.cleanup()
+            return len(lines), link.partition("?")[0], told["verdict"], problem["status"]
+
+        self.assertEqual(asyncio.run(run()), (4, "<https://example.org/cities/collections/sample/items", "valid", 404))
