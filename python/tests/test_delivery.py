@@ -363,7 +363,7 @@ class Command(InFolder):
     def test_quiet_and_progress(self):
         self.assertEqual(command("report", "--quiet", "--output", self.page, self.good), (b"", "", 0))
         _, said, status = command("report", "--progress", "--output", self.page, self.good)
-        self.assertEqual((said.count("100 %"), status), (1, 0))
+        self.assertEqual((said.count("100 %"), said.count(str(self.good)), status), (1, 1, 0))
 
 
 @unittest.skipIf(MISSING, MISSING)
