@@ -1,14 +1,21 @@
 #!/usr/bin/env bash
-# Measures `cityseq check`, `filter` and `info` beside cat, wc -l, two Rust twins and a peer in C++, in one run, and how
-# long they take on a stream of one feature. The twin reads each line by serde_json and throws the value away (and the
-# same without reading JSON); the typed twin judges typed values of serde's derive; the peer judges values of simdjson.
+# Measures `cityseq check`, `filter` and `info` in one run, compared with cat, wc -l, two Rust twins
+# and a peer in C++. It also measures how long they take on a stream of one feature. The twin reads
+# each line with serde_json and throws the value away, and does the same without reading JSON. The
+# typed twin judges typed values of serde's derive. The peer judges values of simdjson.
 #
 #   bench/commands.sh [MEGABYTES]      (300 if left out)
 #
-# It builds the program by `rt run`, and the twins by cargo with Debian's packages librust-memchr-dev,
-# librust-simdutf8-dev, librust-serde-json-dev and librust-serde-derive-dev, and the peer by g++ with libsimdjson-dev,
-# where they are installed: the first twin once as it is, and once for x86-64-v2 alone, for which Rattle builds programs;
-# simdjson takes the widest vectors that the machine has. Figures are the best of five runs.
+# It builds the program by `rt run`. It builds the twins by cargo, and the peer by g++, if the
+# packages of Debian that they need are installed:
+#
+# - The twins: librust-memchr-dev, librust-simdutf8-dev, librust-serde-json-dev and
+#   librust-serde-derive-dev.
+# - The peer: libsimdjson-dev.
+#
+# It builds the first twin twice: once as it is, and once for x86-64-v2 alone, as Rattle builds
+# programs. The peer uses the widest vectors that the machine has. Figures are the best of five
+# runs.
 set -euo pipefail
 cd "$(dirname "$0")"
 megabytes=${1:-300}

@@ -1,6 +1,7 @@
 #!/usr/bin/env bash
-# Measures `cityseq check --keep-going` on a stream of which one line in ten is invalid, by the time of `cityseq check` on the same
-# stream with these lines valid: the best of 15 runs of each, in turn. Times are of the processor.
+# Measures `cityseq check --keep-going` on a stream with one invalid line in ten. It divides the
+# time by that of `cityseq check` on the same stream with these lines valid. Both are the best of 15
+# runs, which alternate. Times are of the processor.
 #
 #   bench/going.sh [MEGABYTES]      (20 if left out)
 #

@@ -1,7 +1,8 @@
 #!/usr/bin/env bash
-# Measures `cityseq check`, `info` and `filter --lod 2` on lines that are made to cost, and `check --tree` on trees that are, of 125 KB,
-# 1 MB and 8 MB. It shows the dearest of the three beside a usual line of the same length, and how its time grows by a doubling of the
-# length. A run of more than SECONDS is ended.
+# Measures `cityseq check`, `info` and `filter --lod 2` on adversarial lines, and `check --tree` on
+# adversarial trees, of 125 KB, 1 MB and 8 MB. It shows the slowest of the three, compared with a
+# usual line of the same length. It also shows how its time grows if the length doubles. A run of
+# more than SECONDS is ended.
 #
 #   bench/hostile.sh [SECONDS [WORD]]      (20 seconds if left out; with a WORD only shapes whose names have it)
 #

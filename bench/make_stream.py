@@ -1,9 +1,10 @@
 #!/usr/bin/env python3
 """Writes a CityJSONSeq stream of a given shape and size to standard output.
 
-    make_stream.py usual|spread|grid|tiny|named|huge|text|linked MEGABYTES
+    make_stream.py usual|spread|lods|grid|tiny|named|huge|text|linked MEGABYTES
 
 usual: features of 5 to 125 KB, about 4 bytes a JSON token, as city models have them;
+lods: features of 5 to 50 KB with four LoDs each, and a semantic surface for each surface;
 spread: the same, each of 60 features in a square of 100 m of its own, one beside the other along x;
 grid: features of about 2 KB, each in a square of 10 m of its own, 1,000 in a row along x;
 tiny: features of about 300 bytes; named: the same, with ids that begin alike; huge: features of about
@@ -30,6 +31,23 @@ def feature(rng, number, vertices, left=0, side=1000000):
             f'"geometry":[{{"type":"Solid","lod":"2.2","boundaries":[[{surfaces}]],"semantics":{{"surfaces":'
             f'[{{"type":"GroundSurface"}},{{"type":"RoofSurface"}},{{"type":"WallSurface"}}],"values":[[{values}]]}}}}]}}}},'
             f'"vertices":[{points}]}}\n')
+
+
+def surfaces_of(rng, vertices):
+    """A geometry's boundaries and semantics, with a semantic surface of its own for each surface."""
+    boundaries = ",".join("[[{},{},{}]]".format(*(rng.randrange(vertices) for _ in range(3))) for _ in range(vertices))
+    kinds = ",".join(f'{{"type":"{rng.choice(("Wall", "Roof", "Ground"))}Surface"}}' for _ in range(vertices))
+    return f'[[{boundaries}]],"semantics":{{"surfaces":[{kinds}],"values":[[{",".join(map(str, range(vertices)))}]]}}'
+
+
+def lods(rng, number, vertices):
+    """A building whose part has a footprint and three solids."""
+    solids = ",".join(f'{{"type":"Solid","lod":"{lod}","boundaries":{surfaces_of(rng, vertices)}}}' for lod in ("1.2", "1.3", "2.2"))
+    points = ",".join(f"[{rng.randrange(1000000)},{rng.randrange(1000000)},{rng.randrange(30000)}]" for _ in range(vertices))
+    footprint = '{"type":"MultiSurface","lod":"0","boundaries":[[[0,1,2]]]}'
+    return (f'{{"type":"CityJSONFeature","id":"b{number}","CityObjects":{{"b{number}":{{"type":"Building","children":["b{number}-0"],'
+            f'"attributes":{{"year":{rng.randrange(1500, 2024)},"street":"Grachtenstraße {number}"}},"geometry":[{footprint}]}},'
+            f'"b{number}-0":{{"type":"BuildingPart","parents":["b{number}"],"geometry":[{solids}]}}}},"vertices":[{points}]}}\n')
 
 
 GRID = 1000  # features in a row
@@ -90,8 +108,9 @@ def linked(parts):
             f'{objects}}},"vertices":[]}}\n')
 
 
-# about how many bytes one vertex adds to a line
+# about how many bytes one vertex adds to a line, and to one of four LoDs
 VERTEX = 72
+SOLID = 165
 
 
 def main():
@@ -114,6 +133,8 @@ def main():
     elif shape == "spread":
         lines = [feature(rng, i, rng.randrange(5000, 125000) // VERTEX, i * 100000, 100000).encode()
                  for i in range(60)]
+    elif shape == "lods":
+        lines = [lods(rng, i, rng.randrange(5000, 50000) // SOLID).encode() for i in range(60)]
     elif shape == "text":
         lines = [text(rng, i).encode() for i in range(200)]
     elif shape == "huge":

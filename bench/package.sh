@@ -1,14 +1,17 @@
 #!/usr/bin/env bash
-# Measures two things of the Python package's command that depend on its own code, each as a ratio of processor time and of time by the
-# clock within one round, and prints the least and the middle of all rounds:
+# Measures two cases of the Python package's command that depend on its own code. Each is a ratio of
+# two runs of one round, once of the time by the clock and once of processor time. It prints the
+# least ratio and the median of all rounds.
 #
-#   ids     `filter` by a million ids, of the time by ten, with one job, on 600 MB of a million features
-#   packed  `check` of eight .gz files with four jobs, of the time of `xargs -P4` of the program behind zcat
+# - ids: `filter` by a million ids, compared with ten ids, with one job, on 600 MB of a million
+#   features.
+# - packed: `check` of eight .gz files with four jobs, compared with `xargs -P4` of zcat and the
+#   program.
 #
 #   bench/package.sh [ROUNDS [CASE..]]      (3, and both)
 #
-# It needs the library python/cityseq/libcityseq.so and the built program, which PROGRAM may name, and python3, which PYTHON may name.
-# FEATURES sets the number of features and ids (1000000).
+# It needs the library python/cityseq/libcityseq.so, the built program, which PROGRAM may name, and
+# python3, which PYTHON may name. FEATURES sets the number of features and ids (1000000).
 set -euo pipefail
 cd "$(dirname "$0")"
 mkdir -p out

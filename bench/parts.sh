@@ -1,13 +1,17 @@
 #!/usr/bin/env bash
-# Measures the Python package's `check` with one, two and four threads beside the program's, on one file, and `filter` and `info` with
-# one and four. The program's `check` runs before and behind each run, and the ratio is that to the mean of these two, in the middle of
-# all rounds, since a machine's speed may change from second to second. Beside it the least time by the clock, with the least of the
-# processor, and the least peak of resident memory.
+# Measures the Python package's `check` with one, two and four threads, compared with the program's
+# `check`, on one file. It measures `filter` and `info` in the same way with one and four threads.
+# The program's `check` runs before and after each run, since the speed of a machine changes from
+# second to second. The ratio is to the mean of these two. It prints the median ratio of all rounds.
+# It also prints the least time by the clock, the least processor time, and the least peak of
+# resident memory.
 #
 #   bench/parts.sh [MEGABYTES [SHAPE [ROUNDS [CASE..]]]]
 #
-# 1000, usual and 3 if left out; the shapes are those of make_stream.py; a case is named as it is printed, and all are measured if none
-# is. It needs the library python/cityseq/libcityseq.so and the built program, which PROGRAM may name, and python3, which PYTHON may name.
+# MEGABYTES is 1000, SHAPE is usual, and ROUNDS is 3 if left out. The shapes are those of
+# make_stream.py. A case is named as it is printed. If none is named, all are measured. It needs
+# the library python/cityseq/libcityseq.so, the built program, which PROGRAM may name, and python3,
+# which PYTHON may name.
 set -euo pipefail
 cd "$(dirname "$0")"
 mkdir -p out
@@ -15,7 +19,7 @@ megabytes=${1:-1000} shape=${2:-usual} rounds=${3:-3}
 shift $(($# < 3 ? $# : 3))
 stream=out/parts-$shape-$megabytes.jsonl
 [ -s "$stream" ] || python3 make_stream.py "$shape" "$megabytes" > "$stream"
-# what is installed has been compiled, and so is this before the first run
+# An installed package is compiled already, so this one is compiled before the first run.
 export PYTHONPYCACHEPREFIX=$PWD/out/compiled
 unset PYTHONDONTWRITEBYTECODE
 PYTHONPATH=../python "${PYTHON:-python3}" - "${PROGRAM:-../crates/cityseq/out/cityseq}" "$stream" "$rounds" "$@" <<'MEASURE'
@@ -42,9 +46,9 @@ def run(words):
 base = [program, "check"]
 python = [sys.executable, "-m", "cityseq"]
 cases = {f"program, {name}": [program, name] for name in ("check", "filter", "info")}
-for name, jobs, options in (("check", (1, 2, 4), []), ("filter", (1, 4), []), ("info", (1, 4), ["--no-lods"]), ("info", (4,), [])):
+for name, jobs, options in (("check", (1, 2, 4), []), ("filter", (1, 4), []), ("info", (1, 4), []), ("info", (1, 4), ["--lods"])):
     for count in jobs:
-        shown = name if options or name != "info" else "info and LoDs"
+        shown = " ".join([name, *options])
         cases[f"{shown}, {count} jobs"] = [*python, name, "--jobs", str(count), *options, stream]
 if not set(wanted) <= set(cases):
     sys.exit(f"the cases are: {'; '.join(cases)}")

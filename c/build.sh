@@ -1,18 +1,19 @@
 #!/usr/bin/env bash
-# Proves and builds the library for C: c/out/libcityseq.a and c/out/libcityseq.so, and a copy of the second for the Python
-# package. It takes a minute where the crates below are proved already.
+# Proves and builds the library for C: c/out/libcityseq.a and c/out/libcityseq.so. It copies the
+# second for the Python package. It takes a minute if the crates below are proved already.
 #
 #     c/build.sh [--after-gate]
 #
-# Behind the gate, which leaves the libraries of the crates as it has proved them, `rt lib` would prove them all once more.
-# With the option they are taken as they are, and the crate of the library for C alone is proved over them.
+# The gate leaves the libraries of the crates as it has proved them. `rt lib` would prove them all
+# again. With the option, the script takes these libraries as they are, and proves only the crate of
+# the library for C over them.
 set -eu
 cd "$(dirname "$0")/.."
 kit=$(dirname "$(rt doc)")
 built=crates/cityseq_c/out/libcityseq_c.a
 below="cj_budget cj_decimal cj_spans cj_geometry cj_feature cj_stream"
 
-# Whether the libraries are those that the gate left; those of another command have a stamp.
+# Returns whether the libraries are those that the gate left. Those of another command have a stamp.
 are_of_gate() {
   local crate
   for crate in $below; do
@@ -20,7 +21,7 @@ are_of_gate() {
   done
 }
 
-# Proves the crate over them, and compiles it, by the words that `rt lib` has for the compiler.
+# Proves the crate over them, and compiles it, with the options that `rt lib` gives the compiler.
 build_over_them() {
   local crate words=(--crate-name cityseq_c src/lib.rt --crate-type staticlib --links cityseq_c= --jobs 2)
   for crate in std memchr; do words+=(--extern "$crate=$kit/rlibs/$crate.rlib"); done
@@ -40,7 +41,8 @@ fi
 mkdir -p c/out
 system=$kit/c/liblibc_c.a
 printf 'CREATE c/out/libcityseq.a\nADDLIB %s\nADDLIB %s\nSAVE\nEND\n' "$built" "$system" | ar -M
-# named by the number of the interface, so that a program never runs over another one than it was built for
+# The name has the number of the interface, so a program never runs over an interface other than the
+# one that it was built for.
 interface=$(sed -n 's/^#define CITYSEQ_INTERFACE \([0-9][0-9]*\).*/\1/p' c/cityseq.h)
 shared=libcityseq.so.$interface
 rm -f c/out/libcityseq.so*
@@ -48,5 +50,5 @@ rm -f c/out/libcityseq.so*
   -Wl,--whole-archive "$built" -Wl,--no-whole-archive "$system"
 ln -s "$shared" c/out/libcityseq.so
 mkdir -p python/cityseq
-# as a new file, since one that is written over takes the library from under a process that has it
+# It is a new file, because to write over the old one would break a process that has it open.
 cp --remove-destination c/out/libcityseq.so python/cityseq/libcityseq.so

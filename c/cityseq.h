@@ -1,26 +1,26 @@
 /* cityseq: checks, filters and tallies CityJSONSeq 2.0 streams that lie in memory.
  *
- * STREAMS. A call takes a stream as two pieces: its header, which is the first line with its LF, and a part, which is the bytes
- * after it, all or some. Nothing is copied together. A part that is not the last one ends with an LF; cityseq_part_end finds
- * where to cut. Parts of one stream, each with the same header, may be judged at once, by any number of threads. No call keeps
- * anything for the next one.
+ * STREAMS. A call takes a stream as two pieces: the header and a part. The header is the first line with its LF. A part is the
+ * bytes after the header, all or some. A part that is not the last one ends with an LF, and cityseq_part_end finds where to cut.
+ * Any number of threads may judge parts of one stream at once, each with the same header. No call keeps anything for the next.
  *
- * JOINING. What came of a stream follows from what came of its parts, in their order:
- * - The parts before the first one whose status is not CITYSEQ_COMPLETE are valid. That one is the end of the stream.
+ * JOINING. The results of the parts, in their order, make the result of the stream:
+ * - The first part whose status is not CITYSEQ_COMPLETE is the end of the stream. The parts before it are valid.
  * - cityseq_answer_then joins answers, and cityseq_tally_then joins tallies.
- * - The output is that of the first part, and then that of each later part without the header's line.
- * - The line of a report in the stream is its line in the part, plus the lines of all parts before it, less one for each of them.
+ * - The output is that of the first part, then that of each later part without the header's line.
+ * - To the line of a report, add the lines of all parts before it, less one for each of them. To its `begin`, add their bytes.
  *
- * POINTERS. A pointer to bytes or to reports may be NULL where their number is 0. All others point to what they say. A bool is 0
- * or 1. A call changes only what it is said to write, which overlaps nothing else that it is given.
+ * POINTERS. A pointer to bytes, reports or records may be NULL if their number is 0. No other pointer may be NULL. A bool is 0
+ * or 1. A call changes only what it writes by its description. That overlaps nothing else that the call gets.
  *
- * WHAT A CALLER OWES. The proof behind the library counts on these, and no call checks them:
- * - What a call reads does not change until it returns, neither by another thread nor by another process. A mapped file that is
- *   cut short meanwhile ends the process with SIGBUS, so read a file that others may write to.
- * - No call is made from a signal handler, nor in the child of a process with threads before it has called exec.
- * - malloc, realloc and free are those of one allocator, and align a block as the C standard says. A call frees before it returns
- *   what it has taken.
- * - A call takes up to 1 MB of the stack, and with `tree` up to 3 MB. A thread has more by default where the C library is glibc.
+ * WHAT A CALLER OWES. The proof of the library assumes these, and no call checks them:
+ * - No thread and no other process changes what a call reads before it returns. If a mapped file becomes shorter, SIGBUS ends the
+ *   process. So read a file that others may write to.
+ * - Do not call from a signal handler. In a child of a process with threads, do not call before exec.
+ * - malloc, realloc and free belong to one allocator, and align a block as the C standard says. A call frees what it took before
+ *   it returns. Let n be the line limit, or the length of the longer piece if that is less. Then a call takes at most 14 * n
+ *   bytes, 16 bytes for each level of depth, 4 KB, and memory for the texts of the query.
+ * - A call takes up to 1 MB of the stack, and with `tree` up to 3 MB. With glibc, a thread has more by default.
  * - The processor has x86-64-v2: SSE 4.2, SSSE3 and POPCNT.
  */
 #ifndef CITYSEQ_H
@@ -30,15 +30,23 @@
 #include <stddef.h>
 #include <stdint.h>
 
+/* Marks the pointers, by their places from 1, that are never NULL, so that a compiler warns. */
+#if defined(__GNUC__)
+#define CITYSEQ_NOT_NULL(...) __attribute__((nonnull(__VA_ARGS__)))
+#else
+#define CITYSEQ_NOT_NULL(...)
+#endif
+
 #ifdef __cplusplus
 extern "C" {
 #endif
 
-/* The interface that this file declares. cityseq_interface tells which one the library has.
+/* The interface that this file declares. cityseq_interface returns that of the library.
  *
  * 2: cityseq_tally is now cityseq_info, so that in C++ the struct needs no keyword. New are cityseq_features, the joins,
- *    cityseq_part_end, cityseq_version, the reasons, and the sizes of a tally. NULL is allowed where there are no bytes. After
- *    CITYSEQ_NO_MEMORY all counts are 0, and after it and CITYSEQ_BAD_REQUEST a tally is as it was.
+ *    cityseq_part_end, cityseq_line_begin and cityseq_version. A report has `begin`, and a tally has the transform. There are
+ *    constants for the reasons and for the sizes of a tally. NULL is allowed if there are no bytes. After CITYSEQ_NO_MEMORY all
+ *    counts are 0. After it and CITYSEQ_BAD_REQUEST a tally is as it was.
  * 1: the first one. */
 #define CITYSEQ_INTERFACE 2
 
@@ -46,26 +54,26 @@ extern "C" {
 #define CITYSEQ_VERSION "0.2.0"
 
 /* How a call ended. After CITYSEQ_BAD_REQUEST and CITYSEQ_NO_MEMORY nothing was judged: output, reports and tally are as they
- * were, and all fields of the answer but status and code are 0. */
+ * were. Then all fields of the answer but status and code are 0. */
 enum cityseq_status {
-    CITYSEQ_COMPLETE = 0,    /* all lines were read, and none was the end */
-    CITYSEQ_REFUSED = 1,     /* a line is invalid: line, place and code say which, where and why */
-    CITYSEQ_BAD_REQUEST = 2, /* the request cannot be asked: code is a cityseq_fault */
-    CITYSEQ_NO_ROOM = 4,     /* cityseq_filter alone: the output of the next line, which is kept, does not fit */
-    CITYSEQ_NO_MEMORY = 5    /* no memory was granted */
+    CITYSEQ_COMPLETE = 0,    /* All lines were read, and none was the end. */
+    CITYSEQ_REFUSED = 1,     /* A line is invalid: line, place and code say which, where and why. */
+    CITYSEQ_BAD_REQUEST = 2, /* The request is wrong. code is a cityseq_fault. */
+    CITYSEQ_NO_ROOM = 4,     /* cityseq_filter alone: the next kept line does not fit in the output. */
+    CITYSEQ_NO_MEMORY = 5    /* No memory was granted. */
 };
 
 /* What is wrong with a request. */
 enum cityseq_fault {
-    CITYSEQ_LINE_LIMIT = 1,   /* the line limit is not from 1 to 1,073,741,824 */
-    CITYSEQ_DEPTH_LIMIT = 2,  /* the depth limit is not from 1 to 1,024 */
-    CITYSEQ_NO_LINE = 3,      /* the header is not one line that ends with LF; it may lack it where the part is empty */
-    CITYSEQ_NOT_UTF8 = 4,     /* a text is not UTF-8 */
-    CITYSEQ_UNKNOWN_TYPE = 5, /* no city object type has this name */
-    CITYSEQ_BAD_BOX = 6,      /* the box is not four numbers with commas between them */
-    CITYSEQ_BOX_RANGE = 7,    /* a number of the box is out of range */
-    CITYSEQ_EMPTY_BOX = 8,    /* a least edge of the box is above the greatest */
-    CITYSEQ_TOO_LONG = 9      /* the header and the part have more than 2^60 bytes */
+    CITYSEQ_LINE_LIMIT = 1,   /* The line limit is not from 1 to 1,073,741,824. */
+    CITYSEQ_DEPTH_LIMIT = 2,  /* The depth limit is not from 1 to 1,024. */
+    CITYSEQ_NO_LINE = 3,      /* The header is not one line with its LF. It may lack the LF if the part is empty. */
+    CITYSEQ_NOT_UTF8 = 4,     /* A text is not UTF-8. */
+    CITYSEQ_UNKNOWN_TYPE = 5, /* No city object type has this name. */
+    CITYSEQ_BAD_BOX = 6,      /* The box is not four numbers with commas between them. */
+    CITYSEQ_BOX_RANGE = 7,    /* A number of the box is out of range. */
+    CITYSEQ_EMPTY_BOX = 8,    /* The least edge of the box is above the greatest. */
+    CITYSEQ_TOO_LONG = 9      /* The header and the part have more than 2^60 bytes. */
 };
 
 /* Why a line is invalid: the code of an answer whose status is CITYSEQ_REFUSED, and of a report. docs/REASONS.md explains each. */
@@ -99,18 +107,18 @@ enum cityseq_reason {
     CITYSEQ_REASON_NOT_REACHED = 31
 };
 
-/* How lines are judged, and which features are kept: those that satisfy each part of the query that is asked. Ids, types and LoDs
- * are texts in UTF-8 with an LF between each two, and none where the length is 0. */
+/* How lines are judged, and which features are kept: those that satisfy each part of the query that is set. Ids, types and LoDs
+ * are texts in UTF-8, with an LF between each two. A length of 0 means no text. */
 struct cityseq_request {
-    uint64_t line_limit;  /* the most bytes of a line without its LF: 8,388,608 is usual */
-    uint64_t depth_limit; /* the most arrays and objects open at once: 64 is usual */
-    bool keep_going;      /* whether an invalid line after the first is reported, and the next one read */
-    bool tree;            /* whether each city object must be reached from the feature's main one */
-    bool exclude;         /* whether the features that satisfy the query are left out, and all others kept */
-    bool asks_ids;        /* whether the id must be one of these */
-    bool asks_types;      /* whether some city object must have one of these types */
-    bool asks_lods;       /* whether some geometry must have one of these LoDs, as it is spelled */
-    bool asks_box;        /* whether some vertices must be in the box: minx,miny,maxx,maxy */
+    uint64_t line_limit;  /* The most bytes of a line without its LF. 8,388,608 is usual. */
+    uint64_t depth_limit; /* The most arrays and objects that are open at once. 64 is usual. */
+    bool keep_going;      /* After an invalid line that is not the header, report it and go on. */
+    bool tree;            /* Each city object must be reached from the feature's main one. */
+    bool exclude;         /* Leave out the features that satisfy the query, and keep all others. */
+    bool asks_ids;        /* The id must be one of these. */
+    bool asks_types;      /* Some city object must have one of these types. */
+    bool asks_lods;       /* Some geometry must have one of these LoDs, spelled the same. */
+    bool asks_box;        /* Some vertices must be in the box: minx,miny,maxx,maxy. */
     const char *ids;
     size_t ids_length;
     const char *types;
@@ -127,107 +135,126 @@ struct cityseq_request {
 
 /* An invalid line after which reading went on. */
 struct cityseq_report {
-    uint64_t line;  /* its number in the header and the part, from 1 */
-    uint64_t place; /* the byte in the line, from 0 */
-    uint64_t code;  /* why: a cityseq_reason */
+    uint64_t line;  /* Its number in the header and the part, from 1. */
+    uint64_t begin; /* Where it begins in the header and the part, in bytes from 0. */
+    uint64_t place; /* The byte in the line, from 0. */
+    uint64_t code;  /* A cityseq_reason. */
 };
 
-/* What came of a stream. */
+/* The result for a stream. */
 struct cityseq_answer {
-    uint32_t status;      /* a cityseq_status */
-    uint32_t code;        /* a cityseq_reason where a line is invalid, a cityseq_fault of a bad request; else 0 */
-    uint64_t line;        /* the number of the invalid line, from 1; else 0 */
-    uint64_t place;       /* the byte in it, from 0; else 0 */
-    uint64_t lines;       /* the lines that were dealt with: the header, features, blank lines, and reported ones */
-    uint64_t kept;        /* the features among them that are kept */
-    uint64_t refused;     /* the lines among them that were reported, whether there was room for the reports or not */
-    uint64_t peak_bytes;  /* the most that was held: bytes of lines, */
-    uint64_t peak_tokens; /* tokens, */
-    uint64_t peak_depth;  /* and open arrays and objects */
-    uint64_t written;     /* the bytes of output that were written: 0 but for cityseq_filter */
+    uint32_t status;      /* A cityseq_status. */
+    uint32_t code;        /* A cityseq_reason of an invalid line, or a cityseq_fault of a bad request. Else 0. */
+    uint64_t line;        /* The number of the invalid line, from 1, else 0. cityseq_line_begin finds it. */
+    uint64_t place;       /* The byte in it, from 0, else 0. */
+    uint64_t lines;       /* The lines that were handled: the header, features, blank lines and reported ones. */
+    uint64_t kept;        /* The kept features among them. */
+    uint64_t refused;     /* The reported lines among them, also those without room for their report. */
+    uint64_t peak_bytes;  /* The most bytes of lines that were held at once. */
+    uint64_t peak_tokens; /* The most tokens. */
+    uint64_t peak_depth;  /* The most open arrays and objects. */
+    uint64_t written;     /* The bytes of output that cityseq_filter wrote. Else 0. */
 };
 
 /* The least and the greatest whole number on an axis. */
 struct cityseq_range {
-    uint64_t some; /* 1 if there is one, else 0 */
+    uint64_t some; /* 1 if there is one, else 0. */
     int64_t least;
     int64_t greatest;
 };
 
-#define CITYSEQ_TYPES 33 /* the types of city objects */
-#define CITYSEQ_LODS 6   /* the classes of LoDs */
+#define CITYSEQ_TYPES 33 /* The number of city object types. */
+#define CITYSEQ_LODS 6   /* The number of LoD classes. */
 
-/* What is in the features that are kept. */
+/* The number (high * 2^64 + low) * 10^power, exactly. It has at most 36 digits, and no zero at its end. */
+struct cityseq_decimal {
+    uint32_t negative; /* 1 if it is below 0, else 0. */
+    int32_t power;
+    uint64_t high; /* 0 if the coefficient is below 2^64. */
+    uint64_t low;
+};
+
+/* The kept features in numbers, and the transform of the header. */
 struct cityseq_tally {
     uint64_t features;
-    uint64_t types[CITYSEQ_TYPES];  /* city objects by type: cityseq_type_name has the names */
-    uint64_t lods[CITYSEQ_LODS];    /* geometries by the class of their LoD: 0 to 4, and other */
-    struct cityseq_range ranges[3]; /* the vertices, x, y and z, as they stand in the features */
+    uint64_t types[CITYSEQ_TYPES];       /* City objects by type. cityseq_type_name has the names. */
+    uint64_t lods[CITYSEQ_LODS];         /* Geometries by the class of their LoD: 0 to 4, and other. */
+    struct cityseq_range ranges[3];      /* The vertices, x, y and z, as the features have them. */
+    uint64_t transformed;                /* 1 if the header is valid. Else 0, and so are the numbers below. */
+    struct cityseq_decimal scale[3];     /* The world coordinate of a vertex is its number times this, */
+    struct cityseq_decimal translate[3]; /* plus this. */
 };
 
-/* What is told of a kept feature. The content of its line is `length` bytes from `begin` of the part on. */
+/* A kept feature. The content of its line is the `length` bytes of the part from `begin` on. */
 struct cityseq_feature {
-    uint64_t line;                  /* the number of its line in header and part, from 1 */
-    uint64_t begin;                 /* where its line begins in the part, in bytes from 0 */
-    uint64_t length;                /* the bytes of the line, without LF */
-    uint64_t id_begin;              /* where the string of its id begins in the line, in bytes from 0 */
-    uint64_t id_length;             /* the bytes of that string, with quotes and escapes */
-    uint64_t objects;               /* its city objects */
-    uint64_t geometries;            /* their geometries */
-    uint64_t types;                 /* bit n is set if a city object has the type of number n */
-    uint64_t lods;                  /* bit n is set if a geometry has an LoD of class n: 0 to 4, and 5 for any other */
-    struct cityseq_range ranges[3]; /* its vertices, x, y and z, as they stand in the feature */
+    uint64_t line;                  /* The number of its line in header and part, from 1. */
+    uint64_t begin;                 /* Where its line begins in the part, in bytes from 0. */
+    uint64_t length;                /* The bytes of the line, without LF. */
+    uint64_t id_begin;              /* Where the string of its id begins in the line, in bytes from 0. */
+    uint64_t id_length;             /* The bytes of that string, with quotes and escapes. */
+    uint64_t objects;               /* The number of its city objects. */
+    uint64_t geometries;            /* The number of their geometries. */
+    uint64_t types;                 /* Bit n is set if a city object has the type of number n. */
+    uint64_t lods;                  /* Bit n is set if a geometry has an LoD of class n: 0 to 4, and 5 for any other. */
+    struct cityseq_range ranges[3]; /* Its vertices, x, y and z, as the feature has them. */
 };
 
-/* The number of the library's interface: CITYSEQ_INTERFACE where it fits this file. */
+/* The number of the library's interface. It must equal CITYSEQ_INTERFACE. */
 uint32_t cityseq_interface(void);
 
-/* Judges the lines of a stream. The first reports are written to the room for them, as many as fit. */
+/* Judges the lines of a stream. It writes the first reports to `reports`, as many as fit. */
 struct cityseq_answer cityseq_check(const char *header, size_t header_length, const char *part, size_t part_length,
-                                    const struct cityseq_request *request, struct cityseq_report *reports, size_t reports_room);
+                                    const struct cityseq_request *request, struct cityseq_report *reports, size_t reports_room)
+    CITYSEQ_NOT_NULL(5);
 
-/* The same, and writes the header and the features that are kept, as they came, to output. Room for as many bytes as the header
- * and the part have is always enough.
+/* The same. It also writes the header and the kept features to `output`, byte for byte. Room for as many bytes as the header and
+ * the part have is always enough.
  *
- * Where the status is CITYSEQ_NO_ROOM, what was written is the output of the first `lines` lines, whole, and counts and reports
- * are of these. So a caller goes on after line `lines`: it calls again with the header and with what follows that line, and more
- * room. If `lines` is 0, the header itself did not fit. */
+ * After CITYSEQ_NO_ROOM, `output` has the output of the first `lines` lines, whole, and counts and reports are of these. So a
+ * caller goes on after line `lines`: it calls again with the header and the rest of the part, and more room. If `lines` is 0, the
+ * header did not fit. */
 struct cityseq_answer cityseq_filter(const char *header, size_t header_length, const char *part, size_t part_length,
                                      const struct cityseq_request *request, char *output, size_t output_room,
-                                     struct cityseq_report *reports, size_t reports_room);
+                                     struct cityseq_report *reports, size_t reports_room) CITYSEQ_NOT_NULL(5);
 
-/* Judges the lines of a stream, and tallies the features that are kept. The tally is that of the stream where the status is
- * CITYSEQ_COMPLETE or CITYSEQ_REFUSED. */
+/* Judges the lines of a stream, and tallies the kept features. After CITYSEQ_COMPLETE and CITYSEQ_REFUSED the tally is that of
+ * the stream, up to its end. */
 struct cityseq_answer cityseq_info(const char *header, size_t header_length, const char *part, size_t part_length,
                                    const struct cityseq_request *request, struct cityseq_tally *tally,
-                                   struct cityseq_report *reports, size_t reports_room);
+                                   struct cityseq_report *reports, size_t reports_room) CITYSEQ_NOT_NULL(5, 6);
 
-/* Judges the lines of a stream, and writes a record of each kept feature, in order, as many as fit. `kept` counts all of them, also
- * those that did not fit. After CITYSEQ_BAD_REQUEST and CITYSEQ_NO_MEMORY the records are as they were. */
+/* Judges the lines of a stream, and writes a record of each kept feature, in order, as many as fit. `kept` counts all of them.
+ * After CITYSEQ_BAD_REQUEST and CITYSEQ_NO_MEMORY the records are as they were. */
 struct cityseq_answer cityseq_features(const char *header, size_t header_length, const char *part, size_t part_length,
                                        const struct cityseq_request *request, struct cityseq_feature *features,
-                                       size_t features_room, struct cityseq_report *reports, size_t reports_room);
+                                       size_t features_room, struct cityseq_report *reports, size_t reports_room)
+    CITYSEQ_NOT_NULL(5);
 
-/* The answer for a header with the lines of two parts, by those for the header with each. The first part ends with an LF.
- * header_length is that of the calls: the output's length counts the header once. If the first answer is not CITYSEQ_COMPLETE it
- * is the answer for both. If nothing of the next part was judged, the answer has its status and code, with the counts of the
- * first. Counts stop at 2^64 - 1. */
+/* The answer for a header with the lines of two parts, from the answers for the header with each. The first part ends with an LF.
+ * `header_length` is that of the calls, since the length of the output counts the header once. If the first answer is not
+ * CITYSEQ_COMPLETE, it is the answer for both. If nothing of the next part was judged, the answer has its status and code, with
+ * the counts of the first. Counts stop at 2^64 - 1. */
 struct cityseq_answer cityseq_answer_then(const struct cityseq_answer *first, const struct cityseq_answer *next,
-                                          size_t header_length);
+                                          size_t header_length) CITYSEQ_NOT_NULL(1, 2);
 
-/* The tally for a header with the lines of two parts, by those for the header with each, of which the first is complete. A tally
- * of zeros joined with another is that other. Counts stop at 2^64 - 1. */
-struct cityseq_tally cityseq_tally_then(const struct cityseq_tally *first, const struct cityseq_tally *next);
+/* The tally for a header with the lines of two parts, from the tallies for the header with each. The first part is complete. A
+ * tally of zeros joined with another is that other. Counts stop at 2^64 - 1. */
+struct cityseq_tally cityseq_tally_then(const struct cityseq_tally *first, const struct cityseq_tally *next)
+    CITYSEQ_NOT_NULL(1, 2);
 
-/* Where to cut a part of about `wanted` bytes from what follows a header: after the last LF among the first `wanted` bytes; else
- * after the first LF; else 0, as no line ends. */
+/* Where to cut a part of about `wanted` bytes: after the last LF among the first `wanted` bytes, else after the first LF. It is 0
+ * if there is no LF. */
 size_t cityseq_part_end(const char *part, size_t length, size_t wanted);
 
-/* Writes the words of a reason, in ASCII and without a NUL, as far as they fit, and answers how many bytes they have: 0 where no
+/* Where the line of this number begins in a header and a part, in bytes from the beginning of the header. If there is no such
+ * line, it is the end of the part. It is 0 if the header is not one line (CITYSEQ_NO_LINE). */
+uint64_t cityseq_line_begin(const char *header, size_t header_length, const char *part, size_t part_length, uint64_t line);
+
+/* Writes the words of a reason as far as they fit, in ASCII and without a NUL. It returns how many bytes they have, and 0 if no
  * reason has this code. */
 size_t cityseq_reason_text(uint64_t code, char *text, size_t room);
 
-/* Writes the name of a type of city objects, by its number from 0 to CITYSEQ_TYPES - 1, in the same way. */
+/* Writes the name of a city object type in the same way, from its number, 0 to CITYSEQ_TYPES - 1. */
 size_t cityseq_type_name(uint64_t number, char *text, size_t room);
 
 /* Writes the version of the library, as 1.2.3, in the same way. */

@@ -8,9 +8,13 @@
 //         ;
 //     cityseq::answer answer = stream.finish();
 //
-// Errors are exceptions: bad_request for a request that cannot be asked, std::bad_alloc where
-// memory was refused, and whatever a callback throws. An invalid line is no error: the answer and
-// the reports tell it.
+// Errors are exceptions:
+//
+// - bad_request, if a request is wrong.
+// - std::bad_alloc, if no memory was granted.
+// - Whatever a callback throws.
+//
+// An invalid line is no error. The answer and the reports show it.
 #ifndef CITYSEQ_HPP
 #define CITYSEQ_HPP
 
@@ -35,7 +39,7 @@ using answer = ::cityseq_answer;
 using report = ::cityseq_report;
 using tally = ::cityseq_tally;
 
-// A request that cannot be asked: code() is a cityseq_fault.
+// A request is wrong. code() returns a cityseq_fault.
 class bad_request : public std::invalid_argument {
   public:
     explicit bad_request(std::uint32_t code)
@@ -50,7 +54,8 @@ class bad_request : public std::invalid_argument {
 
 namespace detail {
 
-// The text that a call copies to room as far as it fits.
+// Returns the text that `call` writes. The call writes it as far as it fits, and returns how many
+// bytes it has.
 template <typename Call> std::string copied(Call call) {
     std::string text(call(nullptr, std::size_t{0}), '\0');
     call(text.data(), text.size());
@@ -59,18 +64,19 @@ template <typename Call> std::string copied(Call call) {
 
 } // namespace detail
 
-// The version of the library.
+// Returns the version of the library.
 inline std::string version() {
     return detail::copied(::cityseq_version);
 }
 
-// The words of a reason; empty where no reason has this code.
+// Returns the words of a reason. They are empty if no reason has this code.
 inline std::string reason_text(std::uint64_t code) {
     return detail::copied(
         [=](char *text, std::size_t room) { return ::cityseq_reason_text(code, text, room); });
 }
 
-// The name of a type of city objects, by its place in tally::types; empty where no type has it.
+// Returns the name of a city object type, by its place in tally::types. It is empty if no type has
+// this place.
 inline std::string type_name(std::uint64_t number) {
     return detail::copied(
         [=](char *text, std::size_t room) { return ::cityseq_type_name(number, text, room); });
@@ -82,21 +88,23 @@ class request {
   public:
     using texts = std::vector<std::string>;
 
-    // The most bytes of a line, without its LF.
+    // Sets the most bytes of a line without its LF.
     request &line_limit(std::uint64_t bytes) { return line_limit_ = bytes, *this; }
-    // The most arrays and objects that are open at once.
+    // Sets the most arrays and objects that are open at once.
     request &depth_limit(std::uint64_t depth) { return depth_limit_ = depth, *this; }
-    // Whether an invalid line after the header is reported, and the next one read.
+    // Sets whether an invalid line after the header is reported, and reading goes on.
     request &keep_going(bool on = true) { return keep_going_ = on, *this; }
-    // Whether each city object must be reached from the main one of its feature.
+    // Sets whether each city object must be reached from the feature's main one.
     request &tree(bool on = true) { return tree_ = on, *this; }
-    // Whether the features that satisfy the query are left out, and all others kept.
+    // Sets whether the features that satisfy the query are left out, and all others kept.
     request &exclude(bool on = true) { return exclude_ = on, *this; }
-    // One of these ids, types or LoDs. A text with an LF is a std::invalid_argument.
+    // The id must be one of these. Some city object must have one of these types. Some geometry
+    // must have one of these LoDs, spelled the same. Each throws std::invalid_argument if a text
+    // has an LF.
     request &ids(const texts &wanted) { return ids_.set(wanted), *this; }
     request &types(const texts &wanted) { return types_.set(wanted), *this; }
     request &lods(const texts &wanted) { return lods_.set(wanted), *this; }
-    // Some vertices in the box: "minx,miny,maxx,maxy", exact decimals.
+    // Some vertices must be in the box "minx,miny,maxx,maxy". Its numbers are exact decimals.
     request &box(std::string edges) {
         box_.asked = true;
         box_.text = std::move(edges);
@@ -106,8 +114,8 @@ class request {
     std::uint64_t line_limit() const noexcept { return line_limit_; }
     bool keep_going() const noexcept { return keep_going_; }
 
-    // The request for the calls of cityseq.h. It points into this one, and is good until this one
-    // changes or ends.
+    // Returns the request for the calls of cityseq.h. It points into this one, and is valid until
+    // this one changes or ends.
     ::cityseq_request raw() const noexcept {
         ::cityseq_request raw = CITYSEQ_USUAL;
         raw.line_limit = line_limit_;
@@ -145,7 +153,7 @@ class request {
                     joined += '\n';
                 joined += one;
             }
-            // No byte at all means no text, so the empty text alone is told by two of them.
+            // A length of 0 means no text. So the empty text alone becomes two empty texts.
             if (joined.empty() && !wanted.empty())
                 joined = "\n";
             asked = true;
@@ -159,37 +167,37 @@ class request {
     part ids_, types_, lods_, box_;
 };
 
-// Takes whole lines of the output, one or more, the header first. The text is valid during the call
-// alone.
+// Takes whole lines of the output, one or more, the header first. The text is valid only during the
+// call.
 using kept_lines = std::function<void(std::string_view lines)>;
 
-// Takes a report of an invalid line after which reading goes on. Its line is the number in the
-// stream.
+// Takes the report of an invalid line after which reading goes on. Its `line` and `begin` count
+// from the beginning of the stream.
 using told_report = std::function<void(const report &)>;
 
-// A stream that comes in pieces, cut anywhere. It judges whole lines, part by part, where a part
-// has about `part_length` bytes, and calls back after each part, in the order of the lines.
+// A stream that comes in pieces, cut anywhere. It judges whole lines, in parts of about
+// `part_length` bytes. It calls back after each part, in the order of the lines.
 //
-// However long the stream and its lines are, it holds at most part_length + 2 * line_limit + 4
-// bytes of them, as much again for the output, and the reports of a part. An exception that leaves
-// it, as that of a callback, ends it for good.
+// It holds at most part_length + 2 * line_limit + 4 bytes of the stream, and the same number of
+// bytes for the output. It also holds the reports of a part. This is so for streams and lines of
+// any length. An exception that leaves it, also one of a callback, ends it for good.
 class stream {
   public:
     static constexpr std::size_t usual_part = std::size_t{1} << 20;
 
-    // A stream whose lines are judged.
+    // Returns a stream whose lines are judged.
     static stream checking(request asked, told_report reported = {},
                            std::size_t part_length = usual_part) {
         return {mode::checks, std::move(asked), {}, std::move(reported), part_length};
     }
 
-    // A stream whose header and kept features go to a callback, as they came.
+    // Returns a stream whose header and kept features go to a callback, byte for byte.
     static stream filtering(request asked, kept_lines kept, told_report reported = {},
                             std::size_t part_length = usual_part) {
         return {mode::filters, std::move(asked), std::move(kept), std::move(reported), part_length};
     }
 
-    // A stream whose kept features are tallied.
+    // Returns a stream whose kept features are tallied.
     static stream tallying(request asked, told_report reported = {},
                            std::size_t part_length = usual_part) {
         return {mode::tallies, std::move(asked), {}, std::move(reported), part_length};
@@ -200,8 +208,8 @@ class stream {
     stream(const stream &) = delete;
     stream &operator=(const stream &) = delete;
 
-    // Takes a piece of the stream. Answers whether more is wanted: not after an invalid line that
-    // is the end.
+    // Takes a piece of the stream. Returns whether the stream can go on. It cannot after an invalid
+    // line that is the end.
     bool feed(std::string_view piece) {
         leave_unless_done guard(*this);
         while (!piece.empty() && state_ != state::ended)
@@ -210,7 +218,7 @@ class stream {
         return state_ != state::ended;
     }
 
-    // Ends the stream, and answers what came of all of it, however often it is called.
+    // Ends the stream, and returns the answer for all of it. A later call returns the same answer.
     answer finish() {
         leave_unless_done guard(*this);
         if (state_ != state::ended && (!judged_ || !part_.empty()))
@@ -220,7 +228,7 @@ class stream {
         return answer_;
     }
 
-    // What was tallied so far.
+    // Returns the tally so far.
     const cityseq::tally &tallied() const noexcept { return tally_; }
 
   private:
@@ -231,15 +239,15 @@ class stream {
         : mode_(how), asked_(std::move(asked)), kept_(std::move(kept)),
           reported_(std::move(reported)), part_length_(std::max<std::size_t>(part_length, 1)),
           most_(static_cast<std::size_t>(asked_.line_limit()) + 1) {
-        // Nothing at all is judged first, for what is wrong with the request.
+        // An empty stream is judged first, to find what is wrong with the request.
         const ::cityseq_request raw = asked_.raw();
         throw_unless_judged(::cityseq_check(nullptr, 0, nullptr, 0, &raw, nullptr, 0));
         if (reported_)
             reports_.resize(64);
     }
 
-    // Marks a stream that an exception leaves: its callbacks have got some of what came of a part,
-    // and not all.
+    // Marks a stream that an exception leaves. Its callbacks may have got some of the results of a
+    // part, and not all.
     class leave_unless_done {
       public:
         explicit leave_unless_done(stream &of) : of_(of) {
@@ -266,18 +274,19 @@ class stream {
             throw std::bad_alloc();
     }
 
-    // The bytes up to the first LF and with it, or all.
+    // Returns the number of bytes up to and with the first LF, or of all if there is no LF.
     static std::size_t line_end(std::string_view piece) noexcept {
         const std::size_t lf = piece.find('\n');
         return lf == std::string_view::npos ? piece.size() : lf + 1;
     }
 
-    // Adds the bytes of a line to what has begun of it. Of a line that is longer than the limit a
-    // byte more tells so, and what follows changes nothing.
+    // Adds bytes to the line that has begun. It keeps at most one byte more than the line limit.
+    // With that byte the line is too long, so the bytes after it change nothing.
     void append(std::string &text, std::string_view bytes) {
         const bool ends = bytes.back() == '\n';
         const std::size_t taken = std::min(bytes.size() - ends, most_ - begun_);
         text.append(bytes.data(), taken);
+        left_out_ += bytes.size() - ends - taken;
         begun_ += taken;
         if (ends) {
             text += '\n';
@@ -285,7 +294,7 @@ class stream {
         }
     }
 
-    // Whether the line that has begun is longer than the limit, so that it is the end.
+    // Returns whether the line that has begun is too long, and therefore the end.
     bool is_refused() const noexcept {
         return begun_ == most_ && (!has_header_ || !asked_.keep_going());
     }
@@ -306,16 +315,17 @@ class stream {
             whole_ = part_.size();
         if (is_refused())
             judge(part_.size());
-        else if (whole_ >= part_length_)
+        else if (whole_ >= part_length_ || (begun_ == 0 && left_out_ > 0))
             judge(whole_);
         return taken;
     }
 
-    // Judges the header and so many bytes of the part, and calls back.
+    // Judges the header and the first `length` bytes of the part, and calls back.
     void judge(std::size_t length) {
         const answer got = call(length);
         throw_unless_judged(got);
         const std::uint64_t before = judged_ ? answer_.lines - 1 : 0;
+        const std::uint64_t bytes = judged_bytes_;
         const std::size_t front = judged_ ? header_.size() : 0;
         answer_ = judged_ ? ::cityseq_answer_then(&answer_, &got, header_.size()) : got;
         if (got.status != CITYSEQ_COMPLETE)
@@ -324,10 +334,13 @@ class stream {
             tally_ = ::cityseq_tally_then(&tally_, &part_tally_);
         judged_ = true;
         part_.erase(0, length);
+        judged_bytes_ += length + left_out_;
+        left_out_ = 0;
         whole_ = 0;
         for (std::size_t i = 0; reported_ && i < got.refused; i++) {
             report one = reports_[i];
             one.line += before;
+            one.begin += bytes;
             reported_(one);
         }
         if (kept_ && got.written > front)
@@ -335,7 +348,7 @@ class stream {
                                                    static_cast<std::size_t>(got.written) - front));
     }
 
-    // Calls the library, once more where there was not room for all reports.
+    // Calls the library. If not all reports fitted, it makes room for them and calls again.
     answer call(std::size_t length) {
         answer got = call_once(length);
         if (reported_ && got.refused > reports_.size()) {
@@ -365,22 +378,24 @@ class stream {
     kept_lines kept_;
     told_report reported_;
     std::size_t part_length_;
-    std::size_t most_;      // the most bytes that are held of a line's content
-    std::string header_;    // the header, or what has begun of it
-    std::string part_;      // the lines after those that were judged, and a begun one
-    std::size_t begun_ = 0; // the bytes of the line that has begun
-    std::size_t whole_ = 0; // the bytes of the whole lines of the part
+    std::size_t most_;      // The most bytes that are held of a line's content.
+    std::string header_;    // The header, or its first bytes.
+    std::string part_;      // The lines after those that were judged, and a begun one.
+    std::size_t begun_ = 0; // The bytes of the line that has begun.
+    std::size_t whole_ = 0; // The bytes of the whole lines of the part.
+    std::uint64_t left_out_ = 0;     // The bytes of a line of the part that are not held.
+    std::uint64_t judged_bytes_ = 0; // The bytes of all parts that were judged.
     std::string output_;
     std::vector<report> reports_;
-    bool has_header_ = false; // whether LF has ended the header
-    bool judged_ = false;     // whether a part was judged
+    bool has_header_ = false; // Whether an LF has ended the header.
+    bool judged_ = false;     // Whether a part was judged.
     state state_ = state::open;
     answer answer_ = {};
     cityseq::tally tally_ = {}, part_tally_ = {};
 };
 
-// Feeds what an input has, up to its end or that of the stream, and finishes. A failed read is a
-// std::ios_base::failure.
+// Feeds an input to a stream, up to the end of one of them, and finishes the stream. A failed read
+// throws std::ios_base::failure.
 inline answer read(stream &to, std::istream &from) {
     std::vector<char> piece(std::size_t{1} << 16);
     bool more = true;
@@ -393,14 +408,14 @@ inline answer read(stream &to, std::istream &from) {
     return to.finish();
 }
 
-// A whole stream that lies in memory: judged,
+// Judges a whole stream that lies in memory.
 inline answer check(std::string_view text, request asked = {}, told_report reported = {}) {
     stream all = stream::checking(std::move(asked), std::move(reported));
     all.feed(text);
     return all.finish();
 }
 
-// filtered,
+// Filters a whole stream that lies in memory.
 inline answer filter(std::string_view text, kept_lines kept, request asked = {},
                      told_report reported = {}) {
     stream all = stream::filtering(std::move(asked), std::move(kept), std::move(reported));
@@ -408,7 +423,7 @@ inline answer filter(std::string_view text, kept_lines kept, request asked = {},
     return all.finish();
 }
 
-// and tallied.
+// Tallies a whole stream that lies in memory. Returns the answer and the tally.
 inline std::pair<answer, tally> info(std::string_view text, request asked = {},
                                      told_report reported = {}) {
     stream all = stream::tallying(std::move(asked), std::move(reported));

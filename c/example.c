@@ -1,12 +1,12 @@
-/* Checks a stream in a file, and tells the first invalid line: example FILE
+/* Checks a stream in a file, and prints the first invalid line: example FILE
  *
- * It reads the file and does not map it: what a call is given must not change until it returns. */
+ * It reads the file and does not map it: what a call reads must not change before it returns. */
 #include "cityseq.h"
 #include <stdio.h>
 #include <stdlib.h>
 #include <string.h>
 
-/* Reads a file whole. The bytes are for the caller to free, and NULL where they could not be read. */
+/* Reads a whole file. The caller frees the bytes. Returns NULL if they could not be read. */
 static char *read_file(const char *name, size_t *length)
 {
     FILE *file = fopen(name, "rb");

@@ -19,8 +19,8 @@ set_epoch
 maintainer=$(commit_line 2)
 [ -z "${DEBEMAIL:-}" ] || maintainer="${DEBFULLNAME:-cityseq} <$DEBEMAIL>"
 
-# Copies what the packages are made of. Debian's tools write beside the tree and stop at odd names,
-# so this is not done in place.
+# Copies what the packages are made of. Debian's tools write next to the folder of the sources and
+# stop at odd names, so this is not done in place.
 tree=$scratch/cityseq-$version
 mkdir -p "$tree" "$folder"
 cp --parents -r VERSION CHANGELOG.md README.md debian packaging docs examples/*.jsonl \

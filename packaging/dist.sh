@@ -4,8 +4,8 @@
 #
 #     packaging/dist.sh [FOLDER]      (out/dist if left out)
 #
-# The second one unpacks anywhere, with the program in bin/, the libraries in lib/, the headers in
-# include/, and the rest in share/. pkg-config and CMake find the library there, by their own files.
+# The second one unpacks anywhere. It has the program in bin/, the libraries in lib/, the headers in
+# include/, and the rest in share/. By their own files, pkg-config and CMake find the library there.
 set -eu
 folder=$(realpath -m -- "${1:-$(dirname "$0")/../out/dist}")
 . "$(dirname "$0")/common.sh"
@@ -25,7 +25,7 @@ name=cityseq-$version-linux-x86_64
 documents=$scratch/$name/share/doc/cityseq
 PREFIX=/$name DESTDIR=$scratch LIBDIR='' ZSHDIR='' RELOCATABLE=1 packaging/install.sh install
 mkdir -p "$documents/examples"
-cp README.md CHANGELOG.md SECURITY.md docs/GUIDE.md docs/REASONS.md docs/RULES.md \
+cp README.md CHANGELOG.md SECURITY.md docs/GUIDE.md docs/report.png docs/REASONS.md docs/RULES.md \
   docs/VERSIONS.md out/NOTICES "$documents/"
 cp c/example.c examples/*.city.jsonl "$documents/examples/"
 settle "$scratch/$name"

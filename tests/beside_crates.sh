@@ -1,5 +1,6 @@
-# Read by scripts that put a small program beside the crates: put_beside NAME CRATE.. copies the engine and all that it stands on into
-# the folder $scratch, and the program tests/NAME/main.rattle as a crate NAME, which uses these crates.
+# Read by scripts that need a small program with the crates. The function put_beside NAME CRATE..
+# copies the engine and all crates below it into the folder $scratch. It adds the program
+# tests/NAME/main.rattle as a crate NAME, which uses the named crates.
 libraries='cj_budget cj_decimal cj_spans cj_geometry cj_feature cj_stream'
 
 put_beside() {

@@ -1,7 +1,14 @@
 #!/usr/bin/env bash
-# Runs all that the gate leaves out, over the program and the outputs of the crates' checks: each call of the program failing in
-# turn with each vector by every cut, each kind of call of the crates that may be refused memory refused in turn, a run whose four
-# requests for memory are, and with --edits all edits of all crates. Its last line is 'N passed, M failed'.
+# Runs the trials that the gate leaves out, over the program and the outputs of the crates' checks:
+#
+# - The program, with each of its allocations refused, one after another.
+# - Each kind of call of the crates that may be refused memory, with its memory refused.
+# - A run of an engine, with each of its four requests for memory refused.
+# - The program with each vector, whole and with every cut.
+# - The program, with each of its reads and writes failing.
+# - With --edits, all edits of all crates.
+#
+# The last line is 'N passed, M failed'.
 #
 #     tests/beyond_the_gate.sh [--edits]
 set -u

@@ -1,11 +1,13 @@
-/* Preloaded into the program: it stands between it and the calls of read and write, and does to them what the environment asks.
+/* Preloaded into the program. It changes the calls of read and write as the environment asks.
 
-   READ_SIZE n   a read of the standard input gives at most n bytes
-   CUT n         no read of it goes past the byte n: the stream comes in two pieces
-   READ_FAILS n  the nth read of it fails, with the error READ_ERROR
-   WRITE_SIZE n  a write of the standard output takes at most n bytes; with 0 it takes none
-   WRITE_FAILS n from the nth on the writes of it fail, with no room left; ERROR_FAILS n the same of the standard error
-   COUNTED file  at the end the counts of reads, writes and writes of the standard error go there */
+   - READ_SIZE n: A read of the standard input gives at most n bytes.
+   - CUT n: No read of it goes past the byte n, so the stream comes in two pieces.
+   - READ_FAILS n: The nth read of it fails, with the error READ_ERROR.
+   - WRITE_SIZE n: A write of the standard output takes at most n bytes. With 0 it takes none.
+   - WRITE_FAILS n: From the nth on, the writes of it fail, with no room left.
+   - ERROR_FAILS n: The same for the standard error.
+   - COUNTED file: At the end this file gets the counts of reads, writes, and writes of the standard
+     error. */
 #define _GNU_SOURCE
 #include <dlfcn.h>
 #include <errno.h>

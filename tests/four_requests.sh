@@ -1,12 +1,13 @@
 #!/usr/bin/env bash
-# Runs over a stream of a header and a feature with a sink that counts, at the usual limits, with each request for memory
-# refused in turn: that run makes four. Each of these refused ends it as out of memory, with no line dealt with and nothing
-# put to the sink. A fifth is never made, so to refuse it changes nothing. The last line is 'N passed, M failed'.
+# Runs over a stream of a header and a feature, with a sink that counts, at the usual limits. Such a
+# run makes four requests for memory. The script refuses one of them in each run. The run must then
+# end as out of memory, with no line handled and nothing put to the sink. A run makes no fifth
+# request, so to refuse that changes nothing. The last line is 'N passed, M failed'.
 #
 #     tests/four_requests.sh
 #
-# It copies the crates beside a small program (four_requests/main.rattle) into a folder of its own, and proves nothing
-# (`rt try`). Each of the six runs takes some 30 s. It is no part of the gate.
+# It copies the crates and a small program (four_requests/main.rattle) into a folder of its own, and
+# proves nothing (`rt try`). Each of the six runs takes some 30 s. It is no part of the gate.
 set -uo pipefail
 cd "$(dirname "$0")/.." || exit
 
@@ -41,7 +42,7 @@ goes_well() {
   has "peaks 350 65 8"
 }
 
-# lacks_memory PEAKS: the last run ended as out of memory, with nothing put, after it had held so much
+# lacks_memory PEAKS: the last run ended as out of memory, with nothing put, and with these peaks
 lacks_memory() {
   has "lines 0 kept 0 end Memory"
   has "headers 0 features 0"
@@ -51,7 +52,7 @@ lacks_memory() {
 
 run_once
 goes_well
-# The first two are asked for by `open`, and so before a byte is read; the others when the header is valid.
+# `open` makes the first two requests, before a byte is read. The others come after a valid header.
 for request in 1 2; do
   run_once "$request"
   lacks_memory "0 0 0"

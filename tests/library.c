@@ -3,9 +3,16 @@
  *     library LINE_LIMIT DEPTH [OPTION..] < STREAM     options as the program has them
  *     library rows                                     rows of requests that are wrong, of little room, and of many threads
  *
- * The stream is filtered and tallied as a header and one part; as a header and two parts, cut behind each LF; and as a header
- * and a part for each line. The answers of the parts, joined, have to be that of the one part. It is also filtered into too little
- * room, and gone on with from there. It prints the answer of the one part, the reports, and the output. Its status is 0 where all is the same, and 1 with a line on standard error where something differs. */
+ * It filters and tallies the stream in three ways:
+ *
+ * - As a header and one part.
+ * - As a header and two parts, cut after each LF.
+ * - As a header and a part for each line.
+ *
+ * The joined answers of the parts must be the answer of the one part. It also filters into too
+ * little room, and goes on from there. It prints the answer of the one part, the reports, and the
+ * output. Its status is 0 if all is the same. If something differs, it is 1, with a line on
+ * standard error. */
 #include "../c/cityseq.h"
 #include <pthread.h>
 #include <stdio.h>
@@ -14,12 +21,20 @@
 
 enum { threads = 8, rounds = 50, rooms = 9 };
 
-/* What came of a stream, joined of parts. */
+/* This number of the interface must keep these sizes. A library may replace another of the same
+ * number, and its callers are not built again. */
+_Static_assert(CITYSEQ_INTERFACE == 2, "the sizes below are those of interface 2");
+_Static_assert(sizeof(struct cityseq_request) == 88 && sizeof(struct cityseq_report) == 32, "sizes");
+_Static_assert(sizeof(struct cityseq_answer) == 80 && sizeof(struct cityseq_feature) == 144, "sizes");
+_Static_assert(sizeof(struct cityseq_tally) == 544, "sizes");
+
+/* The results for a stream, joined from its parts. */
 struct joined {
     struct cityseq_answer answer;
     struct cityseq_tally tally;
     struct cityseq_report *reports;
     char *output;
+    uint64_t bytes; /* of the parts */
 };
 
 struct text {
@@ -41,6 +56,7 @@ static struct joined judge(struct text header, struct text part, const struct ci
     struct joined found;
     size_t lines = 1, length = header.length + part.length;
     memset(&found, 0, sizeof found);
+    found.bytes = part.length;
     for (size_t i = 0; i < part.length; i++)
         lines += part.bytes[i] == '\n';
     found.reports = room(sizeof *found.reports * (lines + 1));
@@ -61,7 +77,7 @@ static struct joined judge(struct text header, struct text part, const struct ci
     return found;
 }
 
-/* Joins what came of the parts so far with what came of the next one. */
+/* Joins the results of the parts so far with those of the next part. */
 static void join(struct joined *all, struct joined next, size_t header)
 {
     uint64_t before = all->answer.lines - 1, reports = all->answer.refused, written = all->answer.written;
@@ -74,7 +90,9 @@ static void join(struct joined *all, struct joined next, size_t header)
     for (uint64_t i = 0; i < next.answer.refused; i++) {
         all->reports[reports + i] = next.reports[i];
         all->reports[reports + i].line += before;
+        all->reports[reports + i].begin += all->bytes;
     }
+    all->bytes += next.bytes;
     if (next.answer.written)
         memcpy(all->output + written, next.output + header, next.answer.written - header);
     free(next.reports);
@@ -87,7 +105,7 @@ static void forget(struct joined found)
     free(found.output);
 }
 
-/* Whether both are the same. The peaks of a stream that was refused are only bounded. */
+/* Whether both are the same. The peaks of a stream with an invalid line are only bounded. */
 static int same(const struct joined *a, struct joined b)
 {
     if (b.answer.status != CITYSEQ_COMPLETE) {
@@ -115,7 +133,7 @@ static struct joined judge_parts(struct text header, struct text rest, const siz
     return all;
 }
 
-/* Where the first lines of a header and the rest end, in the rest. */
+/* Where the first lines of a stream end, in bytes after the header. */
 static size_t end_of_lines(struct text rest, uint64_t lines)
 {
     size_t at = 0;
@@ -126,8 +144,8 @@ static size_t end_of_lines(struct text rest, uint64_t lines)
     return at;
 }
 
-/* Whether a filter with too little room tells of its first lines what a filter of these alone tells, and whether what follows
- * them gives the rest of the output. */
+/* Whether a filter with too little room gives for its first lines what a filter of these alone
+ * gives. The lines after them must give the rest of the output. */
 static int goes_on(struct text header, struct text rest, const struct cityseq_request *request, const struct joined *whole,
                    const struct joined *little)
 {
@@ -202,7 +220,7 @@ static void show(const struct joined *found)
     fwrite(found->output, 1, a.written, stdout);
 }
 
-/* Texts with commas between them, with LFs between them instead. */
+/* Returns texts with LFs between them, from texts with commas between them. */
 static const char *with_lfs(const char *word)
 {
     char *text = room(strlen(word));
@@ -212,7 +230,8 @@ static const char *with_lfs(const char *word)
     return text;
 }
 
-/* Takes an option of the program, with the word behind it if it has one. It answers how many words it took. */
+/* Takes an option of the program, with the word after it if it has one. Returns how many words it
+ * took. */
 static int take_option(struct cityseq_request *request, const char *word, const char *next)
 {
     if (!strcmp(word, "--tree"))
@@ -344,7 +363,7 @@ static void queries(void)
 static void little_room(void)
 {
     struct cityseq_request r = CITYSEQ_USUAL;
-    struct cityseq_report reports[2] = {{7, 7, 7}, {7, 7, 7}};
+    struct cityseq_report reports[2] = {{7, 7, 7, 7}, {7, 7, 7, 7}};
     char part[400], out[400];
     size_t header = strlen(header_line), good = strlen(good_line), length;
     length = (size_t)snprintf(part, sizeof part, "{\n%s[\n", good_line);
@@ -361,11 +380,11 @@ static void little_room(void)
     row("no room", a.status == CITYSEQ_NO_ROOM && a.written == 0 && a.lines == 0 && a.refused == 0);
 }
 
-/* Whether a call that judged nothing left all as it was, and tells nothing but a status and a code. */
+/* Whether a call that judged nothing left all as it was, and answers only a status and a code. */
 static int is_untouched(struct cityseq_answer answer, const char *out, size_t length, const struct cityseq_report *report,
                         const struct cityseq_tally *tally)
 {
-    static const struct cityseq_report seven = {7, 7, 7};
+    static const struct cityseq_report seven = {7, 7, 7, 7};
     struct cityseq_answer nothing = {0};
     struct cityseq_tally sevens;
     nothing.status = answer.status, nothing.code = answer.code;
@@ -380,7 +399,7 @@ static int is_untouched(struct cityseq_answer answer, const char *out, size_t le
 static void nothing_judged(void)
 {
     struct cityseq_request r = CITYSEQ_USUAL;
-    struct cityseq_report report = {7, 7, 7};
+    struct cityseq_report report = {7, 7, 7, 7};
     struct cityseq_tally tally;
     char out[400];
     size_t header = strlen(header_line), good = strlen(good_line);
@@ -397,7 +416,8 @@ static void nothing_judged(void)
 
 static int are_same(struct cityseq_answer a, struct cityseq_answer b) { return !memcmp(&a, &b, sizeof a); }
 
-/* Joins where the next part ends before it was judged, or before its header was written. */
+/* Joins where the next part was not judged, where its header did not fit, or where it has an
+ * invalid line. */
 static void joins(void)
 {
     struct cityseq_request r = CITYSEQ_USUAL;
@@ -422,7 +442,37 @@ static void joins(void)
     row("nothing after that either", are_same(cityseq_answer_then(&all, &first, header), all));
 }
 
-/* Where a part ends, byte by byte. */
+static int is_number(struct cityseq_decimal n, unsigned negative, uint64_t high, uint64_t low, int power)
+{
+    return n.negative == negative && n.high == high && n.low == low && n.power == power;
+}
+
+/* The numbers of the transform, with their signs, their powers, and all of their 36 digits. */
+static void transforms(void)
+{
+    static const char header[] =
+        "{\"type\":\"CityJSON\",\"version\":\"2.0\",\"transform\":{\"scale\":[0.001,1e-18,-2.50],"
+        "\"translate\":[0,85000,123456789012345678901234567890.123456]},\"CityObjects\":{},\"vertices\":[]}\n";
+    struct cityseq_request r = CITYSEQ_USUAL;
+    struct cityseq_tally tally, empty, other;
+    size_t length = strlen(good_line);
+    cityseq_info(header, sizeof header - 1, good_line, length, &r, &tally, NULL, 0);
+    row("a transform", tally.transformed == 1 && tally.features == 1);
+    row("scales", is_number(tally.scale[0], 0, 0, 1, -3) && is_number(tally.scale[1], 0, 0, 1, -18) &&
+                      is_number(tally.scale[2], 1, 0, 25, -1));
+    row("translations", is_number(tally.translate[0], 0, 0, 0, 0) && is_number(tally.translate[1], 0, 0, 85, 3) &&
+                            is_number(tally.translate[2], 0, 6692605942763486u, 16927977054893030080u, -6));
+    cityseq_info("{}\n", 3, good_line, length, &r, &empty, NULL, 0);
+    row("no transform of an invalid header", !empty.transformed && is_number(empty.scale[0], 0, 0, 0, 0));
+    memset(&empty, 0, sizeof empty), other = cityseq_tally_then(&empty, &tally);
+    row("no tally, and then one", !memcmp(&other, &tally, sizeof other));
+    other = cityseq_tally_then(&tally, &tally);
+    row("one transform of two parts", other.features == 2 && other.transformed == 1 &&
+                                          !memcmp(other.scale, tally.scale, sizeof other.scale) &&
+                                          !memcmp(other.translate, tally.translate, sizeof other.translate));
+}
+
+/* Returns where a part ends. It looks at one byte after another. */
 static size_t slow_part_end(const char *part, size_t length, size_t wanted)
 {
     size_t first = 0, last = 0;
@@ -434,7 +484,7 @@ static size_t slow_part_end(const char *part, size_t length, size_t wanted)
     return last ? last : first;
 }
 
-/* All texts of up to ten bytes, each an LF or none. */
+/* All parts of up to ten bytes, in which each byte is an LF or an x. */
 static void part_ends(void)
 {
     char part[10];
@@ -449,7 +499,22 @@ static void part_ends(void)
     row("ends of parts", !wrong && cityseq_part_end("\n", 1, SIZE_MAX) == 1);
 }
 
-/* Pointers that are NULL, where there is nothing at them. */
+/* Where lines begin: of a header and lines of 0 to 3 bytes, with and without the last LF. */
+static void line_begins(void)
+{
+    static const char part[] = "\na\nbc\ndef\n";
+    static const uint64_t begins[] = {0, 0, 3, 4, 6, 9};
+    int wrong = 0;
+    for (uint64_t line = 0; line < 6; line++)
+        wrong += cityseq_line_begin("{}\n", 3, part, sizeof part - 1, line) != begins[line];
+    row("lines begin", !wrong);
+    row("no such line", cityseq_line_begin("{}\n", 3, part, 10, 6) == 13 &&
+                            cityseq_line_begin("{}\n", 3, part, 9, UINT64_MAX) == 12);
+    row("a header alone", cityseq_line_begin("{}", 2, NULL, 0, 1) == 0 && cityseq_line_begin("{}", 2, NULL, 0, 2) == 2);
+    row("no header", cityseq_line_begin("{}", 2, part, 10, 3) == 0 && cityseq_line_begin(NULL, 0, NULL, 0, 2) == 0);
+}
+
+/* NULL for pointers to no bytes, no reports and no texts. */
 static void nulls(void)
 {
     struct cityseq_request r = CITYSEQ_USUAL;
@@ -568,7 +633,9 @@ int main(int count, char **words)
     little_room();
     nothing_judged();
     joins();
+    transforms();
     part_ends();
+    line_begins();
     nulls();
     reason_texts();
     texts();

@@ -1,11 +1,11 @@
 #!/usr/bin/env bash
-# Tries the library for C: builds it, and runs the example and the tests in C and in C++ over it, under valgrind and sanitizers too
-# where these are there.
+# Tries the library for C. It builds the library, and runs the example and the tests in C and C++
+# over it. It also runs them under valgrind and sanitizers, if these are installed.
 #
 #     tests/library.sh [PROGRAM [--after-gate]]
 #
-# PROGRAM is the built program, crates/cityseq/out/cityseq if none is given; the option is that of c/build.sh. The last line is
-# 'N passed, M failed', and the status is 0 where all passed.
+# PROGRAM is the built program, crates/cityseq/out/cityseq if none is given. The option is that of
+# c/build.sh. The last line is 'N passed, M failed', and the status is 0 if all passed.
 set -u
 cd "$(dirname "$0")/.." || exit
 program=$(realpath -e -- "${1:-crates/cityseq/out/cityseq}") || exit
@@ -15,7 +15,7 @@ passed=0 failed=0
 compiler=${CC:-cc}
 strict='-std=c11 -Wall -Wextra -Werror -O2 -D_GNU_SOURCE'
 
-# Counts a command as passed if its status is 0, and shows what it printed else.
+# Counts a command as passed if its status is 0. Otherwise it shows what the command printed.
 row() {
   local name=$1
   shift
@@ -44,7 +44,7 @@ count() {
   fi
 }
 
-# Whether the example says of a stream what the program says, with the same status.
+# Whether the example prints for a stream what the program prints, with the same status.
 example_agrees() {
   local wanted status
   "$scratch/example" "$1" > "$scratch/example_said"
@@ -72,6 +72,8 @@ done
 row 'the example on no file' eval '! "$scratch/example" "$scratch/none"'
 count "$scratch/library" rows
 count "$scratch/shared" rows
+row 'the tests of the stack are compiled' "$compiler" $strict tests/library_stack.c c/out/libcityseq.a -pthread -o "$scratch/stack"
+count "$scratch/stack"
 cpp_compiler=${CXX:-c++}
 strict_cpp='-std=c++17 -Wall -Wextra -Wpedantic -Werror -O1 -g'
 if ! command -v "$cpp_compiler" > "$scratch/unread"; then

@@ -1,9 +1,9 @@
 // Tries c/cityseq.hpp: library_stream FOLDER..
 //
-// Each stream in the folders (*.jsonl) is given to cityseq::stream by random requests, as pieces of
-// random lengths and by parts of random lengths. What comes of it has to be what cityseq.h answers
-// for the whole: the answer, the reports, the output and the tally. Rows try requests, callbacks
-// that throw, long lines and files. The last line is 'N passed, M failed'.
+// It gives each stream in the folders (*.jsonl) to cityseq::stream, with random requests, and with
+// pieces and parts of random lengths. The answer, the reports, the output and the tally must be
+// those of cityseq.h for the whole stream. Rows try requests, callbacks that throw, long lines and
+// files. The last line is 'N passed, M failed'.
 #include "../c/cityseq.hpp"
 #include <cstdio>
 #include <cstring>
@@ -29,7 +29,7 @@ unsigned below(Chance &chance, unsigned n) {
     return static_cast<unsigned>(chance() % n);
 }
 
-// What came of a stream.
+// The results for a stream.
 struct Told {
     cityseq::answer answer = {};
     std::vector<cityseq::report> reports;
@@ -38,11 +38,10 @@ struct Told {
 };
 
 bool same(const cityseq::report &a, const cityseq::report &b) {
-    return a.line == b.line && a.place == b.place && a.code == b.code;
+    return a.line == b.line && a.begin == b.begin && a.place == b.place && a.code == b.code;
 }
 
-// Whether both are the same. Of what was held only a complete stream tells exactly, and without
-// reports that were passed over.
+// Returns whether both are the same. The peaks are compared only for a complete stream.
 bool same(const Told &whole, Told cut) {
     if (whole.answer.status != CITYSEQ_COMPLETE) {
         cut.answer.peak_bytes = whole.answer.peak_bytes;
@@ -56,7 +55,7 @@ bool same(const Told &whole, Told cut) {
                       cut.reports.end(), [](const auto &a, const auto &b) { return same(a, b); });
 }
 
-// The whole, by the calls of cityseq.h.
+// Returns the results for the whole stream, from the calls of cityseq.h.
 Told of_whole(const std::string &text, const cityseq::request &asked) {
     const cityseq_request raw = asked.raw();
     const std::size_t lf = text.find('\n'), header = lf == std::string::npos ? text.size() : lf + 1;
@@ -73,7 +72,7 @@ Told of_whole(const std::string &text, const cityseq::request &asked) {
     return told;
 }
 
-// Feeds it by pieces of random lengths, some of none.
+// Feeds a stream in pieces of random lengths. Some are empty.
 void feed(cityseq::stream &stream, const std::string &text, Chance &chance) {
     const unsigned most = 1 + below(chance, chance() % 2 ? 4 : 900);
     for (std::size_t at = 0; at < text.size();) {
@@ -84,7 +83,7 @@ void feed(cityseq::stream &stream, const std::string &text, Chance &chance) {
     }
 }
 
-// The same by pieces and parts of random lengths.
+// Returns the results for a stream in pieces and parts of random lengths.
 Told of_pieces(const std::string &text, const cityseq::request &asked, Chance &chance) {
     Told told;
     const auto kept = [&](std::string_view lines) { told.output += lines; };
@@ -231,8 +230,8 @@ void ends() {
     row("a tally", cityseq::info(header + feature).second.types[1] == 1);
 }
 
-// A line of 64 MB under a limit of 100 bytes ends a stream before it was fed whole, and is passed
-// over where reading goes on.
+// A line of 64 MB, with a limit of 200 bytes, ends a stream before all of it was fed. If reading
+// goes on, the line is counted and passed over.
 void long_lines() {
     const std::string piece(1 << 20, 'x');
     for (const bool going : {false, true}) {

@@ -1,7 +1,8 @@
 #!/usr/bin/env bash
-# The edges of the package's command: descriptors that are closed, memory and threads that are refused, outputs that would destroy
-# what is read, files that change, and signals. A row is a function named row_*; one that fails prints its name, what is wanted and
-# what came. The last line is 'N passed, M failed', and the status is 0 where all passed.
+# Tries the edges of the package's command: closed descriptors, refused memory and threads, and
+# signals. Others are outputs that would destroy the input, and files that change. A row is a
+# function named row_*. If it fails, it prints its name, what is wanted and what came. The last line
+# is 'N passed, M failed', and the status is 0 if all passed.
 #
 #     tests/package_edges.sh [PYTHON [ROW..]]      (python3, and all rows)
 set -u
@@ -26,7 +27,7 @@ cityseq() { timeout 60 "$python" -W ignore -m cityseq "$@"; }
 # Prints lines.
 lines() { printf '%s\n' "$@"; }
 
-# Prints the header, and so many features.
+# Prints the header, and that number of features.
 stream() {
   lines "$header"
   yes "$feature" | head -n "$1"

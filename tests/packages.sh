@@ -1,19 +1,31 @@
 #!/usr/bin/env bash
-# Installs the Debian packages that some tests need: distributed, zstandard, mypy and geopandas for Python, valgrind, for what
-# packages are made of mandoc, pkg-config and two shells, for indexes GDAL and nginx, and for the server what it stands on and what
-# asks it. It says what it could not install, and its status is 0 in any case. What needs such a package is left out then, and that
-# is said too.
+# Installs the Debian packages that some tests need: distributed, zstandard, mypy, psycopg2, geopandas,
+# Jinja2, matplotlib, jsonschema, aiohttp, pyproj and OWSLib for Python, PostgreSQL, GDAL, nginx, valgrind and a browser. Tests
+# of packages need mandoc, pkg-config and two shells. It prints what it could not install, and its
+# status is 0 in any case. A test without such a package is left out, and says so.
 set -u
 missing=()
-for package in python3-distributed python3-zstandard python3-mypy python3-geopandas python3-gdal gdal-bin nginx-light \
-  python3-aiohttp python3-jinja2 python3-pyproj python3-owslib python3-jsonschema curl valgrind mandoc pkg-config zsh fish; do
+for package in python3-distributed python3-zstandard python3-mypy python3-psycopg2 python3-geopandas python3-gdal \
+  python3-jinja2 python3-matplotlib python3-jsonschema \
+  python3-aiohttp python3-pyproj python3-owslib curl gdal-bin nginx-light postgresql valgrind mandoc pkg-config zsh fish; do
   dpkg -s "$package" > /dev/null 2>&1 || missing+=("$package")
 done
-[ ${#missing[@]} = 0 ] && exit 0
+# The browser takes 330 MB. It is installed by itself, so that the others are there without it.
+browser=(chromium)
+command -v chromium > /dev/null && browser=()
+[ $((${#missing[@]} + ${#browser[@]})) = 0 ] && exit 0
 if [ "$(id -u)" != 0 ] || ! command -v apt-get > /dev/null; then
-  echo "not installed, as this user may not: ${missing[*]}"
+  echo "not installed, as this user may not: ${missing[*]} ${browser[*]}"
   exit 0
 fi
 export DEBIAN_FRONTEND=noninteractive
-{ timeout 120 apt-get update && timeout 480 apt-get install -y --no-install-recommends "${missing[@]}"; } > /dev/null 2>&1 ||
-  echo "not installed, as that failed: ${missing[*]}"
+
+# Installs packages, or says that this failed.
+install() {
+  [ $# = 0 ] || timeout 480 apt-get install -y --no-install-recommends "$@" > /dev/null 2>&1 ||
+    echo "not installed, as that failed: $*"
+}
+
+timeout 120 apt-get update > /dev/null 2>&1
+install "${missing[@]}"
+install "${browser[@]}"

@@ -113,9 +113,9 @@ in_zsh() { tests/complete.zsh packaging/completions | sed 's/^.*[ ]\([^ ]\)/\1/;
 # Whether a shell completes these lines so.
 completes() {
   printf '%s\n' 'cityseq che' 'cityseq filter --ke' 'cityseq info --lin' 'cityseq help fil' \
-    'cityseq filter --type Road,TINR' 'cityseq-run exp' 'cityseq-run info --no-l' \
+    'cityseq filter --type Road,TINR' 'cityseq-run exp' 'cityseq-run info --lo' \
     'cityseq-run filter --output-d' 'cityseq-run filter --type Railw' > "$scratch/lines"
-  printf '%s\n' check --keep-going --line-limit filter Road,TINRelief explain --no-lods \
+  printf '%s\n' check --keep-going --line-limit filter Road,TINRelief explain --lods \
     --output-dir Railway > "$scratch/wanted"
   "$1" < "$scratch/lines" > "$scratch/completed" && diff "$scratch/wanted" "$scratch/completed"
 }

@@ -1,23 +1,26 @@
 #!/usr/bin/env bash
-# Rows over the built program: what it writes, what it says on standard error, and its status; the commands that the
-# documents show; and their names of code, links and lengths.
+# Rows over the built program: what it writes, what it prints on standard error, and its status.
+# Other rows try the commands that the documents show, and their names of code, links and lengths.
 #
 #     tests/program.sh [PROGRAM]
 #     tests/program.sh --package PYTHON
 #
-# With no PROGRAM it builds crates/cityseq, which is quick where nothing changed since the last build. With --package the command of
-# the Python package is tried by this Python in the program's place: it reads standard input where no file is named, and then has to
-# say and to answer the same. The rows that cannot hold of it are listed below, each with its reason. A row is a function
-# named row_*, or a block of a document that is marked `console`; a row that fails prints its name, what is wanted and what
-# came. The last line is 'N passed, M failed', and the status is 0 where all passed.
+# With no PROGRAM it builds crates/cityseq, which is quick if nothing changed since the last build.
+# With --package, it tries the command of the Python package with this Python, in place of the
+# program. That command reads standard input if no file is named, and then must print and return the
+# same. The rows that cannot hold for it are listed below, each with its reason.
+#
+# A row is a function named row_*, or a block of a document that is marked `console`. If it fails,
+# it prints its name, what is wanted and what came. The last line is 'N passed, M failed', and the
+# status is 0 if all passed.
 set -u
 cd "$(dirname "$0")/.." || exit
 
-limit=8388608 # the usual line limit, in bytes
-skipped=77    # what a row answers that this system cannot show
-documents='README.md docs/GUIDE.md docs/REASONS.md' # whose commands are run
-files=' < FILE' # what follows the options in the usage of a command
-package=false    # whether the command of the package is tried
+limit=8388608 # The usual line limit, in bytes.
+skipped=77    # The status of a row that this system cannot try.
+documents='README.md docs/GUIDE.md docs/REASONS.md' # Their commands are run.
+files=' < FILE' # What follows the options in the usage of a command.
+package=false    # Whether the command of the package is tried.
 
 # What does not hold of the package's command, and why.
 not_of_the_package='
@@ -124,20 +127,21 @@ long_line() {
 
 # ---- what is kept
 
-# The small streams of vectors/, each with what has to come of it.
+# The small streams of vectors/, each with its expected result.
 row_the_vectors() {
   python3 vectors/try.py cityseq "$program" > "$scratch/written"
   tail -n 1 "$scratch/written" | grep -qx '[0-9]* passed, 0 failed' || { tail -n 20 "$scratch/written"; return 1; }
 }
 
-# What says where another checker differs from them: here the program itself, which does not.
+# The script that reports where another checker differs from them. Here that is the program itself,
+# which does not differ.
 row_the_vectors_with_a_peer() {
   python3 vectors/try.py peer "$program" check --line-limit 1000 > "$scratch/written"
   tail -n 1 "$scratch/written" | grep -qx '[1-9][0-9]* vectors tried, 0 told otherwise' ||
     { tail -n 20 "$scratch/written"; return 1; }
 }
 
-# And one that takes all for valid: it is told otherwise by each vector that is refused.
+# And a checker that calls every stream valid. It must differ for each vector with an invalid line.
 row_the_vectors_with_a_peer_that_takes_all() {
   local refused
   refused=$(cut -f 2-5 vectors/table.tsv | grep -c $'^1000\t64\t-\tline ')
@@ -374,7 +378,7 @@ row_info_of_an_empty_input() {
 
 # ---- going on after invalid lines
 
-# A header, two good features, and between them lines that are invalid, of which one is blank.
+# A header and two valid features, with invalid lines and a blank line between them.
 several_lines() {
   lines "$header" "$feature" '[]' '' '{}'
   indexed 4
@@ -411,7 +415,7 @@ row_going_on_after_a_line_longer_than_the_limit() {
   lines 'invalid lines=3 features=1 refused=1' | answered 1 "line 2, byte $limit: 2 line too long"
 }
 
-# Of what is dropped nothing is judged, be it as long as it may.
+# Nothing is judged of the dropped bytes, however many they are.
 row_going_on_after_a_line_of_many_limits() {
   { lines "$header"; head -c $((limit * 5)) /dev/zero | tr '\0' '['; lines '' "$feature"; } | run filter --keep-going
   lines "$header" "$feature" | answered 1 "line 2, byte $limit: 2 line too long"
@@ -458,8 +462,9 @@ row_a_report_comes_at_once() {
 
 # ---- an input that stays open
 
-# Runs the program with these words on what standard input has, and on nothing more, although more could come: what it reads
-# from is open until it has ended. Keeps what it writes and says, and its status, which is 124 where it does not end by itself.
+# Runs the program with these words on an input that stays open after the bytes of standard input.
+# Keeps what the program writes and prints, and its status. That is 124 if it does not end by
+# itself.
 run_on_open_input() {
   local process
   mkfifo "$scratch/in"
@@ -491,13 +496,14 @@ row_a_bad_header_is_the_end_of_an_open_input() {
   done
 }
 
-# It is told before its LF comes.
+# The program reports the line before its LF comes.
 row_a_long_line_is_the_end_of_an_open_input() {
   { lines "$header"; head -c 1001 /dev/zero | tr '\0' '['; } | run_on_open_input check --line-limit 1000
   answered 1 'line 2, byte 1000: 2 line too long' < /dev/null
 }
 
-# What can be written is gathered first, so many lines come before the write that fails.
+# The program gathers lines before it writes them. Therefore many lines come before the write that
+# fails.
 row_a_full_device_is_the_end_of_an_open_input() {
   mkfifo "$scratch/in"
   timeout 20 "$program" filter < "$scratch/in" > /dev/full 2> "$scratch/said" &
@@ -541,7 +547,7 @@ row_a_full_standard_error_and_reports() {
 
 # ---- trees, and exclusion
 
-# A feature of these city objects, of which b is the main one.
+# A feature of these city objects. The main one is b.
 objects() { printf '{"type":"CityJSONFeature","id":"b","CityObjects":{%s},"vertices":[]}\n' "$1"; }
 
 row_an_object_that_hangs_on_nothing() {
@@ -695,8 +701,8 @@ row_a_second_word_that_is_not_utf_8() {
   refuses '' filter $'\xff'
 }
 
-# Not even the program's name: some systems put an empty one there, so that it is no words that are told; some start no
-# program so.
+# Not even the program's name. Some systems put an empty name there. Then the program answers as for
+# no words. Other systems do not start such a program.
 row_no_arguments_at_all() {
   local text
   command -v python3 > "$scratch/written" || return $skipped
@@ -840,7 +846,7 @@ block() {
   tail -n "+$(($2 + 1))" "$1" | sed '/^```$/,$d'
 }
 
-# Prints commands that show a command as it stands in a block, and run it.
+# Prints commands that show a command as the block has it, and run it.
 step() {
   [ -z "$1" ] || printf "printf '%%s\\\\n' %q\n%s\n" "$1" "$2"
 }
@@ -884,7 +890,7 @@ try() {
   esac
 }
 
-# Runs the blocks of a document, of which there is one at least.
+# Runs the blocks of a document. There must be at least one.
 try_document() {
   local line
   try has_blocks "$1"

@@ -3,12 +3,13 @@
 
     tests/promises.py
 
-Of docs/PROMISES.md: each function that the second column of a table names; each clause that it names of a function, as
-`function`/clause or `function`: clause; each definition, part of a definition, edit and file. Prose is passed over, but each
-name between backticks has to be the name of something, also in the list of what is left to tests. The record of the headline
-is that of the definition. Of docs/REASONS.md: each code with its name and its text, and
-each function of the last table. A name that is not there is printed. The last line is 'N passed, M failed', over the
-names, and the status is 0 where none failed.
+Of docs/PROMISES.md: each function that the last column of a table names; each clause of a function, as
+`function`/clause or `function`: clause; each definition, and each part, as `Definition`: part; each edit
+and file. Prose is passed over, but each name between backticks must be the name of something, also in the
+section on what is left to tests. The record of the headline is that of the definition.
+Of docs/REASONS.md: each code with its name and its text, and each function of the last table.
+A name that is not there is printed. The last line is 'N passed, M failed', over the names, and the status
+is 0 if none failed.
 """
 
 import re
@@ -64,6 +65,8 @@ class Code:
                 clauses.add(found[1])
             if found := re.match(r'\s*ghost use [\w.]+\.\{(.*)\};', line):
                 self.names.update(re.findall(r'\w+', found[1]))
+            if found := re.match(r'    ([A-Z]\w*)(?:\(.*\))?,$', line):
+                self.names.add(found[1])  # a variant
             for found in re.finditer(r'\b(?:struct|enum|trait|mod|const|type|ghost) (\w+)', line):
                 self.names.add(found[1])
             self.names.update(owners)
@@ -123,10 +126,14 @@ def words_in(text):
 
 
 def check_clauses(code, report, functions, clauses):
-    """Each of these functions has these clauses; of functions of one name one has."""
+    """Each of these functions has these clauses; of functions of one name one has. A definition has them as its parts."""
     for function in functions:
+        found = code.clauses_of(function)
         for clause in clauses:
-            report.count(any(clause in each for each in code.clauses_of(function)), f'no clause {clause} of {function}')
+            if found or function not in code.fields:
+                report.count(any(clause in each for each in found), f'no clause {clause} of {function}')
+            else:
+                report.count(clause in code.fields[function], f'no part {clause} of {function}')
 
 
 def check_slashes(code, report, text, types):
@@ -197,11 +204,12 @@ def check_promises(code, report):
         if not line.startswith('|'):
             owner = None
             continue
-        cell = line.strip('|').split('|')[-1].strip()
+        *others, cell = (each.strip() for each in line.strip('|').split('|'))
+        report.place = f'docs/PROMISES.md:{number}'
+        check_names(code, report, ' '.join(others))
         if found := re.fullmatch(rf'Clause of {NAME}', cell):
             owner = found[1]
         elif cell not in ('---', 'Carried by'):
-            report.place = f'docs/PROMISES.md:{number}'
             check_cell(code, report, cell, owner)
 
 

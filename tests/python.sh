@@ -1,7 +1,13 @@
 #!/usr/bin/env bash
-# Tests the Python package over the library that is built, python/cityseq/libcityseq.so: its own tests, and beside them the edges of
-# its command, the rows of the program over that, and whether its types are right. Where a package of Python is not there, what needs it is left out, and that is said. The last line is
-# 'N passed, M failed' over all, and the status is 0 where none failed.
+# Tests the Python package over the built library, python/cityseq/libcityseq.so:
+#
+# - Its own tests.
+# - The edges of its command.
+# - The rows of the program, over its command.
+# - Its types.
+#
+# If a package of Python is not there, the tests that need it are left out, and the script says so.
+# The last line is 'N passed, M failed' over all, and the status is 0 if none failed.
 #
 #     tests/python.sh [PYTHON]      (python3 if left out)
 set -u

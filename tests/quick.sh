@@ -1,7 +1,7 @@
 #!/usr/bin/env bash
-# A first look before the gate, within three minutes on four idle cores and without a proof: the
-# layout of the sources, the names in documents, the version, and the tests of the crates on an
-# interpreter. Those of cj_stream_rows are left out, since they take longer.
+# Takes a first look before the gate, within three minutes on four idle cores and without a proof.
+# It checks the layout of the sources, the names in documents and the version. It runs the tests of
+# the crates on an interpreter. Those of cj_stream_rows are left out, since they take longer.
 #
 #     tests/quick.sh
 #

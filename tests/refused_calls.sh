@@ -1,13 +1,16 @@
 #!/usr/bin/env bash
-# Runs a small program over the crates (refused_calls/main.rattle) with each of its allocations refused in turn. It makes each kind
-# of call that may be refused memory, looks after a refusal whether all is as it was, and makes the call once more. The last line is
-# 'N passed, M failed', over the kinds in each run, and over whether each kind was refused in one run at least.
+# Runs a small program over the crates (refused_calls/main.rattle), with another of its allocations
+# refused in each run. The program makes each kind of call that may be refused memory. After a
+# refusal it checks that all is as it was, and makes the call again. The last line is
+# 'N passed, M failed'. It counts the kinds in each run, and whether each kind was refused in at
+# least one run.
 #
 #     tests/refused_calls.sh
 #
-# The program is proved and built in a folder of its own, over what the crates' checks kept in out/: run `rt all check` first. Then
-# that takes two minutes, and 1.5 GB of the folder for temporary files; the runs take seconds. It needs a C compiler, for the lines
-# that refuse. It is no part of the gate.
+# Run `rt all check` first. The script proves and builds the program in a folder of its own, over
+# what the crates' checks kept in out/. That takes two minutes, and 1.5 GB of the folder for
+# temporary files. The runs take seconds. It needs a C compiler, for the lines that refuse. It is no
+# part of the gate.
 set -uo pipefail
 cd "$(dirname "$0")/.." || exit
 
@@ -15,7 +18,7 @@ scratch=$(mktemp -d)
 trap 'rm -rf "$scratch"' EXIT
 passed=0 failed=0
 
-# build FOLDER COMMAND..: runs rt in this folder, and tells what it says where it fails
+# build FOLDER COMMAND..: runs rt in this folder, and shows what it printed if it fails
 build() {
   (cd "$1" && rt "${@:2}" < /dev/null) > "$scratch/built" 2>&1 && return
   tail -n 40 "$scratch/built"
@@ -41,7 +44,7 @@ runs() {
   cat "$scratch/printed" >> "$scratch/all"
 }
 
-# counts NUMBER WANTED TEXT: counts what passed of so many, and tells what is not as it is wanted
+# counts NUMBER WANTED TEXT: counts NUMBER of WANTED as passed, and prints the text if they differ
 counts() {
   passed=$((passed + $1))
   [ "$1" = "$2" ] && return

@@ -1,5 +1,6 @@
-/* Preloaded into the program: it refuses the allocation whose number REFUSED names, from 1, of the calls of malloc and of
-   realloc, and hands all others on to the C library. At the end it writes how many there were to the file COUNTED. */
+/* Preloaded into the program. It counts the calls of malloc and realloc from 1, and refuses the one
+   whose number is REFUSED. It passes all others on to the C library. At the end it writes how many
+   there were to the file COUNTED. */
 #define _GNU_SOURCE
 #include <dlfcn.h>
 #include <stdio.h>

@@ -1,7 +1,8 @@
 #!/usr/bin/env bash
-# Runs the program, which the gate has built, with each of its allocations refused in turn: the first, the second, and so
-# on. Each run has to end as out of memory, status 5, with a prefix of the output written; or, where a list that was refused
-# more room than it needs made do with less, as if nothing was refused. It needs a C compiler, for the lines that refuse.
+# Runs the program, which the gate has built, with another of its allocations refused in each run:
+# the first, the second, and so on. A run must end as out of memory, status 5, with a prefix of the
+# output written. It may also end as if nothing was refused, if a list asked for more memory than it
+# needs and goes on with less. It needs a C compiler, for the lines that refuse.
 #     tests/refused_growth.sh [PROGRAM]
 set -euo pipefail
 cd "$(dirname "$0")/.."
@@ -11,14 +12,15 @@ scratch=$(mktemp -d)
 trap 'rm -rf "$scratch"' EXIT
 cc -O1 -shared -fPIC -o "$scratch/refused_growth.so" tests/refused_growth.c -ldl
 
-# fails N TEXT: says what is wrong where the Nth allocation is refused
+# fails N TEXT: prints what is wrong if the Nth allocation is refused
 fails() {
   echo "allocation $1: $2"
   cat "$scratch/err"
   exit 1
 }
 
-# run_on INPUT WORD..: runs the program over the file INPUT; keeps what it writes and says, and its status
+# run_on INPUT WORD..: runs the program over the file INPUT. Keeps what it writes and prints, and
+# its status.
 run_on() {
   local input=$1
   shift
@@ -26,8 +28,9 @@ run_on() {
   LD_PRELOAD="$scratch/refused_growth.so" "$program" "$@" < "$input" > "$scratch/out" 2> "$scratch/err" || status=$?
 }
 
-# refuse_each INPUT WANTED STATUS WORD..: refuses each allocation of a command in turn, over the file INPUT; its whole
-# output is in the file WANTED, and its status STATUS
+# refuse_each INPUT WANTED STATUS WORD..: runs a command over the file INPUT, with each of its
+# allocations refused, one after another. Its whole output is in the file WANTED, and its status is
+# STATUS.
 refuse_each() {
   local input=$1 wanted=$2 usual=$3 refused=0 n count
   shift 3
@@ -50,7 +53,8 @@ refuse_each() {
   echo "$*: $count allocations: $refused ended the run, $((count - refused)) did not, each as it must be"
 }
 
-# The header alone is what a box far from all leaves of a stream; nothing is written of an empty one, and status 1 is due.
+# A box far from all features keeps only the header of a stream. An empty stream has no output and
+# status 1.
 head -n 1 "$samples/stdin" > "$scratch/header"
 : > "$scratch/nothing"
 features=$(($(wc -l < "$samples/stdout") - 1)) # all lines but the header and blank ones

@@ -36,8 +36,8 @@ row() {
 }
 
 # Runs a script in a clean system: inside SYSTEM SCRIPT. It starts in /try, stops at the first
-# command that fails, and has a network only where ONLINE is set. `fails COMMAND` is for one that
-# has to fail.
+# command that fails, and has a network only if ONLINE is set. `fails COMMAND` is for one that must
+# fail.
 inside() {
   local apart=(unshare --mount --net)
   [ -z "${ONLINE:-}" ] || apart=(unshare --mount)
@@ -62,7 +62,7 @@ nothing_is_left() {
     inside "$1" '! ls /var/lib/dpkg/info/*cityseq* 2> /dev/null'
 }
 
-# A clean system with what has to be tried in /try: make_system NAME FILE..
+# A clean system with what must be tried in /try: make_system NAME FILE..
 make_system() {
   local name=$1
   shift

@@ -3,10 +3,10 @@
 #
 #     tests/wrong_bodies.sh [CRATE..]
 #
-# A check names each function that is not proved, so many edits are tried by one, each in a function of its own
-# (wrong_bodies.py). It begins over what the crate's own checks kept in out/. Nothing is tried where an edit cannot be applied
-# (edits.py). The last line is 'N refused, M get past', where one that does not compile counts among the latter, and the status
-# is 0 where none does.
+# A check names each function that is not proved. So one check tries many edits, each in another
+# function (wrong_bodies.py). It begins over what the crate's own checks kept in out/. Nothing is
+# tried if an edit cannot be applied (edits.py). The last line is 'N refused, M get past'. An edit
+# that does not compile counts as one that gets past. The status is 0 if none gets past.
 set -u
 cd "$(dirname "$0")/.." || exit
 

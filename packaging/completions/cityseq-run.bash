@@ -11,7 +11,7 @@ _cityseq_run() {
     TunnelInstallation TunnelPart'
   COMPREPLY=()
   if [ "$COMP_CWORD" = 1 ]; then
-    options='check filter info index serve explain help -h --help -V --version'
+    options='check filter info index report serve explain help -h --help -V --version'
     mapfile -t COMPREPLY < <(compgen -W "$options" -- "$current")
     return
   fi
@@ -30,7 +30,7 @@ _cityseq_run() {
       mapfile -t COMPREPLY < <(compgen -f -- "$current")
       return
       ;;
-    --line-limit | --depth | --jobs | --part-size | --max-reports | --id | --lod | --bbox | --base | --host | --port | --url | --cors | --processes | --max-requests | --max-body | --max-features | --max-seconds | --idle-seconds | --stop-seconds)
+    --line-limit | --depth | --jobs | --part-size | --max-reports | --format | --id | --lod | --bbox | --base | --title | --host | --port | --url | --cors | --processes | --max-requests | --max-body | --max-features | --max-seconds | --idle-seconds | --stop-seconds)
       return
       ;;
   esac
@@ -38,7 +38,7 @@ _cityseq_run() {
     check)
       options='
         --line-limit --depth --keep-going --tree --files-from --jobs --part-size --json --sha256
-        --max-reports --summary --progress --quiet --record --resume -h --help'
+        --max-reports --summary --progress --quiet --format --record --resume -h --help'
       files=yes
       ;;
     filter)
@@ -50,7 +50,7 @@ _cityseq_run() {
       ;;
     info)
       options='
-        --line-limit --depth --tree --no-lods --files-from --jobs --part-size --json --sha256
+        --line-limit --depth --tree --lods --files-from --jobs --part-size --json --sha256
         --max-reports --summary --progress --quiet -h --help'
       files=yes
       ;;
@@ -58,6 +58,12 @@ _cityseq_run() {
       options='
         --line-limit --depth --keep-going --tree --output --show --files-from --jobs --part-size
         --json --max-reports --summary --progress --quiet -h --help'
+      files=yes
+      ;;
+    report)
+      options='
+        --line-limit --depth --tree --output --title --files-from --jobs --part-size --json
+        --progress --quiet -h --help'
       files=yes
       ;;
     serve)
@@ -72,7 +78,7 @@ _cityseq_run() {
         -h --help'
       files=
       ;;
-    help) options='check filter info index serve explain' ;;
+    help) options='check filter info index report serve explain' ;;
   esac
   if [ -n "$files" ] && [[ $current != -* ]]; then
     mapfile -t COMPREPLY < <(compgen -f -- "$current")

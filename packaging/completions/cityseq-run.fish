@@ -1,6 +1,6 @@
 # Completion of cityseq-run for fish. packaging/options.py writes this file.
 
-set -l commands check filter info index serve explain help
+set -l commands check filter info index report serve explain help
 set -g __cityseq_run_types \
     Bridge Building CityFurniture CityObjectGroup GenericCityObject LandUse OtherConstruction \
     PlantCover Railway Road SolitaryVegetationObject TINRelief TransportSquare Tunnel WaterBody \
@@ -14,6 +14,7 @@ complete -c cityseq-run -n "not __fish_seen_subcommand_from $commands" -a check 
 complete -c cityseq-run -n "not __fish_seen_subcommand_from $commands" -a filter -d 'Copy the header and the features that are wanted'
 complete -c cityseq-run -n "not __fish_seen_subcommand_from $commands" -a info -d 'Report what is in a stream'
 complete -c cityseq-run -n "not __fish_seen_subcommand_from $commands" -a index -d 'Write an index of streams'
+complete -c cityseq-run -n "not __fish_seen_subcommand_from $commands" -a report -d 'Write a page about a delivery'
 complete -c cityseq-run -n "not __fish_seen_subcommand_from $commands" -a serve -d 'Serve streams by their indexes to maps and tools'
 complete -c cityseq-run -n "not __fish_seen_subcommand_from $commands" -a explain -d 'Say what the code of a reason means'
 complete -c cityseq-run -n "not __fish_seen_subcommand_from $commands" -a help -d 'Print this message or the help of the given subcommand(s)'
@@ -34,6 +35,7 @@ complete -c cityseq-run -n '__fish_seen_subcommand_from check' -l max-reports -x
 complete -c cityseq-run -n '__fish_seen_subcommand_from check' -l summary -d 'Say how often each reason comes'
 complete -c cityseq-run -n '__fish_seen_subcommand_from check' -l progress -d 'Show on standard error how far it is'
 complete -c cityseq-run -n '__fish_seen_subcommand_from check' -l quiet -d 'Say nothing but faults'
+complete -c cityseq-run -n '__fish_seen_subcommand_from check' -l format -x -d 'Write reports so that a pull request shows them next to their lines'
 complete -c cityseq-run -n '__fish_seen_subcommand_from check' -l record -r -F -d 'Append a line for each FILE to this file'
 complete -c cityseq-run -n '__fish_seen_subcommand_from check' -l resume -d 'Skip each FILE that is in the record as it is now'
 complete -c cityseq-run -n '__fish_seen_subcommand_from check' -s h -l help -d 'Print help'
@@ -69,7 +71,7 @@ complete -c cityseq-run -n '__fish_seen_subcommand_from info' -F
 complete -c cityseq-run -n '__fish_seen_subcommand_from info' -l line-limit -x -d 'Refuse a line that is longer'
 complete -c cityseq-run -n '__fish_seen_subcommand_from info' -l depth -x -d 'Refuse a line with more arrays and objects open at once'
 complete -c cityseq-run -n '__fish_seen_subcommand_from info' -l tree -d 'Refuse a feature of which a city object is not reached from the main one'
-complete -c cityseq-run -n '__fish_seen_subcommand_from info' -l no-lods -d 'Do not count the texts of LoDs'
+complete -c cityseq-run -n '__fish_seen_subcommand_from info' -l lods -d 'Count the features with each text of an LoD too'
 complete -c cityseq-run -n '__fish_seen_subcommand_from info' -l files-from -r -F -d 'Read the names of files from this file'
 complete -c cityseq-run -n '__fish_seen_subcommand_from info' -l jobs -x -d 'Judge so many parts at once'
 complete -c cityseq-run -n '__fish_seen_subcommand_from info' -l part-size -x -d 'Judge parts of so many bytes'
@@ -98,6 +100,20 @@ complete -c cityseq-run -n '__fish_seen_subcommand_from index' -l progress -d 'S
 complete -c cityseq-run -n '__fish_seen_subcommand_from index' -l quiet -d 'Say nothing but faults'
 complete -c cityseq-run -n '__fish_seen_subcommand_from index' -s h -l help -d 'Print help'
 
+complete -c cityseq-run -n '__fish_seen_subcommand_from report' -F
+complete -c cityseq-run -n '__fish_seen_subcommand_from report' -l line-limit -x -d 'Refuse a line that is longer'
+complete -c cityseq-run -n '__fish_seen_subcommand_from report' -l depth -x -d 'Refuse a line with more arrays and objects open at once'
+complete -c cityseq-run -n '__fish_seen_subcommand_from report' -l tree -d 'Refuse a feature of which a city object is not reached from the main one'
+complete -c cityseq-run -n '__fish_seen_subcommand_from report' -l output -r -F -d 'Write the page to this file'
+complete -c cityseq-run -n '__fish_seen_subcommand_from report' -l title -x -d 'Head the page with these words'
+complete -c cityseq-run -n '__fish_seen_subcommand_from report' -l files-from -r -F -d 'Read the names of files from this file'
+complete -c cityseq-run -n '__fish_seen_subcommand_from report' -l jobs -x -d 'Judge so many parts at once'
+complete -c cityseq-run -n '__fish_seen_subcommand_from report' -l part-size -x -d 'Judge parts of so many bytes'
+complete -c cityseq-run -n '__fish_seen_subcommand_from report' -l json -d 'Write all facts as one object'
+complete -c cityseq-run -n '__fish_seen_subcommand_from report' -l progress -d 'Show on standard error how far it is'
+complete -c cityseq-run -n '__fish_seen_subcommand_from report' -l quiet -d 'Say nothing but faults'
+complete -c cityseq-run -n '__fish_seen_subcommand_from report' -s h -l help -d 'Print help'
+
 complete -c cityseq-run -n '__fish_seen_subcommand_from serve' -F
 complete -c cityseq-run -n '__fish_seen_subcommand_from serve' -l host -x -d 'Listen at this address'
 complete -c cityseq-run -n '__fish_seen_subcommand_from serve' -l port -x -d 'Listen at this port'
@@ -120,4 +136,4 @@ complete -c cityseq-run -n '__fish_seen_subcommand_from serve' -s h -l help -d '
 complete -c cityseq-run -n '__fish_seen_subcommand_from explain' -f
 complete -c cityseq-run -n '__fish_seen_subcommand_from explain' -s h -l help -d 'Print help'
 
-complete -c cityseq-run -n '__fish_seen_subcommand_from help' -f -a 'check filter info index serve explain'
+complete -c cityseq-run -n '__fish_seen_subcommand_from help' -f -a 'check filter info index report serve explain'

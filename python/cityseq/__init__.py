@@ -37,6 +37,7 @@ from .same import refuse_same
 from .sources import Source
 
 if TYPE_CHECKING:
+    from .delivery.facts import Delivery
     from .listing import Feature
     from .lookup import Index
 
@@ -61,6 +62,7 @@ __all__ = [
     "filter",
     "index",
     "info",
+    "report",
     "table",
 ]
 __version__ = "0.2.0"
@@ -222,7 +224,7 @@ def filter(
 def info(
     source: Source,
     *,
-    exact_lods: bool = True,
+    exact_lods: bool = False,
     jobs: Optional[int] = None,
     line_limit: int = USUAL_LINE,
     depth: int = USUAL_DEPTH,
@@ -238,8 +240,8 @@ def info(
 
     Args:
         source: The stream, as `check` takes it.
-        exact_lods: Whether to count the features of each text of an LoD. Each text takes as long
-            again as all the rest.
+        exact_lods: Whether to count the features with each text of an LoD, as 2.2. Python looks for
+            these texts, and one thread does so at a time.
 
     Returns:
         The verdict, the counts and the summary. The summary is empty if the stream is invalid.
@@ -277,7 +279,7 @@ def features(
 
     Raises:
         InvalidStream: A line is invalid. The features before it came first. With `keep_going` only
-            an invalid header is told so.
+            an invalid header raises it.
         ReadFault: The source cannot be opened or read, or it changes.
         MemoryFault: Memory is short.
         RequestError: An argument has a value that it may not have.
@@ -360,6 +362,48 @@ def index(
     work = asked("check", line_limit=line_limit, depth=depth, keep_going=keep_going, tree=tree)
     named = checked(paths, output)
     return indexed(named, output, work, jobs, _part_size(part_size), on_report, progress)
+
+
+def report(
+    paths: Union[str, "os.PathLike[str]", Iterable[Union[str, "os.PathLike[str]"]]],
+    output: Optional[Union[str, "os.PathLike[str]"]] = None,
+    *,
+    title: Optional[str] = None,
+    jobs: Optional[int] = None,
+    line_limit: int = USUAL_LINE,
+    depth: int = USUAL_DEPTH,
+    tree: bool = False,
+    progress: Progress = None,
+    part_size: Optional[int] = None,
+) -> Delivery:
+    """Writes a page about a delivery, and returns its facts.
+
+    The page is one file of HTML. All reports lie next to it, as `NAME.reports.csv` and
+    `NAME.reports.jsonl`. Each file is renamed when it is whole. The options that are not listed
+    here are those of `check`. The packages Jinja2 and matplotlib are needed.
+
+    Args:
+        paths: The paths of the files, or the only one. They may be packed.
+        output: The path of the page. None writes nothing.
+        title: The heading of the page. None is the name of the page.
+
+    Returns:
+        What is in the files and what is invalid, with `status` and `files`. A fault of one file is
+        in its entry, and the others go on. `cityseq.delivery.told.delivery_object` makes one object
+        of JSON of it, which docs/report.schema.json describes.
+
+    Raises:
+        WriteFault: The page, the reports or a temporary file cannot be written.
+        RequestError: An argument has a value that it may not have, or the output is a file of the
+            delivery.
+        CityseqError: A package is missing that a page needs.
+        LibraryMissing: The library is not there, or it is another version.
+    """
+    from .delivery.making import How, report as made  # few runs need it
+
+    work = asked("check", line_limit=line_limit, depth=depth, keep_going=True, tree=tree)
+    how = How(jobs, _part_size(part_size), title, progress=progress)
+    return made(paths, output, work, how)
 
 
 def __getattr__(name: str) -> Any:

@@ -1,11 +1,12 @@
-"""The library `libcityseq.so`, by `ctypes`: the structs of `c/cityseq.h` and its calls, which run without the interpreter's lock."""
+"""The library `libcityseq.so`, by `ctypes`: the structs of `c/cityseq.h` and its calls. A call runs
+without the interpreter's lock."""
 from __future__ import annotations
 
 import ctypes
 import os
 import resource
 import threading
-from ctypes import POINTER, c_bool, c_char_p, c_int64, c_size_t, c_uint32, c_uint64
+from ctypes import POINTER, c_bool, c_char_p, c_int32, c_int64, c_size_t, c_uint32, c_uint64
 from typing import Any, Iterable, Optional, Sequence, Tuple, Union
 
 from .faults import LibraryMissing
@@ -34,25 +35,50 @@ class RawRequest(ctypes.Structure):
     """`struct cityseq_request`."""
 
     _fields_ = [
-        ("line_limit", c_uint64), ("depth_limit", c_uint64),
-        ("keep_going", c_bool), ("tree", c_bool), ("exclude", c_bool),
-        ("asks_ids", c_bool), ("asks_types", c_bool), ("asks_lods", c_bool), ("asks_box", c_bool),
-        ("ids", c_char_p), ("ids_length", c_size_t), ("types", c_char_p), ("types_length", c_size_t),
-        ("lods", c_char_p), ("lods_length", c_size_t), ("box", c_char_p), ("box_length", c_size_t),
+        ("line_limit", c_uint64),
+        ("depth_limit", c_uint64),
+        ("keep_going", c_bool),
+        ("tree", c_bool),
+        ("exclude", c_bool),
+        ("asks_ids", c_bool),
+        ("asks_types", c_bool),
+        ("asks_lods", c_bool),
+        ("asks_box", c_bool),
+        ("ids", c_char_p),
+        ("ids_length", c_size_t),
+        ("types", c_char_p),
+        ("types_length", c_size_t),
+        ("lods", c_char_p),
+        ("lods_length", c_size_t),
+        ("box", c_char_p),
+        ("box_length", c_size_t),
     ]
 
 
 class RawReport(ctypes.Structure):
     """`struct cityseq_report`."""
 
-    _fields_ = [("line", c_uint64), ("place", c_uint64), ("code", c_uint64)]
+    _fields_ = [
+        ("line", c_uint64), ("begin", c_uint64), ("place", c_uint64), ("code", c_uint64)]
 
 
 class RawAnswer(ctypes.Structure):
     """`struct cityseq_answer`."""
 
-    _fields_ = [("status", c_uint32), ("code", c_uint32)] + [(name, c_uint64) for name in (
-        "line", "place", "lines", "kept", "refused", "peak_bytes", "peak_tokens", "peak_depth", "written")]
+    _fields_ = [("status", c_uint32), ("code", c_uint32)] + [
+        (name, c_uint64)
+        for name in (
+            "line",
+            "place",
+            "lines",
+            "kept",
+            "refused",
+            "peak_bytes",
+            "peak_tokens",
+            "peak_depth",
+            "written",
+        )
+    ]
 
 
 class RawRange(ctypes.Structure):
@@ -61,18 +87,40 @@ class RawRange(ctypes.Structure):
     _fields_ = [("some", c_uint64), ("least", c_int64), ("greatest", c_int64)]
 
 
+class RawDecimal(ctypes.Structure):
+    """`struct cityseq_decimal`."""
+
+    _fields_ = [("negative", c_uint32), ("power", c_int32), ("high", c_uint64), ("low", c_uint64)]
+
+
 class RawTally(ctypes.Structure):
     """`struct cityseq_tally`."""
 
-    _fields_ = [("features", c_uint64), ("types", c_uint64 * TYPES), ("lods", c_uint64 * len(LOD_CLASSES)), ("ranges", RawRange * 3)]
+    _fields_ = [
+        ("features", c_uint64),
+        ("types", c_uint64 * TYPES),
+        ("lods", c_uint64 * len(LOD_CLASSES)),
+        ("ranges", RawRange * 3),
+        ("transformed", c_uint64),
+        ("scale", RawDecimal * 3),
+        ("translate", RawDecimal * 3),
+    ]
 
 
 class RawFeature(ctypes.Structure):
     """`struct cityseq_feature`."""
 
     _fields_ = [
-        ("line", c_uint64), ("begin", c_uint64), ("length", c_uint64), ("id_begin", c_uint64), ("id_length", c_uint64),
-        ("objects", c_uint64), ("geometries", c_uint64), ("types", c_uint64), ("lods", c_uint64), ("ranges", RawRange * 3),
+        ("line", c_uint64),
+        ("begin", c_uint64),
+        ("length", c_uint64),
+        ("id_begin", c_uint64),
+        ("id_length", c_uint64),
+        ("objects", c_uint64),
+        ("geometries", c_uint64),
+        ("types", c_uint64),
+        ("lods", c_uint64),
+        ("ranges", RawRange * 3),
     ]
 
 
@@ -87,16 +135,36 @@ _CALLS = {
     "cityseq_filter": (RawAnswer, _COMMON + [c_char_p, c_size_t] + _ROOM),
     "cityseq_info": (RawAnswer, _COMMON + [POINTER(RawTally)] + _ROOM),
     "cityseq_features": (RawAnswer, _COMMON + [POINTER(RawFeature), c_size_t] + _ROOM),
+    "cityseq_answer_then": (RawAnswer, [POINTER(RawAnswer), POINTER(RawAnswer), c_size_t]),
+    "cityseq_tally_then": (RawTally, [POINTER(RawTally), POINTER(RawTally)]),
+    "cityseq_part_end": (c_size_t, [c_char_p, c_size_t, c_size_t]),
     "cityseq_reason_text": (c_size_t, [c_uint64, c_char_p, c_size_t]),
     "cityseq_type_name": (c_size_t, [c_uint64, c_char_p, c_size_t]),
 }
 
 
-def _pointed(text: Text) -> Any:
-    """What a call takes as the pointer to these bytes, of which nothing is copied."""
-    if isinstance(text, (bytearray, memoryview)) and text:
-        return ctypes.byref(ctypes.c_char.from_buffer(text))
-    return bytes(text)
+def _pointed(text: Text, begin: int = 0) -> Any:
+    """What a call takes as the pointer to these bytes, from one of them on. Nothing is copied,
+    except from the middle of bytes that cannot change."""
+    if isinstance(text, (bytearray, memoryview)) and begin < len(text):
+        return ctypes.byref(ctypes.c_char.from_buffer(text, begin))
+    return bytes(text[begin:] if begin else text)
+
+
+def _address(text: Union[bytearray, memoryview]) -> int:
+    return ctypes.addressof(ctypes.c_char.from_buffer(text))
+
+
+def searchable(text: Text) -> Tuple[Union[bytes, bytearray], int, int]:
+    """Returns an object with methods like `find` that has the bytes of a text, and from where to
+    where it has them. A memoryview of a bytearray is not copied."""
+    if not isinstance(text, memoryview):
+        return text, 0, len(text)
+    whole: Any = text.obj
+    if not isinstance(whole, bytearray) or not text:
+        return bytes(text), 0, len(text)
+    begin = _address(text) - _address(whole)
+    return whole, begin, begin + len(text)
 
 
 class Library:
@@ -106,43 +174,72 @@ class Library:
         self._calls = calls
         self._type_names: Tuple[str, ...] = ()
 
-    def check(self, header: bytes, part: Text, request: RawRequest, room: int) -> Tuple[RawAnswer, RawReports]:
-        """Judges a header and a part. The second is the room for reports, of which the first ones are written."""
+    def check(
+        self, header: bytes, part: Text, request: RawRequest, room: int
+    ) -> Tuple[RawAnswer, RawReports]:
+        """Judges a header and a part. Returns the answer, and the room for reports, of which the
+        first ones are written."""
         reports = (RawReport * max(room, 1))()
         answer = self._calls.cityseq_check(*self._given(header, part, request), reports, room)
         return answer, reports
 
-    def filter(self, header: bytes, part: Text, request: RawRequest, room: int) -> Tuple[RawAnswer, RawReports, bytearray]:
+    def filter(
+        self, header: bytes, part: Text, request: RawRequest, room: int
+    ) -> Tuple[RawAnswer, RawReports, bytearray]:
         """The same, and what is kept is the third."""
         reports = (RawReport * max(room, 1))()
         output = bytearray(len(header) + len(part) + 1)
         given = self._given(header, part, request)
         answer = self._calls.cityseq_filter(*given, _pointed(output), len(output), reports, room)
-        del output[answer.written:]
+        del output[answer.written :]
         return answer, reports, output
 
-    def tally(self, header: bytes, part: Text, request: RawRequest, room: int) -> Tuple[RawAnswer, RawReports, RawTally]:
+    def tally(
+        self, header: bytes, part: Text, request: RawRequest, room: int
+    ) -> Tuple[RawAnswer, RawReports, RawTally]:
         """The same as `check`, and what is in the features that are wanted is the third."""
         reports, tally = (RawReport * max(room, 1))(), RawTally()
         given = self._given(header, part, request)
         answer = self._calls.cityseq_info(*given, ctypes.byref(tally), reports, room)
         return answer, reports, tally
 
-    def features(self, header: bytes, part: Text, request: RawRequest, room: int) -> Tuple[RawAnswer, RawReports, RawFeatures]:
-        """The same as `check`, and the third are the records of the kept features, for which there is this room."""
+    def features(
+        self, header: bytes, part: Text, request: RawRequest, room: int
+    ) -> Tuple[RawAnswer, RawReports, RawFeatures]:
+        """Does the same as `check`, and also returns the records of the kept features, as many as
+        there is room for."""
         report, records = (RawReport * 1)(), (RawFeature * max(room, 1))()
-        answer = self._calls.cityseq_features(*self._given(header, part, request), records, room, report, 0)
-        return answer, report, records[:min(answer.kept, room)]
+        answer = self._calls.cityseq_features(
+            *self._given(header, part, request), records, room, report, 0
+        )
+        return answer, report, records[: min(answer.kept, room)]
+
+    def answer_then(self, first: RawAnswer, after: RawAnswer, header_length: int) -> RawAnswer:
+        """Returns the answer for a header with two parts, by those for the header with each."""
+        joined: RawAnswer = self._calls.cityseq_answer_then(first, after, header_length)
+        return joined
+
+    def tally_then(self, first: RawTally, after: RawTally) -> RawTally:
+        """Returns the tally for a header with two parts, by those for the header with each."""
+        joined: RawTally = self._calls.cityseq_tally_then(first, after)
+        return joined
+
+    def part_end(self, text: Text, wanted: int, begin: int = 0) -> int:
+        """Returns where a part ends that begins at a byte of a text and has about so many bytes:
+        after the last LF among these, else after the first LF, else 0."""
+        end: int = self._calls.cityseq_part_end(_pointed(text, begin), len(text) - begin, wanted)
+        return begin + end if end else 0
 
     def records(
-        self, header: bytes, part: Text, request: RawRequest, room: int, reports_room: int
+        self, header: bytes, part: Text, request: RawRequest, room: memoryview, reports_room: int
     ) -> Tuple[RawAnswer, RawReports, bytes]:
-        """The same, and the third are the bytes of the records that there was room for."""
-        reports, records = (RawReport * max(reports_room, 1))(), bytearray(max(room, 1) * ctypes.sizeof(RawFeature))
-        given = self._given(header, part, request)
-        first = ctypes.byref(RawFeature.from_buffer(records))
-        answer = self._calls.cityseq_features(*given, first, room, reports, reports_room)
-        return answer, reports, bytes(memoryview(records)[:min(answer.kept, room) * ctypes.sizeof(RawFeature)])
+        """The same, where the records are written to this room. The third are the bytes of those
+        that there was room for."""
+        reports, size = (RawReport * max(reports_room, 1))(), ctypes.sizeof(RawFeature)
+        given, most = self._given(header, part, request), len(room) // size
+        first = ctypes.byref(RawFeature.from_buffer(room))
+        answer = self._calls.cityseq_features(*given, first, most, reports, reports_room)
+        return answer, reports, bytes(room[:min(answer.kept, most) * size])
 
     def reason_text(self, code: int) -> str:
         """The words of a reason; none where no reason has this code."""
@@ -151,7 +248,9 @@ class Library:
     def type_names(self) -> Tuple[str, ...]:
         """The names of the types of city objects, in their order. They are asked for once."""
         if not self._type_names:
-            self._type_names = tuple(self._text(self._calls.cityseq_type_name, number) for number in range(TYPES))
+            self._type_names = tuple(
+                self._text(self._calls.cityseq_type_name, number) for number in range(TYPES)
+            )
         return self._type_names
 
     @staticmethod
@@ -170,9 +269,13 @@ _loaded: Optional[Library] = None
 
 
 def _load() -> Library:
-    path = os.environ.get("CITYSEQ_LIBRARY") or os.path.join(os.path.dirname(os.path.abspath(__file__)), "libcityseq.so")
+    path = os.environ.get("CITYSEQ_LIBRARY") or os.path.join(
+        os.path.dirname(os.path.abspath(__file__)), "libcityseq.so"
+    )
     if not os.path.isfile(path):
-        raise LibraryMissing(f"there is no library {path}: build it, and put it there or name it by CITYSEQ_LIBRARY")
+        raise LibraryMissing(
+            f"there is no library {path}: build it, and put it there or name it by CITYSEQ_LIBRARY"
+        )
     try:
         calls = ctypes.CDLL(os.path.abspath(path))
         for name, (result, arguments) in _CALLS.items():
@@ -185,14 +288,16 @@ def _load() -> Library:
     return Library(calls)
 
 
-# What `mallopt` sets in glibc (malloc.h): from how many bytes on the system is asked for memory of its own, from how many that are
-# free it is given some back, and how many arenas there are, for each of which beside the first 64 MB of addresses are reserved.
+# What `mallopt` sets in glibc (malloc.h): how many free bytes make it return some to the system,
+# how many bytes make it ask the system for a block, and how many arenas there are. Each arena after
+# the first reserves 64 MB of addresses.
 _TRIM_THRESHOLD, _MMAP_THRESHOLD, _ARENA_MAX = -1, -3, -8
 
 
 def keep_room() -> None:
-    """Has the C library keep the memory of a call for the next one, where it can be told so. Else each call asks the system anew,
-    and waits until it has cleared it. It holds for the whole process, so it is for one that does nothing else."""
+    """Makes glibc keep the memory of a call for the next one. Else each call asks the system for
+    memory, which the system clears first. The setting is of the whole process, so it suits only
+    a process that does nothing else."""
     try:
         setting = ctypes.CDLL(None).mallopt
     except (OSError, AttributeError, TypeError):

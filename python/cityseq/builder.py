@@ -17,7 +17,7 @@ from .faults import WriteFault, write_fault
 from .geopackage import TREE, UNDEFINED, geometry_start, polygon, system_of
 from .outputs import PART, hand_mode_on, part_of
 from .query import Work
-from .records import Records, stored, unescaped
+from .records import Records, stored, stored_as_spelled
 from .reports import Report
 from .rtree import Tree, cell_of, key_of
 from .running import Result
@@ -29,6 +29,9 @@ CACHE = 8 << 20  # bytes of the database that are held, and that a sort holds
 COLUMNS = 14  # of a feature
 Ranges = Tuple[Range, Range, Range]
 Row = Tuple[Any, ...]
+Box = Tuple[float, float, float, float]  # the least and greatest x, then y
+Heights = Tuple[Optional[float], Optional[float]]
+NO_HEIGHTS: Heights = (None, None)
 
 
 @lru_cache(maxsize=4_096)
@@ -77,6 +80,18 @@ class Entry:
             ranges = ((min(least), max(most)) for least, most in axes)
             self.ranges = tuple(map(wider, self.ranges, ranges))  # type: ignore[assignment]
 
+    def placed(self, vertices: Tuple[int, ...]) -> Tuple[Optional[Box], Heights]:
+        """Returns the extent of a feature on the map, and its heights, by the ranges of its
+        record."""
+        some, x_least, x_most, _, y_least, y_most, _, z_least, z_most = vertices
+        if not some:
+            return None, NO_HEIGHTS
+        world = self.world
+        heights = NO_HEIGHTS if world.z is None else world.z.interval(z_least, z_most)
+        if world.x is None or world.y is None:
+            return None, heights
+        return (*world.x.interval(x_least, x_most), *world.y.interval(y_least, y_most)), heights
+
     def extent(self) -> Tuple[Optional[float], ...]:
         """Returns the least and greatest x, y and z of the stream; None where there is none."""
         axes = (self.world.x, self.world.y, self.world.z)
@@ -119,9 +134,14 @@ class Builder:
             raise write_fault(fault, path) from fault
         self._base = sqlite3.connect(self._path, isolation_level=None)
         with telling_of(path):
-            for setting in ("journal_mode = OFF", "synchronous = OFF", "locking_mode = EXCLUSIVE",
-                            f"cache_size = -{CACHE >> 10}", f"temp.cache_size = -{CACHE >> 10}",
-                            "temp_store = FILE"):
+            for setting in (
+                "journal_mode = OFF",
+                "synchronous = OFF",
+                "locking_mode = EXCLUSIVE",
+                f"cache_size = -{CACHE >> 10}",
+                f"temp.cache_size = -{CACHE >> 10}",
+                "temp_store = FILE",
+            ):
                 self._base.execute(f"PRAGMA {setting}")
             self._base.execute("BEGIN")
             geopackage.create(self._base)
@@ -151,22 +171,19 @@ class Builder:
     ) -> Iterator[Row]:
         """Yields the row of each feature, and adds its cell to those of the spatial index."""
         start = geometry_start(entry.system)
-        x_axis, y_axis, z_axis = entry.world.x, entry.world.y, entry.world.z
         for raw, spelling in records:
-            (line, begin, length, _, _, objects, geometries, types, lods,
-             some, x_least, x_most, _, y_least, y_most, _, z_least, z_most) = raw
+            line, begin, length, _, _, objects, geometries, types, lods = raw[:9]
             self._fid += 1
-            geometry, z_low, z_high = None, None, None
-            if some:
-                if z_axis is not None:
-                    z_low, z_high = z_axis.interval(z_least, z_most)
-                if x_axis is not None and y_axis is not None:
-                    box = *x_axis.interval(x_least, x_most), *y_axis.interval(y_least, y_most)
-                    geometry = polygon(start, *box)
-                    cells.append((key_of(box[0], box[2]), cell_of(self._fid, *box)))
-            yield (self._fid, geometry, entry.number, line + lines, begin + records.begin, length,
-                   *stored(unescaped(spelling)), objects, geometries, names_of_types(types),
-                   names_of_lods(lods), z_low, z_high)
+            box, heights = entry.placed(raw[9:])
+            geometry = None
+            if box is not None:
+                geometry = polygon(start, *box)
+                cells.append((key_of(box[0], box[2]), cell_of(self._fid, *box)))
+            place = line + lines, begin + records.begin, length
+            names = names_of_types(types), names_of_lods(lods)
+            name = stored_as_spelled(spelling)
+            counts = objects, geometries
+            yield (self._fid, geometry, entry.number, *place, *name, *counts, *names, *heights)
 
     def report(self, number: int, report: Report) -> None:
         """Writes that a line of a stream is invalid, and left out.
@@ -179,8 +196,9 @@ class Builder:
         with telling_of(self.name):
             self._base.execute("INSERT INTO reports VALUES (NULL,?,?,?,?,?,?,?)", row)
 
-    def end(self, entry: Entry, path: str, state: State, packing: Optional[str], result: Result
-            ) -> None:
+    def end(
+        self, entry: Entry, path: str, state: State, packing: Optional[str], result: Result
+    ) -> None:
         """Writes what a stream is, when all of it was read.
 
         Raises:
@@ -192,9 +210,19 @@ class Builder:
             for name in ("scale", "translate")
         )
         row = (
-            entry.number, *_path_columns(path, self.name), packing, *state, len(entry.header),
-            hashlib.sha256(entry.header).hexdigest(), *texts, entry.reference, result.lines,
-            result.features, result.refused, entry.first_fid, *entry.extent(),
+            entry.number,
+            *_path_columns(path, self.name),
+            packing,
+            *state,
+            len(entry.header),
+            hashlib.sha256(entry.header).hexdigest(),
+            *texts,
+            entry.reference,
+            result.lines,
+            result.features,
+            result.refused,
+            entry.first_fid,
+            *entry.extent(),
         )
         with telling_of(self.name):
             self._base.execute(f"INSERT INTO streams VALUES ({','.join('?' * len(row))})", row)
@@ -215,8 +243,10 @@ class Builder:
             Tree(base, TREE).write((cell for cell, in ordered), count)
             geopackage.describe(base, system)
             options = (work.tree, work.keep_going, work.line_limit, work.depth)
-            base.execute("INSERT INTO cityseq_index VALUES (?,?,?,?,?,?)",
-                         (geopackage.VERSION, program, *options))
+            base.execute(
+                "INSERT INTO cityseq_index VALUES (?,?,?,?,?,?)",
+                (geopackage.VERSION, program, *options),
+            )
             base.execute("COMMIT")
             base.close()
         try:

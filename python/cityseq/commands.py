@@ -120,7 +120,7 @@ def _work(wanted: Asked) -> Work:
         )
     return asked(
         wanted.command,
-        exact_lods=wanted.command == "info" and wanted.lods and not wanted.is_plain,
+        exact_lods=wanted.command == "info" and wanted.lods,
         **common,
     )
 
@@ -301,13 +301,17 @@ def _explain(words: Sequence[str]) -> int:
 
 
 def _by_command(wanted: Asked) -> int:
-    """Does what is asked. Few runs need an index, what cuts by one, or a server."""
+    """Does what is asked. Few runs need an index, what cuts by one, a page or a server."""
     if wanted.command == "explain":
         return _explain(wanted.files)
     if wanted.command == "index":
         from .index_commands import run
 
         return run(wanted)
+    if wanted.command == "report":
+        from .delivery.command import run as run_report
+
+        return run_report(wanted, _program())
     if wanted.command == "serve":
         from .serve import run as run_server
 

@@ -55,8 +55,9 @@ def _texts(selections: Selections, base: Optional[str]) -> Iterator[bytes]:
                 end = part[-1:]
 
 
-def _judged(name: str, texts: Iterator[bytes], work: Work, writer: Writer, jobs: Optional[int]
-            ) -> Result:
+def _judged(
+    name: str, texts: Iterator[bytes], work: Work, writer: Writer, jobs: Optional[int]
+) -> Result:
     """Judges the lines again, and writes those that are kept."""
     with closing(texts):  # type: ignore[type-var]
         source: Any = _Lines(name, texts)
@@ -70,8 +71,12 @@ def _counted(result: Result, streams: Iterable[IndexedStream]) -> Result:
     """Returns the same with the counts that a run over the whole streams has."""
     listed = list(streams)
     refused = sum(stream.refused for stream in listed)
-    return replace(result, lines=sum(stream.lines for stream in listed), refused=refused,
-                   status=int(refused > 0))
+    return replace(
+        result,
+        lines=sum(stream.lines for stream in listed),
+        refused=refused,
+        status=int(refused > 0),
+    )
 
 
 def _written(

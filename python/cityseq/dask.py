@@ -161,7 +161,7 @@ def info(
     client: Any,
     paths: Any,
     *,
-    exact_lods: bool = True,
+    exact_lods: bool = False,
     line_limit: int = USUAL_LINE,
     depth: int = USUAL_DEPTH,
     tree: bool = False,

@@ -13,7 +13,9 @@ from typing import FrozenSet, Iterable, Iterator, List, Optional, Union
 
 MANY = 2_000  # bytes of ids from which on that is worth while
 LONGER = 16  # a part that is so many times as long as the ids takes much longer than they do
-SHORT = 4_096  # bytes of a line: of a shorter one Python takes long to read the id, beside the library
+SHORT = (
+    4_096  # bytes of a line: of a shorter one Python takes long to read the id, beside the library
+)
 MOST = 256 << 20  # bytes that a part has at most for that
 SPACE = rb"[ \t\r]*"
 USUAL = b'{"type":"CityJSONFeature","id":"'  # how most features begin

@@ -42,8 +42,13 @@ def _build(wanted: Asked) -> int:
         raise RequestError("an index is written to a file: name it by --output")
     files = checked(files_of(wanted), wanted.output)
     refuse_same(filter(None, [wanted.files_from]), [wanted.output])
-    work = asked("check", line_limit=wanted.line_limit, depth=wanted.depth,
-                 keep_going=wanted.keep_going, tree=wanted.tree)
+    work = asked(
+        "check",
+        line_limit=wanted.line_limit,
+        depth=wanted.depth,
+        keep_going=wanted.keep_going,
+        tree=wanted.tree,
+    )
     keep_room()
     sizes = [size_of(file) for file in files] if wanted.progress else []
     worst = 0
@@ -72,5 +77,6 @@ def _streams(
         return lambda size: bar.add(file, size)
 
     for number, file in enumerate(files, 1):
-        yield Indexed(number, file, work, builder, wanted.part_size, teller.report,
-                      progress_of(file))
+        yield Indexed(
+            number, file, work, builder, wanted.part_size, teller.report, progress_of(file)
+        )

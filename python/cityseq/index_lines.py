@@ -67,28 +67,34 @@ def shown_object(index: "Index", program: str) -> Dict[str, Any]:
     """Returns the same as an object of JSON."""
     from .objects import object_of
 
-    return object_of("index", {
-        "index": index.path,
-        "cityseq": program,
-        "features": sum(stream.features for stream in index.streams),
-        "bbox": _extent(index.streams),
-        "streams": [
-            {
-                "file": stream.path,
-                "packing": stream.packing,
-                "size": stream.size,
-                "mtime_ns": stream.mtime_ns,
-                "lines": stream.lines,
-                "features": stream.features,
-                "refused": stream.refused,
-                "reference_system": stream.reference_system,
-                "bbox": _extent([stream]),
-                "fault": _state(index, stream),
-            }
-            for stream in index.streams
-        ],
-        "repeated_ids": [
-            {"id": each.id, "places": [{"file": path, "line": line} for path, line in each.places]}
-            for each in index.repeated_ids()
-        ],
-    })
+    return object_of(
+        "index",
+        {
+            "index": index.path,
+            "cityseq": program,
+            "features": sum(stream.features for stream in index.streams),
+            "bbox": _extent(index.streams),
+            "streams": [
+                {
+                    "file": stream.path,
+                    "packing": stream.packing,
+                    "size": stream.size,
+                    "mtime_ns": stream.mtime_ns,
+                    "lines": stream.lines,
+                    "features": stream.features,
+                    "refused": stream.refused,
+                    "reference_system": stream.reference_system,
+                    "bbox": _extent([stream]),
+                    "fault": _state(index, stream),
+                }
+                for stream in index.streams
+            ],
+            "repeated_ids": [
+                {
+                    "id": each.id,
+                    "places": [{"file": path, "line": line} for path, line in each.places],
+                }
+                for each in index.repeated_ids()
+            ],
+        },
+    )

@@ -36,7 +36,58 @@ class _Counting(Reader):
         return piece
 
 
-class Indexed(Stream):
+class Recorded(Stream):
+    """A stream whose parts answer with the records of their features."""
+
+    def take(self, found: Found, lines: int) -> None:
+        """Takes what came of the next part, before which so many lines came.
+
+        Raises:
+            WriteFault: It cannot be written.
+        """
+        raise NotImplementedError
+
+    def _parts(self, reader: Reader, header: bytes, rest: bytearray) -> Iterator[Optional[Judged]]:
+        """What judges each part behind the header: those of a file are read where they are judged,
+        but for its end."""
+        begin = len(header)
+        file = placed(reader.file)
+        if file is not None:
+            places = Places(file, begin, self._part_size(SMALL, header), self.work.line_limit)
+            for left, right in places.parts():
+                yield self._judged(header, partial(_of_thread, file, left, right), left)
+            if places.begin > begin:
+                begin, rest = places.begin, bytearray()
+                reader.go_to(begin)
+        counting = _Counting(reader, begin + len(rest))
+        cutter = Cutter(
+            counting,
+            rest,
+            self._part_size(SMALL, header),
+            self.work.line_limit,
+            self.work.keep_going,
+        )
+        for part in cutter.parts():
+            # of a line that is too long the part has only the beginning, and no record
+            left = counting.taken - cutter.left - len(part)
+            yield self._judged(header, partial(given, part), left) if part else None
+        reader.fault = counting.fault
+
+    def _judged(self, header: bytes, read: Any, begin: int) -> Judged:
+        return partial(find_read, self.work, self.file, header, read, begin)
+
+    def add(self, answer: Answer) -> None:
+        """Joins the answer of the next part, and has its records taken."""
+        lines = self._joined.lines - min(self._joined.parts, 1)
+        try:
+            super().add(answer)
+            if isinstance(answer, Found) and self._fault is None:
+                self.take(answer, lines)
+        except WriteFault as fault:
+            self._fault = self._fault or fault
+
+
+class Indexed(Recorded):
     """A stream whose records go to an index."""
 
     def __init__(
@@ -60,39 +111,14 @@ class Indexed(Stream):
         if self.work.keep_going and self._fault is None and report.line > 1:
             self._builder.report(self._number, report)
 
-    def _parts(self, reader: Reader, header: bytes, rest: bytearray) -> Iterator[Optional[Judged]]:
-        """What judges each part behind the header: those of a file are read where they are judged,
-        but for its end."""
-        begin = len(header)
-        file = placed(reader.file)
-        if file is not None:
-            places = Places(file, begin, self._part_size(SMALL, header), self.work.line_limit)
-            for left, right in places.parts():
-                yield self._judged(header, partial(_of_thread, file, left, right), left)
-            if places.begin > begin:
-                begin, rest = places.begin, bytearray()
-                reader.go_to(begin)
-        counting = _Counting(reader, begin + len(rest))
-        cutter = Cutter(counting, rest, self._part_size(SMALL, header), self.work.line_limit,
-                        self.work.keep_going)
-        for part in cutter.parts():
-            # of a line that is too long the part has only the beginning, and no record
-            left = counting.taken - cutter.left - len(part)
-            yield self._judged(header, partial(given, part), left) if part else None
-        reader.fault = counting.fault
+    def take(self, found: Found, lines: int) -> None:
+        """Writes the records of the next part, before which so many lines came.
 
-    def _judged(self, header: bytes, read: Any, begin: int) -> Judged:
-        return partial(find_read, self.work, self.file, header, read, begin)
-
-    def add(self, answer: Answer) -> None:
-        """Joins the answer of the next part, and writes its records."""
-        lines = self._joined.lines - min(self._joined.parts, 1)
-        try:
-            super().add(answer)
-            if isinstance(answer, Found) and answer.records.raw and self._fault is None:
-                self._builder.add(self.entry(), answer.records, lines)
-        except WriteFault as fault:
-            self._fault = self._fault or fault
+        Raises:
+            WriteFault: They cannot be written.
+        """
+        if found.records.raw:
+            self._builder.add(self.entry(), found.records, lines)
 
     def entry(self) -> Entry:
         """What the index has of the stream. Its header is valid."""
@@ -108,7 +134,10 @@ class Indexed(Stream):
                 self._end(result)
             except WriteFault as fault:
                 result.status, result.fault, result.fault_file = (
-                    fault.status, fault.words, fault.file)
+                    fault.status,
+                    fault.words,
+                    fault.file,
+                )
                 result.raises = fault
         return result
 
@@ -134,7 +163,7 @@ def _of_thread(file: Placed, begin: int, end: int) -> Any:
     return file.read(begin, end)
 
 
-def _is_special(path: Any) -> bool:
+def is_special(path: Any) -> bool:
     """Whether a path is there, and is a device, a pipe or the like."""
     return os.path.exists(path) and not (os.path.isfile(path) or os.path.isdir(path))
 
@@ -147,7 +176,7 @@ def checked(paths: Any, output: Any) -> List[str]:
     """
     listed = [paths] if isinstance(paths, (str, bytes, os.PathLike)) else list(paths)
     for path in listed:
-        if not is_path(path) or _is_special(path):
+        if not is_path(path) or is_special(path):
             raise RequestError(f"an index is of regular files by their paths: {path!r} is none")
     if not is_path(output):
         raise RequestError(f"an index is written to a path: {output!r} is none")

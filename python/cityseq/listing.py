@@ -120,7 +120,7 @@ def _parts(reader: Reader, work: Work) -> Iterator[Tuple[bytes, Text]]:
 
 def features(source: Source, work: Work) -> Iterator[Feature]:
     """Yields the kept features of a stream. Raises the fault that ends it, if one does."""
-    file, lines = name_of(source), 0
+    file, joined, lines = name_of(source), None, 0
     with opened(source) as reader:
         for header, part in _parts(reader, work):
             room = part.count(b"\n") + 1
@@ -129,7 +129,9 @@ def features(source: Source, work: Work) -> Iterator[Feature]:
                 yield feature_of(raw, header, part, lines)
             if answer.status != COMPLETE:
                 raise fault_of(answer, header, part, lines, file)
-            lines += answer.lines - 1
+            if joined is not None:
+                answer = library().answer_then(joined, answer, len(header))
+            joined, lines = answer, answer.lines - 1
         if reader.fault is not None:
             raise reader.fault
 

@@ -1,56 +1,159 @@
 """The exact texts of the LoDs in a stream, and how many features have each.
 
-A member that may be an LoD is found by its name, wherever it stands; the library then says how many features have the text as an LoD,
-so what is no LoD has none and is left out. Most often there are few texts: each is asked for alone. Where there are many, as an
-attribute of that name may have, groups are asked for and halved."""
+A member that may be an LoD is found by its name, wherever it stands. The library tells how many
+geometries have an LoD. Where a part has as many such members, each of them is one of these LoDs, so
+one pass over the text counts them.
+
+Where it has more, some are no LoDs: an attribute may have that name. Then the library counts the
+features with each text, by a query for each. Most often there are few texts, and each is asked for
+alone. Where there are many, groups are asked for and halved. An instance has the LoD of its
+template, which stands in the header, so a part with instances is counted by queries too."""
 from __future__ import annotations
 
 import json
 import re
 from collections import Counter
-from dataclasses import replace
-from typing import Dict, FrozenSet, Iterator, List, Optional, Tuple
+from dataclasses import dataclass, field, replace
+from functools import lru_cache
+from typing import Any, Dict, FrozenSet, Iterable, Iterator, List, Optional, Tuple
 
-from ._library import Text, library
+from ._library import Text, library, searchable
 from .query import Work, lines_of
-from .tally import Tally
+from .tally import MOST_TEXTS, Tally
 
 ALONE = 8  # so many texts, those that come most often, are asked for alone
-MOST_TEXTS = 4_096  # that a part may have
 MOST_CALLS = 64  # for one part
+NAME = b'"lod"'
+WINDOWS = 512, 16_384  # bytes that are searched for the name behind a quote, least and most
 VALUE = rb'[ \t\r]*:[ \t\r]*"((?:[^"\\\x00-\x1f]|\\.)*)"'
-ESCAPE = re.compile(rb"\\u00")
-USUAL = re.compile(rb'"lod"' + VALUE)
+AFTER_NAME = re.compile(VALUE)
+ESCAPED_LETTER = re.compile(rb"\\u00[4-7]")  # in ASCII, so that a name may be written otherwise
+USUAL = re.compile(NAME + VALUE)
 ESCAPED = re.compile(rb'"(?:l|\\u006[cC])(?:o|\\u006[fF])(?:d|\\u0064)"' + VALUE)
 
 
+def _decoded(spelling: bytes) -> str:
+    """Returns the text of a string of JSON without its quotes. Raises `ValueError` if it is no
+    JSON."""
+    text: str = json.loads(b'"' + spelling + b'"')
+    return text
+
+
+def _can_be_asked(text: str) -> bool:
+    """Whether a query can ask for a text: it has no LF and no half character."""
+    try:
+        text.encode("utf-8")
+    except UnicodeEncodeError:
+        return False
+    return "\n" not in text
+
+
+# ---- one pass over the text
+
+
+@dataclass
+class Found:
+    """Members that may be an LoD: how many there are, and how many lines have each text."""
+
+    members: int = 0
+    lines: Dict[str, int] = field(default_factory=dict)
+
+
+def _members(text: Any, begin: int, end: int) -> Iterator[Tuple[int, bytes]]:
+    """Yields where each member that may be an LoD stands, and what follows its name."""
+    find, starts, value = text.find, text.startswith, b"\n"
+    place, window = begin, WINDOWS[0]
+    while True:
+        stop = place + window
+        name = find(NAME, place, stop if stop < end else end)
+        if name < 0:
+            # an array of numbers has no quote, and one byte is found much faster than a name
+            place = find(b'"', stop - len(NAME) + 1, end)
+            if place < 0:
+                return
+            window = WINDOWS[0] if place > stop + WINDOWS[0] else min(2 * window, WINDOWS[1])
+            continue
+        place, window = name + len(NAME), WINDOWS[0]
+        if not starts(value, place):
+            match = AFTER_NAME.match(text, place, end)
+            if match is None:
+                continue
+            value = match.group()
+        place += len(value)
+        yield name, value
+
+
+def _in_one_pass(text: Any, begin: int, end: int) -> Optional[Found]:
+    """Finds all members that may be an LoD. None where they have too many texts."""
+    found, line_end = Found(), begin - 1
+    texts: Dict[bytes, str] = {}
+    counted_at: Dict[str, int] = {}  # the end of the line where a text was counted last
+    for name, value in _members(text, begin, end):
+        found.members += 1
+        if name > line_end:
+            line_end = text.find(b"\n", name, end)
+            line_end = end if line_end < 0 else line_end
+        if value not in texts:
+            if len(texts) == MOST_TEXTS:
+                return None
+            texts[value] = _decoded(value[value.index(b'"') + 1 : -1])
+        read = texts[value]
+        if counted_at.get(read) != line_end:
+            counted_at[read] = line_end
+            found.lines[read] = found.lines.get(read, 0) + 1
+    return found
+
+
+@lru_cache(maxsize=2)
+def _has_templates(header: bytes) -> bool:
+    """Whether a valid header has templates of geometries."""
+    if b"geometry-templates" in header:
+        return True
+    if b"\\u00" not in header:
+        return False  # the name is not written by escapes
+    from .world import read_json
+
+    return "geometry-templates" in read_json(header.decode("utf-8"))
+
+
+def _passed(header: bytes, part: Text) -> Optional[Found]:
+    """The members of a part, if one pass can tell which of them are LoDs by their number."""
+    text, begin, end = searchable(part)
+    if text.find(b"\\", begin, end) >= 0 and ESCAPED_LETTER.search(text, begin, end):
+        return None
+    if _has_templates(header) and text.find(b"GeometryInstance", begin, end) >= 0:
+        return None
+    return _in_one_pass(text, begin, end)
+
+
+# ---- a query for each text
+
+
 def spelled(text: Text) -> "Counter[bytes]":
-    """How often each spelling comes that may be that of an LoD."""
-    return Counter(found.group(1) for found in (ESCAPED if ESCAPE.search(text) else USUAL).finditer(text))
+    """Returns how often each spelling comes that may be that of an LoD."""
+    pattern = ESCAPED if ESCAPED_LETTER.search(text) else USUAL
+    return Counter(found.group(1) for found in pattern.finditer(text))
 
 
 def texts_of(spellings: Dict[bytes, int]) -> Tuple[List[str], FrozenSet[str]]:
-    """The texts of these spellings, those first that come most often, and those that cannot be asked for."""
+    """Returns the texts of spellings, those first that come most often, and apart from them the
+    texts that no query can ask for."""
     counts: "Counter[str]" = Counter()
-    unasked = set()
     for spelling, count in spellings.items():
         try:
-            text = json.loads(b'"' + spelling + b'"')
-            text.encode("utf-8")
-        except UnicodeEncodeError:
-            unasked.add(text)
+            counts[_decoded(spelling)] += count
         except ValueError:
             continue  # no text of JSON, so in no valid line
-        else:
-            if "\n" in text:
-                unasked.add(text)
-            else:
-                counts[text] += count
-    return [text for text, _ in counts.most_common()], frozenset(unasked)
+    texts = [text for text, _ in counts.most_common()]
+    return list(filter(_can_be_asked, texts)), _unasked(texts)
+
+
+def _unasked(texts: Iterable[str]) -> FrozenSet[str]:
+    return frozenset(text for text in texts if not _can_be_asked(text))
 
 
 def _features_with(texts: List[str], work: Work, header: bytes, part: Text) -> int:
-    """How many features have one of these LoDs, and are wanted."""
+    """How many features have one of these LoDs."""
     request = replace(work, lods=lines_of(texts)).request(header, part)
     return int(library().tally(header, part, request, 0)[2].features)
 
@@ -59,8 +162,10 @@ def _groups(texts: List[str]) -> List[List[str]]:
     return [[text] for text in texts[:ALONE]] + ([texts[ALONE:]] if texts[ALONE:] else [])
 
 
-def _counted(texts: List[str], work: Work, header: bytes, part: Text) -> Iterator[Optional[Tuple[str, int]]]:
-    """Each of the texts that is an LoD, with its features. None where that takes too many calls."""
+def _counted(
+    texts: List[str], work: Work, header: bytes, part: Text
+) -> Iterator[Optional[Tuple[str, int]]]:
+    """Yields each text that is an LoD, with its features. None where it takes too many calls."""
     groups, calls = _groups(texts), 0
     while groups:
         group, calls = groups.pop(0), calls + 1
@@ -71,14 +176,25 @@ def _counted(texts: List[str], work: Work, header: bytes, part: Text) -> Iterato
         if features and len(group) == 1:
             yield group[0], features
         elif features:
-            groups += [group[:len(group) // 2], group[len(group) // 2:]]
+            groups += [group[: len(group) // 2], group[len(group) // 2 :]]
 
 
-def count(tally: Tally, work: Work, header: bytes, part: Text) -> None:
-    """Adds to a tally of a header and a part the texts of its LoDs."""
+def _ask(tally: Tally, work: Work, header: bytes, part: Text) -> None:
+    """Adds the texts to a tally, by a query for each."""
     texts, tally.unasked = texts_of(spelled(header) + spelled(part))
     if len(texts) + len(tally.unasked) > MOST_TEXTS:
         tally.lods = None
         return
     counted = list(_counted(texts, work, header, part))
     tally.lods = None if None in counted else dict(found for found in counted if found is not None)
+
+
+def count(tally: Tally, work: Work, header: bytes, part: Text) -> None:
+    """Adds to the tally of a header and a valid part the texts of its LoDs."""
+    geometries = sum(tally.told.lods)
+    found = _passed(header, part) if geometries else Found()
+    if found is None or found.members != geometries:
+        _ask(tally, work, header, part)
+        return
+    tally.unasked = _unasked(found.lines)
+    tally.lods = {text: lines for text, lines in found.lines.items() if text not in tally.unasked}

@@ -157,8 +157,16 @@ class Index:
         Raises:
             RequestError: An argument has a value that it may not have.
         """
-        return asked("filter", ids=ids, types=types, lods=lods, box=box, tree=self.tree,
-                     line_limit=self.line_limit, depth=self.depth)
+        return asked(
+            "filter",
+            ids=ids,
+            types=types,
+            lods=lods,
+            box=box,
+            tree=self.tree,
+            line_limit=self.line_limit,
+            depth=self.depth,
+        )
 
     def rows(self, work: Work) -> Iterator[Row]:
         """Yields where the lines are that a query may keep, in order. It never leaves one out."""
@@ -319,9 +327,12 @@ class Index:
             for text, exact in found:
                 places = self._base.execute(
                     "SELECT stream, line FROM features WHERE id = ? AND id_exact IS ?"
-                    " ORDER BY fid", (text, exact))
-                yield RepeatedId(id_of(text, exact),
-                                 tuple((paths[number], line) for number, line in places))
+                    " ORDER BY fid",
+                    (text, exact),
+                )
+                yield RepeatedId(
+                    id_of(text, exact), tuple((paths[number], line) for number, line in places)
+                )
 
     def show(self) -> str:
         """Returns what the index covers, and the ids that appear more than once, as lines."""
@@ -334,8 +345,10 @@ def _classes(lods: Optional[bytes]) -> Optional[bytes]:
     """Returns the classes of the LoDs that are asked for, one a line."""
     if lods is None:
         return None
-    names = {text[:1] if text[:1] in LOD_CLASSES else LOD_CLASSES[-1]
-             for text in lods.decode("utf-8").split("\n")}
+    names = {
+        text[:1] if text[:1] in LOD_CLASSES else LOD_CLASSES[-1]
+        for text in lods.decode("utf-8").split("\n")
+    }
     return "\n".join(sorted(names)).encode("ascii")
 
 

@@ -15,7 +15,8 @@ STRING = re.compile(rb'"(?:[^"\\\x00-\x1f]|\\.)*"')
 WORD = re.compile(rb"[-+.0-9A-Za-z]+")
 KINDS = {"{": "an object", "[": "an array", '"': "a string", "t": "true", "f": "false", "n": "null"}
 SECOND_LEVEL = re.compile(
-    r"(Bridge|Building|Tunnel)(ConstructiveElement|Furniture|Installation|Part|Room|Storey|Unit|HollowSpace)\Z"
+    r"(Bridge|Building|Tunnel)"
+    r"(ConstructiveElement|Furniture|Installation|Part|Room|Storey|Unit|HollowSpace)\Z"
 )
 Needs = Tuple[
     str, Dict[str, Any], Tuple[str, ...]

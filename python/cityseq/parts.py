@@ -6,7 +6,7 @@ lines, joined with what comes of the same header with the rest. Each part is jud
 header, so the header's line counts once."""
 from __future__ import annotations
 
-from dataclasses import dataclass
+from dataclasses import dataclass, field
 from itertools import islice
 from typing import Callable, Iterable, Iterator, Optional, Tuple, Union
 
@@ -15,7 +15,7 @@ from .faults import CityseqError, ReadFault
 from .query import Work
 from .reports import Report, describe
 from .sources import PIECE, Reader
-from .tally import Tally, tally_of
+from .tally import Tally
 
 PART = 4 << 20  # how long parts are, where their lines allow it
 ROOM = 1_024  # the room for reports at first
@@ -35,6 +35,11 @@ def read_header(reader: Reader, line_limit: int) -> Tuple[bytes, bytearray]:
     if 0 <= end <= line_limit:
         return bytes(buffer[: end + 1]), buffer[end + 1 :]
     return bytes(buffer[: line_limit + 1]), bytearray()
+
+
+def whole_lines(text: Text) -> int:
+    """Returns how many bytes the whole lines have that a text begins with."""
+    return library().part_end(text, len(text))
 
 
 class Cutter:
@@ -82,20 +87,18 @@ class Cutter:
     def _take_last(self) -> bytearray:
         """All that is left; where a read failed, the whole lines of it alone."""
         return self._take(
-            len(self._rest) if self._reader.fault is None else self._rest.rfind(b"\n") + 1
+            len(self._rest) if self._reader.fault is None else whole_lines(self._rest)
         )
 
     def _take_long_line(self) -> Tuple[bytearray, bool]:
         """A part of one line that is longer than the size, and whether there may be more behind
         it."""
-        seen = 0
-        while len(self._rest) <= self._line_limit:
-            if self._rest.find(b"\n", seen) >= 0:
-                break
+        end = seen = 0
+        while len(self._rest) <= self._line_limit and not end:
             seen = len(self._rest)
             if not self._fill(min(seen + PIECE, self._line_limit + 1)):
                 return self._take_last(), False
-        end = self._rest.find(b"\n", 0, self._line_limit + 1) + 1
+            end = library().part_end(self._rest, 1, seen)
         return (self._take(end), True) if end else self._take_too_long()
 
     def _take_too_long(self) -> Tuple[bytearray, bool]:
@@ -105,7 +108,7 @@ class Cutter:
         if not self._keep_going:
             return part, False
         while True:
-            end = self._rest.find(b"\n") + 1
+            end = library().part_end(self._rest, 1)
             if end:
                 self._rest = self._rest[end:]
                 return part + b"\n", True
@@ -121,7 +124,7 @@ class Cutter:
             if not self._fill(self._size, True):
                 part, more = self._take_last(), False
             elif self._is_waiting:
-                part = self._take(self._rest.rfind(b"\n") + 1)
+                part = self._take(whole_lines(self._rest))
                 yield part
                 if part:
                     yield bytearray()
@@ -129,8 +132,9 @@ class Cutter:
                     continue
                 part, more = self._take_too_long()
             else:
-                end = self._rest.rfind(b"\n", 0, self._size) + 1
-                part, more = (self._take(end), True) if end else self._take_long_line()
+                end = library().part_end(self._rest, self._size)
+                is_part = 0 < end <= max(self._size, self._line_limit + 1)
+                part, more = (self._take(end), True) if is_part else self._take_long_line()
             if part:
                 yield part
 
@@ -138,13 +142,9 @@ class Cutter:
 @dataclass
 class Answer:
     """What came of a header and a part, or of the parts so far: lines and reports are counted in
-    these. None is joined yet where `parts` is 0."""
+    these. Nothing is joined yet where `parts` is 0."""
 
-    status: int = COMPLETE
-    lines: int = 0
-    kept: int = 0
-    refused: int = 0
-    peaks: Tuple[int, int, int] = (0, 0, 0)
+    told: RawAnswer = field(default_factory=RawAnswer)  # by the library
     end: Optional[Report] = None
     reports: Iterable[Report] = ()
     output: Text = b""
@@ -154,42 +154,48 @@ class Answer:
     fault: Optional[ReadFault] = None  # of a read behind the part
     parts: int = 1
 
-    def add(self, answer: "Answer", tell: Callable[[Report], None]) -> None:
-        """Joins the answer of the next part, and tells its reports as those of the stream. The
-        header's line counts once."""
-        header = min(self.parts, 1)
-        before = self.lines - header
+    @property
+    def status(self) -> int:
+        """How it ended."""
+        return int(self.told.status)
+
+    @property
+    def lines(self) -> int:
+        """The lines that were dealt with, and the header among them."""
+        return int(self.told.lines)
+
+    @property
+    def kept(self) -> int:
+        """The features that are kept."""
+        return int(self.told.kept)
+
+    @property
+    def refused(self) -> int:
+        """The lines that were reported."""
+        return int(self.told.refused)
+
+    @property
+    def peaks(self) -> Tuple[int, int, int]:
+        """The most bytes, tokens, and open arrays and objects that were held."""
+        return self.told.peak_bytes, self.told.peak_tokens, self.told.peak_depth
+
+    def add(self, answer: "Answer", header_length: int, tell: Callable[[Report], None]) -> None:
+        """Joins the answer of the next part, and tells its reports as those of the stream."""
+        before = self.lines - 1 if self.parts else 0  # the header's line counts once
         for report in answer.reports:
             tell(report.moved(before))
         if answer.end is not None:
             self.end = answer.end.moved(before)
             tell(self.end)
-        self.status, self.fault = answer.status, answer.fault
-        # of a part that found no memory no line is told
-        self.lines += max(answer.lines - header, 0)
-        self.kept += answer.kept
-        self.refused += answer.refused
-        self.peaks = (
-            max(self.peaks[0], answer.peaks[0]),
-            max(self.peaks[1], answer.peaks[1]),
-            max(self.peaks[2], answer.peaks[2]),
+        self.told = (
+            library().answer_then(self.told, answer.told, header_length)
+            if self.parts
+            else answer.told
         )
+        self.fault = answer.fault
         if answer.tally is not None:
             self.tally = answer.tally if self.tally is None else self.tally.joined(answer.tally)
         self.parts += 1
-
-    def count(self, told: RawAnswer, size: int) -> None:
-        """Joins the next part, which is valid, by what the library told of it. The header's line is
-        counted before."""
-        self.lines += told.lines - 1
-        self.kept += told.kept
-        self.peaks = (
-            max(self.peaks[0], told.peak_bytes),
-            max(self.peaks[1], told.peak_tokens),
-            max(self.peaks[2], told.peak_depth),
-        )
-        self.size += size
-        self.parts = 1
 
 
 def _call(
@@ -202,7 +208,7 @@ def _call(
         return answer, reports, output, None
     if work.kind == "info":
         answer, reports, tally = library().tally(header, part, request, room)
-        return answer, reports, b"", tally_of(tally)
+        return answer, reports, b"", Tally(tally)
     answer, reports = library().check(header, part, request, room)
     return answer, reports, b"", None
 
@@ -212,10 +218,10 @@ def judge(work: Work, file: str, header: bytes, part: Text, first: bool) -> Answ
     try:
         return _judge(work, file, header, part, first)
     except MemoryError:
-        return Answer(NO_MEMORY)
+        return Answer(RawAnswer(NO_MEMORY))
 
 
-def _held(part: Text) -> Union[bytes, bytearray]:
+def held(part: Text) -> Union[bytes, bytearray]:
     """The bytes of a part, which may be lent for as long as it is judged, to be kept."""
     return bytes(part) if isinstance(part, memoryview) else part
 
@@ -229,19 +235,16 @@ def _judge(work: Work, file: str, header: bytes, part: Text, first: bool) -> Ans
         answer, raws, output, tally = _call(work, header, part, answer.refused)
     if answer.status not in (COMPLETE, REFUSED, NO_MEMORY):
         raise CityseqError(
-            f"the library answered {answer.status}, code {answer.code}, of a part of {len(part)} bytes"
+            f"the library answered {answer.status}, code {answer.code},"
+            f" of a part of {len(part)} bytes"
         )
     if tally is not None and work.exact_lods and answer.status == COMPLETE:
         from . import lods  # few runs need it
 
         lods.count(tally, work, header, part)
-    told = _held(part) if answer.refused or answer.status == REFUSED else b""
+    told = held(part) if answer.refused or answer.status == REFUSED else b""
     return Answer(
-        status=answer.status,
-        lines=answer.lines,
-        kept=answer.kept,
-        refused=answer.refused,
-        peaks=(answer.peak_bytes, answer.peak_tokens, answer.peak_depth),
+        answer,
         end=next(describe([answer], header, told, file)) if answer.status == REFUSED else None,
         reports=describe(islice(raws, answer.refused), header, told, file)
         if answer.refused

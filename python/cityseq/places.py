@@ -1,6 +1,7 @@
-"""Parts of a file that are read by the thread that judges them. Where there are many threads, a
-look at the ends of parts alone tells where they are; where there is one, each part is read behind
-the one before."""
+"""Parts of a regular file, each read by the thread that judges it.
+
+With many threads, `Places` finds the ends of parts first, and reads only a little around each. With
+one thread, `Turns` reads the parts one after another."""
 from __future__ import annotations
 
 import io
@@ -13,29 +14,26 @@ from dataclasses import replace
 from functools import partial
 from typing import Any, Callable, Iterator, Optional, Tuple
 
-from ._library import COMPLETE, NO_MEMORY, Text, library
+from ._library import COMPLETE, NO_MEMORY, RawAnswer, Text, library
 from .faults import read_fault
-from .parts import Answer, judge
+from .parts import Answer, judge, whole_lines
 from .query import Work
 from .sources import PIECE
 
-LOOK = 1 << 16  # how many bytes before a part's end are looked at first
-# How long parts are that one thread reads in turn: what it has read is still near the processor when
-# it is judged.
-SMALL = 1 << 19
-Read = Callable[
-    [], Tuple[Text, Optional[OSError]]
-]  # the bytes of a part, and why a read behind them failed, if one did
+LOOK = 1 << 16  # bytes before a part's end that are searched first
+SMALL = 1 << 19  # bytes of a part for one thread: it is still in the processor's cache when judged
+# Returns the bytes of a part, and why a read after them failed, if one did.
+Read = Callable[[], Tuple[Text, Optional[OSError]]]
 
 
 class Room(threading.local):
-    """The room of a thread, which its parts are read to one after another: so the system has to
-    find memory but once."""
+    """The room into which a thread reads its parts, one after another. So the system finds memory
+    for them only once."""
 
     held = bytearray()
 
     def of(self, size: int) -> memoryview:
-        """Room for so many bytes."""
+        """Returns room for that number of bytes."""
         if len(self.held) < size:
             self.held = bytearray(size)
         return memoryview(self.held)[:size]
@@ -45,8 +43,7 @@ _room = Room()
 
 
 class Placed:
-    """A regular file, whose bytes are read by their places. It stays open as long as something
-    holds it."""
+    """A regular file that is read at any place. It stays open while something holds it."""
 
     def __init__(self, descriptor: int) -> None:
         self._descriptor = -1
@@ -57,15 +54,14 @@ class Placed:
             os.close(self._descriptor)
 
     def look(self, begin: int, end: int) -> Optional[bytes]:
-        """The bytes from one place up to another, or as many as one read gives; nothing where that
-        fails."""
+        """Returns the bytes between two places, or those that one read gives. None if it fails."""
         try:
             return os.pread(self._descriptor, end - begin, begin)
         except OSError:
             return None
 
     def fill(self, room: memoryview, begin: int) -> Tuple[int, Optional[OSError]]:
-        """Reads to a room from a place on: how many bytes there are, and why a read behind them
+        """Fills a room from a place on. Returns how many bytes it read, and why a read after them
         failed, if one did."""
         count = 0
         try:
@@ -79,15 +75,15 @@ class Placed:
         return count, None
 
     def read(self, begin: int, end: int) -> Tuple[memoryview, Optional[OSError]]:
-        """The bytes from one place up to another, or as many as there are, and why a read behind
-        them failed, if one did. They are there until this thread reads again."""
+        """Returns the bytes between two places, or those that there are, and why a read after them
+        failed, if one did. They change when this thread reads again."""
         room = _room.of(end - begin)
         count, fault = self.fill(room, begin)
         return room[:count], fault
 
 
 def placed(file: Any) -> Optional[Placed]:
-    """The same file by its places, where its bytes can be read so."""
+    """Returns a file to read at any place, or None if that is not possible."""
     try:
         if (
             isinstance(file, io.BufferedReader)
@@ -101,44 +97,45 @@ def placed(file: Any) -> Optional[Placed]:
 
 
 class Places:
-    """Cuts a file from a byte on into parts of whole lines, each as long as asked, or of one line
-    that is longer. It leaves what is behind the last of them: what is near the end of the file, a
-    line that is too long, and where a read fails."""
+    """Cuts a file from a byte on into parts of whole lines.
+
+    A part has at most the given size, or it is one longer line. The rest is left: the end of the
+    file, a line that is too long, or a place where a read fails."""
 
     def __init__(self, file: Placed, begin: int, size: int, line_limit: int) -> None:
         self._file, self._size, self._line_limit = file, size, line_limit
-        self.begin = begin  # of what is left
+        self.begin = begin  # of the rest
 
     def _end_before(self, end: int) -> Optional[int]:
-        """Behind the last LF up to this place: where the part begins if there is none in it, and
-        nothing at the end of the file."""
+        """Returns the end of the last line that ends up to this place, or the beginning of the part
+        if none does. None at the end of the file."""
         look = LOOK
         while True:
             begin = max(self.begin, end - look)
             piece = self._file.look(begin, end)
             if piece is None or len(piece) < end - begin:
                 return None
-            found = piece.rfind(b"\n") + 1
+            found = whole_lines(piece)
             if found or begin == self.begin:
                 return begin + found
             look *= 4
 
     def _end_of_line(self) -> Optional[int]:
-        """Behind the LF of the line that begins the part and is longer than it, unless it is too
+        """Returns the end of the line that begins the part and is longer. None if it is too
         long."""
         place, last = self.begin + self._size, self.begin + self._line_limit + 1
         while place < last:
             piece = self._file.look(place, min(place + PIECE, last))
             if not piece:
                 return None
-            found = piece.find(b"\n") + 1
+            found = library().part_end(piece, 1)
             if found:
                 return place + found
             place += len(piece)
         return None
 
     def parts(self) -> Iterator[Tuple[int, int]]:
-        """Where each part begins and ends, in order."""
+        """Yields where each part begins and ends, in order."""
         while True:
             end = self._end_before(self.begin + self._size)
             if end == self.begin:
@@ -150,21 +147,23 @@ class Places:
 
 
 class Turns:
-    """Cuts a file, or its bytes up to one of them, into parts of which each is judged before the
-    next is read: all are read to one room, each from behind the last LF that was read. Where a line
-    is longer than the room, that becomes twice as long, or as long as all that is left up to that
-    byte, and so do the parts from there on. It leaves what `Places` does."""
+    """Reads a file, or its bytes up to one of them, part by part.
+
+    Each part is judged before the next one is read, because all are read into one room. A part
+    begins after the last LF of the part before. If a line is longer than the room, the room becomes
+    twice as long, or as long as all bytes up to the end. Later parts are as long as the room.
+    The rest is the same as that of `Places`."""
 
     def __init__(
         self, file: Placed, begin: int, size: int, line_limit: int, end: int = sys.maxsize
     ) -> None:
         self._file, self._end, self._line_limit = file, end, line_limit
         self._size, self._room = min(size, end - begin), bytearray()
-        self.begin = begin  # of what is left
+        self.begin = begin  # of the rest
 
     def _next(self) -> Tuple[memoryview, Optional[OSError]]:
-        """The next part, which is empty where it is left; or, where a read fails, what is there
-        before that, and why it failed."""
+        """Returns the next part, which is empty at the rest. If a read fails, it returns the bytes
+        before that, and the reason."""
         while True:
             if len(self._room) < self._size:
                 self._room = bytearray(self._size)
@@ -174,13 +173,13 @@ class Turns:
                 return room[:count], fault
             if count < len(room):
                 return room[:0], None
-            end = self._room.rfind(b"\n", 0, count) + 1
+            end = whole_lines(room[:count])
             if end or count == self._end - self.begin or count > self._line_limit:
                 return room[:end], None
             self._size = 2 * count if self._end == sys.maxsize else self._end - self.begin
 
     def parts(self) -> Iterator[Read]:
-        """What gives each part, in order."""
+        """Yields a call for each part, in order, that returns it."""
         while True:
             part, fault = self._next()
             if not part and fault is None:
@@ -189,10 +188,11 @@ class Turns:
             self.begin += len(part)
 
     def counted(self, work: Work, header: bytes, most: int) -> Optional[Answer]:
-        """Judges parts as long as they are valid, until they have so many bytes, and answers what
-        comes of them together: nothing where the next part is not valid or not read, or is left."""
-        answer, begin = Answer(lines=1, parts=0), self.begin
-        with suppress(MemoryError):  # the next part tells of it
+        """Judges parts while they are valid, up to about that number of bytes, and returns one
+        answer for them. None if the next part is not valid, or not read, or the rest."""
+        joined: Optional[RawAnswer] = None
+        begin = self.begin
+        with suppress(MemoryError):  # which the next part meets again
             while self.begin < begin + most:
                 part, fault = self._next()
                 if not part or fault is not None:
@@ -200,26 +200,28 @@ class Turns:
                 told, _ = library().check(header, part, work.request(header, part), 0)
                 if told.status != COMPLETE:
                     break
-                answer.count(told, len(part))
+                if joined is not None:
+                    told = library().answer_then(joined, told, len(header))
+                joined = told
                 self.begin += len(part)
-        return answer if answer.parts else None
+        return None if joined is None else Answer(joined, size=self.begin - begin)
 
 
 def given(part: Text, fault: Optional[OSError] = None) -> Tuple[Text, Optional[OSError]]:
-    """What is given for a part that has been read."""
+    """Returns a part that has been read, as a call that reads it does."""
     return part, fault
 
 
 def judge_read(work: Work, file: str, header: bytes, read: Read, first: bool) -> Answer:
-    """Judges a header and the part that a read gives; where that failed, the whole lines before,
-    and then the fault counts."""
+    """Judges a header and the part that a read gives. If the read failed, only the whole lines
+    before are judged, and the fault counts if these are valid."""
     try:
         part, fault = read()
     except MemoryError:
-        return Answer(NO_MEMORY)
+        return Answer(RawAnswer(NO_MEMORY))
     if fault is None:
         return judge(work, file, header, part, first)
-    answer = judge(work, file, header, part[: bytes(part).rfind(b"\n") + 1], first)
+    answer = judge(work, file, header, part[: whole_lines(part)], first)
     return replace(answer, fault=read_fault(fault, file)) if answer.status == COMPLETE else answer
 
 
@@ -232,8 +234,8 @@ def judge_placed(
     size: int,
     first: bool,
 ) -> Answer:
-    """Judges a header and the part of a file between two places: in smaller parts, of this size,
-    where it is valid and counted alone."""
+    """Judges a header and the part of a file between two places. A valid part that is only counted
+    is judged in smaller parts of the given size."""
     begin, end = ends
     if work.counts_alone:
         turns = Turns(source, begin, size, work.line_limit, end)

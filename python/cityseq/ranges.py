@@ -6,10 +6,11 @@ from dataclasses import dataclass, replace
 from functools import partial
 from typing import IO, Iterator, Optional, Tuple
 
+from ._library import RawAnswer, library
 from .faults import ReadFault, read_fault
 from .hints import HEAD
 from .packed import Unpacker
-from .parts import Answer, judge, read_header
+from .parts import Answer, judge, read_header, whole_lines
 from .places import given
 from .query import Work
 from .records import find_read
@@ -55,9 +56,9 @@ def _first_line(file: IO[bytes], begin: int, end: int) -> int:
     place = begin - 1
     while place < end:
         piece = file.read(min(PIECE, end - place))
-        found = piece.find(b"\n")
-        if found >= 0:
-            return place + found + 1
+        found = library().part_end(piece, 1)
+        if found:
+            return place + found
         if not piece:
             break
         place += len(piece)
@@ -74,12 +75,12 @@ def _lines_from(file: IO[bytes], begin: int, end: int, work: Work) -> bytearray:
         if not piece:
             break
         lines += piece
-    last = lines.rfind(b"\n") + 1
+    last = whole_lines(lines)
     while last < len(lines) <= last + work.line_limit:
         piece = reader.read(min(PIECE, last + work.line_limit + 1 - len(lines)))
         if not piece:
             break
-        found = piece.find(b"\n") + 1
+        found = library().part_end(piece, 1)
         lines += piece[:found] if found else piece
         if found:
             break
@@ -128,9 +129,9 @@ def judge_range(
     try:
         header, _, part = _read_range(work, path, begin, end, state)
     except READ_FAULTS as fault:
-        return Answer(lines=int(not first), fault=read_fault(fault, path))
+        return Answer(RawAnswer(lines=int(not first)), fault=read_fault(fault, path))
     if not part and not first:
-        return Answer(lines=1, size=end - begin)
+        return Answer(RawAnswer(lines=1), size=end - begin)
     answer = judge(work, path, header, part, first)
     return replace(answer, reports=list(answer.reports), output=bytes(answer.output))
 

@@ -6,7 +6,7 @@ import hashlib
 import json
 import os
 import time
-from typing import Any, Dict, Optional, Tuple
+from typing import Any, Callable, Dict, Optional, Tuple
 
 from .faults import RequestError, write_fault
 from .objects import Object, options_object
@@ -16,12 +16,15 @@ from .words import Asked
 PIECE = 1 << 20
 
 
-def sha256_of(path: str) -> Optional[str]:
-    """The SHA-256 of a file, as sha256sum tells it; nothing where it cannot be read."""
+def sha256_of(path: str, is_stopped: Callable[[], bool] = lambda: False) -> Optional[str]:
+    """The SHA-256 of a file, as sha256sum tells it; nothing where it cannot be read, or where the
+    second says in the middle that it is wanted no more."""
     digest = hashlib.sha256()
     try:
         with open(path, "rb", buffering=0) as file:
             for piece in iter(lambda: file.read(PIECE), b""):
+                if is_stopped():
+                    return None
                 digest.update(piece)
     except OSError:
         return None

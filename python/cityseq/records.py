@@ -9,15 +9,17 @@ from typing import Iterator, List, Optional, Tuple
 
 from ._library import COMPLETE, NO_MEMORY, REFUSED, RawAnswer, RawReports, Text, library
 from .faults import CityseqError, read_fault
-from .parts import ROOM, Answer
-from .places import Read
+from .parts import ROOM, Answer, held
+from .places import Read, Room
 from .query import Work
 from .reports import describe
 
 RECORD = struct.Struct("=9Q" + "Qqq" * 3)  # `struct cityseq_feature`
 SHORTEST = 64  # bytes: every feature is longer
+USUAL = 8_192  # features of a part that there is room for at first
 LONGEST = 1_024  # bytes of an id that is stored as it is
 Id = Tuple[str, Optional[bytes]]
+_room = Room()  # for the records of a thread's parts, one after another
 
 
 @dataclass(frozen=True)
@@ -67,40 +69,41 @@ def id_of(text: str, exact: Optional[bytes]) -> str:
     return text if exact is None else exact.decode("utf-8", "surrogatepass")
 
 
-def unescaped(spelling: bytes) -> str:
-    """Returns the text of a string of JSON, which is spelled so between its quotes."""
-    if b"\\" not in spelling:
-        return spelling.decode("utf-8")
-    text: str = json.loads(b'"' + spelling + b'"')
-    return text
+def stored_as_spelled(spelling: bytes) -> Id:
+    """Returns an id as two columns have it, by the string of JSON that spells it, without quotes.
+    A valid string without escapes has no NUL, and no half of a character."""
+    if b"\\" not in spelling and len(spelling) <= LONGEST:
+        return spelling.decode("utf-8"), None
+    return stored(json.loads(b'"' + spelling + b'"'))
 
 
 def _called(
-    work: Work, header: bytes, part: bytes, reports_room: int
+    work: Work, header: bytes, part: Text, reports_room: int
 ) -> Tuple[RawAnswer, RawReports, bytes]:
     """Returns what the library answers. It is asked again where records or reports do not fit."""
-    room = min(part.count(b"\n"), len(part) // SHORTEST) + 1
+    room = min(len(part) // SHORTEST, USUAL) + 1
     while True:
         answer, reports, raw = library().records(
-            header, part, work.request(header, part), room, reports_room
+            header, part, work.request(header, part), _room.of(room * RECORD.size), reports_room
         )
         if answer.kept <= room and (answer.refused <= reports_room or not work.keep_going):
             return answer, reports, raw
         room, reports_room = max(room, answer.kept), max(reports_room, answer.refused)
 
 
-def _ids(text: bytes, raw: bytes) -> List[bytes]:
+def _ids(part: Text, raw: bytes) -> List[bytes]:
     return [
-        text[one[1] + one[3] + 1 : one[1] + one[3] + one[4] - 1] for one in RECORD.iter_unpack(raw)
+        bytes(part[one[1] + one[3] + 1 : one[1] + one[3] + one[4] - 1])
+        for one in RECORD.iter_unpack(raw)
     ]
 
 
 def find(work: Work, file: str, header: bytes, part: Text, begin: int) -> Found:
     """Judges a header and a part that begins at this byte, and returns records and reports."""
-    text = bytes(part)
-    answer, reports, raw = _called(work, header, text, ROOM if work.keep_going else 0)
+    answer, reports, raw = _called(work, header, part, ROOM if work.keep_going else 0)
     if answer.status not in (COMPLETE, REFUSED, NO_MEMORY):
         raise CityseqError(f"the library answered {answer.status}, code {answer.code}")
+    text = held(part) if answer.refused or answer.status == REFUSED else b""
     return Found(
         status=answer.status,
         lines=answer.lines,
@@ -112,8 +115,8 @@ def find(work: Work, file: str, header: bytes, part: Text, begin: int) -> Found:
         reports=describe(islice(reports, answer.refused), header, text, file)
         if answer.refused
         else (),
-        size=len(text),
-        records=Records(begin, raw, _ids(text, raw)),
+        size=len(part),
+        records=Records(begin, raw, _ids(part, raw)),
     )
 
 

@@ -1,5 +1,5 @@
-"""Runs over streams: their parts are judged by as many threads as asked, or elsewhere, and the
-answers joined in order."""
+"""Runs over streams. Threads judge the parts, or a cluster does, and the answers are joined in
+order."""
 from __future__ import annotations
 
 import contextlib
@@ -42,26 +42,37 @@ from .whole import Whole
 if TYPE_CHECKING:
     from decimal import Decimal
 
-HEADERS = 4  # a usual part is at least so many times as long as the header
-AHEAD = 2  # how many parts wait beside those that are judged
-AT_ONCE = 64 << 20  # of so many bytes, or a part more, what came of parts in turn is told together
+HEADERS = 4  # a part is at least this many times as long as the header
+AHEAD = 2  # parts that wait, in addition to those that are judged
+AT_ONCE = 64 << 20  # one thread joins the answers for about this many bytes before it hands them on
 Tell = Callable[[Report], None]
 Progress = Callable[[int], None]
 Task = Callable[[], Answer]
-Judged = Callable[[bool], Answer]  # what judges a part, and takes whether that is the first
-Tasks = Generator[Optional[Task], None, None]  # none, where nothing more has come for some time
+Judged = Callable[[bool], Answer]  # judges a part; its argument says whether that is the first
+Tasks = Generator[Optional[Task], None, None]  # None: nothing more has come for some time
 Results = Generator["Result", None, None]
 
 
 @dataclass
 class Result:
-    """What came of a stream. `status` is that of the program: 0 valid, 1 some line is invalid, 3 to
-    5 a fault, told by `fault`, which is of the stream's file, or of the one that `fault_file`
-    names.
+    """The result for a stream.
 
-    `reports` are the invalid lines that were told, in order: the first one, or, told to go on, all.
-    `end` is the one that ended the run, if one did. `features` are those that are wanted. Lines up
-    to the end are counted, blank ones and the header too."""
+    Attributes:
+        file: What the source is called.
+        status: As the program's: 0 valid, 1 some line is invalid, 3 to 5 a fault.
+        lines: The lines up to the end, blank ones and the header too.
+        features: The features that are kept.
+        refused: The invalid lines that the run went on after.
+        peak_bytes: The most bytes of lines that were held.
+        peak_tokens: The most tokens that were held.
+        peak_depth: The most arrays and objects that were open at once.
+        end: The report that ended the run, if one did.
+        reports: The reports in order: the first, or with `keep_going` all.
+        fault: The fault that ended the run, in words, if one did.
+        hints: What the file may be, if it is no stream.
+        fault_file: The file of the fault, if it is not the stream's.
+        raises: The fault as an exception.
+    """
 
     file: str
     status: int
@@ -76,7 +87,6 @@ class Result:
     fault: Optional[str] = None
     hints: List[str] = field(default_factory=list)
     fault_file: Optional[str] = None
-    # the fault, as an exception
     raises: Optional[CityseqError] = field(default=None, repr=False, compare=False)
 
     @property
@@ -85,15 +95,15 @@ class Result:
         return self.status == 0
 
     def raised(self) -> "Result":
-        """The same. Raises the fault that ended the run, if one did, with this result."""
+        """Returns the same. Raises the fault that ended the run, if one did, with this result."""
         if self.raises is not None:
             self.raises.result = self
             raise self.raises
         return self
 
     def raised_if_invalid(self, keep_going: bool) -> "Result":
-        """The same. Raises `InvalidStream` too, where the stream is not valid, unless it was to go
-        on after invalid lines."""
+        """Returns the same. Raises `InvalidStream` too if the stream is invalid, unless the run
+        goes on after invalid lines."""
         self.raised()
         if self.status == InvalidStream.status and not keep_going:
             raise InvalidStream(str(self.end), self, self.file)
@@ -102,7 +112,20 @@ class Result:
 
 @dataclass
 class Info(Result):
-    """What is in a valid stream; all is empty where it is not valid to its end."""
+    """The summary of a valid stream. All is empty if the stream is invalid.
+
+    Attributes:
+        scale: The scale of the header's transform.
+        translate: The translation of the header's transform.
+        types: City objects by type.
+        classes: Geometries by the class of their LoD: "0" to "4", and "other".
+        x: The least and the greatest x of all vertices, as the features have them.
+        y: The same for y.
+        z: The same for z.
+        box: The box around all vertices in world coordinates, as `filter` takes it.
+        lods: Features by the text of an LoD. None if they were not counted, or too many.
+        unasked: Texts that may be LoDs, and that no query can ask for.
+    """
 
     scale: List[Decimal] = field(default_factory=list)
     translate: List[Decimal] = field(default_factory=list)
@@ -117,8 +140,8 @@ class Info(Result):
 
 
 class Stream:
-    """One stream on its way: what is still to be judged of it, and what came of its parts so
-    far."""
+    """A stream during a run: the parts that are not judged yet, and the joined answer for the
+    others."""
 
     def __init__(
         self,
@@ -145,16 +168,16 @@ class Stream:
 
     @property
     def ended(self) -> bool:
-        """Whether nothing after the parts that were added counts."""
+        """Whether the stream has ended, so that no later part counts."""
         return self._joined.status != 0 or self._fault is not None
 
     def read_in_turn(self) -> "Stream":
-        """The same, where what judges a part is called before the next is asked for."""
+        """Returns the same, for a caller that makes each task before it asks for the next."""
         self._in_turn = True
         return self
 
     def relayed(self, tell: Tell, progress: Progress) -> Tuple[Optional[Tell], Optional[Progress]]:
-        """Has others be told of reports and of progress, and answers who was."""
+        """Sends reports and progress to others, and returns who got them before."""
         before = self._told_to, self._progress
         if self._told_to is not None:
             self._tell = tell
@@ -162,8 +185,8 @@ class Stream:
         return before
 
     def tasks(self) -> Tasks:
-        """What is to be called for each part, in order. A read that fails, or memory that is
-        refused, is told after them."""
+        """Yields a call for each part, in order, that judges it. A failed read and refused memory
+        are noted after these."""
         try:
             with opened(self.source) as reader:
                 yield from self._tasks(reader)
@@ -173,7 +196,7 @@ class Stream:
             self.fail(MemoryFault("out of memory", None, self.file))
 
     def fail(self, fault: CityseqError) -> None:
-        """Notes a fault that counts where no part ends the stream before it."""
+        """Notes a fault that counts if no part ends the stream before it."""
         self._late = fault
 
     def _tasks(self, reader: Reader) -> Tasks:
@@ -194,16 +217,16 @@ class Stream:
             raise reader.fault
 
     def _packing(self, task: Task) -> Task:
-        """The same, which packs what is kept where the output is packed: so many threads pack at
-        once."""
+        """Returns a task that packs its output too if the output is packed. So all threads
+        pack."""
         how = None if self._output is None else self._output.packing
         if how is None:
             return task
         return partial(_packed, task, how)
 
     def _parts(self, reader: Reader, header: bytes, rest: bytearray) -> Iterator[Optional[Judged]]:
-        """What judges each part behind the header: those of a file are read where they are judged,
-        but for its end."""
+        """Yields what judges each part after the header. The thread that judges a part of a file
+        also reads it, except near the end."""
         file = placed(reader.file) if is_path(self.source) else None
         if file is not None:
             begin = yield from (self._parts_in_turn if self._in_turn else self._parts_at_once)(
@@ -220,7 +243,7 @@ class Stream:
             ) if part else None
 
     def _parts_at_once(self, file: Placed, header: bytes) -> Generator[Judged, None, int]:
-        """What judges parts of a file, by any thread. It answers where what is left begins."""
+        """Yields what judges parts of a file, for any thread. Returns where the rest begins."""
         places = Places(file, len(header), self._part_size(PART, header), self.work.line_limit)
         for ends in places.parts():
             yield partial(
@@ -235,10 +258,10 @@ class Stream:
         return places.begin
 
     def _parts_in_turn(self, file: Placed, header: bytes) -> Generator[Judged, None, int]:
-        """What judges parts of a file that are read in turn, or what came of them. It answers where
-        what is left begins."""
-        # whether the texts of LoDs are too many to be told hangs on how long parts are, and is to
-        # be the same for any number of threads
+        """Yields what judges a part of a file that one thread reads, or what has the joined answer
+        for several. Returns where the rest begins."""
+        # Whether there are too many texts of LoDs can depend on the size of parts. The answer must
+        # be the same for any number of threads.
         usual = PART if self.work.exact_lods else SMALL
         turns = Turns(file, len(header), self._part_size(usual, header), self.work.line_limit)
         answer = turns.counted(self.work, header, AT_ONCE) if self.work.counts_alone else None
@@ -250,8 +273,8 @@ class Stream:
         return turns.begin
 
     def _part_size(self, usual: int, header: bytes) -> int:
-        """How long parts are. A long header is judged again with each, and a query for very many
-        ids is made ready again, so that they are longer then."""
+        """Returns the size of parts. The header is judged again with each part, and the ids of a
+        query are prepared again. So parts are longer if the header is long, or the ids are many."""
         for_ids = (
             0 if self.work.ids is None else part_size_for(self.work.ids, self._head[len(header) :])
         )
@@ -264,7 +287,7 @@ class Stream:
     def add(self, answer: Answer) -> None:
         """Joins the answer of the next part."""
         size = self._done(answer)
-        self._joined.add(answer, self._tell)
+        self._joined.add(answer, len(self._header), self._tell)
         if answer.status == NO_MEMORY:
             self._fault = MemoryFault("out of memory", None, self.file)
         if self._output is not None and self._fault is None:
@@ -280,7 +303,7 @@ class Stream:
             self._progress(size)
 
     def _done(self, answer: Answer) -> int:
-        """How many bytes more of the source have been dealt with, packed where they are packed."""
+        """Returns how many bytes more of the source are done. In a packed file they are packed."""
         if self._unpacker is None:
             return answer.size + (0 if self._joined.parts else len(self._header))
         before, self._taken = self._taken, self._unpacker.taken
@@ -294,13 +317,13 @@ class Stream:
             self._fault = self._fault or fault
 
     def answer(self) -> Answer:
-        """What came of the stream, as that of one part."""
+        """Returns the answer for the whole stream, as the answer for one part."""
         fault = self._fault or self._late
         reports = self._reports[:-1] if self._joined.end is not None else self._reports
         return replace(self._joined, reports=reports, fault=fault, parts=1)
 
     def finish(self) -> Result:
-        """What came of the stream, when all its parts were added."""
+        """Returns the result, after all parts were added."""
         joined = self._joined
         if not self.ended:
             self._fault = self._late
@@ -337,7 +360,7 @@ class Stream:
         return result
 
     def abandon(self) -> None:
-        """Leaves nothing half done of a stream that is not finished."""
+        """Removes the unfinished output of a stream that is given up."""
         if self._output is not None:
             self._output.discard()
 
@@ -353,7 +376,7 @@ class Stream:
 
 
 def _packed(task: Task, how: Packing) -> Answer:
-    """The answer of a task, with its output packed unless that is short."""
+    """Returns the answer of a task, with its output packed unless that is short."""
     answer = task()
     if len(answer.output) >= BLOCK:
         answer.output, answer.is_packed = pack(answer.output, how), True
@@ -361,16 +384,17 @@ def _packed(task: Task, how: Packing) -> Answer:
 
 
 def _told(answer: Answer, _: bool) -> Answer:
-    """The answer of parts that have been judged."""
+    """Returns the answer for parts that have been judged."""
     return answer
 
 
 def results(
     streams: Iterable[Union[Stream, Whole]], submit: Callable[[Task], Any], ahead: int
 ) -> Results:
-    """What comes of each stream, in order. `submit` begins a task and answers its future; so many
-    are begun before the first is waited for. What was begun of a stream after its end is
-    cancelled."""
+    """Yields the result of each stream, in order.
+
+    `submit` begins a task and returns its future. `ahead` tasks begin before the first is awaited.
+    After the end of a stream its other tasks are cancelled."""
     waiting: Deque[Tuple[Union[Stream, Whole], Any]] = deque()
     last: Optional[Stream] = None
 
@@ -415,8 +439,8 @@ def in_turn(
     streams: Iterable[Stream],
     call: Callable[[Callable[[], List[Answer]]], List[Answer]] = lambda made: made(),
 ) -> Results:
-    """What comes of each stream, in order. Its parts are read and judged one after another, by the
-    calls that are given to `call`."""
+    """Yields the result of each stream, in order. The calls that `call` gets read and judge the
+    parts one after another."""
     for stream in map(Stream.read_in_turn, streams):
         try:
             with contextlib.closing(stream.tasks()) as tasks:
@@ -432,8 +456,8 @@ def in_turn(
 
 
 def _next_answers(tasks: Tasks) -> List[Answer]:
-    """What comes of the next parts, of so many that it is worth while to hand it on; nothing at the
-    end."""
+    """Returns the answers for the next parts: for enough bytes that handing them on costs little.
+    Empty at the end."""
     answers: List[Answer] = []
     size = 0
     for task in tasks:
@@ -450,12 +474,12 @@ def _next_answers(tasks: Tasks) -> List[Answer]:
 
 
 def usual_jobs() -> int:
-    """How many processors this process may use."""
+    """Returns how many processors this process may use."""
     return len(os.sched_getaffinity(0)) if hasattr(os, "sched_getaffinity") else os.cpu_count() or 1
 
 
 def threaded(streams: Iterable[Stream], jobs: Optional[int]) -> Results:
-    """What comes of each stream, in order, by so many threads."""
+    """Yields the result of each stream, in order, by that number of threads."""
     jobs = usual_jobs() if jobs is None else jobs
     if isinstance(jobs, bool) or not isinstance(jobs, int) or jobs < 1:
         raise RequestError(f"jobs are a whole number from 1: {jobs!r}")
@@ -471,8 +495,8 @@ def _by_crew(streams: Iterable[Stream], jobs: int) -> Results:
 
 
 def _shared_out(streams: Iterable[Stream], crew: Crew) -> Iterator[Union[Stream, Whole]]:
-    """The streams; each that is packed is judged whole by a thread, unless it is the only one, so
-    that many are unpacked at once."""
+    """Yields the streams. If there are several, a thread judges each packed one as a whole, so that
+    many are unpacked at once."""
     ahead = iter(streams)
     begun = list(islice(ahead, 2))
     for stream in chain(begun, ahead):

@@ -1,36 +1,57 @@
-"""What is in a stream: counts, and the ranges of its vertices."""
+"""What is in a stream: counts, the ranges of its vertices, and the texts of its LoDs."""
 from __future__ import annotations
 
-from dataclasses import dataclass, field
+from dataclasses import dataclass
 from typing import Dict, FrozenSet, Optional, Tuple
 
 from ._library import LOD_CLASSES, RawTally, library
 
 Range = Optional[Tuple[int, int]]
+MOST_TEXTS = 4_096  # of LoDs
 MOST_UNASKED = 1_000  # so many are kept, and those of one part more
 
 
 @dataclass
 class Tally:
-    """City objects by type, geometries by the class of their LoD, and the least and greatest vertex on each axis.
+    """What is in the features of a stream, or of a header and a part.
 
-    `lods` has each exact text of an LoD with how many features have it; it is None where that was not counted.
-    `unasked` are some texts that may be LoDs, and that cannot be asked for: those with an LF or half a character."""
+    Attributes:
+        told: What the library told, or joined.
+        lods: How many features have each exact text of an LoD. None if that was not counted.
+        unasked: Texts that may be LoDs, and that no query can ask for: they have an LF or half a
+            character in them.
+    """
 
-    features: int = 0
-    types: Dict[str, int] = field(default_factory=dict)
-    classes: Dict[str, int] = field(default_factory=dict)
-    ranges: Tuple[Range, Range, Range] = (None, None, None)
+    told: RawTally
     lods: Optional[Dict[str, int]] = None
     unasked: FrozenSet[str] = frozenset()
 
-    def joined(self, other: "Tally") -> "Tally":
-        """Both together."""
-        lods = None if self.lods is None or other.lods is None else _added(self.lods, other.lods)
-        ranges = tuple(map(_wider, self.ranges, other.ranges))
+    @property
+    def types(self) -> Dict[str, int]:
+        """City objects by type, also the types that have none, in the order of the table."""
+        return dict(zip(library().type_names(), self.told.types))
+
+    @property
+    def classes(self) -> Dict[str, int]:
+        """Geometries by the class of their LoD, also the classes that have none."""
+        return dict(zip(LOD_CLASSES, self.told.lods))
+
+    @property
+    def ranges(self) -> Tuple[Range, Range, Range]:
+        """The least and the greatest vertex on x, y and z. None where there is no vertex."""
+        x, y, z = ((each.least, each.greatest) if each.some else None for each in self.told.ranges)
+        return x, y, z
+
+    def joined(self, after: "Tally") -> "Tally":
+        """Returns the tally of both. The library has no texts of LoDs, so Python joins these."""
+        lods = None if self.lods is None or after.lods is None else _added(self.lods, after.lods)
+        lods = None if lods is not None and len(lods) > MOST_TEXTS else lods
+        is_full = len(self.unasked) > MOST_UNASKED
         return Tally(
-            self.features + other.features, _added(self.types, other.types), _added(self.classes, other.classes),
-            ranges, lods, self.unasked if len(self.unasked) > MOST_UNASKED else self.unasked | other.unasked)  # type: ignore[arg-type]
+            library().tally_then(self.told, after.told),
+            lods,
+            self.unasked if is_full else self.unasked | after.unasked,
+        )
 
 
 def _added(one: Dict[str, int], other: Dict[str, int]) -> Dict[str, int]:
@@ -38,17 +59,3 @@ def _added(one: Dict[str, int], other: Dict[str, int]) -> Dict[str, int]:
     for name, count in other.items():
         both[name] = both.get(name, 0) + count
     return both
-
-
-def _wider(one: Range, other: Range) -> Range:
-    if one is None or other is None:
-        return one or other
-    return min(one[0], other[0]), max(one[1], other[1])
-
-
-def tally_of(raw: RawTally) -> Tally:
-    """What the library told, of types and classes also those that have none, in their order."""
-    types = dict(zip(library().type_names(), raw.types))
-    classes = dict(zip(LOD_CLASSES, raw.lods))
-    ranges = tuple((axis.least, axis.greatest) if axis.some else None for axis in raw.ranges)
-    return Tally(raw.features, types, classes, ranges)  # type: ignore[arg-type]

@@ -29,8 +29,8 @@ def is_terminal(output: Any) -> bool:
 
 
 def info_lines(info: Info, is_plain: bool) -> Iterator[str]:
-    """The report of a stream: the program's lines, and, of a file, the box in world coordinates and
-    the texts of LoDs."""
+    """The report of a stream: the program's lines, and, of a file, the box in world coordinates;
+    and the texts of LoDs where they were counted."""
     from .world import normal
 
     yield f"lines {info.lines}"
@@ -47,9 +47,7 @@ def info_lines(info: Info, is_plain: bool) -> Iterator[str]:
     yield f"peak bytes {info.peak_bytes}"
     yield f"peak tokens {info.peak_tokens}"
     yield f"peak open {info.peak_depth}"
-    if is_plain:
-        return
-    if info.box is not None:
+    if info.box is not None and not is_plain:
         yield f"bbox {info.box}"
     for text, count in sorted((info.lods or {}).items()):
         yield f"features with lod {quoted(text)} {count}"
@@ -251,6 +249,10 @@ def brief(words: str) -> str:
 
 def teller_of(asked: Asked, bar: Bar, has_many: bool) -> Teller:
     """What says all as it is asked for."""
+    if asked.format is not None:
+        from .sarif import SarifTeller  # few runs need it
+
+        return SarifTeller(asked, bar)
     if asked.json:
         keeps = asked.command == "filter" and asked.output == "-" and asked.output_dir is None
         return JsonTeller(asked, bar, keeps)

@@ -105,7 +105,9 @@ class Crew:
         return self
 
     def __exit__(self, *_: Any) -> None:
-        for _end in self._ends:
+        # one more than there are threads: an interrupt may have come when one had just been started,
+        # which is not in the list then
+        for _sign in range(len(self._ends) + 1):
             self._jobs.put(None)
         while self._ends:
             self._ends.pop().acquire()

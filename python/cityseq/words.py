@@ -1,8 +1,6 @@
-"""The words of the command line: which there are, the help on them, and what is said where they are
-not understood.
+"""The words of the command line: the commands and options, the help, and the messages for mistakes.
 
-Commands, options, texts and mistakes are those of the program `cityseq`, and some more; so whoever
-knows the one knows the other."""
+The commands, options and messages of the program `cityseq` are all here, and a few more."""
 from __future__ import annotations
 
 from dataclasses import dataclass, field
@@ -18,7 +16,7 @@ MOST_SECONDS = 1_000_000
 HOST, PORT = "127.0.0.1", 8080
 REQUESTS, FEATURES, BODY = 100, 100_000, 16 << 30
 SECONDS, IDLE, STOP = 3_600, 30, 10
-ALIKE = 0.7  # how much words have in common of which one is taken for the other
+ALIKE = 0.7  # how similar a word must be to be suggested
 
 
 @dataclass
@@ -40,7 +38,7 @@ class Asked:
     output: str = "-"
     output_dir: Optional[str] = None
     keep_partial: bool = False
-    lods: bool = True
+    lods: bool = False
     files_from: Optional[str] = None
     jobs: Optional[int] = None
     part_size: Optional[int] = None
@@ -55,6 +53,8 @@ class Asked:
     index: Optional[str] = None
     base: Optional[str] = None
     show: Optional[str] = None
+    title: Optional[str] = None
+    format: Optional[str] = None
     host: str = HOST
     port: int = PORT
     url: Optional[str] = None
@@ -69,52 +69,67 @@ class Asked:
 
     @property
     def is_plain(self) -> bool:
-        """Whether standard input alone is read, and all is said as the program says it."""
+        """Whether only standard input is read. Then all output is as the program's."""
         no_files = not self.files and self.files_from is None
-        return no_files and self.index is None and self.command not in ("index", "serve")
+        return no_files and self.index is None and self.command not in ("index", "report", "serve")
 
 
 class Mistake(RequestError):
-    """Words that are not understood. Its words are all lines that are said."""
+    """A mistake in the command line. Its words are the whole message."""
 
 
 class Told(Exception):
-    """What was asked for is a text alone."""
+    """The command line asks only for a text, as help or the version."""
 
 
 @dataclass(frozen=True)
 class Option:
-    """An option: its name, what it sets, the value that it takes, if it takes one, and the help on
-    it."""
+    """An option.
+
+    Attributes:
+        name: Its name, without hyphens before it.
+        help: What it does, as a line of the help.
+        value: What its value is called. None if it takes no value.
+        read: Reads the value. Raises `ValueError` if the value is wrong.
+        usual: The default, as the help shows it.
+        sets: If it takes no value, the field that it sets and the value of that field. None if the
+            field has its name and becomes true.
+    """
 
     name: str
     help: str
     value: Optional[str] = None
     read: Callable[[str], Any] = str
     usual: Optional[str] = None
-    # of an option without a value: the field and what it is set to, if that is not its own field
     sets: Optional[Tuple[str, Any]] = None
 
     @property
     def usage(self) -> str:
-        """The option as it is written."""
+        """The option as a user writes it."""
         return f"--{self.name}" + (f" <{self.value}>" if self.value else "")
 
     @property
     def told(self) -> str:
-        """The help on it, with the value where none is given."""
+        """The help on it, with its default."""
         return self.help + (f" [default: {self.usual}]" if self.usual else "")
 
     @property
     def field(self) -> str:
-        """What it sets."""
+        """The field of `Asked` that it sets."""
         return self.sets[0] if self.sets else self.name.replace("-", "_")
 
 
 @dataclass(frozen=True)
 class Command:
-    """A command: what it does, its options, what stands for its other words, and what follows its
-    help."""
+    """A command.
+
+    Attributes:
+        name: Its name.
+        about: What it does, in one line.
+        options: Its options, in the order of the help.
+        after: The text after the options in the help.
+        words: The other words that it takes, as the usage shows them.
+    """
 
     name: str
     about: str
@@ -124,7 +139,7 @@ class Command:
 
 
 def whole_number(least: int, greatest: int) -> Callable[[str], int]:
-    """What reads a whole number from one to another."""
+    """Returns a function that reads a whole number between two."""
 
     def read(text: str) -> int:
         digits = text[1:] if text[:1] == "+" else text
@@ -139,6 +154,17 @@ def whole_number(least: int, greatest: int) -> Callable[[str], int]:
         if not least <= int(digits) <= greatest:
             raise ValueError(f"{digits} is not in {least}..={greatest}")
         return int(digits)
+
+    return read
+
+
+def one_of(*words: str) -> Callable[[str], str]:
+    """What reads one of these words."""
+
+    def read(text: str) -> str:
+        if text not in words:
+            raise ValueError(f"it is {' or '.join(words)}")
+        return text
 
     return read
 
@@ -185,7 +211,8 @@ QUERY = (
     ),
     Option(
         "bbox",
-        "Keep a feature that reaches into this box, in world coordinates; written --bbox=-5,0,5,9 where it begins with a minus",
+        "Keep a feature that reaches into this box, in world coordinates;"
+        " written --bbox=-5,0,5,9 where it begins with a minus",
         "MINX,MINY,MAXX,MAXY",
     ),
 )
@@ -221,18 +248,26 @@ RUNS = (
 SAYS = (
     Option(
         "json",
-        "Write an object a line, as docs/json.md says: one for each report, and one for each FILE at its end",
+        "Write an object a line, as docs/json.md says: one for each report,"
+        " and one for each FILE at its end",
     ),
     Option("sha256", "Say the SHA-256 of each FILE, with --json"),
     Option(
         "max-reports",
-        "Say so many reports of each FILE, and then how many more there are [default: 1000 on a terminal]",
+        "Say so many reports of each FILE, and then how many more there are"
+        " [default: 1000 on a terminal]",
         "N",
         whole_number(0, MOST_BYTES),
     ),
     Option("summary", "Say how often each reason comes, instead of each report"),
     Option("progress", "Show on standard error how far it is"),
     Option("quiet", "Say nothing but faults: the status tells the rest"),
+)
+FORMAT = Option(
+    "format",
+    "Write reports so that a pull request shows them next to their lines: sarif",
+    "FORMAT",
+    one_of("sarif"),
 )
 RECORDS = (
     Option(
@@ -254,6 +289,18 @@ INDEX_SAYS = tuple(option for option in SAYS if option.name != "sha256")
 INDEX_OPTIONS = (
     Option("output", "Write the index to this file once all streams were read", "OUTPUT"),
     Option("show", "Say what an index covers, and which ids it has more than once", "INDEX"),
+)
+PAGE = (
+    Option(
+        "output",
+        "Write the page to this file, and all reports next to it to NAME.reports.csv and .jsonl",
+        "OUTPUT",
+    ),
+    Option("title", "Head the page with these words [default: the name of OUTPUT]", "TITLE"),
+)
+PAGE_SAYS = (
+    Option("json", "Write all facts as one object, as docs/report.schema.json says"),
+    *(option for option in SAYS if option.name in ("progress", "quiet")),
 )
 SERVES = (
     Option("host", "Listen at this address, or at all of this name", "HOST", usual=HOST),
@@ -294,8 +341,8 @@ Exit status, the greatest of all FILEs:
   70  something that nobody expected: please report it
   130, 143 and 129 tell of an interrupt, and of the signals that ask a process to end.
 
-A CityJSONSeq stream is a CityJSON 2.0 header, then a CityJSONFeature a line. Without FILE it is read
-from standard input, and what is said is what the program says. A FILE may be packed by gzip or
+A CityJSONSeq stream is a CityJSON 2.0 header, then a CityJSONFeature a line. Without FILE it is
+read from standard input, and what is said is what the program says. A FILE may be packed by gzip or
 Zstandard, and - is standard input. docs/RULES.md explains each reason, and docs/GUIDE.md shows the
 command at work."""
 CHECK_AFTER = """\
@@ -315,21 +362,21 @@ Examples:
   {0} filter --keep-going < town.city.jsonl > good.city.jsonl 2> invalid-lines.txt
   {0} filter --bbox=-5,0,5000,5000 --output part.city.jsonl.gz town.city.jsonl.gz
 
-Kept lines leave byte for byte, in order. A feature is kept if it meets each of the options from --id
-to --bbox that is given, or, with --exclude, if it does not; without these all meet them. The run
-stops at the first line that is not valid, with what was kept before it written to standard output,
-and OUTPUT not made. With --keep-going it stops at the first line of the stream alone, and leaves out
-each later one that is not valid. See '{0} --help' for the exit status."""
+Kept lines leave byte for byte, in order. A feature is kept if it meets each of the options from
+--id to --bbox that is given, or, with --exclude, if it does not; without these all meet them. The
+run stops at the first line that is not valid, with what was kept before it written to standard
+output, and OUTPUT not made. With --keep-going it stops at the first line of the stream alone, and
+leaves out each later one that is not valid. See '{0} --help' for the exit status."""
 INFO_AFTER = """\
 Examples:
   {0} info < town.city.jsonl
-  {0} info --no-lods town.city.jsonl.gz
+  {0} info --lods town.city.jsonl.gz
 
 Writes a report where the whole stream is valid, and nothing otherwise: lines and features, scale
 and translation, city objects by type, geometries by LoD, the least and the greatest number of the
 vertices on each axis, and the most bytes, tokens and open containers that were held; of a FILE also
-the box in world coordinates, and the features by the texts of their LoDs. See '{0} --help' for the
-exit status."""
+the box in world coordinates. With --lods it counts the features with each text of an LoD, as 2.2,
+which takes longer. See '{0} --help' for the exit status."""
 INDEX_AFTER = """\
 Examples:
   {0} index --output region.gpkg region.city.jsonl more.city.jsonl
@@ -340,6 +387,15 @@ Judges each FILE as check does. OUTPUT is a GeoPackage with the extent of each f
 show, and with the place of its line. No index is left where a stream is not valid. With
 --keep-going each line that is not valid is left out, and listed in the table reports. An index is
 of the files as they are: build it again where one changes. See '{0} --help' for the exit status."""
+REPORT_AFTER = """\
+Examples:
+  {0} report --output delivery.html north.city.jsonl.gz south.city.jsonl.gz
+  {0} report --json delivery/*.gz > delivery.json
+
+Judges each FILE as check --keep-going does. OUTPUT is one page of HTML, which needs nothing else: is
+each FILE valid, what is in it, where that is on a map, which lines are not valid and how to fix them,
+which ids appear twice. The page needs Jinja2 and matplotlib. Its status is that of check. See
+'{0} --help' for the exit status."""
 SERVE_AFTER = """\
 Examples:
   {0} serve region.gpkg
@@ -357,7 +413,7 @@ COMMANDS = {
         Command(
             "check",
             "Say whether a stream is valid, and count its lines and features",
-            (*LIMITS, KEEP_GOING, TREE, *RUNS, *SAYS, *RECORDS),
+            (*LIMITS, KEEP_GOING, TREE, *RUNS, *SAYS, FORMAT, *RECORDS),
             CHECK_AFTER,
         ),
         Command(
@@ -372,11 +428,7 @@ COMMANDS = {
             (
                 *LIMITS,
                 TREE,
-                Option(
-                    "no-lods",
-                    "Do not count the texts of LoDs, which takes as long again for each",
-                    sets=("lods", False),
-                ),
+                Option("lods", "Count the features with each text of an LoD too"),
                 *RUNS,
                 *SAYS,
             ),
@@ -387,6 +439,12 @@ COMMANDS = {
             "Write an index of streams, by which filter cuts them: a GeoPackage",
             (*LIMITS, KEEP_GOING, TREE, *INDEX_OPTIONS, *RUNS, *INDEX_SAYS),
             INDEX_AFTER,
+        ),
+        Command(
+            "report",
+            "Write a page about a delivery: verdicts, contents, a map, and what is invalid",
+            (*LIMITS, TREE, *PAGE, *RUNS, *PAGE_SAYS),
+            REPORT_AFTER,
         ),
         Command(
             "serve",
@@ -444,20 +502,20 @@ def _usage(program: str, command: Optional[Command]) -> str:
 
 
 def _alike(word: str, others: Sequence[str]) -> Optional[str]:
-    """The word that may be meant."""
+    """Returns the word that the user may mean, if one is similar."""
     from difflib import get_close_matches  # which mistakes alone need
 
     return next(iter(get_close_matches(word, others, 1, ALIKE)), None)
 
 
 def _mistake(what: str, tip: Optional[str] = None, usage: Optional[str] = None) -> Mistake:
-    """A mistake in the words, with what may be meant and how they are used."""
+    """Returns a mistake, with a tip and the usage if they are given."""
     middle = (f"  tip: {tip}\n\n" if tip else "") + (f"Usage: {usage}\n\n" if usage else "")
     return Mistake(f"error: {what}\n\n{middle}For more information, try '--help'.")
 
 
 class Reader:
-    """Reads the words behind a command."""
+    """Reads the words after a command."""
 
     def __init__(self, program: str, command: Command, words: Sequence[str]) -> None:
         self._program, self._command = program, command
@@ -467,7 +525,7 @@ class Reader:
         self._others: List[str] = []
 
     def read(self) -> Tuple[Dict[str, Any], List[str]]:
-        """What the options set, and the other words."""
+        """Returns the fields that the options set, and the other words."""
         while self._left:
             word = self._left.pop(0)
             if word == "--":
@@ -496,7 +554,8 @@ class Reader:
         if option.value is None:
             if equals:
                 raise _mistake(
-                    f"unexpected value '{shown(value)}' for '{option.usage}' found; no more were expected",
+                    f"unexpected value '{shown(value)}' for '{option.usage}' found;"
+                    " no more were expected",
                     usage=_usage(self._program, self._command),
                 )
             self._set(option, option.sets[1] if option.sets else True)
@@ -513,7 +572,7 @@ class Reader:
             ) from None
 
     def _next_value(self, option: Option) -> str:
-        """The next word, which is no option."""
+        """Returns the next word, as the value of an option."""
         if self._left and (not self._left[0].startswith("-") or self._left[0] == "-"):
             return self._left.pop(0)
         word = self._left[0] if self._left else ""
@@ -531,7 +590,7 @@ class Reader:
 
 
 def _of_help(program: str, words: Sequence[str]) -> str:
-    """The help on a command, or on all."""
+    """Returns the help on a command, or on all commands."""
     if not words:
         return _program_help(program)
     if words[0] in COMMANDS:
@@ -549,13 +608,17 @@ def _unknown(program: str, word: str) -> Mistake:
 
 
 def read_words(program: str, version: str, words: Sequence[str]) -> Asked:
-    """What these words ask for. Raises `Told` where that is a text, and `Mistake` where they are
-    not understood."""
+    """Returns what the words ask for.
+
+    Raises:
+        Told: They ask only for a text.
+        Mistake: They are wrong.
+    """
     if not words:
         raise Mistake(_program_help(program))
     first = words[0]
     if any("\udc80" <= sign <= "\udcff" for sign in first):
-        raise Mistake("")  # it is no text, and nothing is said of it
+        raise Mistake("")  # it is not UTF-8, and there is no message
     if first in ("-h", "--help"):
         raise Told(_program_help(program))
     if first in ("-V", "--version"):
@@ -565,7 +628,7 @@ def read_words(program: str, version: str, words: Sequence[str]) -> Asked:
     if first.startswith("-") and first not in ("-", "--explain"):
         name = first.partition("=")[0] if first.startswith("--") else first[:2]
         raise _mistake(f"unexpected argument '{shown(name)}' found", usage=_usage(program, None))
-    if first == "--explain":  # as it was called at first
+    if first == "--explain":  # its first name
         first = "explain"
     if first not in COMMANDS:
         raise _unknown(program, first)

@@ -1,4 +1,5 @@
-"""The transform of a stream, and the box in world coordinates that it makes of ranges of vertices, by exact decimals."""
+"""The transform of a stream, and the box in world coordinates that it makes of ranges of vertices.
+All numbers are exact decimals."""
 from __future__ import annotations
 
 import decimal
@@ -10,12 +11,15 @@ from typing import Any, Iterator, List, Optional, Tuple
 from .tally import Range
 
 Extent = Optional[Tuple[Decimal, Decimal]]
-UNITS, GREATEST = -18, Decimal(10) ** 18  # a box takes multiples of 10^-18 that are below 10^18 in size
+UNITS, GREATEST = (
+    -18,
+    Decimal(10) ** 18,
+)  # a box takes multiples of 10^-18 that are below 10^18 in size
 NESTED = 1_100  # arrays and objects that a header may have open at once, and some more
 
 
 def read_json(text: str) -> Any:
-    """Reads JSON with all numbers exact. A valid header may be nested deeper than Python reads by itself."""
+    """Reads JSON with exact numbers. A valid header may be deeper than Python reads by itself."""
     try:
         return json.loads(text, parse_float=Decimal, parse_int=Decimal)
     except RecursionError:
@@ -34,7 +38,8 @@ def transform_of(header: bytes) -> Tuple[List[Decimal], List[Decimal]]:
 
 
 def normal(number: Decimal) -> str:
-    """A number as the program writes it: a whole number that does not end in 0, `e` and a power of ten."""
+    """Returns a number as the program writes it: a whole number that does not end in 0, `e` and a
+    power of ten."""
     sign, digits, power = number.as_tuple()
     text = "".join(map(str, digits)).lstrip("0")
     short = text.rstrip("0")
@@ -44,18 +49,25 @@ def normal(number: Decimal) -> str:
 
 
 def _edges(vertices: Tuple[int, int], scale: Decimal, shift: Decimal) -> Iterator[Decimal]:
-    """The least and the greatest world coordinate, by exact sums. Raises `decimal.Inexact` where they are too long."""
-    exact = decimal.Context(prec=200, traps=[decimal.Inexact, decimal.Overflow, decimal.InvalidOperation, decimal.Subnormal])
+    """Yields the least and the greatest world coordinate, by exact sums. Raises `decimal.Inexact`
+    if they are too long."""
+    exact = decimal.Context(
+        prec=200,
+        traps=[decimal.Inexact, decimal.Overflow, decimal.InvalidOperation, decimal.Subnormal],
+    )
     edges = [exact.add(exact.multiply(Decimal(vertex), scale), shift) for vertex in vertices]
     yield from sorted(edges)
 
 
-def extent_of(ranges: Tuple[Range, Range, Range], scale: List[Decimal],
-              translate: List[Decimal]) -> Tuple[Extent, Extent, Extent]:
-    """The least and the greatest world coordinate on x, y and z, exactly; None where there is no vertex. Raises
-    `decimal.DecimalException` where one has more than 200 digits."""
-    extents = (None if vertices is None else tuple(_edges(vertices, scale[axis], translate[axis]))
-               for axis, vertices in enumerate(ranges))
+def extent_of(
+    ranges: Tuple[Range, Range, Range], scale: List[Decimal], translate: List[Decimal]
+) -> Tuple[Extent, Extent, Extent]:
+    """Returns the least and the greatest world coordinate on x, y and z, exactly. None if there is
+    no vertex. Raises `decimal.DecimalException` if one has more than 200 digits."""
+    extents = (
+        None if vertices is None else tuple(_edges(vertices, scale[axis], translate[axis]))
+        for axis, vertices in enumerate(ranges)
+    )
     return tuple(extents)  # type: ignore[return-value]
 
 
@@ -76,12 +88,16 @@ def _fits(number: Decimal) -> bool:
     return number == 0 or power + ended >= UNITS
 
 
-def box_of(ranges: Tuple[Range, Range, Range], scale: List[Decimal], translate: List[Decimal]) -> Optional[str]:
-    """The box round all vertices, as `--bbox` takes it. None where there is no vertex, or no box can be asked for."""
+def box_of(
+    ranges: Tuple[Range, Range, Range], scale: List[Decimal], translate: List[Decimal]
+) -> Optional[str]:
+    """Returns the box around all vertices, as `--bbox` takes it. None if there is no vertex, or no
+    box can be asked for."""
     if ranges[0] is None or ranges[1] is None:
         return None
     try:
-        x, y = (list(_edges(ranges[axis], scale[axis], translate[axis])) for axis in (0, 1))  # type: ignore[arg-type]
+        x = list(_edges(ranges[0], scale[0], translate[0]))
+        y = list(_edges(ranges[1], scale[1], translate[1]))
     except decimal.DecimalException:
         return None
     edges = [x[0], y[0], x[1], y[1]]

@@ -1,4 +1,5 @@
-"""What the tests share: the vectors with what has to come of them, small lines, and streams made by chance."""
+"""What the tests share: the vectors with what has to come of them, small lines, and streams made by
+chance."""
 import gzip
 import io
 import os
@@ -18,15 +19,23 @@ import table  # noqa: E402
 from cityseq.parts import judge  # noqa: E402
 from cityseq.query import asked  # noqa: E402
 
-HEADER = (b'{"type":"CityJSON","version":"2.0","transform":{"scale":[0.001,0.001,0.001],"translate":[10,20,0]},'
-          b'"CityObjects":{},"vertices":[]}\n')
-PLAIN = b'{"type":"CityJSONFeature","id":"b","CityObjects":{"b":{"type":"Building"}},"vertices":[]}\n'
+HEADER = (
+    b'{"type":"CityJSON","version":"2.0",'
+    b'"transform":{"scale":[0.001,0.001,0.001],"translate":[10,20,0]},'
+    b'"CityObjects":{},"vertices":[]}\n'
+)
+PLAIN = (
+    b'{"type":"CityJSONFeature","id":"b","CityObjects":{"b":{"type":"Building"}},"vertices":[]}\n'
+)
 
 
 def feature(name, kind="Building", lod="2.2", last=3, x=0):
     """A feature of four vertices, whose last index is the one given."""
-    return (f'{{"type":"CityJSONFeature","id":"{name}","CityObjects":{{"{name}":{{"type":"{kind}","geometry":[{{"type":"MultiSurface",'
-            f'"lod":"{lod}","boundaries":[[[0,1,2,{last}]]]}}]}}}},"vertices":[[{x},0,0],[1000,0,0],[1000,1000,0],[0,1000,5]]}}\n').encode()
+    return (
+        f'{{"type":"CityJSONFeature","id":"{name}","CityObjects":{{"{name}":{{"type":"{kind}",'
+        f'"geometry":[{{"type":"MultiSurface","lod":"{lod}","boundaries":[[[0,1,2,{last}]]]}}]}}}},'
+        f'"vertices":[[{x},0,0],[1000,0,0],[1000,1000,0],[0,1000,5]]}}\n'
+    ).encode()
 
 
 def options_of(row):
@@ -81,7 +90,9 @@ def box_of_polygon(geometry):
 def lines_by_chance(chance, count):
     """Valid lines, some of them broken, and blank ones."""
     for number in range(count):
-        kind, lod = chance.choice(("Building", "Road", "Bridge")), chance.choice(("1", "2.2", "\\u0032.2"))
+        kind, lod = chance.choice(("Building", "Road", "Bridge")), chance.choice(
+            ("1", "2.2", "\\u0032.2")
+        )
         line = feature(f"b{number}", kind, lod, x=chance.randrange(-9, 9))
         turn = chance.randrange(14)
         if turn == 0:
@@ -89,7 +100,17 @@ def lines_by_chance(chance, count):
         elif turn == 1:
             line = line[:chance.randrange(len(line))].rstrip() + b"\n"
         elif turn == 2:
-            line = chance.choice((b"\n", b" \t\r\n", b"[]\n", b"\xff\n", b"{}\n", line.replace(b"Road", b"Shed"), b"[" * 700 + b"\n"))
+            line = chance.choice(
+                (
+                    b"\n",
+                    b" \t\r\n",
+                    b"[]\n",
+                    b"\xff\n",
+                    b"{}\n",
+                    line.replace(b"Road", b"Shed"),
+                    b"[" * 700 + b"\n",
+                )
+            )
         elif turn == 3:
             line = line[:-1] + b"\r\n"
         elif turn == 4:
@@ -98,9 +119,17 @@ def lines_by_chance(chance, count):
 
 
 def stream_by_chance(seed):
-    """A stream made by chance, the same for each seed. It may end without LF, and its header may be broken."""
+    """A stream made by chance, the same for each seed. It may end without LF, and its header may be
+    broken."""
     chance = random.Random(seed)
-    others = (b"", b"\n", HEADER[:-1], HEADER[:-9] + b"\n", PLAIN, HEADER[:-2] + b" " * 900 + b"}\n")
+    others = (
+        b"",
+        b"\n",
+        HEADER[:-1],
+        HEADER[:-9] + b"\n",
+        PLAIN,
+        HEADER[:-2] + b" " * 900 + b"}\n",
+    )
     header = HEADER if chance.randrange(10) else chance.choice(others)
     text = header + b"".join(lines_by_chance(chance, chance.randrange(25)))
     return text[:-1] if chance.randrange(3) == 0 else text
@@ -139,8 +168,14 @@ class InFolder(unittest.TestCase):
 
 def command(*words, given=b"", coding="utf-8", **more):
     """What the command writes, says and answers."""
-    ran = subprocess.run([sys.executable, "-m", "cityseq", *words], input=given, capture_output=True, timeout=60,
-                         env={**os.environ, "PYTHONPATH": os.path.join(ROOT, "python"), "PYTHONIOENCODING": coding}, **more)
+    ran = subprocess.run(
+        [sys.executable, "-m", "cityseq", *words],
+        input=given,
+        capture_output=True,
+        timeout=60,
+        env={**os.environ, "PYTHONPATH": os.path.join(ROOT, "python"), "PYTHONIOENCODING": coding},
+        **more
+    )
     return ran.stdout, ran.stderr.decode("utf-8", "replace"), ran.returncode
 
 

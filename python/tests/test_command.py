@@ -26,7 +26,9 @@ class Commands(InFolder):
     def test_check(self):
         good, broken = self.file(GOOD, "good.jsonl"), self.file(BROKEN, "broken.jsonl")
         self.assertEqual(command("check", good), (b"valid lines=3 features=2\n", "", 0))
-        self.assertEqual(command("check", good, good)[0], f"{good}: valid lines=3 features=2\n".encode() * 2)
+        self.assertEqual(
+            command("check", good, good)[0], f"{good}: valid lines=3 features=2\n".encode() * 2
+        )
         output, said, status = command("check", good, broken)
         self.assertEqual((output.count(b"\n"), status), (1, 1))
         first, *rest = said.splitlines()
@@ -42,47 +44,109 @@ class Commands(InFolder):
     def test_keep_going(self):
         output, said, status = command("check", "--keep-going", example("delivery"))
         self.assertEqual((output, status), (b"invalid lines=9 features=3 refused=5\n", 1))
-        self.assertEqual(re.findall(r"line \d+, byte \d+: \d+", said), [
-            "line 3, byte 144: 25", "line 4, byte 87: 10", "line 6, byte 100: 4", "line 7, byte 144: 25", "line 8, byte 64: 19"])
+        self.assertEqual(
+            re.findall(r"line \d+, byte \d+: \d+", said),
+            [
+                "line 3, byte 144: 25",
+                "line 4, byte 87: 10",
+                "line 6, byte 100: 4",
+                "line 7, byte 144: 25",
+                "line 8, byte 64: 19",
+            ],
+        )
         self.assertEqual(re.findall(r'feature "(.*)"', said), ["p2", "p3", "p5", "p6", "p7"])
 
     def test_filter(self):
         wanted = HEADER + feature("b", "Road")
-        for words in (("--type", "Road"), ("--id", "b,c"), ("--id=b",), ("--exclude", "--id", "a"), ("--type=Road", "--bbox=-5,0,99,99")):
+        for words in (
+            ("--type", "Road"),
+            ("--id", "b,c"),
+            ("--id=b",),
+            ("--exclude", "--id", "a"),
+            ("--type=Road", "--bbox=-5,0,99,99"),
+        ):
             self.assertEqual(command("filter", *words, "-", given=GOOD), (wanted, "", 0))
         output, said, status = command("filter", self.file(BROKEN))
         self.assertEqual((output, status, SAID in said), (HEADER + feature("a"), 1, True))
-        self.assertEqual(command("filter", "--keep-going", "-", given=BROKEN)[0], HEADER + feature("a") + feature("c"))
+        self.assertEqual(
+            command("filter", "--keep-going", "-", given=BROKEN)[0],
+            HEADER + feature("a") + feature("c"),
+        )
 
     def test_ids_from_a_file(self):
         listed = self.file(b"\xef\xbb\xbfb\r\n\r\nx,y\n", "ids")
-        self.assertEqual(command("filter", "--ids-from", listed, "-", given=GOOD), (HEADER + feature("b", "Road"), "", 0))
-        self.assertEqual(command("filter", "--ids-from", listed, "--id", "a", "-", given=GOOD + feature("x,y"))[0], GOOD + feature("x,y"))
-        self.assertEqual(command("filter", "--ids-from", self.folder / "none", "-", given=GOOD)[::2], (b"", 2))
+        self.assertEqual(
+            command("filter", "--ids-from", listed, "-", given=GOOD),
+            (HEADER + feature("b", "Road"), "", 0),
+        )
+        self.assertEqual(
+            command("filter", "--ids-from", listed, "--id", "a", "-", given=GOOD + feature("x,y"))[
+                0
+            ],
+            GOOD + feature("x,y"),
+        )
+        self.assertEqual(
+            command("filter", "--ids-from", self.folder / "none", "-", given=GOOD)[::2], (b"", 2)
+        )
 
     def test_outputs(self):
         paths = [self.file(GOOD, "a.jsonl"), self.file(GOOD, "b.jsonl.gz")]
         self.assertEqual(command("filter", *paths)[::2], (b"", 2))
-        self.assertEqual(command("filter", "--type", "Road", "--output-dir", self.folder / "new", *paths), (b"", "", 0))
+        self.assertEqual(
+            command("filter", "--type", "Road", "--output-dir", self.folder / "new", *paths),
+            (b"", "", 0),
+        )
         wanted = HEADER + feature("b", "Road")
         self.assertEqual((self.folder / "new" / "a.jsonl").read_bytes(), wanted)
         self.assertEqual(gzip.decompress((self.folder / "new" / "b.jsonl.gz").read_bytes()), wanted)
         self.assertEqual(command("filter", "--output", self.folder / "c", paths[1]), (b"", "", 0))
         self.assertEqual((self.folder / "c").read_bytes(), GOOD)
-        for words in (("--output", paths[0], paths[0]), ("--output-dir", self.folder, paths[0]), ("--output-dir", self.folder, "-"),
-                      ("--output-dir", self.folder / "x", paths[0], paths[0])):
+        for words in (
+            ("--output", paths[0], paths[0]),
+            ("--output-dir", self.folder, paths[0]),
+            ("--output-dir", self.folder, "-"),
+            ("--output-dir", self.folder / "x", paths[0], paths[0]),
+        ):
             self.assertEqual(command("filter", *words)[2], 2)
         self.assertEqual(paths[0].read_bytes(), GOOD)
 
     def test_info(self):
         output, said, status = command("info", example("town"))
         self.assertEqual((said, status), ("", 0))
-        self.assertEqual(output.decode().splitlines()[:16], [
-            "lines 5", "features 4", "scale 1e-3 1e-3 1e-3", "translate 1e3 2e3 0e0", "type Building 2", "type Road 1",
-            "type SolitaryVegetationObject 1", "type BuildingPart 1", "lod 0 1", "lod 1 2", "lod 2 1", "x -5000 50000", "y -10000 5000",
-            "z 0 3000", "peak bytes 597", "peak tokens 105"])
-        self.assertEqual(output.decode().splitlines()[17:], ["bbox 995,1990,1050,2005"] + [
-            f'features with lod "{text}" 1' for text in ("0", "1", "1.2", "2.2")])
+        self.assertEqual(
+            output.decode().splitlines()[:16],
+            [
+                "lines 5",
+                "features 4",
+                "scale 1e-3 1e-3 1e-3",
+                "translate 1e3 2e3 0e0",
+                "type Building 2",
+                "type Road 1",
+                "type SolitaryVegetationObject 1",
+                "type BuildingPart 1",
+                "lod 0 1",
+                "lod 1 2",
+                "lod 2 1",
+                "x -5000 50000",
+                "y -10000 5000",
+                "z 0 3000",
+                "peak bytes 597",
+                "peak tokens 105",
+            ],
+        )
+        self.assertEqual(output.decode().splitlines()[17:], ["bbox 995,1990,1050,2005"])
+        with_lods = output.decode() + "".join(
+            f'features with lod "{text}" 1\n' for text in ("0", "1", "1.2", "2.2")
+        )
+        self.assertEqual(command("info", "--lods", example("town")), (with_lods.encode(), "", 0))
+        with open(example("town"), "rb") as town:
+            text = town.read()
+        plain = command("info", given=text)[0].decode()
+        self.assertEqual(plain + "bbox 995,1990,1050,2005\n", output.decode())
+        self.assertEqual(
+            command("info", "--lods", given=text)[0].decode().splitlines()[17:],
+            with_lods.splitlines()[18:],
+        )
         self.assertEqual(command("info", "-", given=BROKEN)[::2], (b"", 1))
 
     @unittest.skipUnless(os.path.exists(support.PROGRAM), "the program is not built")
@@ -91,17 +155,27 @@ class Commands(InFolder):
             if row["query"] == "-":
                 words = ["info", "--line-limit", row["line limit"], "--depth", row["depth"]]
                 wanted, _, status = support.program(*words, given=row["text"])
-                output = command(*words, "--part-size", "1", "-", given=row["text"]) if status == 0 else (b"", "", 1)
-                self.assertEqual((output[0][:len(wanted)], output[2]), (wanted, status), row["name"])
+                output = (
+                    command(*words, "--part-size", "1", "-", given=row["text"])
+                    if status == 0
+                    else (b"", "", 1)
+                )
+                self.assertEqual(
+                    (output[0][: len(wanted)], output[2]), (wanted, status), row["name"]
+                )
 
     def test_explain(self):
         for words in (("explain", "25"), ("--explain", "25")):
             output, said, status = command(*words)
-            self.assertEqual((output[:30], said, status), (b"25 vertex index out of range\n\n", "", 0))
+            self.assertEqual(
+                (output[:30], said, status), (b"25 vertex index out of range\n\n", "", 0)
+            )
         self.assertEqual(command("explain", "7"), (b"", "no reason has the code 7\n", 2))
 
     def test_hints(self):
-        self.assertIn("\nIt is packed by gzip: ", command("check", "-", given=gzip.compress(GOOD))[1])
+        self.assertIn(
+            "\nIt is packed by gzip: ", command("check", "-", given=gzip.compress(GOOD))[1]
+        )
         self.assertIn("\nIt is empty: ", command("check", "-")[1])
         self.assertEqual(command("check")[1], "line 1, byte 0: 1 no header line\n")
 
@@ -114,22 +188,45 @@ class Commands(InFolder):
 
     def test_wrong_words(self):
         for words, said in (
-                ((), "Usage: "), (("chekc", "-"), "a similar subcommand exists: 'check'"), (("check", "--id", "b", "-"), "unexpected argument '--id'"),
-                (("filter", "--id", "a", "--id", "b", "-"), "cannot be used multiple times"),
-                (("check", "--jobs", "0", "-"), "invalid value '0' for '--jobs <N>': 0 is not in 1..=4096"),
-                (("check", "--jobs", "\u0663", "-"), "invalid digit found in string"),
-                (("check", "--line-limit", "0", "-"), "0 is not in 1..=1073741824"), (("check", "--depth", "x", "-"), "invalid digit found in string"),
-                (("check", "--depth=", "-"), "cannot parse integer from empty string"), (("check", "--depth", "9" * 30), "number too large"),
-                (("check", "--depth"), "a value is required for '--depth <LEVELS>'"), (("check", "--jsn", "-"), "exists: '--json'"),
-                (("filter", "--type", "Bulding", "-"), "unknown object type: Bulding\n  tip: a similar type exists: 'Building'\n"),
-                (("filter", "--type", "building", "-"), "exists: 'Building'\n"), (("filter", "--type", "x\x1by", "-"), "type: x\\u001by\n"),
-                (("filter", "--bbox", "1,2,3", "-"), "bad box\n"), (("info", "--keep-going", "-"), "unexpected argument '--keep-going'"),
-                (("filter", "--bbox=3,0,1,1", "-"), "empty box\n"), (("filter", "--bbox=1e18,0,2e18,0", "-"), "box number out of range\n"),
-                (("explain",), "explain takes a code"), (("explain", "x"), "explain takes a code"), (("help", "chekc"), "exists: 'check'"),
-                (("check", "--resume", "x"), "--resume is for a --record"), (("check", "--record", "/dev/null", "-"), "standard input has no name"),
-                (("check", "-", "-"), "read once"), (("filter", "--ids-from", "-"), "read once")):
+            ((), "Usage: "),
+            (("chekc", "-"), "a similar subcommand exists: 'check'"),
+            (("check", "--id", "b", "-"), "unexpected argument '--id'"),
+            (("filter", "--id", "a", "--id", "b", "-"), "cannot be used multiple times"),
+            (
+                ("check", "--jobs", "0", "-"),
+                "invalid value '0' for '--jobs <N>': 0 is not in 1..=4096",
+            ),
+            (("check", "--jobs", "\u0663", "-"), "invalid digit found in string"),
+            (("check", "--line-limit", "0", "-"), "0 is not in 1..=1073741824"),
+            (("check", "--depth", "x", "-"), "invalid digit found in string"),
+            (("check", "--depth=", "-"), "cannot parse integer from empty string"),
+            (("check", "--depth", "9" * 30), "number too large"),
+            (("check", "--depth"), "a value is required for '--depth <LEVELS>'"),
+            (("check", "--jsn", "-"), "exists: '--json'"),
+            (
+                ("filter", "--type", "Bulding", "-"),
+                "unknown object type: Bulding\n  tip: a similar type exists: 'Building'\n",
+            ),
+            (("filter", "--type", "building", "-"), "exists: 'Building'\n"),
+            (("filter", "--type", "x\x1by", "-"), "type: x\\u001by\n"),
+            (("filter", "--bbox", "1,2,3", "-"), "bad box\n"),
+            (("info", "--keep-going", "-"), "unexpected argument '--keep-going'"),
+            (("filter", "--bbox=3,0,1,1", "-"), "empty box\n"),
+            (("filter", "--bbox=1e18,0,2e18,0", "-"), "box number out of range\n"),
+            (("explain",), "explain takes a code"),
+            (("explain", "x"), "explain takes a code"),
+            (("help", "chekc"), "exists: 'check'"),
+            (("check", "--resume", "x"), "--resume is for a --record"),
+            (("check", "--record", "/dev/null", "-"), "standard input has no name"),
+            (("check", "-", "-"), "read once"),
+            (("filter", "--ids-from", "-"), "read once"),
+        ):
             output, told, status = command(*words, given=GOOD)
-            self.assertEqual((output, status, said in told, "Traceback" in told), (b"", 2, True, False), (words, told))
+            self.assertEqual(
+                (output, status, said in told, "Traceback" in told),
+                (b"", 2, True, False),
+                (words, told),
+            )
 
     def test_help(self):
         for words in (("help",), ("--help",), ("-h",)):
@@ -147,17 +244,31 @@ class Commands(InFolder):
             ours = command(name, "--help")[0].decode().splitlines()
             theirs = support.program(name, "--help")[0].decode().splitlines()
             options = [" ".join(line.split()) for line in theirs if line.lstrip().startswith("--")]
-            self.assertEqual([line for line in options if line not in {" ".join(our.split()) for our in ours}], [])
-            examples = [line for line in theirs if line.startswith("  cityseq ") or line.startswith("  zcat")]
+            self.assertEqual(
+                [line for line in options if line not in {" ".join(our.split()) for our in ours}],
+                [],
+            )
+            examples = [
+                line
+                for line in theirs
+                if line.startswith("  cityseq ") or line.startswith("  zcat")
+            ]
             self.assertEqual([line for line in examples if line not in ours], [])
 
     def test_faults(self):
         none = self.folder / "none"
-        self.assertEqual(command("check", none), (b"", f"{none}: read fault: No such file or directory\n", 3))
-        self.assertEqual(command("filter", "--ids-from", none, "-")[1], f"{none}: a list of ids: No such file or directory\n")
+        self.assertEqual(
+            command("check", none), (b"", f"{none}: read fault: No such file or directory\n", 3)
+        )
+        self.assertEqual(
+            command("filter", "--ids-from", none, "-")[1],
+            f"{none}: a list of ids: No such file or directory\n",
+        )
         self.assertEqual(command("check", self.folder)[2], 3)
         good = self.file(GOOD)
-        self.assertEqual(command("check", none, good)[::2], (f"{good}: valid lines=3 features=2\n".encode(), 3))
+        self.assertEqual(
+            command("check", none, good)[::2], (f"{good}: valid lines=3 features=2\n".encode(), 3)
+        )
         self.assertEqual(command("filter", "--output", self.folder, "-", given=GOOD)[::2], (b"", 4))
 
     def test_a_line_is_written_at_once(self):
@@ -177,17 +288,43 @@ class Commands(InFolder):
         self.assertEqual(said.count(f"{path}: 2,499 more lines are not valid"), 2)
 
     def test_a_summary(self):
-        output, said, status = command("check", "--keep-going", "--summary", example("delivery"), example("broken"))
-        self.assertEqual((output.count(b"\n"), said.splitlines(), status), (
-            2, ["      1 4 syntax", "      1 10 member missing", "      1 19 unknown object type", "      3 25 vertex index out of range"], 1))
-        self.assertEqual(command("check", "--summary", given=BROKEN)[1], "      1 25 vertex index out of range\n")
+        output, said, status = command(
+            "check", "--keep-going", "--summary", example("delivery"), example("broken")
+        )
+        self.assertEqual(
+            (output.count(b"\n"), said.splitlines(), status),
+            (
+                2,
+                [
+                    "      1 4 syntax",
+                    "      1 10 member missing",
+                    "      1 19 unknown object type",
+                    "      3 25 vertex index out of range",
+                ],
+                1,
+            ),
+        )
+        self.assertEqual(
+            command("check", "--summary", given=BROKEN)[1], "      1 25 vertex index out of range\n"
+        )
 
     def on_a_terminal(self, *words, **environment):
         """What the command says where standard error is a terminal."""
         import pty
         ours, theirs = pty.openpty()
-        ran = subprocess.Popen([sys.executable, "-m", "cityseq", *words], stdin=subprocess.DEVNULL, stdout=subprocess.DEVNULL, stderr=theirs, env={
-            **os.environ, "PYTHONPATH": os.path.join(support.ROOT, "python"), "TERM": "xterm", "NO_COLOR": "", **environment})
+        ran = subprocess.Popen(
+            [sys.executable, "-m", "cityseq", *words],
+            stdin=subprocess.DEVNULL,
+            stdout=subprocess.DEVNULL,
+            stderr=theirs,
+            env={
+                **os.environ,
+                "PYTHONPATH": os.path.join(support.ROOT, "python"),
+                "TERM": "xterm",
+                "NO_COLOR": "",
+                **environment,
+            },
+        )
         os.close(theirs)
         said = b""
         with contextlib.suppress(OSError):  # which is how a terminal ends
@@ -200,9 +337,18 @@ class Commands(InFolder):
     def test_a_terminal(self):
         path = self.file(HEADER + b"[]\n" * 1_200)
         said = self.on_a_terminal("check", "--keep-going", path)
-        self.assertEqual((said.count("wrong kind"), said.count("\x1b[31m12 wrong kind\x1b[0m"), "200 more lines" in said), (1_000, 1_000, True))
+        self.assertEqual(
+            (
+                said.count("wrong kind"),
+                said.count("\x1b[31m12 wrong kind\x1b[0m"),
+                "200 more lines" in said,
+            ),
+            (1_000, 1_000, True),
+        )
         for environment in ({"NO_COLOR": "1"}, {"TERM": "dumb"}):
-            self.assertNotIn("\x1b", self.on_a_terminal("check", "--keep-going", path, **environment))
+            self.assertNotIn(
+                "\x1b", self.on_a_terminal("check", "--keep-going", path, **environment)
+            )
         said = self.on_a_terminal("check", "--progress", path, self.file(HEADER))
         self.assertIn(f"MB/s  {path}"[:20], said)
 
@@ -210,49 +356,93 @@ class Commands(InFolder):
         good, broken = self.file(GOOD, "good.jsonl"), self.file(BROKEN, "a b.jsonl")
         wanted = command("check", good, broken)
         for text in (f"{good}\n{broken}\n", f"{good}\r\n\r\n{broken}", f"{good}\0{broken}\0"):
-            self.assertEqual(command("check", "--files-from", self.file(text.encode(), "list")), wanted)
+            self.assertEqual(
+                command("check", "--files-from", self.file(text.encode(), "list")), wanted
+            )
             self.assertEqual(command("check", "--files-from", "-", given=text.encode()), wanted)
-        self.assertEqual(command("check", "--files-from", self.file(f"{broken}".encode(), "list"), good), wanted)
+        self.assertEqual(
+            command("check", "--files-from", self.file(f"{broken}".encode(), "list"), good), wanted
+        )
         self.assertEqual(command("check", "--files-from", self.file(b"", "list")), (b"", "", 0))
         self.assertEqual(command("check", "--files-from", self.folder / "none")[2], 2)
 
     def test_ids_by_standard_input(self):
-        self.assertEqual(command("filter", "--ids-from", "-", self.file(GOOD), given=b"b\n"), (HEADER + feature("b", "Road"), "", 0))
+        self.assertEqual(
+            command("filter", "--ids-from", "-", self.file(GOOD), given=b"b\n"),
+            (HEADER + feature("b", "Road"), "", 0),
+        )
 
     def test_quiet(self):
-        for words in (("check", "--keep-going"), ("check",), ("check", "--summary", "--keep-going")):
-            self.assertEqual(command(*words, "--quiet", example("delivery"), example("town")), (b"", "", 1))
+        for words in (
+            ("check", "--keep-going"),
+            ("check",),
+            ("check", "--summary", "--keep-going"),
+        ):
+            self.assertEqual(
+                command(*words, "--quiet", example("delivery"), example("town")), (b"", "", 1)
+            )
         self.assertEqual(command("info", "--quiet", example("town")), (b"", "", 0))
-        self.assertEqual(command("check", "--quiet", self.folder / "none")[1:], (f"{self.folder}/none: read fault: No such file or directory\n", 3))
+        self.assertEqual(
+            command("check", "--quiet", self.folder / "none")[1:],
+            (f"{self.folder}/none: read fault: No such file or directory\n", 3),
+        )
 
     def test_reports_come_while_the_input_is_open(self):
         """So do those of a run by many threads."""
         for jobs in ("1", "4"):
-            ran = subprocess.Popen([sys.executable, "-m", "cityseq", "check", "--keep-going", "--jobs", jobs], stdin=subprocess.PIPE,
-                                   stdout=subprocess.PIPE, stderr=subprocess.PIPE, env={**os.environ, "PYTHONPATH": os.path.join(support.ROOT, "python")})
+            ran = subprocess.Popen(
+                [sys.executable, "-m", "cityseq", "check", "--keep-going", "--jobs", jobs],
+                stdin=subprocess.PIPE,
+                stdout=subprocess.PIPE,
+                stderr=subprocess.PIPE,
+                env={**os.environ, "PYTHONPATH": os.path.join(support.ROOT, "python")},
+            )
             with ran:
                 for line in (2, 3):
                     ran.stdin.write((HEADER if line == 2 else b"") + b"[]\n")
                     ran.stdin.flush()
-                    self.assertEqual(ran.stderr.readline(), f"line {line}, byte 0: 12 wrong kind\n".encode())
+                    self.assertEqual(
+                        ran.stderr.readline(), f"line {line}, byte 0: 12 wrong kind\n".encode()
+                    )
                 ran.stdin.close()
                 self.assertEqual(ran.stdout.read(), b"invalid lines=3 features=0 refused=2\n")
 
     def told_on(self, stdout, stderr, *words):
         """The status of a run with these as its outputs, and what it says where that is kept."""
-        ran = subprocess.run([sys.executable, "-m", "cityseq", *words], input=GOOD, stdout=stdout, stderr=stderr,
-                             env={**os.environ, "PYTHONPATH": os.path.join(support.ROOT, "python")})
+        ran = subprocess.run(
+            [sys.executable, "-m", "cityseq", *words],
+            input=GOOD,
+            stdout=stdout,
+            stderr=stderr,
+            env={**os.environ, "PYTHONPATH": os.path.join(support.ROOT, "python")},
+        )
         return ran.returncode, (ran.stderr or b"").decode()
 
     @unittest.skipUnless(os.path.exists("/dev/full"), "there is no device that is full")
     def test_outputs_that_are_full(self):
         with open("/dev/full", "wb") as full:
-            for words in (("check", "-"), ("filter", "-"), ("info", "-"), ("explain", "25"), ("check", "--json", "-"), ("--help",), ("filter", "--help"),
-                          ("check",), ("filter",)):
+            for words in (
+                ("check", "-"),
+                ("filter", "-"),
+                ("info", "-"),
+                ("explain", "25"),
+                ("check", "--json", "-"),
+                ("--help",),
+                ("filter", "--help"),
+                ("check",),
+                ("filter",),
+            ):
                 status, said = self.told_on(full, subprocess.PIPE, *words)
-                self.assertEqual((status, "write fault" in said, "Traceback" in said), (4, True, False), words)
-            for words, status in ((("check", "-"), 0), (("check", "--progress", self.file(BROKEN)), 1), (("check", "--depth", "0", "-"), 2),
-                                  (("check", "/nowhere"), 3), (("check", "-x"), 2)):
+                self.assertEqual(
+                    (status, "write fault" in said, "Traceback" in said), (4, True, False), words
+                )
+            for words, status in (
+                (("check", "-"), 0),
+                (("check", "--progress", self.file(BROKEN)), 1),
+                (("check", "--depth", "0", "-"), 2),
+                (("check", "/nowhere"), 3),
+                (("check", "-x"), 2),
+            ):
                 self.assertEqual(self.told_on(subprocess.DEVNULL, full, *words)[0], status, words)
 
 

@@ -14,11 +14,24 @@ from .test_index import with_id
 
 import cityseq
 
-TOWN, SAMPLE, DELIVERY = (f"{ROOT}/examples/{name}.city.jsonl" for name in ("town", "sample", "delivery"))
+TOWN, SAMPLE, DELIVERY = (
+    f"{ROOT}/examples/{name}.city.jsonl" for name in ("town", "sample", "delivery")
+)
 SLOW = bool(os.environ.get("CITYSEQ_SLOW_TESTS"))  # 10,000 boxes, and not some hundreds
-MOST = 10 ** 36 - 1  # in a box, in units of 10^-18
-SCALES = ("0.001", "-0.001", "1", "1e-18", "-1e-18", "1e17", "-1e17", "0", "0.000000000123456789", "123456789.123456789",
-          "999999999999999999.999999999999999999")
+MOST = 10**36 - 1  # in a box, in units of 10^-18
+SCALES = (
+    "0.001",
+    "-0.001",
+    "1",
+    "1e-18",
+    "-1e-18",
+    "1e17",
+    "-1e17",
+    "0",
+    "0.000000000123456789",
+    "123456789.123456789",
+    "999999999999999999.999999999999999999",
+)
 TYPES, LODS = ("Building", "Road", "Bridge", "WaterBody"), ("0", "1.2", "2.2", "4", "x", "2")
 
 
@@ -44,7 +57,7 @@ def cut(index, **query):
 
 def number_by_chance(chance):
     """A translation, which may need 36 digits."""
-    whole, part = chance.randrange(10 ** chance.randrange(1, 19)), chance.randrange(10 ** 18)
+    whole, part = chance.randrange(10 ** chance.randrange(1, 19)), chance.randrange(10**18)
     return f"{chance.choice(('', '-'))}{whole}.{part:018}" if chance.randrange(4) else str(whole)
 
 
@@ -53,11 +66,26 @@ def feature_by_chance(chance, number):
     size = 10 ** chance.choice((1, 3, 6, 17, 18))
     middle = [chance.randrange(-size + 1, size) for _ in "xyz"]
     side = chance.choice((1, 5, size))
-    vertices = [[max(min(value + chance.randrange(-side, side + 1), 10 ** 18 - 1), 1 - 10 ** 18) for value in middle]
-                for _ in range(chance.choice((0, 1, 3)))]
-    geometry = [{"type": "MultiPoint", "lod": chance.choice(LODS), "boundaries": list(range(len(vertices)))}]
-    objects = {name: {"type": chance.choice(TYPES), "geometry": geometry * chance.randrange(2)} for name in (f"b{number}", "z")}
-    told = {"type": "CityJSONFeature", "id": f"b{number}", "CityObjects": objects, "vertices": vertices}
+    vertices = [
+        [
+            max(min(value + chance.randrange(-side, side + 1), 10**18 - 1), 1 - 10**18)
+            for value in middle
+        ]
+        for _ in range(chance.choice((0, 1, 3)))
+    ]
+    geometry = [
+        {"type": "MultiPoint", "lod": chance.choice(LODS), "boundaries": list(range(len(vertices)))}
+    ]
+    objects = {
+        name: {"type": chance.choice(TYPES), "geometry": geometry * chance.randrange(2)}
+        for name in (f"b{number}", "z")
+    }
+    told = {
+        "type": "CityJSONFeature",
+        "id": f"b{number}",
+        "CityObjects": objects,
+        "vertices": vertices,
+    }
     return json.dumps(told).encode() + b"\n"
 
 
@@ -66,20 +94,28 @@ def stream_by_chance(chance):
     scale, shift = [chance.choice(SCALES) for _ in "xyz"], [number_by_chance(chance) for _ in "xyz"]
     header = HEADER.replace(b"[0.001,0.001,0.001]", f"[{','.join(scale)}]".encode())
     header = header.replace(b"[10,20,0]", f"[{','.join(shift)}]".encode())
-    return header + b"".join(feature_by_chance(chance, number) for number in range(chance.randrange(40)))
+    return header + b"".join(
+        feature_by_chance(chance, number) for number in range(chance.randrange(40))
+    )
 
 
 def edges_of(text):
     """Coordinates in world coordinates that vertices of a stream have, exactly."""
     header, *lines = [json.loads(line, parse_float=Fraction) for line in text.splitlines()]
     vertices = [vertex for line in lines for vertex in line["vertices"]] or [[0, 0, 0]]
-    return [[vertex[axis] * Fraction(header["transform"]["scale"][axis]) + Fraction(header["transform"]["translate"][axis])
-             for vertex in vertices] for axis in range(2)]
+    return [
+        [
+            vertex[axis] * Fraction(header["transform"]["scale"][axis])
+            + Fraction(header["transform"]["translate"][axis])
+            for vertex in vertices
+        ]
+        for axis in range(2)
+    ]
 
 
 def written(number):
     """An exact number as a box takes it, no farther from 0 than that allows."""
-    units = max(min(int(number * 10 ** 18), MOST), -MOST)
+    units = max(min(int(number * 10**18), MOST), -MOST)
     return f"{'-' * (units < 0)}{abs(units) // 10 ** 18}.{abs(units) % 10 ** 18:018}"
 
 
@@ -87,8 +123,12 @@ def box_by_chance(chance, edges):
     """A box whose edges touch vertices, or miss them by the least step, or lie anywhere."""
     found = []
     for values in edges:
-        ends = [chance.choice(values) + chance.choice((0, 0, -1, 1)) * Fraction(1, 10 ** 18)
-                + chance.choice((0, 0, 0, chance.randrange(-1_000, 1_000))) for _ in range(2)]
+        ends = [
+            chance.choice(values)
+            + chance.choice((0, 0, -1, 1)) * Fraction(1, 10**18)
+            + chance.choice((0, 0, 0, chance.randrange(-1_000, 1_000)))
+            for _ in range(2)
+        ]
         found.append(sorted(ends) if chance.randrange(3) else [ends[0], ends[0]])
     (left, right), (low, high) = found
     return ",".join(map(written, (left, low, right, high)))
@@ -130,12 +170,19 @@ class ByChance(InFolder):
                     if chance.randrange(2):
                         query["lods"] = chance.sample(LODS, chance.randrange(4))
                     if chance.randrange(3) == 0:
-                        query["ids"] = [f"b{chance.randrange(40)}" for _ in range(chance.choice((0, 1, 20)))]
+                        query["ids"] = [
+                            f"b{chance.randrange(40)}" for _ in range(chance.choice((0, 1, 20)))
+                        ]
                     with self.subTest(query=query):
                         self.assertEqual(cut(index, **query), filtered(text, **query))
                         with index.select(**query) as features:
-                            found = [(each.line, each.bytes, each.id, each.file) for each in features]
-                        wanted = [(each.line, each.bytes, each.id, str(path)) for each in cityseq.features(text, **query)]
+                            found = [
+                                (each.line, each.bytes, each.id, each.file) for each in features
+                            ]
+                        wanted = [
+                            (each.line, each.bytes, each.id, str(path))
+                            for each in cityseq.features(text, **query)
+                        ]
                         self.assertEqual(found, wanted)
 
 
@@ -156,14 +203,27 @@ class Cuts(InFolder):
         text = HEADER + b"\n" + feature("a") + b" \r\n" + feature("b", "Road") + feature("c")[:-1]
         for path in (self.file(text), self.file(text, "it.city.jsonl.gz")):
             with self.indexed(path) as index:
-                for query in ({}, {"ids": "c"}, {"types": "Road"}, {"types": "Building"}, {"ids": "no"}):
+                for query in (
+                    {},
+                    {"ids": "c"},
+                    {"types": "Road"},
+                    {"types": "Building"},
+                    {"ids": "no"},
+                ):
                     self.assertEqual(cut(index, **query), filtered(text, **query))
 
     def test_many_lines_by_threads(self):
-        text = HEADER + b"".join(feature(f"b{i}", "Road" if i % 97 else "Bridge", x=i) for i in range(30_000))
+        text = HEADER + b"".join(
+            feature(f"b{i}", "Road" if i % 97 else "Bridge", x=i) for i in range(30_000)
+        )
         with self.indexed(self.file(text)) as index:
-            for query in ({"types": "Bridge"}, {"types": "Road"}, {"ids": ["b7", "b29999"]},
-                          {"ids": [f"b{i}" for i in range(0, 60_000, 3)]}, {"box": (39, 20, 40, 21)}):
+            for query in (
+                {"types": "Bridge"},
+                {"types": "Road"},
+                {"ids": ["b7", "b29999"]},
+                {"ids": [f"b{i}" for i in range(0, 60_000, 3)]},
+                {"box": (39, 20, 40, 21)},
+            ):
                 wanted = filtered(text, **query)
                 self.assertEqual(cut(index, **query), wanted)
                 for jobs in (1, 3):
@@ -177,19 +237,32 @@ class Cuts(InFolder):
                 self.assertEqual(cut(index, **query), filtered(DELIVERY, keep_going=True, **query))
 
     def test_it_judges_as_the_index_was_built(self):
-        line = (b'{"type":"CityJSONFeature","id":"b","CityObjects":{"b":{"type":"Building"},"c":{"type":"Building"}},'
-                b'"vertices":[]}\n')
+        line = (
+            b'{"type":"CityJSONFeature","id":"b",'
+            b'"CityObjects":{"b":{"type":"Building"},"c":{"type":"Building"}},'
+            b'"vertices":[]}\n'
+        )
         text = HEADER + PLAIN + line + PLAIN[:-1] + b" " * 5_000 + b"\n"
         path = self.file(text)
-        for options in ({"tree": True, "keep_going": True}, {"line_limit": 1_000, "keep_going": True}, {"depth": 70}):
+        for options in (
+            {"tree": True, "keep_going": True},
+            {"line_limit": 1_000, "keep_going": True},
+            {"depth": 70},
+        ):
             with self.indexed(path, **options) as index:
                 self.assertEqual(cut(index), filtered(text, **options))
 
     def test_streams_of_one_header_make_one_output(self):
-        one, other = HEADER + feature("a") + feature("b")[:-1], HEADER + feature("b", "Road") + feature("c")
-        with self.indexed(self.file(one, "one"), self.file(HEADER, "none"), self.file(other, "other")) as index:
+        one, other = HEADER + feature("a") + feature("b")[:-1], HEADER + feature(
+            "b", "Road"
+        ) + feature("c")
+        with self.indexed(
+            self.file(one, "one"), self.file(HEADER, "none"), self.file(other, "other")
+        ) as index:
             self.assertEqual(cut(index)[0], one + b"\n" + feature("b", "Road") + feature("c"))
-            self.assertEqual(cut(index, ids="b"), (HEADER + feature("b") + feature("b", "Road"), 0, 7, 2, 0))
+            self.assertEqual(
+                cut(index, ids="b"), (HEADER + feature("b") + feature("b", "Road"), 0, 7, 2, 0)
+            )
             self.assertEqual(cut(index, types="Road")[0], HEADER + feature("b", "Road"))
 
     def test_streams_of_many_headers_need_many_outputs(self):
@@ -209,7 +282,13 @@ class Cuts(InFolder):
 
     def test_bad_requests(self):
         with self.indexed(TOWN) as index:
-            for query in ({"box": "1,2,3"}, {"box": (5, 0, 1, 9)}, {"types": "House"}, {"ids": "a\nb"}, {"lods": "\ud800"}):
+            for query in (
+                {"box": "1,2,3"},
+                {"box": (5, 0, 1, 9)},
+                {"types": "House"},
+                {"ids": "a\nb"},
+                {"lods": "\ud800"},
+            ):
                 with self.assertRaises(cityseq.RequestError):
                     index.filter(io.BytesIO(), **query)
                 with self.assertRaises(cityseq.RequestError):
@@ -278,9 +357,13 @@ class OutOfDate(InFolder):
 
     def test_other_lines(self):
         begin = len(HEADER)
-        for place, sign in ((begin + len(feature("b0")) - 1, b" "), (begin + 20, b"\n"), (len(self.text) - 1, b" "),
-                            (begin + 10, b"x")):
-            self.changed(self.text[:place] + sign + self.text[place + 1:], keeps_time=True)
+        for place, sign in (
+            (begin + len(feature("b0")) - 1, b" "),
+            (begin + 20, b"\n"),
+            (len(self.text) - 1, b" "),
+            (begin + 10, b"x"),
+        ):
+            self.changed(self.text[:place] + sign + self.text[place + 1 :], keeps_time=True)
             with self.subTest(place=place):
                 self.refused("the stream has other lines")
 
@@ -301,23 +384,49 @@ class Command(InFolder):
         self.index = str(self.folder / "it.gpkg")
 
     def test_index_then_filter(self):
-        self.assertEqual(command("index", "--output", self.index, SAMPLE), (b"valid lines=121 features=120\n", "", 0))
+        self.assertEqual(
+            command("index", "--output", self.index, SAMPLE),
+            (b"valid lines=121 features=120\n", "", 0),
+        )
         box = "84700,447500,84800,447600"
         whole = command("filter", "--bbox", box, SAMPLE)
         self.assertEqual(command("filter", "--index", self.index, "--bbox", box), whole)
         self.assertGreater(len(whole[0].splitlines()), 2)
         listed = self.file(b"NL.IMBAG.Pand.503100000000000\nNL.IMBAG.Pand.503100000000007\n", "ids")
         words = ("--ids-from", str(listed), "--type", "Building", "--lod", "2.2,1.2", "--jobs", "2")
-        self.assertEqual(command("filter", "--index", self.index, *words), command("filter", *words, SAMPLE))
+        self.assertEqual(
+            command("filter", "--index", self.index, *words), command("filter", *words, SAMPLE)
+        )
 
     def test_one_output_for_each_stream(self):
         packed = self.file(open(TOWN, "rb").read(), "town.city.jsonl.gz")
         self.assertEqual(command("index", "--output", self.index, str(packed), SAMPLE)[2], 0)
-        said = command("filter", "--index", self.index, "--type", "Building", "--output-dir", str(self.folder / "cut"))
-        self.assertEqual(said, (b"", f"{packed}: it is packed, so the cut reads it from its beginning\n", 0))
-        command("filter", "--type", "Building", "--output-dir", str(self.folder / "whole"), str(packed), SAMPLE)
+        said = command(
+            "filter",
+            "--index",
+            self.index,
+            "--type",
+            "Building",
+            "--output-dir",
+            str(self.folder / "cut"),
+        )
+        self.assertEqual(
+            said, (b"", f"{packed}: it is packed, so the cut reads it from its beginning\n", 0)
+        )
+        command(
+            "filter",
+            "--type",
+            "Building",
+            "--output-dir",
+            str(self.folder / "whole"),
+            str(packed),
+            SAMPLE,
+        )
         for name in ("town.city.jsonl.gz", "sample.city.jsonl"):
-            self.assertEqual((self.folder / "cut" / name).read_bytes(), (self.folder / "whole" / name).read_bytes())
+            self.assertEqual(
+                (self.folder / "cut" / name).read_bytes(),
+                (self.folder / "whole" / name).read_bytes(),
+            )
         self.assertEqual(len(os.listdir(self.folder / "cut")), 2)
         self.assertEqual(command("filter", "--index", self.index)[2], 2)
 
@@ -333,18 +442,30 @@ class Command(InFolder):
 
     def test_options_that_do_not_fit(self):
         self.assertEqual(command("index", "--output", self.index, SAMPLE)[2], 0)
-        for words, told in ((("--exclude",), "--exclude"), ((SAMPLE,), "FILE"), (("--tree",), "--tree"),
-                            (("--keep-going",), "--keep-going"), (("--line-limit", "9000000"), "--line-limit"),
-                            (("--depth", "65"), "--depth"), (("--sha256",), "--sha256"),
-                            (("--files-from", SAMPLE), "--files-from"), (("--output", self.index), "output"),
-                            (("--output", SAMPLE), "output"), (("--base", "ftp://x"), "URL"),
-                            (("--output", "x", "--output-dir", "y"), "--output")):
+        for words, told in (
+            (("--exclude",), "--exclude"),
+            ((SAMPLE,), "FILE"),
+            (("--tree",), "--tree"),
+            (("--keep-going",), "--keep-going"),
+            (("--line-limit", "9000000"), "--line-limit"),
+            (("--depth", "65"), "--depth"),
+            (("--sha256",), "--sha256"),
+            (("--files-from", SAMPLE), "--files-from"),
+            (("--output", self.index), "output"),
+            (("--output", SAMPLE), "output"),
+            (("--base", "ftp://x"), "URL"),
+            (("--output", "x", "--output-dir", "y"), "--output"),
+        ):
             output, said, status = command("filter", "--index", self.index, *words, cwd=self.folder)
             self.assertEqual((output, status), (b"", 2))
             self.assertIn(told, said)
-        for words, told in ((("index", SAMPLE), "--output"), (("index", "--output", self.index), "'-'"),
-                            (("index", "--output", SAMPLE, SAMPLE), "output"), (("filter", "--base", "http://x"), "--index"),
-                            (("index", "--show", self.index, SAMPLE), "--show")):
+        for words, told in (
+            (("index", SAMPLE), "--output"),
+            (("index", "--output", self.index), "'-'"),
+            (("index", "--output", SAMPLE, SAMPLE), "output"),
+            (("filter", "--base", "http://x"), "--index"),
+            (("index", "--show", self.index, SAMPLE), "--show"),
+        ):
             output, said, status = command(*words)
             self.assertEqual((output, status, said.count("\n")), (b"", 2, 1))
             self.assertIn(told, said)
@@ -355,31 +476,75 @@ class Command(InFolder):
         path = self.file(text)
         command("index", "--output", self.index, str(path))
         output, said, status = command("index", "--show", self.index)
-        self.assertEqual((output.decode().splitlines(), said, status), ([
-            "streams 1", "features 3", "rejected lines 0", "bbox 10.0,20.0,11.0,21.0",
-            f"stream {path} lines 4 features 3 rejected 0 bbox 10.0,20.0,11.0,21.0",
-            'repeated id "a\\u202e" in 2 features', f"    {path} line 2", f"    {path} line 4"], "", 0))
+        self.assertEqual(
+            (output.decode().splitlines(), said, status),
+            (
+                [
+                    "streams 1",
+                    "features 3",
+                    "rejected lines 0",
+                    "bbox 10.0,20.0,11.0,21.0",
+                    f"stream {path} lines 4 features 3 rejected 0 bbox 10.0,20.0,11.0,21.0",
+                    'repeated id "a\\u202e" in 2 features',
+                    f"    {path} line 2",
+                    f"    {path} line 4",
+                ],
+                "",
+                0,
+            ),
+        )
         os.utime(path, ns=(0, 0))
-        self.assertIn("    index is out of date: the stream is older, build it again",
-                      command("index", "--show", self.index)[0].decode().splitlines())
+        self.assertIn(
+            "    index is out of date: the stream is older, build it again",
+            command("index", "--show", self.index)[0].decode().splitlines(),
+        )
         told = json.loads(command("index", "--show", self.index, "--json")[0])
-        self.assertEqual((told["kind"], told["version"], told["features"], told["bbox"]), ("index", 1, 3, [10, 20, 11, 21]))
-        self.assertEqual(told["repeated_ids"], [{"id": "a\u202e", "places": [{"file": str(path), "line": n} for n in (2, 4)]}])
+        self.assertEqual(
+            (told["kind"], told["version"], told["features"], told["bbox"]),
+            ("index", 1, 3, [10, 20, 11, 21]),
+        )
+        self.assertEqual(
+            told["repeated_ids"],
+            [{"id": "a\u202e", "places": [{"file": str(path), "line": n} for n in (2, 4)]}],
+        )
 
     def test_json(self):
         output, _, status = command("index", "--json", "--output", self.index, SAMPLE)
         told = json.loads(output)
-        self.assertEqual((told["command"], told["verdict"], told["features"], status), ("index", "valid", 120, 0))
+        self.assertEqual(
+            (told["command"], told["verdict"], told["features"], status), ("index", "valid", 120, 0)
+        )
         target = str(self.folder / "out")
-        told = json.loads(command("filter", "--json", "--index", self.index, "--type", "Road", "--output", target)[0])
-        self.assertEqual((told["file"], told["lines"], told["features"], told["status"]), (SAMPLE, 121, 0, 0))
+        told = json.loads(
+            command(
+                "filter", "--json", "--index", self.index, "--type", "Road", "--output", target
+            )[0]
+        )
+        self.assertEqual(
+            (told["file"], told["lines"], told["features"], told["status"]), (SAMPLE, 121, 0, 0)
+        )
 
     def test_an_index_that_was_changed_by_another_program(self):
         command("index", "--output", self.index, SAMPLE)
-        for change in ("begin = begin + 1", "begin = -1", "begin = 'x'", "length = length - 1", "length = 1 << 60", "length = -1",
-                       "begin = 0", "length = 'x'", "line = 'x'"):
+        for change in (
+            "begin = begin + 1",
+            "begin = -1",
+            "begin = 'x'",
+            "length = length - 1",
+            "length = 1 << 60",
+            "length = -1",
+            "begin = 0",
+            "length = 'x'",
+            "line = 'x'",
+        ):
             with closing(sqlite3.connect(self.index)) as base:
-                for name in ("IsEmpty", "MinX", "MaxX", "MinY", "MaxY"):  # which the triggers of the layer name
+                for name in (
+                    "IsEmpty",
+                    "MinX",
+                    "MaxX",
+                    "MinY",
+                    "MaxY",
+                ):  # which the triggers of the layer name
                     base.create_function(f"ST_{name}", 1, lambda _: 0)
                 base.execute(f"UPDATE features SET {change}")
                 base.commit()

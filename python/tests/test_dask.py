@@ -1,4 +1,5 @@
-"""Files over a cluster of two workers on this machine, one of which may die: the same as by one run."""
+"""Files over a cluster of two workers on this machine, one of which may die: the same as by one
+run."""
 import gzip
 import io
 import logging
@@ -25,12 +26,20 @@ else:
 def by_ranges(path, each, work):
     """What comes of a file whose ranges are judged one after another, as each task does."""
     from cityseq.parts import Answer
-    seen, joined, output, reports, first = look(path, work.line_limit), Answer(parts=0), b"", [], True
+    seen, joined, output, reports, first = (
+        look(path, work.line_limit),
+        Answer(parts=0),
+        b"",
+        [],
+        True,
+    )
     begin = len(seen.header)
-    for left, right in list(cut(begin, seen.size, each) if seen.header.endswith(b"\n") else ()) or [(begin, begin)]:
+    for left, right in list(cut(begin, seen.size, each) if seen.header.endswith(b"\n") else ()) or [
+        (begin, begin)
+    ]:
         if joined.status == 0:
             answer = judge_range(work, path, left, right, first)
-            joined.add(answer, reports.append)
+            joined.add(answer, begin, reports.append)
             output, first = output + answer.output, False
     return output, numbered(reports), joined.lines, joined.kept, joined.refused, joined.peaks
 
@@ -65,8 +74,10 @@ class Ranges(InFolder):
         begin = len(seen.header)
         self.assertIsNone(judge_range(work, str(path), begin, seen.size, True, seen.state).fault)
         os.truncate(path, begin)
-        self.assertEqual(str(judge_range(work, str(path), begin, seen.size, True, seen.state).fault),
-                         f"{path}: read fault: changed while it was read")
+        self.assertEqual(
+            str(judge_range(work, str(path), begin, seen.size, True, seen.state).fault),
+            f"{path}: read fault: changed while it was read",
+        )
 
 
 @unittest.skipIf(distributed is None, "distributed is not there")
@@ -77,9 +88,17 @@ class Clusters(InFolder):
     def setUpClass(cls):
         os.environ["PYTHONPATH"] = os.path.join(support.ROOT, "python")
         for name in ("scheduler", "client", "nanny", "worker"):
-            logging.getLogger(f"distributed.{name}").setLevel(logging.CRITICAL)  # that a worker died is what is tested
-        cls.cluster = distributed.LocalCluster(n_workers=2, threads_per_worker=1, processes=True, host="127.0.0.1",
-                                               dashboard_address=None, silence_logs=logging.CRITICAL)
+            logging.getLogger(f"distributed.{name}").setLevel(
+                logging.CRITICAL
+            )  # that a worker died is what is tested
+        cls.cluster = distributed.LocalCluster(
+            n_workers=2,
+            threads_per_worker=1,
+            processes=True,
+            host="127.0.0.1",
+            dashboard_address=None,
+            silence_logs=logging.CRITICAL,
+        )
         cls.client = distributed.Client(cls.cluster)
 
     @classmethod
@@ -88,17 +107,26 @@ class Clusters(InFolder):
         cls.cluster.close()
 
     def test_the_examples(self):
-        paths = [os.path.join(support.ROOT, "examples", f"{name}.city.jsonl") for name in ("broken", "delivery", "sample", "town")]
+        paths = [
+            os.path.join(support.ROOT, "examples", f"{name}.city.jsonl")
+            for name in ("broken", "delivery", "sample", "town")
+        ]
         for options in ({}, {"keep_going": True}):
             here = list(cityseq.check_files(paths, **options))
             there = list(cityseq.dask.check(self.client, paths, part_size=5_000, **options))
             self.assertEqual(there, here)
         for path in paths:
-            self.assertEqual(list(cityseq.dask.info(self.client, path, part_size=50_000)), [cityseq.info(path)])
+            self.assertEqual(
+                list(cityseq.dask.info(self.client, path, part_size=50_000)), [cityseq.info(path)]
+            )
             here, there = io.BytesIO(), io.BytesIO()
             for options in ({"types": ["Road", "BuildingPart"]}, {"keep_going": True}):
-                self.assertEqual(filtered(cityseq.dask.filter, self.client, path, there, part_size=900, **options),
-                                 filtered(cityseq.filter, path, here, **options))
+                self.assertEqual(
+                    filtered(
+                        cityseq.dask.filter, self.client, path, there, part_size=900, **options
+                    ),
+                    filtered(cityseq.filter, path, here, **options),
+                )
             self.assertEqual(there.getvalue(), here.getvalue())
 
     def test_what_cannot_be_read_or_asked(self):
@@ -106,12 +134,19 @@ class Clusters(InFolder):
         packed.rename(self.folder / "a.jsonl.gz")
         paths = [self.folder / "none", self.folder / "a.jsonl.gz", self.folder, self.file(b"")]
         found = list(cityseq.dask.check(self.client, paths))
-        self.assertEqual([(result.status, result.features) for result in found], [(3, 0), (0, 1), (3, 0), (1, 0)])
-        for call in (lambda: cityseq.dask.filter(self.client, self.folder / "a.jsonl.gz", io.BytesIO()),
-                     lambda: list(cityseq.dask.check(self.client, b"bytes")), lambda: list(cityseq.dask.check(None, "a")),
-                     lambda: list(cityseq.dask.check(self.client, "a", depth=0))):
+        self.assertEqual(
+            [(result.status, result.features) for result in found], [(3, 0), (0, 1), (3, 0), (1, 0)]
+        )
+        for call in (
+            lambda: cityseq.dask.filter(self.client, self.folder / "a.jsonl.gz", io.BytesIO()),
+            lambda: list(cityseq.dask.check(self.client, b"bytes")),
+            lambda: list(cityseq.dask.check(None, "a")),
+            lambda: list(cityseq.dask.check(self.client, "a", depth=0)),
+        ):
             self.assertRaises(cityseq.RequestError, call)
-        self.assertRaises(cityseq.ReadFault, cityseq.dask.filter, self.client, "/nowhere", io.BytesIO())
+        self.assertRaises(
+            cityseq.ReadFault, cityseq.dask.filter, self.client, "/nowhere", io.BytesIO()
+        )
 
     def test_an_index(self):
         from .test_index import dump

@@ -13,12 +13,27 @@ from cityseq.ids import MANY, ids_for, part_size_for
 
 FEW = [f"other-{number:05}" for number in range(MANY // 8)]  # that are in no stream here
 LINES = (  # each with the text of its id
-    (feature("a"), "a"), (feature("é"), "é"), (feature("a\\u0062"), "ab"), (feature("q\\\"x").replace(b"\n", b" \n"), 'q"x'),
-    (b' { "id" : "b" , "type":"CityJSONFeature","CityObjects":{"b":{"type":"Road"}},"vertices":[]}\n', "b"),
-    (PLAIN.replace(b'"id"', b'"\\u0069d"'), "b"), (PLAIN.replace(b'"id"', b'"i\\u0064"'), "b"),
-    (b'{"vertices":[],"CityObjects":{"late":{"type":"Road","attributes":{"id":"no"}}},"id":"late","type":"CityJSONFeature"}\n', "late"),
+    (feature("a"), "a"),
+    (feature("é"), "é"),
+    (feature("a\\u0062"), "ab"),
+    (feature('q\\"x').replace(b"\n", b" \n"), 'q"x'),
+    (
+        b' { "id" : "b" , "type":"CityJSONFeature",'
+        b'"CityObjects":{"b":{"type":"Road"}},"vertices":[]}\n',
+        "b",
+    ),
+    (PLAIN.replace(b'"id"', b'"\\u0069d"'), "b"),
+    (PLAIN.replace(b'"id"', b'"i\\u0064"'), "b"),
+    (
+        b'{"vertices":[],"CityObjects":{"late":{"type":"Road","attributes":{"id":"no"}}},'
+        b'"id":"late","type":"CityJSONFeature"}\n',
+        "late",
+    ),
     (b'{"type":"CityJSONFeature","id":"","CityObjects":{"":{"type":"Road"}},"vertices":[]}\n', ""),
-    (feature("a").replace(b"\n", b"\r\n"), "a"), (b"\n", None), (b" \t\r\n", None))
+    (feature("a").replace(b"\n", b"\r\n"), "a"),
+    (b"\n", None),
+    (b" \t\r\n", None),
+)
 
 
 class Subsets(unittest.TestCase):
@@ -29,10 +44,21 @@ class Subsets(unittest.TestCase):
 
     def test_the_id_of_each_line_is_among_them(self):
         for line, name in LINES:
-            for part in (line, line[:-1], PLAIN + line, line + PLAIN, b"{\n" + line, b'{"type":"CityJSONFeature","id":"cut\n' + line):
+            for part in (
+                line,
+                line[:-1],
+                PLAIN + line,
+                line + PLAIN,
+                b"{\n" + line,
+                b'{"type":"CityJSONFeature","id":"cut\n' + line,
+            ):
                 for text in (part, bytearray(part), memoryview(bytearray(part))):
                     found = self.asked([name or "none", "never", "cut"], text)
-                    self.assertEqual((name is None or name.encode() in found, b"never" in found), (True, False), part)
+                    self.assertEqual(
+                        (name is None or name.encode() in found, b"never" in found),
+                        (True, False),
+                        part,
+                    )
 
     def test_few_are_asked_for_as_they_are(self):
         self.assertEqual(ids_for(b"a\nb", PLAIN), b"a\nb")
@@ -55,9 +81,19 @@ class Filters(unittest.TestCase):
             chance = random.Random(seed)
             text = support.stream_by_chance(seed)
             if seed % 2:
-                text = HEADER + b"".join(chance.choice(LINES)[0] for _ in range(20)) + text.split(b"\n", 1)[-1]
-            wanted = [name for _, name in LINES if name is not None and chance.randrange(2)] + [f"b{number}" for number in range(0, 20, 2)]
-            options = {"ids": wanted + FEW, "exclude": seed % 3 == 0, "part_size": chance.randrange(1, 900)}
+                text = (
+                    HEADER
+                    + b"".join(chance.choice(LINES)[0] for _ in range(20))
+                    + text.split(b"\n", 1)[-1]
+                )
+            wanted = [name for _, name in LINES if name is not None and chance.randrange(2)] + [
+                f"b{number}" for number in range(0, 20, 2)
+            ]
+            options = {
+                "ids": wanted + FEW,
+                "exclude": seed % 3 == 0,
+                "part_size": chance.randrange(1, 900),
+            }
             with self.subTest(seed=seed):
                 found = self.kept(text, **options)
                 with mock.patch("cityseq.ids.MANY", 1 << 40):
@@ -65,8 +101,13 @@ class Filters(unittest.TestCase):
 
     def test_parts_are_as_long_as_the_query_asks(self):
         many = b"x" * 100_000
-        for ids, head, size in ((many, PLAIN * 9, 3_200_000), (many, b"y" * 9_000 + b"\n", 0), (many, b"", 0), (b"x" * 99, PLAIN, 0),
-                                (b"x" * (64 << 20), PLAIN * 9, 256 << 20)):
+        for ids, head, size in (
+            (many, PLAIN * 9, 3_200_000),
+            (many, b"y" * 9_000 + b"\n", 0),
+            (many, b"", 0),
+            (b"x" * 99, PLAIN, 0),
+            (b"x" * (64 << 20), PLAIN * 9, 256 << 20),
+        ):
             self.assertEqual(part_size_for(ids, head), size)
         wanted, whole, prepare = [f"b{number}" for number in range(100_000)], [], ids_of.ids_for
 
@@ -88,7 +129,12 @@ class Filters(unittest.TestCase):
 
         text = HEADER + b"".join(feature(f"b{number}") for number in range(200))
         with mock.patch("cityseq.query.ids_for", noted):
-            self.assertEqual(self.kept(text, ids=[f"b{number}" for number in range(100_000)], part_size=3_000)[1], 200)
+            self.assertEqual(
+                self.kept(text, ids=[f"b{number}" for number in range(100_000)], part_size=3_000)[
+                    1
+                ],
+                200,
+            )
         self.assertTrue(10 < len(asked) and max(asked) < 200, asked)
 
 

@@ -1,4 +1,4 @@
-"""Indexes: what is in the file, against what Python reads in the streams, and what bad input gets."""
+"""Indexes: what is in the file, against what Python reads in streams, and what bad input gets."""
 import hashlib
 import json
 import os
@@ -23,14 +23,33 @@ from cityseq.records import id_of
 TOWN, SAMPLE, BROKEN, DELIVERY = (
     f"{ROOT}/examples/{name}.city.jsonl" for name in ("town", "sample", "broken", "delivery")
 )
-HOSTILE = ['<script>"', "\u0000", "a\u0000b", "\ud800", "\udfff\u0000", "\u202e", "", "a\\u0000b",
-           "'; DROP TABLE features; --", "x" * 1_000_000, "\U0001f3e0", "\n", "x" * 1_024, "x" * 1_025]
+HOSTILE = [
+    '<script>"',
+    "\u0000",
+    "a\u0000b",
+    "\ud800",
+    "\udfff\u0000",
+    "\u202e",
+    "",
+    "a\\u0000b",
+    "'; DROP TABLE features; --",
+    "x" * 1_000_000,
+    "\U0001f3e0",
+    "\n",
+    "x" * 1_024,
+    "x" * 1_025,
+]
 COLUMNS = "stream, line, begin, length, id, id_exact, objects, geometries, types, lods, zmin, zmax"
 
 
 def with_id(name):
     """A feature without vertices of any id, escaped as Python's JSON writer does."""
-    told = {"type": "CityJSONFeature", "id": name, "CityObjects": {name: {"type": "Building"}}, "vertices": []}
+    told = {
+        "type": "CityJSONFeature",
+        "id": name,
+        "CityObjects": {name: {"type": "Building"}},
+        "vertices": [],
+    }
     return json.dumps(told).encode() + b"\n"
 
 
@@ -47,9 +66,19 @@ def rows_of(path):
 
 def dump(path):
     """All that is in an index, but for times."""
-    return [query(path, f"SELECT * FROM {table}") for table in
-            ("features", "streams", "reports", "cityseq_index", "rtree_features_geom", "gpkg_extensions",
-             "gpkg_geometry_columns", "gpkg_spatial_ref_sys")]
+    return [
+        query(path, f"SELECT * FROM {table}")
+        for table in (
+            "features",
+            "streams",
+            "reports",
+            "cityseq_index",
+            "rtree_features_geom",
+            "gpkg_extensions",
+            "gpkg_geometry_columns",
+            "gpkg_spatial_ref_sys",
+        )
+    ]
 
 
 class Files(InFolder):
@@ -67,20 +96,28 @@ class Files(InFolder):
 
     def test_lines_are_where_it_says(self):
         results = cityseq.index([TOWN, SAMPLE], self.index)
-        self.assertEqual([(each.file, each.lines, each.features) for each in results],
-                         [(TOWN, 5, 4), (SAMPLE, 121, 120)])
+        self.assertEqual(
+            [(each.file, each.lines, each.features) for each in results],
+            [(TOWN, 5, 4), (SAMPLE, 121, 120)],
+        )
         texts = {number: open(path, "rb").read() for number, path in ((1, TOWN), (2, SAMPLE))}
         found = rows_of(self.index)
-        self.assertEqual([(row[0], row[1]) for row in found],
-                         [(1, n) for n in range(2, 6)] + [(2, n) for n in range(2, 122)])
+        self.assertEqual(
+            [(row[0], row[1]) for row in found],
+            [(1, n) for n in range(2, 6)] + [(2, n) for n in range(2, 122)],
+        )
         for stream, line, begin, length, id, exact, objects, geometries, types, lods, _, _ in found:
             text = texts[stream]
             told = json.loads(text.split(b"\n")[line - 1])
-            self.assertEqual(text[begin - 1:begin] + text[begin + length:begin + length + 1], b"\n\n")
-            self.assertEqual(json.loads(text[begin:begin + length]), told)
+            self.assertEqual(
+                text[begin - 1 : begin] + text[begin + length : begin + length + 1], b"\n\n"
+            )
+            self.assertEqual(json.loads(text[begin : begin + length]), told)
             parts = told["CityObjects"].values()
             each = [one for part in parts for one in part.get("geometry", [])]
-            self.assertEqual((id, exact, objects, geometries), (told["id"], None, len(parts), len(each)))
+            self.assertEqual(
+                (id, exact, objects, geometries), (told["id"], None, len(parts), len(each))
+            )
             self.assertEqual(set(types.split(",")), {part["type"] for part in parts})
 
     def test_extents_are_rounded_outward(self):
@@ -88,30 +125,56 @@ class Files(InFolder):
         with open(SAMPLE, "rb") as file:
             transform = json.loads(file.readline(), parse_float=Fraction)["transform"]
             stream = [json.loads(line) for line in file]
-        found = query(self.index, "SELECT geom, zmin, zmax, minx, maxx, miny, maxy FROM features"
-                      " JOIN rtree_features_geom r ON r.id = fid ORDER BY fid")
+        found = query(
+            self.index,
+            "SELECT geom, zmin, zmax, minx, maxx, miny, maxy FROM features"
+            " JOIN rtree_features_geom r ON r.id = fid ORDER BY fid",
+        )
         for told, (geometry, zmin, zmax, *tree) in zip(stream, found):
             xmin, xmax, ymin, ymax = support.box_of_polygon(geometry)
             axes = zip(zip(*told["vertices"]), transform["scale"], transform["translate"])
-            wanted = [edge for values, scale, shift in axes
-                      for edge in (min(values) * scale + shift, max(values) * scale + shift)]
+            wanted = [
+                edge
+                for values, scale, shift in axes
+                for edge in (min(values) * scale + shift, max(values) * scale + shift)
+            ]
             for low, exact, high in zip((xmin, ymin, zmin), wanted[::2], wanted[1::2]):
                 self.assertLessEqual(Fraction(low), exact)
             edges = ((xmin, xmax, wanted[:2]), (ymin, ymax, wanted[2:4]), (zmin, zmax, wanted[4:]))
             for low, high, (least, most) in edges:
                 self.assertTrue(Fraction(low) <= least and most <= Fraction(high))
                 self.assertTrue(abs(low - float(least)) < 1e-9 and abs(high - float(most)) < 1e-9)
-            self.assertTrue(tree[0] <= xmin and xmax <= tree[1] and tree[2] <= ymin and ymax <= tree[3])
+            self.assertTrue(
+                tree[0] <= xmin and xmax <= tree[1] and tree[2] <= ymin and ymax <= tree[3]
+            )
 
     def test_streams(self):
         cityseq.index(SAMPLE, self.index)
-        (row,) = query(self.index, "SELECT path, path_exact, packing, size, mtime_ns, header_length, header_sha256,"
-                       " scale, translate, reference_system, lines, features, refused, first_fid FROM streams")
+        (row,) = query(
+            self.index,
+            "SELECT path, path_exact, packing, size, mtime_ns, header_length, header_sha256,"
+            " scale, translate, reference_system, lines, features, refused, first_fid FROM streams",
+        )
         header, state = open(SAMPLE, "rb").readline(), os.stat(SAMPLE)
-        self.assertEqual(row, (SAMPLE, None, None, state.st_size, state.st_mtime_ns, len(header),
-                               hashlib.sha256(header).hexdigest(), '["0.001", "0.001", "0.001"]',
-                               '["84616.468", "447422.999", "-0.452"]',
-                               "https://www.opengis.net/def/crs/EPSG/0/7415", 121, 120, 0, 1))
+        self.assertEqual(
+            row,
+            (
+                SAMPLE,
+                None,
+                None,
+                state.st_size,
+                state.st_mtime_ns,
+                len(header),
+                hashlib.sha256(header).hexdigest(),
+                '["0.001", "0.001", "0.001"]',
+                '["84616.468", "447422.999", "-0.452"]',
+                "https://www.opengis.net/def/crs/EPSG/0/7415",
+                121,
+                120,
+                0,
+                1,
+            ),
+        )
         box = query(self.index, "SELECT xmin, ymin, xmax, ymax FROM streams")[0]
         info = [Fraction(edge) for edge in cityseq.info(SAMPLE, exact_lods=False).box.split(",")]
         for found, wanted in zip(box, info):
@@ -125,26 +188,40 @@ class Files(InFolder):
                 told["metadata"] = {"referenceSystem": name} if name else {}
                 headers.append(json.dumps(told).encode() + b"\n" + feature("a"))
             self.built(*headers)
-            return [row[0] for row in query(
-                self.index, "SELECT srs_id FROM gpkg_geometry_columns UNION ALL"
-                " SELECT srs_id FROM gpkg_contents WHERE data_type = 'features' UNION ALL"
-                " SELECT DISTINCT substr(hex(geom), 9, 8) FROM features")]
+            return [
+                row[0]
+                for row in query(
+                    self.index,
+                    "SELECT srs_id FROM gpkg_geometry_columns UNION ALL"
+                    " SELECT srs_id FROM gpkg_contents WHERE data_type = 'features' UNION ALL"
+                    " SELECT DISTINCT substr(hex(geom), 9, 8) FROM features",
+                )
+            ]
 
         rd, utm = (f"https://www.opengis.net/def/crs/EPSG/0/{code}" for code in (7415, 32631))
         self.assertEqual(systems(rd), [7415, 7415, "F71C0000"])
         self.assertEqual(systems(rd, rd), [7415, 7415, "F71C0000"])
         self.assertEqual(systems("urn:ogc:def:crs:EPSG::4326"), [4326, 4326, "E6100000"])
-        for others in ((None,), ("EPSG:7415",), (rd + "x",), (rd, utm), (rd, None),
-                       ("https://www.opengis.net/def/crs/OGC/0/CRS84",)):
+        for others in (
+            (None,),
+            ("EPSG:7415",),
+            (rd + "x",),
+            (rd, utm),
+            (rd, None),
+            ("https://www.opengis.net/def/crs/OGC/0/CRS84",),
+        ):
             self.assertEqual(systems(*others), [-1, -1, "FFFFFFFF"])
         self.assertEqual(query(self.index, "PRAGMA foreign_key_check"), [])
 
     def test_hostile_ids(self):
         names = HOSTILE + ["\u0000"]
         self.built(HEADER + b"".join(map(with_id, names)))
-        found = [id_of(*row) for row in query(self.index, "SELECT id, id_exact FROM features ORDER BY fid")]
+        found = [
+            id_of(*row)
+            for row in query(self.index, "SELECT id, id_exact FROM features ORDER BY fid")
+        ]
         self.assertEqual(found, names)
-        for text, in query(self.index, "SELECT id FROM features"):
+        for (text,) in query(self.index, "SELECT id FROM features"):
             self.assertTrue("\0" not in text and len(text.encode()) <= 6 * 1_024)
         with cityseq.Index(self.index) as index:
             for number, name in enumerate(names):
@@ -156,32 +233,49 @@ class Files(InFolder):
 
     def test_ids_that_come_twice(self):
         one = HEADER + with_id("a") + with_id("\ud800") + with_id("b") + with_id("a\u0000")
-        other = HEADER + with_id("a") + with_id("\ud800") + with_id("c") + with_id("a\\u0000") + with_id("a")
+        other = (
+            HEADER
+            + with_id("a")
+            + with_id("\ud800")
+            + with_id("c")
+            + with_id("a\\u0000")
+            + with_id("a")
+        )
         first, second = self.built(one, other)
         with cityseq.Index(self.index) as index:
             found = {each.id: each.places for each in index.repeated_ids()}
-        self.assertEqual(found, {"a": ((first, 2), (second, 2), (second, 6)),
-                                 "\ud800": ((first, 3), (second, 3))})
+        self.assertEqual(
+            found,
+            {"a": ((first, 2), (second, 2), (second, 6)), "\ud800": ((first, 3), (second, 3))},
+        )
 
     def test_no_vertices_no_place(self):
         self.built(HEADER + PLAIN + feature("a"))
-        self.assertEqual(query(self.index, "SELECT id, geom IS NULL, zmin IS NULL FROM features"),
-                         [("b", 1, 1), ("a", 0, 0)])
+        self.assertEqual(
+            query(self.index, "SELECT id, geom IS NULL, zmin IS NULL FROM features"),
+            [("b", 1, 1), ("a", 0, 0)],
+        )
         self.assertEqual(query(self.index, "SELECT id FROM rtree_features_geom"), [(2,)])
 
     def test_a_transform_that_no_box_takes(self):
         header = HEADER.replace(b"[0.001,0.001,0.001]", b"[1e-19,0.001,0.001]")
         self.built(header + feature("a"))
-        self.assertEqual(query(self.index, "SELECT id, geom IS NULL, zmin FROM features"), [("a", 1, 0.0)])
+        self.assertEqual(
+            query(self.index, "SELECT id, geom IS NULL, zmin FROM features"), [("a", 1, 0.0)]
+        )
 
     def test_a_stream_without_features(self):
         self.built(HEADER, HEADER[:-1], HEADER + b"\n \n")
-        self.assertEqual(query(self.index, "SELECT lines, features FROM streams"), [(1, 0), (1, 0), (3, 0)])
+        self.assertEqual(
+            query(self.index, "SELECT lines, features FROM streams"), [(1, 0), (1, 0), (3, 0)]
+        )
         self.assertEqual(query(self.index, "SELECT rtreecheck('rtree_features_geom')"), [("ok",)])
 
     def test_threads_and_parts_change_nothing(self):
-        texts = [HEADER + b"".join(feature(f"{n}-{i}", x=i) + b"\n" * (i % 3 == 0) for i in range(200))
-                 for n in range(3)]
+        texts = [
+            HEADER + b"".join(feature(f"{n}-{i}", x=i) + b"\n" * (i % 3 == 0) for i in range(200))
+            for n in range(3)
+        ]
         self.built(*texts, jobs=1)
         wanted = dump(self.index)
         for jobs, size in ((1, 700), (3, None), (3, 1), (4, 5_000)):
@@ -194,24 +288,41 @@ class Files(InFolder):
         for paths in ([packed], [packed, plain], [plain, packed]):
             cityseq.index(paths, self.index, part_size=4_000)
             for number in range(1, len(paths) + 1):
-                found = query(self.index, "SELECT begin, length FROM features WHERE stream = ?", number)
-                lines = b"".join(text[begin:begin + length] + b"\n" for begin, length in found)
+                found = query(
+                    self.index, "SELECT begin, length FROM features WHERE stream = ?", number
+                )
+                lines = b"".join(text[begin : begin + length] + b"\n" for begin, length in found)
                 self.assertEqual(HEADER + lines, text)
         self.assertEqual(query(self.index, "SELECT packing FROM streams"), [(None,), ("gzip",)])
 
     def test_invalid_lines_are_listed(self):
         long = PLAIN[:-1] + b" " * 3_000 + b"\n"
-        text = HEADER + feature("a") + long + feature("b", last=9) + b"\n" + feature("c") + long + feature("d")
+        text = (
+            HEADER
+            + feature("a")
+            + long
+            + feature("b", last=9)
+            + b"\n"
+            + feature("c")
+            + long
+            + feature("d")
+        )
         for path in (self.file(text), self.file(text, "it.city.jsonl.gz")):
             for size in (None, 1, 400):
-                (result,) = cityseq.index(path, self.index, keep_going=True, line_limit=2_000, part_size=size)
+                (result,) = cityseq.index(
+                    path, self.index, keep_going=True, line_limit=2_000, part_size=size
+                )
                 self.assertEqual((result.status, result.features, result.refused), (1, 3, 3))
                 rows = query(self.index, "SELECT begin, length, line FROM features")
-                self.assertEqual([text[begin:begin + length] + b"\n" for begin, length, _ in rows],
-                                 [feature(name) for name in "acd"])
+                self.assertEqual(
+                    [text[begin : begin + length] + b"\n" for begin, length, _ in rows],
+                    [feature(name) for name in "acd"],
+                )
                 self.assertEqual([line for *_, line in rows], [2, 6, 8])
-                self.assertEqual(query(self.index, "SELECT stream, line, code, id FROM reports"),
-                                 [(1, 3, 2, "b"), (1, 4, 25, "b"), (1, 7, 2, "b")])
+                self.assertEqual(
+                    query(self.index, "SELECT stream, line, code, id FROM reports"),
+                    [(1, 3, 2, "b"), (1, 4, 25, "b"), (1, 7, 2, "b")],
+                )
 
     def test_random_streams(self):
         for seed in range(60):
@@ -225,13 +336,20 @@ class Files(InFolder):
                 fault = raised
             with self.subTest(seed=seed):
                 try:
-                    cityseq.index(path, self.index, keep_going=True, line_limit=1_000, part_size=500)
+                    cityseq.index(
+                        path, self.index, keep_going=True, line_limit=1_000, part_size=500
+                    )
                 except cityseq.InvalidStream:
                     self.assertIsNotNone(fault)
                     continue
                 found = query(self.index, "SELECT line, begin, length, id, id_exact FROM features")
-                self.assertEqual([(line, text[begin:begin + length], id_of(id, exact))
-                                  for line, begin, length, id, exact in found], wanted)
+                self.assertEqual(
+                    [
+                        (line, text[begin : begin + length], id_of(id, exact))
+                        for line, begin, length, id, exact in found
+                    ],
+                    wanted,
+                )
 
     def test_an_index_that_moves_with_its_streams(self):
         folder = self.folder / "one"
@@ -259,13 +377,17 @@ class Trees(unittest.TestCase):
 
     def test_any_number_of_features(self):
         from cityseq.rtree import Tree, cell_of, key_of
+
         chance = random.Random(1)
         for count in (0, 1, 50, 51, 52, 103, 51 * 51, 51 * 51 + 1, 9_000):
             base = sqlite3.connect(":memory:")
             base.execute("CREATE VIRTUAL TABLE t USING rtree(id, minx, maxx, miny, maxy)")
             boxes = []
             for number in range(1, count + 1):
-                x, y = (chance.choice((-1, 1)) * chance.random() * 10 ** chance.randrange(-20, 37) for _ in "xy")
+                x, y = (
+                    chance.choice((-1, 1)) * chance.random() * 10 ** chance.randrange(-20, 37)
+                    for _ in "xy"
+                )
                 boxes.append((number, x, x + abs(x) * chance.random(), y, y + chance.random()))
             ordered = sorted(boxes, key=lambda box: key_of(box[1], box[3]))
             Tree(base, "t").write((cell_of(*box) for box in ordered), count)
@@ -273,8 +395,11 @@ class Trees(unittest.TestCase):
                 self.assertEqual(base.execute("SELECT rtreecheck('t')").fetchall(), [("ok",)])
                 self.assertEqual(base.execute("SELECT count(*) FROM t").fetchone(), (count,))
                 for number, xmin, xmax, ymin, ymax in boxes[::37]:
-                    found = base.execute("SELECT id FROM t WHERE minx <= ? AND maxx >= ? AND miny <= ? AND maxy >= ?",
-                                         (xmin, xmax, ymin, ymax)).fetchall()
+                    found = base.execute(
+                        "SELECT id FROM t"
+                        " WHERE minx <= ? AND maxx >= ? AND miny <= ? AND maxy >= ?",
+                        (xmin, xmax, ymin, ymax),
+                    ).fetchall()
                     self.assertIn((number,), found)
                 base.execute("INSERT INTO t VALUES (?, 1, 2, 3, 4)", (count + 1,))
                 base.execute("DELETE FROM t WHERE id = 1")
@@ -282,6 +407,7 @@ class Trees(unittest.TestCase):
 
     def test_rounding_is_outward(self):
         from cityseq.extents import ceiling_of, floor_of
+
         chance = random.Random(2)
         for _ in range(5_000):
             count = chance.choice((-1, 1)) * chance.randrange(10 ** chance.randrange(1, 60))
@@ -290,16 +416,24 @@ class Trees(unittest.TestCase):
             exact = Fraction(count, unit)
             self.assertTrue(Fraction(low) <= exact <= Fraction(high))
             nearest = float(exact)
-            self.assertTrue(nearest in (low, high) and (low == high) == (Fraction(nearest) == exact))
+            self.assertTrue(
+                nearest in (low, high) and (low == high) == (Fraction(nearest) == exact)
+            )
 
     def test_intervals_are_rounded_outward(self):
         from cityseq.extents import Axis, ceiling_of, floor_of
+
         chance = random.Random(3)
         for _ in range(5_000):
-            scale, shift, *ends = (chance.choice((-1, 1)) * chance.randrange(10 ** chance.randrange(1, 37)) for _ in range(4))
+            scale, shift, *ends = (
+                chance.choice((-1, 1)) * chance.randrange(10 ** chance.randrange(1, 37))
+                for _ in range(4)
+            )
             found = Axis(scale, shift).interval(min(ends), max(ends))
             exact = [end * scale + shift for end in ends]
-            self.assertEqual(found, (floor_of(min(exact), 10 ** 18), ceiling_of(max(exact), 10 ** 18)))
+            self.assertEqual(
+                found, (floor_of(min(exact), 10**18), ceiling_of(max(exact), 10**18))
+            )
 
 
 class BadInput(InFolder):
@@ -320,15 +454,28 @@ class BadInput(InFolder):
     def test_invalid_streams(self):
         for _ in range(2):
             for options in ({}, {"jobs": 1}, {"part_size": 100}):
-                self.refused(cityseq.InvalidStream, "line 3, byte 144: 25", [TOWN, BROKEN, SAMPLE], **options)
-                self.refused(cityseq.InvalidStream, "line 1, byte", self.file(PLAIN), keep_going=True)
+                self.refused(
+                    cityseq.InvalidStream, "line 3, byte 144: 25", [TOWN, BROKEN, SAMPLE], **options
+                )
+                self.refused(
+                    cityseq.InvalidStream, "line 1, byte", self.file(PLAIN), keep_going=True
+                )
             cityseq.index(TOWN, self.index)
 
     def test_what_cannot_be_indexed(self):
         cityseq.index(TOWN, self.index)
         fifo = self.folder / "fifo"
         os.mkfifo(fifo)
-        for paths in ("-", [], b"bytes", [TOWN, b"x"], TOWN.encode(), fifo, "/dev/null", [TOWN, TOWN]):
+        for paths in (
+            "-",
+            [],
+            b"bytes",
+            [TOWN, b"x"],
+            TOWN.encode(),
+            fifo,
+            "/dev/null",
+            [TOWN, TOWN],
+        ):
             self.refused(cityseq.RequestError, "", paths)
         self.refused(cityseq.RequestError, "the output is a file that is read", self.index)
         self.refused(cityseq.RequestError, "jobs", TOWN, jobs=0)
@@ -337,7 +484,9 @@ class BadInput(InFolder):
         self.refused(cityseq.ReadFault, "Is a directory", self.folder)
 
     def test_outputs_that_cannot_be_written(self):
-        self.refused(cityseq.WriteFault, "No such file", TOWN, output=self.folder / "no" / "it.gpkg")
+        self.refused(
+            cityseq.WriteFault, "No such file", TOWN, output=self.folder / "no" / "it.gpkg"
+        )
         self.refused(cityseq.WriteFault, "Is a directory", TOWN, output=self.folder)
         self.refused(cityseq.WriteFault, "regular file", TOWN, output="/dev/full")
 
@@ -361,10 +510,25 @@ class BadInput(InFolder):
         cityseq.index(TOWN, self.index)
         before = self.index.read_bytes()
         text = HEADER + b"".join(feature(f"b{i}") for i in range(1_000)) * 100
-        words = [sys.executable, "-m", "cityseq", "index", "--output", str(self.index), str(self.file(text))]
-        for number, said in ((signal.SIGINT, "interrupted\n"), (signal.SIGTERM, "stopped by SIGTERM\n")):
-            child = subprocess.Popen(words, stderr=subprocess.PIPE, stdout=subprocess.PIPE,
-                                     env={**os.environ, "PYTHONPATH": f"{ROOT}/python"})
+        words = [
+            sys.executable,
+            "-m",
+            "cityseq",
+            "index",
+            "--output",
+            str(self.index),
+            str(self.file(text)),
+        ]
+        for number, said in (
+            (signal.SIGINT, "interrupted\n"),
+            (signal.SIGTERM, "stopped by SIGTERM\n"),
+        ):
+            child = subprocess.Popen(
+                words,
+                stderr=subprocess.PIPE,
+                stdout=subprocess.PIPE,
+                env={**os.environ, "PYTHONPATH": f"{ROOT}/python"},
+            )
             part = self.folder / "it.gpkg.part"
             while child.poll() is None and not (part.exists() and part.stat().st_size > 100_000):
                 time.sleep(0.005)
@@ -375,14 +539,20 @@ class BadInput(InFolder):
             self.assertEqual(sorted(os.listdir(self.folder)), ["it.gpkg", "stream.city.jsonl"])
 
     def test_what_is_no_index(self):
-        no_database, database, empty = (str(self.folder / name) for name in ("text", "base", "empty"))
+        no_database, database, empty = (
+            str(self.folder / name) for name in ("text", "base", "empty")
+        )
         self.file(b"text", "text")
         self.file(b"", "empty")
         with closing(sqlite3.connect(database)) as base:
             base.execute("CREATE TABLE streams (fid)")
-        for path, words in ((no_database, "no index of cityseq"), (empty, "no index of cityseq"),
-                            (database, "no index of cityseq"), (str(self.folder), "Is a directory"),
-                            ("no such file", "No such file")):
+        for path, words in (
+            (no_database, "no index of cityseq"),
+            (empty, "no index of cityseq"),
+            (database, "no index of cityseq"),
+            (str(self.folder), "Is a directory"),
+            ("no such file", "No such file"),
+        ):
             with self.assertRaises(cityseq.ReadFault) as caught:
                 cityseq.Index(path)
             self.assertIn(words, str(caught.exception))
@@ -397,7 +567,10 @@ class BadInput(InFolder):
             base.commit()
         with self.assertRaises(cityseq.ReadFault) as caught:
             cityseq.Index(self.index)
-        self.assertIn("it is an index of version 2, and not of version 1: build it again", str(caught.exception))
+        self.assertIn(
+            "it is an index of version 2, and not of version 1: build it again",
+            str(caught.exception),
+        )
 
     def test_a_file_that_is_cut_short(self):
         cityseq.index(SAMPLE, self.index)

@@ -1,5 +1,4 @@
 """What is told as JSON, and the record: by the document, docs/json.md."""
-import gzip
 import hashlib
 import json
 import os
@@ -8,30 +7,42 @@ import unittest
 from decimal import Decimal
 
 from . import support
-from .support import HEADER, PLAIN, InFolder, command, feature
+from .support import PLAIN, InFolder, command
 from .test_sources import BROKEN, GOOD
 from .test_told import example
 
 import cityseq
 from cityseq.objects import exact
 
-TYPES = {"string": str, "number": (int, float), "boolean": bool, "object": dict, "null": type(None), "array of strings": list,
-         "array of objects": list, "array of three decimals": list, "array of four decimals": list, "array of two numbers": list,
-         "array of four numbers": list}
+TYPES = {
+    "string": str,
+    "number": (int, float),
+    "boolean": bool,
+    "object": dict,
+    "null": type(None),
+    "array of strings": list,
+    "array of objects": list,
+    "array of three decimals": list,
+    "array of four decimals": list,
+    "array of two numbers": list,
+    "array of four numbers": list,
+}
 
 
 def tables():
-    """The members that the document has, by the heading or the line before each table: for each its types."""
+    """The members that the document has, by the heading or the line before each table: for each its
+    types."""
     found, title = {}, ""
     with open(os.path.join(support.ROOT, "docs", "json.md"), encoding="utf-8") as document:
         for line in document:
-            row = re.match(r"\| `(\w+)` \| ([^|]*) \|", line)
+            row = re.match(r"\| ((?:`\w+`(?:, )?)+) \| ([^|]*) \|", line)
             if line.startswith("## "):
                 title = line[3:].strip()
             elif line.startswith("The members of `"):
                 title = line.split("`")[1]
             elif row:
-                found.setdefault(title, {})[row.group(1)] = [TYPES[kind] for kind in re.split(r",? or ", row.group(2))]
+                types = [TYPES[kind] for kind in re.split(r",? or ", row.group(2))]
+                found.setdefault(title, {}).update(dict.fromkeys(re.findall(r"\w+", row.group(1)), types))
     return found
 
 
@@ -45,13 +56,19 @@ class Documented(InFolder):
     def told(self, *words, **more):
         """The objects that the command writes, each looked at."""
         output, said, status = command(*words, **more)
-        objects = [json.loads(line) for line in (output if b'"kind"' in output else said.encode()).splitlines()]
+        objects = [
+            json.loads(line)
+            for line in (output if b'"kind"' in output else said.encode()).splitlines()
+        ]
         for told in objects:
             self.fits(told, {**COMMON, **TABLES[told["kind"]]})
             self.assertEqual(told["version"], 1)
             if told["kind"] in ("result", "record"):
                 wanted = TABLES["options"]
-                self.fits(told["options"], wanted if told["command"] == "filter" else dict(list(wanted.items())[:4]))
+                self.fits(
+                    told["options"],
+                    wanted if told["command"] == "filter" else dict(list(wanted.items())[:4]),
+                )
             if told.get("info") is not None:
                 self.fits(told["info"], TABLES["info"])
         return objects, said, status
@@ -67,35 +84,83 @@ class Objects(Documented):
     """Each object has the members that the document says, and their types."""
 
     def test_check(self):
-        objects, said, status = self.told("check", "--json", "--keep-going", example("delivery"), example("town"), self.folder / "none")
+        objects, said, status = self.told(
+            "check",
+            "--json",
+            "--keep-going",
+            example("delivery"),
+            example("town"),
+            self.folder / "none",
+        )
         self.assertEqual((said, status), ("", 3))
         reports, results = objects[:5], objects[5:]
-        self.assertEqual([(one["line"], one["byte"], one["code"], one["id"]) for one in reports],
-                         [(3, 144, 25, "p2"), (4, 87, 10, "p3"), (6, 100, 4, "p5"), (7, 144, 25, "p6"), (8, 64, 19, "p7")])
-        self.assertEqual([one["hint"] for one in reports],
-                         ["the index is 4", 'the geometry has no "lod"', None, "the index is 4", 'the type is "Shed"'])
-        self.assertEqual([(one["status"], one["verdict"], one["features"], one["refused"], one["ended_at"]) for one in results],
-                         [(1, "invalid", 3, 5, None), (0, "valid", 4, 0, None), (3, "fault", 0, 0, None)])
-        self.assertEqual([one["size"] for one in results], [os.path.getsize(example("delivery")), os.path.getsize(example("town")), None])
-        self.assertEqual((results[2]["fault"], results[2]["fault_file"]), ("read fault: No such file or directory", str(self.folder / "none")))
+        self.assertEqual(
+            [(one["line"], one["byte"], one["code"], one["id"]) for one in reports],
+            [
+                (3, 144, 25, "p2"),
+                (4, 87, 10, "p3"),
+                (6, 100, 4, "p5"),
+                (7, 144, 25, "p6"),
+                (8, 64, 19, "p7"),
+            ],
+        )
+        self.assertEqual(
+            [one["hint"] for one in reports],
+            [
+                "the index is 4",
+                'the geometry has no "lod"',
+                None,
+                "the index is 4",
+                'the type is "Shed"',
+            ],
+        )
+        self.assertEqual(
+            [
+                (one["status"], one["verdict"], one["features"], one["refused"], one["ended_at"])
+                for one in results
+            ],
+            [(1, "invalid", 3, 5, None), (0, "valid", 4, 0, None), (3, "fault", 0, 0, None)],
+        )
+        self.assertEqual(
+            [one["size"] for one in results],
+            [os.path.getsize(example("delivery")), os.path.getsize(example("town")), None],
+        )
+        self.assertEqual(
+            (results[2]["fault"], results[2]["fault_file"]),
+            ("read fault: No such file or directory", str(self.folder / "none")),
+        )
         self.assertEqual({one["cityseq"] for one in results}, {cityseq.__version__})
 
     def test_a_line_is_reported_once(self):
         for words in (("check",), ("filter",), ("info",)):
             objects, _, status = self.told(*words, "--json", example("broken"))
             self.assertEqual([one["kind"] for one in objects], ["report", "result"])
-            self.assertEqual((objects[0]["line"], objects[1]["ended_at"], objects[1]["refused"], status), (3, 3, 0, 1))
+            self.assertEqual(
+                (objects[0]["line"], objects[1]["ended_at"], objects[1]["refused"], status),
+                (3, 3, 0, 1),
+            )
             self.assertIsNone(objects[1].get("info"))
 
     def test_info(self):
-        (told,), _, status = self.told("info", "--json", example("town"))
+        self.assertIsNone(self.told("info", "--json", example("town"))[0][0]["info"]["lods"])
+        (told,), _, status = self.told("info", "--json", "--lods", example("town"))
         info = told["info"]
-        self.assertEqual((status, info["scale"], info["translate"], info["bbox"]), (0, ["0.001"] * 3, [1000, 2000, 0], [995, 1990, 1050, 2005]))
-        self.assertEqual((info["x"], info["types"]["Building"], info["lod_classes"]["1"], info["lods"]["2.2"]), ([-5000, 50000], 2, 2, 1))
+        self.assertEqual(
+            (status, info["scale"], info["translate"], info["bbox"]),
+            (0, ["0.001"] * 3, [1000, 2000, 0], [995, 1990, 1050, 2005]),
+        )
+        self.assertEqual(
+            (info["x"], info["types"]["Building"], info["lod_classes"]["1"], info["lods"]["2.2"]),
+            ([-5000, 50000], 2, 2, 1),
+        )
 
     def test_filter(self):
-        objects, said, _ = self.told("filter", "--json", "--type", "Road", "--output", self.folder / "out", self.file(GOOD))
-        self.assertEqual((objects[0]["features"], objects[0]["options"]["type"], said), (1, "Road", ""))
+        objects, said, _ = self.told(
+            "filter", "--json", "--type", "Road", "--output", self.folder / "out", self.file(GOOD)
+        )
+        self.assertEqual(
+            (objects[0]["features"], objects[0]["options"]["type"], said), (1, "Road", "")
+        )
         self.assertEqual(command("filter", "--json", "-", given=GOOD)[0], GOOD)
         self.told("filter", "--json", "-", given=GOOD)
 
@@ -121,14 +186,32 @@ class Objects(Documented):
         self.assertIsNone(self.told("check", "--json", "--sha256", given=GOOD)[0][0]["sha256"])
 
     def test_the_summary(self):
-        objects, _, _ = self.told("check", "--json", "--summary", "--keep-going", example("delivery"))
+        objects, _, _ = self.told(
+            "check", "--json", "--summary", "--keep-going", example("delivery")
+        )
         self.assertEqual([one["kind"] for one in objects], ["result", "reasons"])
-        self.assertEqual([(one["code"], one["text"], one["lines"]) for one in objects[1]["reasons"]],
-                         [(4, "syntax", 1), (10, "member missing", 1), (19, "unknown object type", 1), (25, "vertex index out of range", 2)])
+        self.assertEqual(
+            [(one["code"], one["text"], one["lines"]) for one in objects[1]["reasons"]],
+            [
+                (4, "syntax", 1),
+                (10, "member missing", 1),
+                (19, "unknown object type", 1),
+                (25, "vertex index out of range", 2),
+            ],
+        )
 
     def test_numbers(self):
-        for text, wanted in (("0.001", "0.001"), ("2E+3", 2000), ("0.5", 0.5), ("-0", 0), ("84616.468", "84616.468"), ("9007199254740993", "9007199254740993"),
-                             ("1E-1000000", "1E-1000000"), ("1E+1000000", "1E+1000000"), ("-995.25", -995.25)):
+        for text, wanted in (
+            ("0.001", "0.001"),
+            ("2E+3", 2000),
+            ("0.5", 0.5),
+            ("-0", 0),
+            ("84616.468", "84616.468"),
+            ("9007199254740993", "9007199254740993"),
+            ("1E-1000000", "1E-1000000"),
+            ("1E+1000000", "1E+1000000"),
+            ("-995.25", -995.25),
+        ):
             self.assertEqual(exact(Decimal(text)), wanted)
             self.assertEqual(type(exact(Decimal(text))), type(wanted))
 
@@ -139,7 +222,11 @@ class Records(Documented):
     def setUp(self):
         super().setUp()
         self.record = self.folder / "record.jsonl"
-        self.paths = [self.file(GOOD, "good.jsonl"), self.file(BROKEN, "broken.jsonl"), self.file(GOOD, "packed.jsonl.gz")]
+        self.paths = [
+            self.file(GOOD, "good.jsonl"),
+            self.file(BROKEN, "broken.jsonl"),
+            self.file(GOOD, "packed.jsonl.gz"),
+        ]
 
     def recorded(self):
         lines = [json.loads(line) for line in self.record.read_bytes().splitlines()]
@@ -153,19 +240,32 @@ class Records(Documented):
     def test_what_is_recorded(self):
         _, _, status = command("check", "--record", self.record, *self.paths, self.folder / "none")
         lines = self.recorded()
-        self.assertEqual((status, [one["file"] for one in lines]), (3, [*map(str, self.paths), str(self.folder / "none")]))
-        self.assertEqual([(one["verdict"], one["lines"], one["ended_at"]) for one in lines],
-                         [("valid", 3, None), ("invalid", 2, 3), ("valid", 3, None), ("fault", 0, None)])
+        self.assertEqual(
+            (status, [one["file"] for one in lines]),
+            (3, [*map(str, self.paths), str(self.folder / "none")]),
+        )
+        self.assertEqual(
+            [(one["verdict"], one["lines"], one["ended_at"]) for one in lines],
+            [("valid", 3, None), ("invalid", 2, 3), ("valid", 3, None), ("fault", 0, None)],
+        )
         for path, told in zip(self.paths, lines):
-            self.assertEqual((told["size"], told["mtime_ns"], told["sha256"]),
-                             (path.stat().st_size, path.stat().st_mtime_ns, hashlib.sha256(path.read_bytes()).hexdigest()))
+            self.assertEqual(
+                (told["size"], told["mtime_ns"], told["sha256"]),
+                (
+                    path.stat().st_size,
+                    path.stat().st_mtime_ns,
+                    hashlib.sha256(path.read_bytes()).hexdigest(),
+                ),
+            )
             self.assertRegex(told["time"], r"^\d{4}-\d\d-\d\dT\d\d:\d\d:\d\dZ$")
 
     def test_what_has_not_changed_is_skipped(self):
         output, _, status = self.run_again(*self.paths)
         self.assertEqual((output.count(b"as recorded"), status), (0, 1))
         output, said, status = self.run_again(*self.paths)
-        self.assertEqual((output.count(b"as recorded"), said, status, len(self.recorded())), (3, "", 1, 3))
+        self.assertEqual(
+            (output.count(b"as recorded"), said, status, len(self.recorded())), (3, "", 1, 3)
+        )
         self.assertIn(b"broken.jsonl: invalid lines=2 features=1, as recorded at ", output)
         self.paths[0].write_bytes(GOOD + PLAIN)
         os.utime(self.paths[2], (1, 1))
@@ -173,7 +273,10 @@ class Records(Documented):
         self.assertEqual((output.count(b"as recorded"), status, len(self.recorded())), (1, 1, 5))
         self.assertEqual(self.run_again(*self.paths)[0].count(b"as recorded"), 3)
         self.assertEqual(self.run_again("--tree", *self.paths)[0].count(b"as recorded"), 0)
-        objects = [json.loads(line) for line in self.run_again("--tree", "--json", *self.paths)[0].splitlines()]
+        objects = [
+            json.loads(line)
+            for line in self.run_again("--tree", "--json", *self.paths)[0].splitlines()
+        ]
         self.assertEqual([one["kind"] for one in objects], ["record"] * 3)
 
     def test_a_fault_is_tried_again(self):
@@ -193,8 +296,10 @@ class Records(Documented):
     def test_a_record_that_is_read(self):
         self.assertEqual(command("check", "--record", self.paths[0], self.paths[0])[2], 2)
         self.assertEqual(self.paths[0].read_bytes(), GOOD)
-        self.assertEqual(command("check", "--record", self.folder / "no" / "record", self.paths[0])[1:],
-                         (f"{self.folder}/no/record: write fault: No such file or directory\n", 4))
+        self.assertEqual(
+            command("check", "--record", self.folder / "no" / "record", self.paths[0])[1:],
+            (f"{self.folder}/no/record: write fault: No such file or directory\n", 4),
+        )
 
 
 if __name__ == "__main__":

@@ -15,7 +15,12 @@ TOWN, BROKEN, DELIVERY, SAMPLE = (
 
 def with_id(name):
     """A feature without vertices of any id, escaped as Python's JSON writer does."""
-    told = {"type": "CityJSONFeature", "id": name, "CityObjects": {name: {"type": "Building"}}, "vertices": []}
+    told = {
+        "type": "CityJSONFeature",
+        "id": name,
+        "CityObjects": {name: {"type": "Building"}},
+        "vertices": [],
+    }
     return json.dumps(told).encode() + b"\n"
 
 
@@ -53,7 +58,9 @@ class Features(unittest.TestCase):
             found.extend(each.id for each in cityseq.features(BROKEN))
         self.assertIn("line 3, byte 144: 25 vertex index out of range", str(raised.exception))
         self.assertEqual(found, ["b1"])
-        self.assertEqual([each.line for each in cityseq.features(DELIVERY, keep_going=True)], [2, 5, 9])
+        self.assertEqual(
+            [each.line for each in cityseq.features(DELIVERY, keep_going=True)], [2, 5, 9]
+        )
 
     def test_an_invalid_header_is_told(self):
         for text in (b"", b"{}\n", PLAIN):

@@ -49,12 +49,18 @@ class Wholes(InFolder):
         packed = self.folder / "out.jsonl.gz"
         with self.assertRaises(cityseq.InvalidStream):
             cityseq.filter(BROKEN, packed, keep_partial=True)
-        self.assertEqual(gzip.decompress((self.folder / "out.jsonl.gz.part").read_bytes()), HEADER + feature("a"))
+        self.assertEqual(
+            gzip.decompress((self.folder / "out.jsonl.gz.part").read_bytes()), HEADER + feature("a")
+        )
 
     def test_going_on_makes_a_whole(self):
         result = cityseq.filter(BROKEN, self.output, keep_going=True)
-        self.assertEqual((result.status, self.found()), (1, [HEADER + feature("a") + feature("c"), None]))
-        result = cityseq.filter(PLAIN, self.folder / "none", keep_going=True)  # without a header nothing is read to the end
+        self.assertEqual(
+            (result.status, self.found()), (1, [HEADER + feature("a") + feature("c"), None])
+        )
+        result = cityseq.filter(
+            PLAIN, self.folder / "none", keep_going=True
+        )  # without a header nothing is read to the end
         self.assertEqual((result.status, os.listdir(self.folder)), (1, ["out.jsonl"]))
 
     def test_a_fault_leaves_nothing(self):
@@ -68,7 +74,9 @@ class Wholes(InFolder):
         os.chmod(self.folder / "target", 0o604)
         cityseq.filter(GOOD, self.output)
         self.assertTrue(self.output.is_symlink())
-        self.assertEqual((self.output.read_bytes(), os.stat(self.output).st_mode & 0o777), (GOOD, 0o604))
+        self.assertEqual(
+            (self.output.read_bytes(), os.stat(self.output).st_mode & 0o777), (GOOD, 0o604)
+        )
         self.assertEqual(sorted(os.listdir(self.folder)), ["out.jsonl", "target"])
 
     def test_a_device_is_written_as_it_is(self):
@@ -84,14 +92,22 @@ class Wholes(InFolder):
         good, folder = self.file(GOOD, "good.jsonl"), self.folder / "folder"
         self.assertEqual(command("filter", "--output-dir", folder, broken, good)[2], 1)
         self.assertEqual([path.name for path in folder.iterdir()], ["good.jsonl"])
-        self.assertEqual(command("filter", "--keep-going", "--output-dir", folder, broken, good)[2], 1)
-        self.assertEqual(sorted(path.name for path in folder.iterdir()), ["good.jsonl", "stream.city.jsonl"])
+        self.assertEqual(
+            command("filter", "--keep-going", "--output-dir", folder, broken, good)[2], 1
+        )
+        self.assertEqual(
+            sorted(path.name for path in folder.iterdir()), ["good.jsonl", "stream.city.jsonl"]
+        )
 
     def test_a_run_that_is_interrupted_leaves_nothing(self):
         for signalled, status in ((signal.SIGINT, 130), (signal.SIGTERM, 143)):
-            ran = subprocess.Popen([sys.executable, "-m", "cityseq", "filter", "--output", self.output, "-"], stdin=subprocess.PIPE,
-                                   stderr=subprocess.PIPE, env={**os.environ, "PYTHONPATH": os.path.join(support.ROOT, "python")},
-                                   preexec_fn=lambda: signal.signal(signal.SIGINT, signal.SIG_DFL))  # which a shell has ignored behind &
+            ran = subprocess.Popen(
+                [sys.executable, "-m", "cityseq", "filter", "--output", self.output, "-"],
+                stdin=subprocess.PIPE,
+                stderr=subprocess.PIPE,
+                env={**os.environ, "PYTHONPATH": os.path.join(support.ROOT, "python")},
+                preexec_fn=lambda: signal.signal(signal.SIGINT, signal.SIG_DFL),
+            )  # which a shell has ignored behind &
             ran.stdin.write(HEADER + PLAIN * 200_000)
             ran.stdin.flush()
             for _ in range(200):
@@ -101,7 +117,9 @@ class Wholes(InFolder):
             self.assertTrue(self.part.exists())
             ran.send_signal(signalled)
             _, said = ran.communicate(timeout=60)
-            self.assertEqual((ran.returncode, said.count(b"\n"), self.found()), (status, 1, [None, None]))
+            self.assertEqual(
+                (ran.returncode, said.count(b"\n"), self.found()), (status, 1, [None, None])
+            )
 
 
 class Sames(InFolder):
@@ -135,8 +153,13 @@ class Sames(InFolder):
         self.assertEqual(command("filter", "--output", ids, "--ids-from", ids, paths[0])[2], 2)
         for name, source in (("filter", paths[0]), ("check", paths[0]), ("filter", "-")):
             with open(paths[0], "ab") as appended, open(paths[0], "rb") as read:
-                ran = subprocess.run([sys.executable, "-m", "cityseq", name, source], stdin=read, stdout=appended, stderr=subprocess.PIPE,
-                                     env={**os.environ, "PYTHONPATH": os.path.join(support.ROOT, "python")})
+                ran = subprocess.run(
+                    [sys.executable, "-m", "cityseq", name, source],
+                    stdin=read,
+                    stdout=appended,
+                    stderr=subprocess.PIPE,
+                    env={**os.environ, "PYTHONPATH": os.path.join(support.ROOT, "python")},
+                )
             self.assertEqual((ran.returncode, paths[0].read_bytes()), (2, GOOD))
         self.assertEqual([path.read_bytes() for path in (*paths, ids)], [GOOD, GOOD, b"a\n"])
 
@@ -149,7 +172,10 @@ class Writers(InFolder):
         with self.assertRaises(cityseq.WriteFault) as caught:
             cityseq.filter(GOOD, output)
         self.assertEqual(str(caught.exception), f"{output}: write fault: No such file or directory")
-        self.assertEqual(command("filter", "--output", output, self.file(GOOD))[1], f"{output}: write fault: No such file or directory\n")
+        self.assertEqual(
+            command("filter", "--output", output, self.file(GOOD))[1],
+            f"{output}: write fault: No such file or directory\n",
+        )
 
     def test_nothing_is_opened_before_it_is_used(self):
         Writer(self.folder / "out").discard()

@@ -1,4 +1,5 @@
-"""Packed files: told by what they begin with, unpacked many at once, and packed so that one can begin in the middle."""
+"""Packed files: told by what they begin with, unpacked many at once, and packed so that one can
+begin in the middle."""
 import gzip
 import io
 import os
@@ -27,7 +28,8 @@ GOOD = HEADER + feature("a") + feature("b", "Road")
 
 
 def blocks(packed):
-    """The texts of the blocks of BGZF, by the length that each has in its extra field (the SAM specification, section 4.1)."""
+    """The texts of the blocks of BGZF, by the length that each has in its extra field (the SAM
+    specification, section 4.1)."""
     place, texts = 0, []
     while place < len(packed):
         head = struct.unpack_from("<4BI2BH2B2H", packed, place)
@@ -50,17 +52,35 @@ class Unpackers(unittest.TestCase):
 
     def test_members_and_zeros(self):
         chance = random.Random(1)
-        one, two = chance.randbytes(300_000) if hasattr(chance, "randbytes") else os.urandom(300_000), b"x" * 500_000
-        for text, packed in ((one, gzip.compress(one)), (one + two, gzip.compress(one) + gzip.compress(two)), (b"", gzip.compress(b"")),
-                             (two, gzip.compress(two) + b"\0" * 5_000), (one + two, gzip.compress(one) + b"\0" * 9 + gzip.compress(two)),
-                             (one + two, pack(one, Packing.GZIP) + pack(two, Packing.GZIP) + LAST), (b"", b"")):
+        one, two = (
+            chance.randbytes(300_000) if hasattr(chance, "randbytes") else os.urandom(300_000),
+            b"x" * 500_000,
+        )
+        for text, packed in (
+            (one, gzip.compress(one)),
+            (one + two, gzip.compress(one) + gzip.compress(two)),
+            (b"", gzip.compress(b"")),
+            (two, gzip.compress(two) + b"\0" * 5_000),
+            (one + two, gzip.compress(one) + b"\0" * 9 + gzip.compress(two)),
+            (one + two, pack(one, Packing.GZIP) + pack(two, Packing.GZIP) + LAST),
+            (b"", b""),
+        ):
             for most in (1_000, 1 << 20):
                 self.assertEqual(self.read(packed, most=most), (text, len(packed)))
 
     def test_archives_that_are_broken(self):
         packed = gzip.compress(b"x" * 100_000)
-        for broken in (packed[:-1], packed[:-8], packed[:15], packed[:1], packed + b"y", packed + packed[:5], packed[:-8] + b"12345678",
-                       packed[:30] + b"\xff\xff\xff" + packed[33:], b"no archive"):
+        for broken in (
+            packed[:-1],
+            packed[:-8],
+            packed[:15],
+            packed[:1],
+            packed + b"y",
+            packed + packed[:5],
+            packed[:-8] + b"12345678",
+            packed[:30] + b"\xff\xff\xff" + packed[33:],
+            b"no archive",
+        ):
             self.assertRaises((OSError, EOFError), self.read, broken)
 
     @unittest.skipIf(zstandard is None, "zstandard is not there")
@@ -68,9 +88,17 @@ class Unpackers(unittest.TestCase):
         one, two = os.urandom(300_000), b"x" * 5_000_000
         packed = zstandard.ZstdCompressor().compress(one) + zstandard.ZstdCompressor().compress(two)
         self.assertEqual(self.read(packed, Packing.ZSTD), (one + two, len(packed)))
-        self.assertEqual(self.read(pack(one, Packing.ZSTD) + pack(two, Packing.ZSTD), Packing.ZSTD)[0], one + two)
+        self.assertEqual(
+            self.read(pack(one, Packing.ZSTD) + pack(two, Packing.ZSTD), Packing.ZSTD)[0], one + two
+        )
         ours = pack(one, Packing.ZSTD)
-        for broken in (packed[:-1], packed[:100], packed + b"y", b"no archive", ours[:1_000] + b"\xff" * 9 + ours[1_009:]):
+        for broken in (
+            packed[:-1],
+            packed[:100],
+            packed + b"y",
+            b"no archive",
+            ours[:1_000] + b"\xff" * 9 + ours[1_009:],
+        ):
             self.assertRaises((OSError, EOFError), self.read, broken, Packing.ZSTD)
 
     def test_isal_is_taken_where_it_is_there(self):
@@ -78,7 +106,9 @@ class Unpackers(unittest.TestCase):
         module = types.ModuleType("isal.isal_zlib")
         module.error = zlib.error
         module.decompressobj = lambda wbits: made.append(wbits) or zlib.decompressobj(wbits)
-        with mock.patch.dict(sys.modules, {"isal": types.ModuleType("isal"), "isal.isal_zlib": module}):
+        with mock.patch.dict(
+            sys.modules, {"isal": types.ModuleType("isal"), "isal.isal_zlib": module}
+        ):
             self.assertEqual(self.read(gzip.compress(b"x"))[0], b"x")
         self.assertEqual(made, [31])
 
@@ -119,7 +149,10 @@ class Packers(InFolder):
     def test_zstandard_that_is_not_there(self):
         path = self.file(GOOD, "a.zst")
         with mock.patch.dict(sys.modules, {"zstandard": None}):
-            for call in (lambda: cityseq.check(path), lambda: cityseq.filter(GOOD, self.folder / "b.zst")):
+            for call in (
+                lambda: cityseq.check(path),
+                lambda: cityseq.filter(GOOD, self.folder / "b.zst"),
+            ):
                 with self.assertRaises(cityseq.CityseqError) as caught:
                     call()
                 self.assertIn("install python3-zstandard", str(caught.exception))
@@ -136,7 +169,9 @@ class Contents(InFolder):
         plain = self.folder / "plain.gz"
         plain.write_bytes(GOOD)
         self.assertRaises(cityseq.ReadFault, cityseq.check, plain)
-        self.assertEqual(cityseq.check(gzip.compress(GOOD)).hints[0][:20], "It is packed by gzip")  # bytes are the stream itself
+        self.assertEqual(
+            cityseq.check(gzip.compress(GOOD)).hints[0][:20], "It is packed by gzip"
+        )  # bytes are the stream itself
 
     @unittest.skipIf(zstandard is None, "zstandard is not there")
     def test_zstandard(self):
@@ -156,7 +191,9 @@ class Contents(InFolder):
         cityseq.filter(entry, output)
         with gzip.open(output) as file:
             self.assertEqual(file.read(), GOOD)
-        self.assertRaises(cityseq.RequestError, cityseq.filter, entry, os.fsencode(self.folder / "a.jsonl"))
+        self.assertRaises(
+            cityseq.RequestError, cityseq.filter, entry, os.fsencode(self.folder / "a.jsonl")
+        )
 
 
 class Wholes(InFolder):
@@ -171,15 +208,37 @@ class Wholes(InFolder):
         texts, paths = zip(*self.files())
         for jobs in (1, 3):
             reports, done = [], []
-            found = list(cityseq.check_files(paths, jobs=jobs, keep_going=True, line_limit=1_000, on_report=reports.append, progress=done.append))
+            found = list(
+                cityseq.check_files(
+                    paths,
+                    jobs=jobs,
+                    keep_going=True,
+                    line_limit=1_000,
+                    on_report=reports.append,
+                    progress=done.append,
+                )
+            )
             wanted = [cityseq.check(text, keep_going=True, line_limit=1_000) for text in texts]
             self.assertEqual([(one.status, one.lines, one.features, one.refused) for one in found],
                              [(one.status, one.lines, one.features, one.refused) for one in wanted])
-            self.assertEqual([(report.file, report.line, report.code) for report in reports],
-                             [(str(path), report.line, report.code) for path, one in zip(paths, wanted) for report in one.reports])
+            self.assertEqual(
+                [(report.file, report.line, report.code) for report in reports],
+                [
+                    (str(path), report.line, report.code)
+                    for path, one in zip(paths, wanted)
+                    for report in one.reports
+                ],
+            )
             self.assertEqual(sum(done), sum(os.path.getsize(path) for path in paths))
-            self.assertEqual([numbered(one.reports) for one in cityseq.check_files(paths, jobs=jobs, keep_going=True, line_limit=1_000)],
-                             [numbered(one.reports) for one in wanted])
+            self.assertEqual(
+                [
+                    numbered(one.reports)
+                    for one in cityseq.check_files(
+                        paths, jobs=jobs, keep_going=True, line_limit=1_000
+                    )
+                ],
+                [numbered(one.reports) for one in wanted],
+            )
 
     def test_several_are_unpacked_at_once(self):
         import threading
@@ -191,7 +250,9 @@ class Wholes(InFolder):
 
         paths = [self.file(HEADER + PLAIN * 200_000, f"{number}.gz") for number in range(4)]
         with mock.patch.object(Unpacker, "read", noted):
-            self.assertEqual([result.features for result in cityseq.check_files(paths, jobs=4)], [200_000] * 4)
+            self.assertEqual(
+                [result.features for result in cityseq.check_files(paths, jobs=4)], [200_000] * 4
+            )
         self.assertGreater(len(threads - {threading.get_ident()}), 1)
 
     def test_a_run_that_is_given_up(self):
@@ -217,7 +278,9 @@ class Wholes(InFolder):
             one = support.in_one(text, keep_going=True)
             self.assertEqual((folder / path.name).exists(), one.end is None)
             if one.end is None:
-                self.assertEqual(gzip.decompress((folder / path.name).read_bytes()), bytes(one.output))
+                self.assertEqual(
+                    gzip.decompress((folder / path.name).read_bytes()), bytes(one.output)
+                )
 
     def test_no_thread(self):
         paths = [path for _, path in self.files(5)]
@@ -231,7 +294,10 @@ class Wholes(InFolder):
             work = asked("check", keep_going=True)
             told = []
             found = list(threaded((Stream(path, work, tell=told.append) for path in paths), 4))
-        self.assertEqual(([result.refused for result in found], len(told)), (wanted, sum(len(result.reports) for result in results)))
+        self.assertEqual(
+            ([result.refused for result in found], len(told)),
+            (wanted, sum(len(result.reports) for result in results)),
+        )
 
 
 if __name__ == "__main__":

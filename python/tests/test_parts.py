@@ -1,4 +1,5 @@
-"""The law of parts: what comes of a stream does not depend on where it is cut, nor on how many threads judge its parts."""
+"""The law of parts: what comes of a stream does not depend on where it is cut, nor on how many
+threads judge its parts."""
 import io
 import os
 import platform
@@ -35,13 +36,17 @@ def filtered(text, **options):
     return output.getvalue(), result
 
 
-# Prints how many pages the system had to find for the last ten of some calls, each with a line of 100,000 numbers.
+# Prints how many pages the system had to find for the last ten of some calls, each with a line of
+# 100,000 numbers.
 CALLS = """
 import resource
 from cityseq._library import keep_room
 from cityseq.parts import judge
 from cityseq.query import asked
-line = b'{"type":"CityJSONFeature","id":"b","CityObjects":{"b":{"type":"Building","attributes":{"a":[%s0]}}},"vertices":[]}'
+line = (
+    b'{"type":"CityJSONFeature","id":"b",'
+    b'"CityObjects":{"b":{"type":"Building","attributes":{"a":[%s0]}}},"vertices":[]}'
+)
 part, header, work = bytearray(line % (b"0," * 100_000)), HEADER, asked("check")
 keep_room()
 for count in 3, 10:
@@ -57,15 +62,25 @@ class Room(unittest.TestCase):
 
     def test_less_than_twice_what_its_lines_need(self):
         work = asked("check", line_limit=1_000)
-        for header, part, limit in ((b"", b"", 1), (b"h" * 8, b"p" * 7, 8), (b"h" * 9, b"p" * 7, 16), (b"h", b"p" * 513, 1_000),
-                                    (b"h", b"p" * 1_001, 1_000)):
+        for header, part, limit in (
+            (b"", b"", 1),
+            (b"h" * 8, b"p" * 7, 8),
+            (b"h" * 9, b"p" * 7, 16),
+            (b"h", b"p" * 513, 1_000),
+            (b"h", b"p" * 1_001, 1_000),
+        ):
             self.assertEqual(work.request(header, part).line_limit, limit)
 
     @unittest.skipUnless(platform.libc_ver()[0] == "glibc", "the C library is another one")
     def test_it_is_kept_for_the_next_call(self):
         script = CALLS.replace("HEADER", repr(HEADER))
-        ran = subprocess.run([sys.executable, "-c", script], stdout=subprocess.PIPE, timeout=60, check=True,
-                             env={**os.environ, "PYTHONPATH": os.path.join(support.ROOT, "python")})
+        ran = subprocess.run(
+            [sys.executable, "-c", script],
+            stdout=subprocess.PIPE,
+            timeout=60,
+            check=True,
+            env={**os.environ, "PYTHONPATH": os.path.join(support.ROOT, "python")},
+        )
         self.assertLess(int(ran.stdout), 300)  # of some 3,500 that they touch
 
 
@@ -76,10 +91,14 @@ class Cuts(unittest.TestCase):
         for seed in range(200):
             text = support.stream_by_chance(seed)
             for size in (1, 10, 300, 10_000):
-                header, parts = parts_of(text, size, 5_000, piece=random.Random(seed).randrange(1, 900))
+                header, parts = parts_of(
+                    text, size, 5_000, piece=random.Random(seed).randrange(1, 900)
+                )
                 self.assertEqual(header + b"".join(parts), text)
                 self.assertTrue(all(part.endswith(b"\n") for part in parts[:-1]))
-                self.assertTrue(all(len(part) <= size or part.count(b"\n") == 1 for part in parts[:-1]))
+                self.assertTrue(
+                    all(len(part) <= size or part.count(b"\n") == 1 for part in parts[:-1])
+                )
 
     def test_a_part_of_one_line_each(self):
         self.assertEqual(parts_of(b"h\na\n\nb", 1), (b"h\n", [b"a\n", b"\n", b"b"]))
@@ -98,8 +117,12 @@ class Cuts(unittest.TestCase):
     def test_a_read_that_fails_leaves_whole_lines(self):
         reader = Reader(support.Slow(b"h\na\nbbb\n", 3, 6))
         header, rest = read_header(reader, 100)
-        self.assertEqual([bytes(part) for part in Cutter(reader, rest, 100, 100, False).parts()], [b"a\n"])
-        self.assertEqual((header, str(reader.fault)), (b"h\n", "<stream>: read fault: Input/output error"))
+        self.assertEqual(
+            [bytes(part) for part in Cutter(reader, rest, 100, 100, False).parts()], [b"a\n"]
+        )
+        self.assertEqual(
+            (header, str(reader.fault)), (b"h\n", "<stream>: read fault: Input/output error")
+        )
 
 
 class Vectors(unittest.TestCase):
@@ -109,21 +132,34 @@ class Vectors(unittest.TestCase):
         for row in support.rows():
             for size in (1, 60, 1 << 20):
                 with self.subTest(row["name"], size=size):
-                    output, result = filtered(row["text"], part_size=size, jobs=1 if size > 60 else 3, **support.options_of(row))
+                    output, result = filtered(
+                        row["text"],
+                        part_size=size,
+                        jobs=1 if size > 60 else 3,
+                        **support.options_of(row)
+                    )
                     told = str(result.end) if result.end else ""
                     self.assertEqual((output, told, result.status), support.wanted_of(row))
                     self.assertEqual(result.lines, int(row["lines"]))
                     if row["peaks"] != "-":
-                        self.assertEqual(f"{result.peak_bytes} {result.peak_tokens} {result.peak_depth}", row["peaks"])
-                    self.assertEqual(numbered(result.reports), [] if result.end is None else numbered([result.end]))
+                        self.assertEqual(
+                            f"{result.peak_bytes} {result.peak_tokens} {result.peak_depth}",
+                            row["peaks"],
+                        )
+                    self.assertEqual(
+                        numbered(result.reports),
+                        [] if result.end is None else numbered([result.end]),
+                    )
 
     def test_check_and_info(self):
         for row in support.rows():
             if row["query"] not in ("-", "--tree"):
                 continue
             wanted = support.wanted_of(row)[1:]
-            for result in (cityseq.check(row["text"], part_size=1, jobs=2, **support.options_of(row)),
-                           cityseq.info(row["text"], part_size=1, jobs=2, **support.options_of(row))):
+            for result in (
+                cityseq.check(row["text"], part_size=1, jobs=2, **support.options_of(row)),
+                cityseq.info(row["text"], part_size=1, jobs=2, **support.options_of(row)),
+            ):
                 with self.subTest(row["name"]):
                     self.assertEqual((str(result.end) if result.end else "", result.status), wanted)
                     self.assertEqual(result.lines, int(row["lines"]))
@@ -140,16 +176,27 @@ class Chance(unittest.TestCase):
         self.assertEqual(output, bytes(one.output))
         self.assertEqual(numbered(many.reports), numbered(reports))
         self.assertEqual([report.id for report in many.reports], [report.id for report in reports])
-        self.assertEqual([report.excerpt for report in many.reports], [report.excerpt for report in reports])
-        self.assertEqual((many.lines, many.features, many.refused), (one.lines, one.kept, one.refused))
+        self.assertEqual(
+            [report.excerpt for report in many.reports], [report.excerpt for report in reports]
+        )
+        self.assertEqual(
+            (many.lines, many.features, many.refused), (one.lines, one.kept, one.refused)
+        )
         self.assertEqual((many.peak_bytes, many.peak_tokens, many.peak_depth), one.peaks)
         self.assertEqual(many.status, int(one.end is not None or one.refused > 0))
 
     def test_filters(self):
         for seed in range(400):
             text, chance = support.stream_by_chance(seed), random.Random(seed)
-            options = chance.choice((
-                {}, {"types": "Road"}, {"lods": ["2.2"]}, {"exclude": True, "ids": ["b1", "b2"]}, {"box": [0, 0, 11, 21]}))
+            options = chance.choice(
+                (
+                    {},
+                    {"types": "Road"},
+                    {"lods": ["2.2"]},
+                    {"exclude": True, "ids": ["b1", "b2"]},
+                    {"box": [0, 0, 11, 21]},
+                )
+            )
             with self.subTest(seed=seed, **options):
                 self.compare(text, chance, line_limit=1_000, keep_going=seed % 2 == 0, **options)
 
@@ -157,14 +204,28 @@ class Chance(unittest.TestCase):
         for seed in range(200):
             text, chance = support.stream_by_chance(seed), random.Random(seed)
             with self.subTest(seed=seed):
-                text = in_one(text, line_limit=1_000, keep_going=True).output or text  # what is valid of it
+                text = (
+                    in_one(text, line_limit=1_000, keep_going=True).output or text
+                )  # what is valid of it
                 one = in_one(bytes(text), "info", line_limit=1_000, exact_lods=True)
-                many = cityseq.info(text, line_limit=1_000, part_size=chance.randrange(1, 900), jobs=3)
+                many = cityseq.info(
+                    text,
+                    exact_lods=True,
+                    line_limit=1_000,
+                    part_size=chance.randrange(1, 900),
+                    jobs=3,
+                )
                 self.assertEqual((many.features, many.lines), (one.kept, one.lines))
                 if one.end is None:
                     self.assertEqual([many.x, many.y, many.z], list(one.tally.ranges))
-                    self.assertEqual(many.types, {name: count for name, count in one.tally.types.items() if count})
-                    self.assertEqual(many.classes, {name: count for name, count in one.tally.classes.items() if count})
+                    self.assertEqual(
+                        many.types,
+                        {name: count for name, count in one.tally.types.items() if count},
+                    )
+                    self.assertEqual(
+                        many.classes,
+                        {name: count for name, count in one.tally.classes.items() if count},
+                    )
                     self.assertEqual(many.lods, one.tally.lods)
 
     @unittest.skipUnless(os.path.exists(support.PROGRAM), "the program is not built")
@@ -172,9 +233,13 @@ class Chance(unittest.TestCase):
         for seed in range(60):
             text = support.stream_by_chance(seed)
             with self.subTest(seed=seed):
-                output, result = filtered(text, line_limit=1_000, keep_going=True, part_size=200, jobs=2)
+                output, result = filtered(
+                    text, line_limit=1_000, keep_going=True, part_size=200, jobs=2
+                )
                 said = "".join(f"{report}\n" for report in result.reports).encode()
-                wanted = support.program("filter", "--line-limit", "1000", "--keep-going", given=text)
+                wanted = support.program(
+                    "filter", "--line-limit", "1000", "--keep-going", given=text
+                )
                 self.assertEqual((output, said, result.status), wanted)
 
 
@@ -198,14 +263,25 @@ class Many(unittest.TestCase):
     def test_eight_threads_at_once(self):
         text = HEADER + b"".join(support.feature(f"b{number}") for number in range(3_000))
         with ThreadPoolExecutor(8) as pool:
-            answers = list(pool.map(lambda size: filtered(text, part_size=size, jobs=2), (10_000 + 1_000 * n for n in range(32))))
-        self.assertTrue(all(output == text and result.features == 3_000 for output, result in answers))
+            answers = list(
+                pool.map(
+                    lambda size: filtered(text, part_size=size, jobs=2),
+                    (10_000 + 1_000 * n for n in range(32)),
+                )
+            )
+        self.assertTrue(
+            all(output == text and result.features == 3_000 for output, result in answers)
+        )
 
     def test_many_files(self):
-        texts = [HEADER + PLAIN * number + (b"[]\n" if number % 3 == 2 else b"") for number in range(60)]
+        texts = [
+            HEADER + PLAIN * number + (b"[]\n" if number % 3 == 2 else b"") for number in range(60)
+        ]
         found = list(cityseq.check_files(texts, jobs=3, part_size=500))
         self.assertEqual([result.features for result in found], list(range(60)))
-        self.assertEqual([result.status for result in found], [int(number % 3 == 2) for number in range(60)])
+        self.assertEqual(
+            [result.status for result in found], [int(number % 3 == 2) for number in range(60)]
+        )
 
 
 if __name__ == "__main__":

@@ -1,4 +1,5 @@
-"""Files that are read by their places, where their parts are judged or in turn: the same comes of them as of their bytes."""
+"""Files that are read by their places, where their parts are judged or in turn: the same comes of
+them as of their bytes."""
 import io
 import os
 import random
@@ -7,7 +8,7 @@ from dataclasses import replace
 from unittest import mock
 
 from . import support
-from .support import HEADER, PLAIN, InFolder, feature, numbered
+from .support import HEADER, PLAIN, InFolder, feature
 
 import cityseq
 from cityseq.parts import read_header
@@ -37,7 +38,10 @@ def cut(path, size, line_limit, turns=False):
         source = placed(file)
         places = (Turns if turns else Places)(source, len(header), size, line_limit)
         found = places.parts() if header.endswith(b"\n") else ()
-        parts = [(bytes(part), fault) for part, fault in (read() if turns else source.read(*read) for read in found)]
+        parts = [
+            (bytes(part), fault)
+            for part, fault in (read() if turns else source.read(*read) for read in found)
+        ]
         file.seek(places.begin)
         return header, parts, file.read()
 
@@ -52,8 +56,12 @@ class Cuts(InFolder):
             for size in (1, 10, 300, 10_000):
                 header, parts, rest = cut(path, size, 5_000)
                 self.assertEqual(header + b"".join(part for part, _ in parts) + rest, text)
-                self.assertTrue(all(fault is None and part.endswith(b"\n") for part, fault in parts))
-                self.assertTrue(all(len(part) <= size or part.count(b"\n") == 1 for part, _ in parts))
+                self.assertTrue(
+                    all(fault is None and part.endswith(b"\n") for part, fault in parts)
+                )
+                self.assertTrue(
+                    all(len(part) <= size or part.count(b"\n") == 1 for part, _ in parts)
+                )
                 if header.endswith(b"\n"):
                     self.assertLessEqual(len(rest), max(size, 5_000))
 
@@ -64,7 +72,9 @@ class Cuts(InFolder):
             for size in (1, 10, 300, 10_000):
                 header, parts, rest = cut(path, size, 5_000, turns=True)
                 self.assertEqual(header + b"".join(part for part, _ in parts) + rest, text)
-                self.assertTrue(all(fault is None and part.endswith(b"\n") for part, fault in parts))
+                self.assertTrue(
+                    all(fault is None and part.endswith(b"\n") for part, fault in parts)
+                )
                 self.assertTrue(all(len(part) <= max(size, 2 * longest) for part, _ in parts))
                 if header.endswith(b"\n"):
                     self.assertLess(len(rest), max(size, 2 * longest))
@@ -72,40 +82,77 @@ class Cuts(InFolder):
     def test_parts_in_turn_are_as_long_as_asked(self):
         path = self.file(b"h\n" + b"abcd\n" * 7 + b"ab")
         parts = [b"abcd\n" * 2] * 3
-        self.assertEqual(cut(path, 13, 50, turns=True), (b"h\n", [(part, None) for part in parts], b"abcd\nab"))
+        self.assertEqual(
+            cut(path, 13, 50, turns=True), (b"h\n", [(part, None) for part in parts], b"abcd\nab")
+        )
 
     def test_parts_in_turn_are_twice_as_long_from_a_longer_line_on(self):
         path = self.file(b"h\na\n" + b"b" * 9 + b"\n" + b"c\n" * 20)
         _, parts, rest = cut(path, 4, 50, turns=True)
-        self.assertEqual([part for part, _ in parts], [b"a\n", b"b" * 9 + b"\n" + b"c\n" * 3, b"c\n" * 8, b"c\n" * 8])
+        self.assertEqual(
+            [part for part, _ in parts],
+            [b"a\n", b"b" * 9 + b"\n" + b"c\n" * 3, b"c\n" * 8, b"c\n" * 8],
+        )
         self.assertEqual(rest, b"c\n")
 
     def test_parts_in_turn_up_to_a_byte(self):
         path = self.file(b"a\n" * 5 + b"b" * 20 + b"\n" + b"c\n" * 10)
         two, three, line = [b"a\n" * 2] * 2, [b"a\n" * 2] * 2 + [b"a\n"], b"b" * 20 + b"\n"
-        for end, wanted in ((9, two), (10, three), (30, three), (31, three + [line]), (36, three + [line + b"c\n" * 2])):
+        for end, wanted in (
+            (9, two),
+            (10, three),
+            (30, three),
+            (31, three + [line]),
+            (36, three + [line + b"c\n" * 2]),
+        ):
             with open(path, "rb") as file, self.subTest(end=end):
                 turns = Turns(placed(file), 0, 4, 50, end)
                 self.assertEqual([bytes(part()[0]) for part in turns.parts()], wanted)
                 self.assertEqual(turns.begin, len(b"".join(wanted)))
 
     def test_ends_far_from_where_they_are_looked_for(self):
-        lines = [bytes([97 + number % 26]) * (length - 1) + b"\n" for number, length in enumerate(
-            (1, 70_000, 300_000, 65_536, 65_537, 900_000, 3, 1_000_000, 1_000_001, 2_500_000, 1_048_576, 5, 200_000))]
+        lines = [
+            bytes([97 + number % 26]) * (length - 1) + b"\n"
+            for number, length in enumerate(
+                (
+                    1,
+                    70_000,
+                    300_000,
+                    65_536,
+                    65_537,
+                    900_000,
+                    3,
+                    1_000_000,
+                    1_000_001,
+                    2_500_000,
+                    1_048_576,
+                    5,
+                    200_000,
+                )
+            )
+        ]
         path = self.file(b"h\n" + b"".join(lines) + b"z" * 100)
         for size in (65_536, 300_000, 1_000_000):
             _, parts, rest = cut(path, size, 8_388_608)
-            self.assertEqual(b"".join(part for part, _ in parts) + rest, b"".join(lines) + b"z" * 100)
+            self.assertEqual(
+                b"".join(part for part, _ in parts) + rest, b"".join(lines) + b"z" * 100
+            )
             self.assertTrue(all(len(part) <= size or part.count(b"\n") == 1 for part, _ in parts))
             self.assertLess(len(rest), size + 100)
 
     def test_a_line_that_is_too_long_is_left(self):
         path = self.file(b"h\na\n" + b"b" * 50 + b"\nc\n")
-        self.assertEqual(cut(path, 4, 50), (b"h\n", [(b"a\n", None), (b"b" * 50 + b"\n", None)], b"c\n"))
+        self.assertEqual(
+            cut(path, 4, 50), (b"h\n", [(b"a\n", None), (b"b" * 50 + b"\n", None)], b"c\n")
+        )
         self.assertEqual(cut(path, 4, 49), (b"h\n", [(b"a\n", None)], b"b" * 50 + b"\nc\n"))
         path = self.file(b"h\na\n" + b"b" * 64 + b"\nc\n")
-        self.assertEqual(cut(path, 4, 63, turns=True), (b"h\n", [(b"a\n", None)], b"b" * 64 + b"\nc\n"))
-        self.assertEqual(cut(path, 4, 64, turns=True), (b"h\n", [(b"a\n", None)], b"b" * 64 + b"\nc\n"))
+        self.assertEqual(
+            cut(path, 4, 63, turns=True), (b"h\n", [(b"a\n", None)], b"b" * 64 + b"\nc\n")
+        )
+        self.assertEqual(
+            cut(path, 4, 64, turns=True), (b"h\n", [(b"a\n", None)], b"b" * 64 + b"\nc\n")
+        )
 
     def test_what_has_no_places(self):
         self.assertIsNone(placed(io.BytesIO(b"h\n")))
@@ -132,29 +179,44 @@ class Counted(InFolder):
         with open(path, "rb") as file:
             turns = Turns(placed(file), len(HEADER), size, work.line_limit)
             told = list(iter(lambda: turns.counted(work, HEADER, most), None))
-        return [(answer.lines, answer.kept, answer.size, answer.parts) for answer in told], turns.begin - len(HEADER)
+        return [
+            (answer.lines, answer.kept, answer.size, answer.parts) for answer in told
+        ], turns.begin - len(HEADER)
 
     def test_valid_parts_are_joined(self):
         length = len(PLAIN)
         text = PLAIN * 10 + b"{"
-        self.assertEqual(self.counted(text, 3 * length, 5 * length), ([(7, 6, 6 * length, 1), (4, 3, 3 * length, 1)], 9 * length))
-        self.assertEqual(self.counted(text, 3 * length, 1), ([(4, 3, 3 * length, 1)] * 3, 9 * length))
+        self.assertEqual(
+            self.counted(text, 3 * length, 5 * length),
+            ([(7, 6, 6 * length, 1), (4, 3, 3 * length, 1)], 9 * length),
+        )
+        self.assertEqual(
+            self.counted(text, 3 * length, 1), ([(4, 3, 3 * length, 1)] * 3, 9 * length)
+        )
 
     def test_parts_that_are_not_valid_are_left(self):
         length, broken = len(PLAIN), b"x" * (len(PLAIN) - 1) + b"\n"
-        self.assertEqual(self.counted(PLAIN * 4 + broken + PLAIN * 5, 2 * length, 99 * length), ([(5, 4, 4 * length, 1)], 4 * length))
+        self.assertEqual(
+            self.counted(PLAIN * 4 + broken + PLAIN * 5, 2 * length, 99 * length),
+            ([(5, 4, 4 * length, 1)], 4 * length),
+        )
         self.assertEqual(self.counted(broken + PLAIN * 5, 2 * length, 99 * length), ([], 0))
 
     def test_files_are_counted_as_their_bytes(self):
         for seed in range(200):
             text, chance = support.stream_by_chance(seed), random.Random(seed)
             if seed % 3 == 0:
-                text = HEADER + b"".join(feature(f"b{number}") * chance.randrange(4) for number in range(20))
+                text = HEADER + b"".join(
+                    feature(f"b{number}") * chance.randrange(4) for number in range(20)
+                )
             wanted = self.told(text, line_limit=1_000)
             for jobs in (1, 3):
                 size = chance.randrange(1, 2_000)
                 with self.subTest(seed=seed, jobs=jobs, size=size):
-                    self.assertEqual(self.told(self.file(text), line_limit=1_000, part_size=size, jobs=jobs), wanted)
+                    self.assertEqual(
+                        self.told(self.file(text), line_limit=1_000, part_size=size, jobs=jobs),
+                        wanted,
+                    )
 
     def told(self, source, **options):
         """What `check` tells, but for the file's name, and how many bytes were done."""
@@ -167,7 +229,9 @@ class Counted(InFolder):
         length, text = len(PLAIN), HEADER + PLAIN * 100
         for place in (len(HEADER), len(HEADER) + 40 * length, len(HEADER) + 41 * length + 7):
             for jobs in (1, 2):
-                with self.subTest(place=place, jobs=jobs), failing_at(place), self.assertRaises(cityseq.ReadFault) as raised:
+                with self.subTest(place=place, jobs=jobs), failing_at(place), self.assertRaises(
+                    cityseq.ReadFault
+                ) as raised:
                     cityseq.check(self.file(text), part_size=10 * length, jobs=jobs)
                 self.assertEqual(raised.exception.result.lines, 1 + (place - len(HEADER)) // length)
 
@@ -190,7 +254,9 @@ class Runs(InFolder):
             path = self.file(row["text"])
             for size in (1, 60, 1 << 20):
                 with self.subTest(row["name"], size=size):
-                    output, result = self.filtered(path, part_size=size, jobs=3 if size == 60 else 1, **support.options_of(row))
+                    output, result = self.filtered(
+                        path, part_size=size, jobs=3 if size == 60 else 1, **support.options_of(row)
+                    )
                     told = str(result.end) if result.end else ""
                     self.assertEqual((output, told, result.status), support.wanted_of(row))
                     self.assertEqual(result.lines, int(row["lines"]))
@@ -198,31 +264,61 @@ class Runs(InFolder):
     def test_streams_by_chance(self):
         for seed in range(200):
             text, chance = support.stream_by_chance(seed), random.Random(seed)
-            options = {"line_limit": 1_000, "keep_going": seed % 2 == 0, "types": chance.choice((None, "Road"))}
+            options = {
+                "line_limit": 1_000,
+                "keep_going": seed % 2 == 0,
+                "types": chance.choice((None, "Road")),
+            }
             cut = {"part_size": chance.randrange(1, 900), "jobs": chance.randrange(1, 5)}
             with self.subTest(seed=seed):
-                self.assertEqual(self.filtered(self.file(text), **cut, **options), self.filtered(text, **options))
+                self.assertEqual(
+                    self.filtered(self.file(text), **cut, **options), self.filtered(text, **options)
+                )
                 text = self.filtered(text, **options)[0] or text  # what is valid of it
-                one, many = (cityseq.info(source, line_limit=1_000, part_size=cut["part_size"]) for source in (text, self.file(text)))
+                one, many = (
+                    cityseq.info(
+                        source, exact_lods=True, line_limit=1_000, part_size=cut["part_size"]
+                    )
+                    for source in (text, self.file(text))
+                )
                 self.assertEqual((one.lines, one.features, one.types, one.lods, one.box),
                                  (many.lines, many.features, many.types, many.lods, many.box))
 
     def test_lods_by_escapes(self):
         path = self.file(HEADER + feature("a").replace(b'"lod"', b'"l\\u006fd"') * 3)
-        self.assertEqual([cityseq.info(path, part_size=size).lods for size in (1, 300, 1_000)], [{"2.2": 3}] * 3)
+        self.assertEqual(
+            [cityseq.info(path, exact_lods=True, part_size=size).lods for size in (1, 300, 1_000)],
+            [{"2.2": 3}] * 3,
+        )
 
     def test_a_read_that_fails(self):
         text = HEADER + feature("a") * 2_000 + feature("b", last=4) + feature("c") * 2_000
         path, length = self.file(text), len(feature("a"))
-        for place in (len(HEADER), len(HEADER) + 1_000 * length, len(HEADER) + 1_100 * length + 7, len(HEADER) + 3_000 * length + 7):
+        for place in (
+            len(HEADER),
+            len(HEADER) + 1_000 * length,
+            len(HEADER) + 1_100 * length + 7,
+            len(HEADER) + 3_000 * length + 7,
+        ):
             whole = text[:text.rfind(b"\n", 0, place) + 1]
             for keep_going in (False, True):
                 wanted, result = self.filtered(whole, keep_going=keep_going)
                 for size, jobs in ((length * 500, 1), (length * 1_000, 3), (200_000, 2)):
-                    with self.subTest(place=place, keep_going=keep_going, size=size), failing_at(place):
-                        output, found = self.filtered(path, part_size=size, jobs=jobs, keep_going=keep_going)
-                        self.assertEqual((output, found.reports, found.lines), (wanted, result.reports, result.lines))
-                        fault = (1, None) if result.end is not None else (3, "read fault: Input/output error")
+                    with self.subTest(place=place, keep_going=keep_going, size=size), failing_at(
+                        place
+                    ):
+                        output, found = self.filtered(
+                            path, part_size=size, jobs=jobs, keep_going=keep_going
+                        )
+                        self.assertEqual(
+                            (output, found.reports, found.lines),
+                            (wanted, result.reports, result.lines),
+                        )
+                        fault = (
+                            (1, None)
+                            if result.end is not None
+                            else (3, "read fault: Input/output error")
+                        )
                         self.assertEqual((found.status, found.fault), fault)
 
     def test_memory_that_is_refused(self):
@@ -233,11 +329,19 @@ class Runs(InFolder):
 
         path = self.file(HEADER + PLAIN * 10 + PLAIN[:-1] + b" " * 2_000 + b"\n" + PLAIN)
         for jobs in (1, 2):
-            for call in (cityseq.check, cityseq.info, lambda *given, **options: cityseq.filter(*given, io.BytesIO(), **options)):
-                with self.subTest(jobs=jobs, call=call), mock.patch("cityseq.places.bytearray", refusing, create=True):
+            for call in (
+                cityseq.check,
+                cityseq.info,
+                lambda *given, **options: cityseq.filter(*given, io.BytesIO(), **options),
+            ):
+                with self.subTest(jobs=jobs, call=call), mock.patch(
+                    "cityseq.places.bytearray", refusing, create=True
+                ):
                     with self.assertRaises(cityseq.MemoryFault) as raised:
                         call(path, part_size=2 * len(PLAIN), jobs=jobs)
-                    self.assertEqual((raised.exception.result.status, raised.exception.result.lines), (5, 11))
+                    self.assertEqual(
+                        (raised.exception.result.status, raised.exception.result.lines), (5, 11)
+                    )
 
     def test_what_is_opened_is_closed(self):
         if not os.path.exists("/proc/self/fd"):
@@ -246,7 +350,9 @@ class Runs(InFolder):
         before = len(os.listdir("/proc/self/fd"))
         for jobs in (1, 4):
             self.assertEqual(cityseq.check(path, part_size=1_000, jobs=jobs).end.line, 52)
-            self.assertEqual(cityseq.check(path, part_size=1_000, jobs=jobs, keep_going=True).refused, 1)
+            self.assertEqual(
+                cityseq.check(path, part_size=1_000, jobs=jobs, keep_going=True).refused, 1
+            )
         self.assertEqual(len(os.listdir("/proc/self/fd")), before)
 
 

@@ -21,20 +21,46 @@ class Sources(InFolder):
     def test_each_kind(self):
         for text, status in ((GOOD, 0), (BROKEN, 1)):
             path, packed = self.file(text), self.file(text, "stream.city.jsonl.gz")
-            with open(path, "rb") as file, open(path, "rb", buffering=0) as raw, gzip.open(packed) as unpacked:
-                sources = [path, str(path), packed, str(packed), text, bytearray(text), memoryview(text), file, raw, unpacked,
-                           io.BytesIO(text), support.Slow(text, 3)]
+            with open(path, "rb") as file, open(path, "rb", buffering=0) as raw, gzip.open(
+                packed
+            ) as unpacked:
+                sources = [
+                    path,
+                    str(path),
+                    packed,
+                    str(packed),
+                    text,
+                    bytearray(text),
+                    memoryview(text),
+                    file,
+                    raw,
+                    unpacked,
+                    io.BytesIO(text),
+                    support.Slow(text, 3),
+                ]
                 results = [cityseq.check(source, part_size=200) for source in sources]
-            wanted = (0, 3, "None") if status == 0 else (1, 2, "line 3, byte 142: 25 vertex index out of range")
-            self.assertEqual({(result.status, result.lines, str(result.end)) for result in results}, {wanted})
-            self.assertEqual([results[0].file, results[2].file, results[4].file], [str(path), str(packed), "<bytes>"])
+            wanted = (
+                (0, 3, "None")
+                if status == 0
+                else (1, 2, "line 3, byte 142: 25 vertex index out of range")
+            )
+            self.assertEqual(
+                {(result.status, result.lines, str(result.end)) for result in results}, {wanted}
+            )
+            self.assertEqual(
+                [results[0].file, results[2].file, results[4].file],
+                [str(path), str(packed), "<bytes>"],
+            )
 
     def test_outputs(self):
         path, packed, memory = self.folder / "out.jsonl", self.folder / "out.jsonl.gz", io.BytesIO()
         for output in (path, str(packed), memory):
             self.assertEqual(cityseq.filter(GOOD, output, types=["Road"]).features, 1)
         wanted = HEADER + feature("b", "Road")
-        self.assertEqual([path.read_bytes(), gzip.decompress(packed.read_bytes()), memory.getvalue()], [wanted] * 3)
+        self.assertEqual(
+            [path.read_bytes(), gzip.decompress(packed.read_bytes()), memory.getvalue()],
+            [wanted] * 3,
+        )
         with open(path, "wb", buffering=0) as raw:
             self.assertRaises(cityseq.InvalidStream, cityseq.filter, BROKEN, raw)
         self.assertEqual(path.read_bytes(), HEADER + feature("a"))
@@ -50,7 +76,13 @@ class Sources(InFolder):
         self.assertEqual([result.status for result in cityseq.check_files([path, GOOD])], [3, 0])
 
     def test_a_read_that_fails(self):
-        for fails_at, lines in ((0, 0), (50, 0), (len(HEADER), 1), (len(GOOD) - 3, 2), (len(GOOD), 3)):
+        for fails_at, lines in (
+            (0, 0),
+            (50, 0),
+            (len(HEADER), 1),
+            (len(GOOD) - 3, 2),
+            (len(GOOD), 3),
+        ):
             with self.assertRaises(cityseq.ReadFault) as caught:
                 cityseq.check(support.Slow(GOOD, 11, fails_at), jobs=2)
             self.assertEqual((caught.exception.status, caught.exception.result.lines), (3, lines))
@@ -62,30 +94,55 @@ class Sources(InFolder):
 
     def test_a_file_that_changes_while_it_is_read(self):
         text = HEADER + PLAIN * 1_000
-        for name, change in (("emptied", lambda path: os.truncate(path, 0)), ("longer", lambda path: path.open("ab").write(PLAIN)),
-                             ("touched", lambda path: os.utime(path, (1, 1)))):
+        for name, change in (
+            ("emptied", lambda path: os.truncate(path, 0)),
+            ("longer", lambda path: path.open("ab").write(PLAIN)),
+            ("touched", lambda path: os.utime(path, (1, 1))),
+        ):
             for jobs, file in ((1, "a.jsonl"), (3, "a.jsonl"), (3, "a.jsonl.gz")):
                 path, output = self.file(text, file), self.folder / "out"
-                for call in (cityseq.check, lambda source, **options: cityseq.filter(source, output, **options)):
+                for call in (
+                    cityseq.check,
+                    lambda source, **options: cityseq.filter(source, output, **options),
+                ):
                     once = iter((change,))
-                    with self.subTest(name, jobs=jobs, file=file), self.assertRaises(cityseq.ReadFault) as caught:
-                        call(path, jobs=jobs, part_size=900, progress=lambda _: next(once, lambda _: None)(path))
-                    self.assertEqual(str(caught.exception), f"{path}: read fault: changed while it was read")
+                    with self.subTest(name, jobs=jobs, file=file), self.assertRaises(
+                        cityseq.ReadFault
+                    ) as caught:
+                        call(
+                            path,
+                            jobs=jobs,
+                            part_size=900,
+                            progress=lambda _: next(once, lambda _: None)(path),
+                        )
+                    self.assertEqual(
+                        str(caught.exception), f"{path}: read fault: changed while it was read"
+                    )
                     self.assertFalse(output.exists())
                     self.file(text, file)
         self.assertEqual(cityseq.check(self.file(text)).status, 0)
 
     def test_what_cannot_be_read(self):
         with open(self.file(GOOD)) as text:
-            for source, kind in ((self.folder / "none", cityseq.ReadFault), (self.folder, cityseq.ReadFault), (text, cityseq.ReadFault),
-                                 (3, cityseq.RequestError), (None, cityseq.RequestError)):
+            for source, kind in (
+                (self.folder / "none", cityseq.ReadFault),
+                (self.folder, cityseq.ReadFault),
+                (text, cityseq.ReadFault),
+                (3, cityseq.RequestError),
+                (None, cityseq.RequestError),
+            ):
                 with self.subTest(source=source), self.assertRaises(kind):
                     cityseq.check(source)
 
     def test_what_cannot_be_written(self):
         path = self.file(GOOD)
-        for output, kind in ((self.folder, cityseq.WriteFault), (self.folder / "no" / "file", cityseq.WriteFault),
-                             (io.StringIO(), cityseq.RequestError), (3, cityseq.RequestError), (path, cityseq.RequestError)):
+        for output, kind in (
+            (self.folder, cityseq.WriteFault),
+            (self.folder / "no" / "file", cityseq.WriteFault),
+            (io.StringIO(), cityseq.RequestError),
+            (3, cityseq.RequestError),
+            (path, cityseq.RequestError),
+        ):
             with self.subTest(output=output), self.assertRaises(kind):
                 cityseq.filter(path, output)
         self.assertEqual(path.read_bytes(), GOOD)
@@ -93,7 +150,9 @@ class Sources(InFolder):
             with self.assertRaises(cityseq.WriteFault):
                 cityseq.filter(HEADER + PLAIN * 100_000, "/dev/full", part_size=1 << 20)
 
-    @unittest.skipUnless(os.path.exists("/proc/self/status"), "the system does not tell the peak of memory")
+    @unittest.skipUnless(
+        os.path.exists("/proc/self/status"), "the system does not tell the peak of memory"
+    )
     def test_memory_is_bounded(self):
         """A stream of a gigabyte that has no LF behind its header, in less than a fifth of that."""
         script = """if True:
@@ -111,16 +170,33 @@ class Sources(InFolder):
             for keep_going in (False, True):
                 for source in (Headed(), Endless()):
                     result = cityseq.check(source, jobs=2, keep_going=keep_going)
-                    print(*[(report.line, report.byte, report.code) for report in result.reports], result.lines)
+                    reports = [(each.line, each.byte, each.code) for each in result.reports]
+                    print(*reports, result.lines)
             found = [0]
-            cityseq.check(%r + b"x\\n" * (1 << 20), jobs=2, keep_going=True, on_report=lambda report: found.append(report.line))
+            def note(report):
+                found.append(report.line)
+            lines = %r + b"x\\n" * (1 << 20)
+            cityseq.check(lines, jobs=2, keep_going=True, on_report=note)
             print(len(found), found[-1])
             peak = dict(line.split(":") for line in open("/proc/self/status"))["VmHWM"]
             print(int(peak.split()[0]) < 200_000)"""
-        ran = subprocess.run([sys.executable, "-c", script % (HEADER, HEADER)], stdout=subprocess.PIPE, timeout=240,
-                             env={**os.environ, "PYTHONPATH": os.path.join(support.ROOT, "python")})
-        self.assertEqual(ran.stdout.decode().splitlines(), [
-            "(2, 8388608, 2) 1", "(1, 8388608, 2) 0", "(2, 8388608, 2) 2", "(1, 8388608, 2) 0", "1048577 1048577", "True"])
+        ran = subprocess.run(
+            [sys.executable, "-c", script % (HEADER, HEADER)],
+            stdout=subprocess.PIPE,
+            timeout=240,
+            env={**os.environ, "PYTHONPATH": os.path.join(support.ROOT, "python")},
+        )
+        self.assertEqual(
+            ran.stdout.decode().splitlines(),
+            [
+                "(2, 8388608, 2) 1",
+                "(1, 8388608, 2) 0",
+                "(2, 8388608, 2) 2",
+                "(1, 8388608, 2) 0",
+                "1048577 1048577",
+                "True",
+            ],
+        )
 
     def test_memory_that_is_refused(self):
         script = """if True:
@@ -128,13 +204,20 @@ class Sources(InFolder):
             resource.setrlimit(resource.RLIMIT_AS, (1_200 << 20, 1_200 << 20))
             for jobs in (1, 3):
                 try:
-                    cityseq.filter(%r + b" " * (80 << 20), io.BytesIO(), line_limit=1 << 30, jobs=jobs)
+                    text = %r + b" " * (80 << 20)
+                    cityseq.filter(text, io.BytesIO(), line_limit=1 << 30, jobs=jobs)
                 except cityseq.MemoryFault as fault:
                     print(fault, fault.status, fault.result.lines)
             print(cityseq.check(%r).status)"""
-        ran = subprocess.run([sys.executable, "-c", script % (GOOD, GOOD)], stdout=subprocess.PIPE, timeout=240,
-                             env={**os.environ, "PYTHONPATH": os.path.join(support.ROOT, "python")})
-        self.assertEqual(ran.stdout.decode(), "<bytes>: out of memory 5 3\n<bytes>: out of memory 5 3\n0\n")
+        ran = subprocess.run(
+            [sys.executable, "-c", script % (GOOD, GOOD)],
+            stdout=subprocess.PIPE,
+            timeout=240,
+            env={**os.environ, "PYTHONPATH": os.path.join(support.ROOT, "python")},
+        )
+        self.assertEqual(
+            ran.stdout.decode(), "<bytes>: out of memory 5 3\n<bytes>: out of memory 5 3\n0\n"
+        )
 
 
 class Requests(unittest.TestCase):
@@ -142,12 +225,21 @@ class Requests(unittest.TestCase):
 
     def test_limits(self):
         for options, words in (
-                ({"line_limit": 0}, "the line limit is not from 1 to 1,073,741,824: 0"),
-                ({"line_limit": 1_073_741_825}, "the line limit is not from 1 to 1,073,741,824: 1073741825"),
-                ({"line_limit": 1 << 64 | 5}, "the line limit is not from 1 to 1,073,741,824: 18446744073709551621"),
-                ({"depth": 1_025}, "the depth is not from 1 to 1,024: 1025"), ({"depth": -1}, "the depth is not from 1 to 1,024: -1"),
-                ({"depth": "9"}, "the depth is not from 1 to 1,024: '9'"), ({"jobs": 0}, "jobs are a whole number from 1: 0"),
-                ({"part_size": 0}, "a part has one byte or more: 0")):
+            ({"line_limit": 0}, "the line limit is not from 1 to 1,073,741,824: 0"),
+            (
+                {"line_limit": 1_073_741_825},
+                "the line limit is not from 1 to 1,073,741,824: 1073741825",
+            ),
+            (
+                {"line_limit": 1 << 64 | 5},
+                "the line limit is not from 1 to 1,073,741,824: 18446744073709551621",
+            ),
+            ({"depth": 1_025}, "the depth is not from 1 to 1,024: 1025"),
+            ({"depth": -1}, "the depth is not from 1 to 1,024: -1"),
+            ({"depth": "9"}, "the depth is not from 1 to 1,024: '9'"),
+            ({"jobs": 0}, "jobs are a whole number from 1: 0"),
+            ({"part_size": 0}, "a part has one byte or more: 0"),
+        ):
             with self.subTest(**options), self.assertRaises(cityseq.RequestError) as caught:
                 cityseq.check(GOOD, **options)
             self.assertEqual((str(caught.exception), caught.exception.status), (words, 2))
@@ -155,25 +247,56 @@ class Requests(unittest.TestCase):
 
     def test_queries(self):
         for options, words in (
-                ({"types": ["Building", "Shed"]}, "unknown object type: Shed"), ({"types": "building"}, "unknown object type: building"),
-                ({"box": "1,2,3"}, "bad box"), ({"box": [1, 2, 3]}, "bad box"), ({"box": "1e18,0,2e18,1"}, "box number out of range"),
-                ({"box": [3, 0, 1, 1]}, "empty box"), ({"box": [float("nan"), 0, 1, 1]}, "bad box"), ({"box": "\0"}, "bad box"),
-                ({"ids": ["a\nb"]}, "no text with a line's end in it can be asked for among ids: 'a\\nb'"),
-                ({"ids": ["\ud800"]}, "a text is not UTF-8, among ids"), ({"lods": [2.2]}, "LoDs are texts: 2.2 is none")):
+            ({"types": ["Building", "Shed"]}, "unknown object type: Shed"),
+            ({"types": "building"}, "unknown object type: building"),
+            ({"box": "1,2,3"}, "bad box"),
+            ({"box": [1, 2, 3]}, "bad box"),
+            ({"box": "1e18,0,2e18,1"}, "box number out of range"),
+            ({"box": [3, 0, 1, 1]}, "empty box"),
+            ({"box": [float("nan"), 0, 1, 1]}, "bad box"),
+            ({"box": "\0"}, "bad box"),
+            (
+                {"ids": ["a\nb"]},
+                "no text with a line's end in it can be asked for among ids: 'a\\nb'",
+            ),
+            ({"ids": ["\ud800"]}, "a text is not UTF-8, among ids"),
+            ({"lods": [2.2]}, "LoDs are texts: 2.2 is none"),
+        ):
             output = io.BytesIO()
             with self.subTest(**options), self.assertRaises(ValueError) as caught:
                 cityseq.filter(GOOD, output, **options)
             self.assertEqual((str(caught.exception), output.getvalue()), (words, b""))
 
     def test_one_text_and_none(self):
-        for ids, features in (("a", 1), (["a", "b"], 2), ([], 0), ([""], 0), (None, 2), (iter(["b"]), 1), (["a\r"], 0)):
+        for ids, features in (
+            ("a", 1),
+            (["a", "b"], 2),
+            ([], 0),
+            ([""], 0),
+            (None, 2),
+            (iter(["b"]), 1),
+            (["a\r"], 0),
+        ):
             self.assertEqual(cityseq.filter(GOOD, io.BytesIO(), ids=ids).features, features)
 
     def test_no_library(self):
-        for path, words in (("/nowhere", b"there is no library /nowhere"), (__file__, b"is no library of cityseq")):
-            ran = subprocess.run([sys.executable, "-m", "cityseq", "check", "-"], input=b"", stderr=subprocess.PIPE, env={
-                **os.environ, "PYTHONPATH": os.path.join(support.ROOT, "python"), "CITYSEQ_LIBRARY": path})
-            self.assertEqual((ran.returncode, words in ran.stderr, b"Traceback" in ran.stderr), (2, True, False))
+        for path, words in (
+            ("/nowhere", b"there is no library /nowhere"),
+            (__file__, b"is no library of cityseq"),
+        ):
+            ran = subprocess.run(
+                [sys.executable, "-m", "cityseq", "check", "-"],
+                input=b"",
+                stderr=subprocess.PIPE,
+                env={
+                    **os.environ,
+                    "PYTHONPATH": os.path.join(support.ROOT, "python"),
+                    "CITYSEQ_LIBRARY": path,
+                },
+            )
+            self.assertEqual(
+                (ran.returncode, words in ran.stderr, b"Traceback" in ran.stderr), (2, True, False)
+            )
 
 
 if __name__ == "__main__":

@@ -9,13 +9,15 @@ from . import support
 from .support import HEADER, PLAIN
 
 import cityseq
+from cityseq import threads
 from cityseq.threads import STACK, Crew, in_thread
 
 START = _thread.start_new_thread
 
 
 def starting(most, silent=False):
-    """Starts so many threads, and then none: by an error, or, as with little memory, so that they end before they begin."""
+    """Starts so many threads, and then none: by an error, or, as with little memory, so that they
+    end before they begin."""
     started = []
 
     def start(call, given):
@@ -35,7 +37,10 @@ class Crews(unittest.TestCase):
     def test_calls_are_made_once_and_answered(self):
         for most in (1, 3):
             with Crew(most) as crew:
-                jobs = [crew.submit(lambda number=number: (number, threading.get_ident())) for number in range(50)]
+                jobs = [
+                    crew.submit(lambda number=number: (number, threading.get_ident()))
+                    for number in range(50)
+                ]
                 answers = [job.result() for job in jobs]
             self.assertEqual([number for number, _ in answers], list(range(50)))
             self.assertTrue(1 <= len({thread for _, thread in answers}) <= most)
@@ -67,15 +72,41 @@ class Crews(unittest.TestCase):
     def test_fewer_threads(self):
         for most, silent in ((1, False), (0, False), (1, True), (0, True)):
             patch, _ = starting(most, silent)
-            with self.subTest(most=most, silent=silent), patch, mock.patch("cityseq.threads.PATIENCE", 0.05):
+            with self.subTest(most=most, silent=silent), patch, mock.patch(
+                "cityseq.threads.PATIENCE", 0.05
+            ):
                 with Crew(4) as crew:
-                    self.assertEqual([job.result() for job in [crew.submit(lambda n=n: n) for n in range(9)]], list(range(9)))
+                    self.assertEqual(
+                        [job.result() for job in [crew.submit(lambda n=n: n) for n in range(9)]],
+                        list(range(9)),
+                    )
 
     def test_a_thread_that_ends_early(self):
         with mock.patch("cityseq.threads.PATIENCE", 0.05), Crew(1) as crew:
             crew.submit(lambda: None).result()
             crew._jobs.put(None)
             self.assertEqual(crew.submit(lambda: 5).result(), 5)
+
+    def test_an_interrupt_when_a_thread_was_just_started(self):
+        """The crew does not know that thread, which takes the sign of the end before the other one does."""
+        started, ended = [], threading.Event()
+        start = threads._start
+
+        def interrupted(call, *given):
+            start(call, *given)
+            started.append(call)
+            if len(started) == 2:
+                raise KeyboardInterrupt
+
+        def run():
+            with self.assertRaises(KeyboardInterrupt), Crew(2) as crew:
+                crew.submit(lambda: time.sleep(0.3))
+                crew.submit(lambda: None)
+            ended.set()
+
+        with mock.patch("cityseq.threads._start", interrupted):
+            START(run, ())
+            self.assertTrue(ended.wait(10))
 
     def test_no_thread_and_a_short_stack(self):
         patch, _ = starting(0)
@@ -93,8 +124,13 @@ class Crews(unittest.TestCase):
         text = HEADER + PLAIN * 2_000 + b"{}\n"
         for most, silent in ((2, False), (0, False), (0, True)):
             patch, _ = starting(most, silent)
-            with self.subTest(most=most, silent=silent), patch, mock.patch("cityseq.threads.PATIENCE", 0.05):
-                self.assertEqual(support.numbered(cityseq.check(text, jobs=4, part_size=1_000).reports), [(2_002, 0, 10)])
+            with self.subTest(most=most, silent=silent), patch, mock.patch(
+                "cityseq.threads.PATIENCE", 0.05
+            ):
+                self.assertEqual(
+                    support.numbered(cityseq.check(text, jobs=4, part_size=1_000).reports),
+                    [(2_002, 0, 10)],
+                )
 
 
 class Callbacks(unittest.TestCase):
@@ -103,8 +139,14 @@ class Callbacks(unittest.TestCase):
     def test_reports_and_progress(self):
         threads = set()
         for jobs in (1, 3):
-            cityseq.check(HEADER + b"[]\n" * 500, jobs=jobs, part_size=100, keep_going=True,
-                          on_report=lambda _: threads.add(threading.get_ident()), progress=lambda _: threads.add(threading.get_ident()))
+            cityseq.check(
+                HEADER + b"[]\n" * 500,
+                jobs=jobs,
+                part_size=100,
+                keep_going=True,
+                on_report=lambda _: threads.add(threading.get_ident()),
+                progress=lambda _: threads.add(threading.get_ident()),
+            )
         self.assertEqual(threads, {threading.get_ident()})
 
 

@@ -18,6 +18,13 @@ import cityseq
 NGINX = shutil.which("nginx") or shutil.which("nginx", path="/usr/sbin")
 
 
+class Server(ThreadingHTTPServer):
+    """A server that says nothing of clients that go away."""
+
+    def handle_error(self, *_):
+        pass
+
+
 class Handler(BaseHTTPRequestHandler):
     """Serves the files of a folder by ranges, or as the server's `mode` says."""
 
@@ -39,7 +46,7 @@ class Handler(BaseHTTPRequestHandler):
         begin, last = map(int, re.fullmatch(r"bytes=(\d+)-(\d+)", self.headers["Range"]).groups())
         server.ranges.append((begin, last + 1))
         if self.path.startswith("/moved/"):
-            return self._send(302, {"Location": self.path[len("/moved"):]})
+            return self._send(302, {"Location": self.path[len("/moved") :]})
         if mode == "around":
             return self._send(302, {"Location": self.path})
         if mode == "away":
@@ -63,7 +70,9 @@ class Handler(BaseHTTPRequestHandler):
         self.close_connection = mode == "closes" or (mode in ("breaks", "resets") and begin > 0)
         if mode == "resets" and begin:
             return self.connection.close()
-        return self._send(206, told, text[begin:last + 1], 5 if mode == "breaks" and begin else None)
+        return self._send(
+            206, told, text[begin : last + 1], 5 if mode == "breaks" and begin else None
+        )
 
 
 class Web(InFolder):
@@ -72,7 +81,10 @@ class Web(InFolder):
     def setUp(self):
         super().setUp()
         # 200 KB between the first roads and the last one
-        lines = [feature(f"b{i}", "Road" if i % 10 == 0 and (i < 100 or i > 890) else "Building") for i in range(1_000)]
+        lines = [
+            feature(f"b{i}", "Road" if i % 10 == 0 and (i < 100 or i > 890) else "Building")
+            for i in range(1_000)
+        ]
         self.text = HEADER + b"".join(lines)
         (self.folder / "served").mkdir()
         self.path = self.file(self.text, "served/a b.city.jsonl")
@@ -83,7 +95,7 @@ class Web(InFolder):
 
     @contextmanager
     def served(self, mode=None):
-        server = ThreadingHTTPServer(("127.0.0.1", 0), Handler)
+        server = Server(("127.0.0.1", 0), Handler)
         server.mode, server.folder, server.ranges = mode, str(self.folder), []
         thread = threading.Thread(target=server.serve_forever, args=(0.01,))
         thread.start()
@@ -112,7 +124,7 @@ class Web(InFolder):
             with self.served(mode) as (_, base):
                 for each in (base, base + "/", base + "/moved", base + "/?key=1"):
                     self.assertEqual(self.cut(each), self.wanted.getvalue())
-                self.assertEqual(self.cut(base, ids="b999")[len(HEADER):], feature("b999"))
+                self.assertEqual(self.cut(base, ids="b999")[len(HEADER) :], feature("b999"))
                 with cityseq.Index(self.index, base=base) as index:
                     with index.select(ids=["b3", "b999"]) as features:
                         self.assertEqual([each.line for each in features], [5, 1_001])
@@ -129,7 +141,15 @@ class Web(InFolder):
                     self.cut(url + base)
                 self.assertIn(words, str(caught.exception))
                 self.assertEqual(caught.exception.status, 3)
-                words = ("filter", "--index", str(self.index), "--base", url + base, "--type", "Road")
+                words = (
+                    "filter",
+                    "--index",
+                    str(self.index),
+                    "--base",
+                    url + base,
+                    "--type",
+                    "Road",
+                )
                 for more in ((), ("--output", str(self.folder / "out"))):
                     output, said, status = command(*words, *more)
                     self.assertEqual((output, status, said.count("\n")), (b"", 3, 1))
@@ -148,12 +168,15 @@ class Web(InFolder):
         self.refused(None, "404", base="/no/folder")
 
     def test_a_stream_that_changed(self):
-        for text, words in ((self.text + b"\n", "the stream is longer"), (self.text[:-1], "the stream is shorter"),
-                            (self.text[:100], "the stream is shorter"),
-                            (self.text.replace(b"[10,20,0]", b"[10,20,1]", 1), "the stream has another header"),
-                            (self.text.replace(b'"id":"b10"', b'"id":b10" ', 1), "the stream has other lines"),
-                            (self.text.replace(b"\n", b" "), "the stream has another header"),
-                            (HEADER + self.text[len(HEADER):].replace(b"\n", b" "), "the stream has other lines")):
+        for text, words in (
+            (self.text + b"\n", "the stream is longer"),
+            (self.text[:-1], "the stream is shorter"),
+            (self.text[:100], "the stream is shorter"),
+            (self.text.replace(b"[10,20,0]", b"[10,20,1]", 1), "the stream has another header"),
+            (self.text.replace(b'"id":"b10"', b'"id":b10" ', 1), "the stream has other lines"),
+            (self.text.replace(b"\n", b" "), "the stream has another header"),
+            (HEADER + self.text[len(HEADER) :].replace(b"\n", b" "), "the stream has other lines"),
+        ):
             self.path.write_bytes(text)
             self.refused(None, words, cityseq.OutOfDate)
 
@@ -166,6 +189,7 @@ class Web(InFolder):
 
     def test_a_server_that_does_not_answer(self):
         from cityseq import web
+
         before, web.PATIENCE = web.PATIENCE, 0.2
         self.addCleanup(setattr, web, "PATIENCE", before)
         with self.served("slow") as (_, base):
@@ -174,7 +198,16 @@ class Web(InFolder):
         self.assertIn("timed out", str(caught.exception))
 
     def test_a_base_that_is_no_url(self):
-        for base in ("", "x", "http://", "ftp://host", "http://host:x/", "http://a b/", "https://host/\n", "//host"):
+        for base in (
+            "",
+            "x",
+            "http://",
+            "ftp://host",
+            "http://host:x/",
+            "http://a b/",
+            "https://host/\n",
+            "//host",
+        ):
             with self.assertRaises(cityseq.RequestError):
                 cityseq.Index(self.index, base=base)
 
@@ -197,11 +230,16 @@ class Nginx(Web):
             self.skipTest("nginx answers as it should")
         port = 20_000 + os.getpid() % 20_000
         folder, settings = str(self.folder), self.folder / "settings"
+        kinds = ("client_body", "proxy", "fastcgi", "uwsgi", "scgi")
+        paths = " ".join(f"{kind}_temp_path {folder};" for kind in kinds)
         settings.write_text(
-            f"daemon off; master_process off; pid {folder}/pid; error_log {folder}/errors; events {{}}\n"
-            f"http {{ access_log off; client_body_temp_path {folder}; proxy_temp_path {folder}; fastcgi_temp_path {folder};"
-            f" uwsgi_temp_path {folder}; scgi_temp_path {folder}; server {{ listen 127.0.0.1:{port}; root {folder}; }} }}\n")
-        child = subprocess.Popen([NGINX, "-c", str(settings), "-e", f"{folder}/errors"], stderr=subprocess.DEVNULL)
+            f"daemon off; master_process off; pid {folder}/pid; error_log {folder}/errors;\n"
+            f"events {{}}\nhttp {{ access_log off; {paths}\n"
+            f"server {{ listen 127.0.0.1:{port}; root {folder}; }} }}\n"
+        )
+        child = subprocess.Popen(
+            [NGINX, "-c", str(settings), "-e", f"{folder}/errors"], stderr=subprocess.DEVNULL
+        )
         try:
             yield None, f"http://127.0.0.1:{port}"
         finally:
@@ -223,7 +261,9 @@ class Nginx(Web):
             self.assertEqual(self.tries(lambda: self.cut(base)), self.wanted.getvalue())
 
     test_all_ways_to_the_same = test_the_command = test_servers_that_answer_otherwise = None
-    test_a_server_that_does_not_answer = test_a_base_that_is_no_url = test_packed_streams_have_no_ranges = None
+    test_a_server_that_does_not_answer = (
+        test_a_base_that_is_no_url
+    ) = test_packed_streams_have_no_ranges = None
     test_no_server = None
 
     def test_a_stream_that_changed(self):

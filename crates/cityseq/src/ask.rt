@@ -13,25 +13,27 @@ use cj_stream::{
 use std::alloc::Global;
 use std::io::{Read, Write};
 
-/// What is to be done with the stream on standard input.
+/// What to do with the stream on standard input.
 #[derive(Drop)]
 pub enum Ask {
-    /// To say whether it is valid under these limits, and how many lines and features it has.
+    /// Check whether it is valid under these limits, and count its lines and features.
     Check(Limits, Options),
-    /// To copy the header and the features that satisfy the query.
+    /// Copy the header and the features that the query and the options keep.
     Filter(Limits, Query, Options),
-    /// To report what is in it. Of what is not valid there is no report, so it cannot be told to go on.
+    /// Write a summary of it. There is no summary of an invalid stream, so `info` cannot go on
+    /// after an invalid line.
     Info(Limits, Options),
 }
 
-/// What is told of what was asked: the end, and how many lines were refused that reading went on after.
+/// The outcome to report: the end, and the number of invalid lines after which reading went on.
 #[derive(Clone, Copy)]
 struct Told {
     end: End,
     refused: u64,
 }
 
-/// The end that is told where a text of our own followed a complete run, by what came of writing it.
+/// Returns the end of a complete run after which a text of the program was written with this
+/// result.
 pub fn end_of_writing(written: Result<(), WriteFault>) -> End
     ensures { result ≡ told_after written }
 {
@@ -41,7 +43,7 @@ pub fn end_of_writing(written: Result<(), WriteFault>) -> End
     }
 }
 
-/// Judges the stream, and says how many lines and features it has where none is the end.
+/// Judges the stream. Unless a line or a fault ends it, writes how many lines and features it has.
 fn check<R: Read, W: Write + Drop, N: ReportSink>(
     alloc: Global,
     limits: Limits,
@@ -78,7 +80,7 @@ fn check<R: Read, W: Write + Drop, N: ReportSink>(
     }
 }
 
-/// Tallies the stream, and reports what is in it where it is valid.
+/// Tallies the stream, and writes its summary if it is valid.
 fn info<R: Read, W: Write + Drop, N: ReportSink>(
     alloc: Global,
     limits: Limits,
@@ -110,7 +112,7 @@ fn info<R: Read, W: Write + Drop, N: ReportSink>(
     }
 }
 
-/// Copies the header and the features of the stream that satisfy the query.
+/// Copies the header and the features that the query and the options keep.
 fn filter<R: Read, W: Write + Drop, N: ReportSink>(
     alloc: Global,
     limits: Limits,
@@ -133,7 +135,7 @@ fn filter<R: Read, W: Write + Drop, N: ReportSink>(
     }
 }
 
-/// Does what is asked with what the reader gives, and tells the end.
+/// Does what is asked with the bytes of the reader, and returns the outcome.
 fn answer<R: Read, W: Write + Drop, N: ReportSink>(
     alloc: Global,
     ask: &Ask,
@@ -155,9 +157,10 @@ fn answer<R: Read, W: Write + Drop, N: ReportSink>(
     }
 }
 
-/// Does what is asked with what the reader gives, flushes `out`, says on `err` which lines were refused that it went on
-/// after, and how it ended, and answers the status. A failure to write to `err` is ignored, but nothing more is written
-/// to it then.
+/// Does what is asked with the bytes of the reader, flushes `out`, and returns the exit status.
+///
+/// It reports on `err` each invalid line after which reading went on, and how the run ended. It
+/// ignores a failed write to `err`, but then writes nothing more to it.
 pub fn perform<R: Read, W: Write + Drop, E: Write + Drop>(
     alloc: Global,
     ask: &Ask,

@@ -1,4 +1,4 @@
-//! What the words ask for: an `Ask`, with its limits and its query, or why there is none.
+//! What the words ask for: an `Ask` with its limits and its query, or why there is none.
 ghost use Rattle.std.specs.Prelude.{◌≡◌, Some, Ok, Err, IfOk, IfErr, OnOk, MatchOption, map, string_bytes};
 ghost use Rattle.cj_stream.specs.Adding.{flags_with, no_types};
 ghost use Rattle.cj_stream.specs.BoxText.{fields};
@@ -22,19 +22,19 @@ use std::alloc::Global;
 pub enum NoAsk {
     /// The words are wrong, or they ask for help.
     Words(Error),
-    /// The words name no command of the program; `clap` refuses such words before.
+    /// The words name no command of the program. `clap` rejects such words earlier.
     NoCommand,
-    /// A limit is out of its range; `clap` refuses such a number before.
+    /// A limit is out of its range. `clap` rejects such a number earlier.
     Limits(LimitFault),
-    /// The query cannot be asked.
+    /// The query is invalid, or memory for it was refused.
     Query(QueryFault),
 }
 
-/// What the words ask for, the program's name first.
+/// Returns what the words ask for. The first word is the program's name.
 ///
 /// # Errors
 ///
-/// Why nothing is to be done with the stream.
+/// Why nothing is done with the stream.
 pub fn read_ask(alloc: Global, words: &[String]) -> Result<Ask, NoAsk>
     ensures ok { IfOk result (AsksFor (map string_bytes words.now)) }
     ensures takes { IfOk result TakesOptions }
@@ -50,7 +50,7 @@ pub fn read_ask(alloc: Global, words: &[String]) -> Result<Ask, NoAsk>
     }
 }
 
-/// What a command with these options asks for.
+/// Returns what a command with these options asks for.
 fn ask_of(alloc: Global, name: &str, options: &ArgMatches) -> Result<Ask, NoAsk>
     ensures ok { IfOk result (λ ask. AsksBy name.now options.now ask) }
     ensures takes { IfOk result TakesOptions }
@@ -71,12 +71,18 @@ fn ask_of(alloc: Global, name: &str, options: &ArgMatches) -> Result<Ask, NoAsk>
     }
 }
 
-/// The query that these texts make. Ids are set first, then types, LoDs and the box.
+/// Returns the query that these texts make. It sets ids first, then types, LoDs and the box.
 ///
 /// # Errors
 ///
-/// The first refusal: `Memory` where none was granted for ids; `UnknownTypeName`; `Memory` where none was
-/// granted for LoDs; or what is wrong with the box. Types and a box take no memory.
+/// The first of these:
+///
+/// - `Memory` if an allocation for ids failed.
+/// - `UnknownTypeName`.
+/// - `Memory` if an allocation for LoDs failed.
+/// - What is wrong with the box.
+///
+/// Types and a box need no allocation.
 pub fn query_of(alloc: Global, texts: &QueryTexts) -> Result<Query, QueryFault>
     ensures ok { IfOk result (λ query. criteria_by (texts_of texts.now) ≡ Ok (criteria query)) }
     ensures err { IfErr result (λ fault. RefusesBy (texts_of texts.now) fault) }
@@ -97,7 +103,7 @@ pub fn query_of(alloc: Global, texts: &QueryTexts) -> Result<Query, QueryFault>
     Ok(query)
 }
 
-/// Sets the part on ids to what stands between the commas of a text.
+/// Sets the part on ids to the texts between the commas.
 fn add_ids(query: &mut Query, ids: &str) -> Result<(), QueryFault>
     ensures ok { OnOk result (criteria query.new ≡ record (criteria query.old) { ids = Some (fields ids.now) }) }
     ensures memory { IfErr result (λ fault. fault ≡ Memory) }
@@ -110,7 +116,7 @@ fn add_ids(query: &mut Query, ids: &str) -> Result<(), QueryFault>
     Ok(())
 }
 
-/// Sets the part on types to those whose names stand between the commas of a text.
+/// Sets the part on types to those with the names between the commas.
 fn add_types(query: &mut Query, types: &str) -> Result<(), QueryFault>
     ensures { MatchOption (flags_with (fields types.now) no_types)
         (result ≡ Err UnknownTypeName)
@@ -123,7 +129,7 @@ fn add_types(query: &mut Query, types: &str) -> Result<(), QueryFault>
     Ok(())
 }
 
-/// Sets the part on LoDs to what stands between the commas of a text.
+/// Sets the part on LoDs to the texts between the commas.
 fn add_lods(query: &mut Query, lods: &str) -> Result<(), QueryFault>
     ensures ok { OnOk result (criteria query.new ≡ record (criteria query.old) { lods = Some (fields lods.now) }) }
     ensures memory { IfErr result (λ fault. fault ≡ Memory) }

@@ -1,4 +1,4 @@
-//! The command line: what its words ask for is done, or declined.
+//! The command line: it does what the words ask for, or declines it.
 ghost use Rattle.std.specs.Prelude.{◌≡◌, ◌⊎◌, ℕ, List, map, string_bytes};
 ghost use Rattle.std.specs.Io.KnownBytes.{Consumes, IsAtEnd};
 ghost use Rattle.cj_stream.specs.Output.{channel};
@@ -14,8 +14,8 @@ use cj_stream::Output;
 use std::alloc::Global;
 use std::io::{Read, Write};
 
-/// Does what the words ask for, and answers the status; the first word is the program's name. Where they
-/// are wrong or ask for help, nothing is read. A failure to write to `err` is ignored.
+/// Does what the words ask for, and returns the exit status. The first word is the program's name.
+/// If the words are wrong or ask for help, it reads nothing. It ignores a failed write to `err`.
 pub fn command<R: Read, W: Write + Drop, E: Write + Drop>(
     alloc: Global,
     words: &[String],

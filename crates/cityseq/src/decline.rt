@@ -1,5 +1,5 @@
-//! What is told where nothing is done with the stream: the help, wrong words, a limit out of its range, or a query that
-//! cannot be asked.
+//! What the program writes if it does nothing with the stream: the help, or what is wrong with the
+//! words, a limit or the query.
 ghost use Rattle.clap.specs.Words.{kind_of};
 ghost use Rattle.cj_stream.specs.Output.{channel};
 ghost use Rattle.cityseq.specs.Performed.{Declines, TellsError, TellsFault, TellsHelp, TellsMemory};
@@ -18,7 +18,7 @@ use clap::error::ErrorKind;
 use std::alloc::Global;
 use std::io::Write;
 
-/// Says why nothing is done with the stream, and answers the status of that.
+/// Writes why nothing is done with the stream, and returns the exit status.
 pub fn decline<W: Write + Drop, E: Write + Drop>(
     alloc: Global,
     why: &NoAsk,
@@ -37,7 +37,7 @@ pub fn decline<W: Write + Drop, E: Write + Drop>(
     }
 }
 
-/// Writes the help that was asked for to `out`, or what is wrong with the words to `err`.
+/// Writes the help to `out` if it was asked for, or what is wrong with the words to `err`.
 fn tell_error<W: Write + Drop, E: Write + Drop>(
     alloc: Global,
     error: &Error,
@@ -61,7 +61,7 @@ fn tell_error<W: Write + Drop, E: Write + Drop>(
     }
 }
 
-/// Writes the help that was asked for to `out`, flushes it, and says on `err` how that ended.
+/// Writes the help to `out` and flushes it. Reports on `err` how that ended.
 fn tell_help<W: Write + Drop, E: Write + Drop>(
     text: &str,
     out: &mut Output<W>,
@@ -75,7 +75,7 @@ fn tell_help<W: Write + Drop, E: Write + Drop>(
     status(show(out.flush(), told, err).end)
 }
 
-/// Says what is wrong with the words, and answers the status of that.
+/// Writes what is wrong with the words, and returns the exit status.
 fn tell_wrong_words<E: Write + Drop>(text: &str, err: &mut Output<E>) -> u8
     ensures { TellsFault text.now 2 result (channel E.contents err.old) (channel E.contents err.new) }
 {
@@ -83,7 +83,7 @@ fn tell_wrong_words<E: Write + Drop>(text: &str, err: &mut Output<E>) -> u8
     WRONG_WORDS
 }
 
-/// Says which limit is out of its range, and answers the status of that.
+/// Writes which limit is out of its range, and returns the exit status.
 fn tell_refused_limit<E: Write + Drop>(fault: LimitFault, err: &mut Output<E>) -> u8
     ensures { TellsFault (limit_line fault) 2 result (channel E.contents err.old) (channel E.contents err.new) }
 {
@@ -91,7 +91,7 @@ fn tell_refused_limit<E: Write + Drop>(fault: LimitFault, err: &mut Output<E>) -
     WRONG_WORDS
 }
 
-/// Says that a query cannot be asked, and answers the status of that.
+/// Writes what is wrong with a query, and returns the exit status.
 fn tell_refused_query<E: Write + Drop>(fault: QueryFault, err: &mut Output<E>) -> u8
     ensures { TellsFault (query_line fault) (status_of_query fault) result (channel E.contents err.old)
         (channel E.contents err.new) }
@@ -100,7 +100,7 @@ fn tell_refused_query<E: Write + Drop>(fault: QueryFault, err: &mut Output<E>) -
     query_status(fault)
 }
 
-/// Says that memory was refused, and answers the status of that.
+/// Writes that memory was refused, and returns the exit status.
 pub fn tell_no_memory<E: Write + Drop>(err: &mut Output<E>) -> u8
     ensures { TellsMemory result (channel E.contents err.old) (channel E.contents err.new) }
 {

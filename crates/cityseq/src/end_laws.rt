@@ -1,8 +1,9 @@
-//! Laws of the definitions of what is shown of an end, and of which refusal a query has, proved once and for all.
+//! Laws of two definitions: what is written of an end, and which refusal a query has. Each is
+//! proved once.
 ghost use Rattle.cityseq.specs.EndRows.{FailedRow, GoodRow, LineRows, RefusedRows};
 ghost use Rattle.cityseq.specs.RefusalRows.{MemoryRows, NoMemoryRows, OtherRows};
 
-/// The end that is shown, by the flush before it, and the line and the status of each end.
+/// The end that is written, given the flush before it, and the line and the status of each end.
 pub fn ends_compute()
     ensures failed { FailedRow }
     ensures good { GoodRow }
@@ -10,7 +11,7 @@ pub fn ends_compute()
     ensures refused { RefusedRows }
 {}
 
-/// The first refusal of options, on small texts whose answers are known.
+/// The first refusal of options, on small texts with known results.
 pub fn refusals_compute()
     ensures memory { MemoryRows }
     ensures no_memory { NoMemoryRows }

@@ -1,19 +1,20 @@
-//! The program `cityseq`: it reads a CityJSONSeq stream from standard input, once and within a bound, and
-//! says whether it is valid (`check`), copies the header and the features that are wanted, byte for byte
-//! (`filter`), or reports what is in it (`info`).
+//! The program `cityseq`: it reads a CityJSONSeq stream from standard input, once and in bounded
+//! memory. It checks whether the stream is valid (`check`), copies the header and the selected
+//! features, byte for byte (`filter`), or writes a summary (`info`).
 //!
 //! A command line goes one way down, and each file calls those below it:
 //!
-//! - `command` does what the words ask for, or declines it;
-//! - `asking` makes an `Ask` of the words, with its limits and its query;
-//! - `words` has `clap` read the words, and shows the limits and the texts among them;
-//! - `ask` does what is asked, by the engine of `cj_stream`, over standard input and output;
-//! - `summary` writes what `check` and `info` say of a stream;
-//! - `decline` tells why nothing is done: help, wrong words, or a query that cannot be asked;
-//! - `reporting` has the sink that writes reports of refused lines to standard error as they come;
-//! - `report` has the lines that standard error is told, and the statuses.
+//! - `command` does what the words ask for, or declines it.
+//! - `asking` makes an `Ask` from the words, with its limits and its query.
+//! - `words` lets `clap` read the words, and returns the limits and texts of the options.
+//! - `ask` does what is asked, with the engine of `cj_stream`, over standard input and output.
+//! - `summary` writes what `check` and `info` print about a stream.
+//! - `decline` writes why nothing is done: help, wrong words, or an invalid query.
+//! - `reporting` has the sink that writes reports of invalid lines to standard error as they come.
+//! - `report` has the lines for standard error, and the exit statuses.
 //!
-//! `option_laws`, `word_laws`, `summary_laws` and `end_laws` are worked rows of the definitions, as theorems.
+//! `option_laws`, `word_laws`, `summary_laws` and `end_laws` are worked examples of the
+//! definitions, as theorems.
 #![tactic(auto)]
 
 mod ask;
@@ -40,18 +41,18 @@ use std::env;
 use std::io::{BufWriter, ErrorKind};
 use std::process::ExitCode;
 
-/// How many bytes are gathered before standard output is written to: 64 KiB.
+/// How many bytes are collected before a write to standard output: 64 KiB.
 const OUTPUT_BUFFER: usize = 65_536;
 
-/// Why the words of the command line are not to be had.
+/// Why the words of the command line are not available.
 enum WordsFault {
     /// An argument is not UTF-8, or there is none.
     NoWords,
-    /// No memory was granted.
+    /// An allocation failed.
     Memory,
 }
 
-/// The words of the command line, the program's name first.
+/// Returns the words of the command line. The first is the program's name.
 fn take_words(rt: &HostRuntime) -> Result<Vec<String>, WordsFault> {
     let arguments = match env::args(rt) {
         Ok(arguments) => arguments,
@@ -63,7 +64,7 @@ fn take_words(rt: &HostRuntime) -> Result<Vec<String>, WordsFault> {
         .map_err(|_: AllocError| WordsFault::Memory)
 }
 
-/// Runs the command over the words and the devices of the process, and answers the status.
+/// Runs the command with the words and the devices of the process, and returns the exit status.
 fn run_program(rt: &HostRuntime, alloc: Global) -> u8 {
     let mut err = Output::new(rt.stderr());
     let words = match take_words(rt) {

@@ -1,9 +1,9 @@
-//! Laws of the definition of the criteria that options make, proved once and for all.
+//! Laws of the definition of the criteria that options make, each proved once.
 ghost use Rattle.cityseq.specs.OptionRows.{NothingRow, IdRows, LodRow, TypeRows, BoxRow, OrderRows, AllRow};
 
 use cj_stream::row_laws::boxes_compute;
 
-/// The definition, on small texts whose criteria or refusals are known.
+/// The definition, on small texts with known criteria or refusals.
 pub fn options_compute()
     ensures nothing { NothingRow }
     ensures ids { IdRows }

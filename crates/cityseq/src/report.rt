@@ -1,4 +1,5 @@
-//! What the program says of an end and of a refused line: a line on standard error, and the status.
+//! What the program writes about an end and an invalid line: a line on standard error, and the exit
+//! status.
 ghost use Rattle.std.specs.Prelude.{◌≡◌, OnOk, OnErr, map, ◌∷◌, [], codes, decimal};
 ghost use Rattle.std.specs.Io.KnownBytes.{Appends};
 ghost use Rattle.cj_stream.specs.Cut.{joined};
@@ -12,19 +13,19 @@ use cj_stream::{End, Output, QueryFault, WriteFault};
 use itoa::Buffer;
 use std::io::Write;
 
-/// The status of a command line that is not understood. All others are those of an end: [`status_after`].
+/// The exit status of a wrong command line. All others are those of an end: [`status_after`].
 pub const WRONG_WORDS: u8 = 2;
 
-/// What was shown of a run: its end, and whether standard error took the line of it.
+/// What was written about a run: its end, and whether standard error took the line about it.
 #[derive(Clone, Copy, Debug, PartialEq, Eq)]
 pub struct Shown {
-    /// The run's end, or a write fault where the flush after it failed.
+    /// The run's end, or a write fault if the flush after the run failed.
     pub end: End,
-    /// Whether the line of the end was written, and all that was told before it.
+    /// Whether the line about the end was written, and everything before it.
     pub line: Result<(), WriteFault>,
 }
 
-/// The status of the program, by how it ended.
+/// Returns the exit status for an end.
 pub fn status(end: End) -> u8
     ensures { result ≡ status_of end }
 {
@@ -37,7 +38,8 @@ pub fn status(end: End) -> u8
     }
 }
 
-/// The status of the program after a run that went on after so many refused lines: no success, if there were some.
+/// Returns the exit status after a run. `refused` is the number of invalid lines after which
+/// reading went on. If there is one, the status is no success.
 pub fn status_after(refused: u64, end: End) -> u8
     ensures { result ≡ due_after refused end }
 {
@@ -47,7 +49,7 @@ pub fn status_after(refused: u64, end: End) -> u8
     }
 }
 
-/// The status of the program where a query cannot be asked.
+/// Returns the exit status for an invalid query.
 pub fn query_status(fault: QueryFault) -> u8
     ensures { result ≡ status_of_query fault }
 {
@@ -60,7 +62,7 @@ pub fn query_status(fault: QueryFault) -> u8
     }
 }
 
-/// The end that is shown of a run, by what came of the flush after it.
+/// Returns the end of a run, given the result of the flush after it.
 fn end_after(flushed: Result<(), WriteFault>, ended: End) -> End
     ensures { result ≡ shown_end flushed ended }
 {
@@ -88,7 +90,7 @@ pub fn write_parts<W: Write + Drop>(out: &mut Output<W>, parts: &[&str]) -> Resu
     Ok(())
 }
 
-/// Writes what is told of a line that is refused.
+/// Writes the report of an invalid line.
 pub fn write_refusal<E: Write + Drop>(
     err: &mut Output<E>,
     line: u64,
@@ -115,7 +117,7 @@ pub fn write_refusal<E: Write + Drop>(
     write_parts(err, &parts)
 }
 
-/// Writes the line that an end has on standard error; a complete run has none.
+/// Writes the line about an end to standard error. A complete run has none.
 pub fn write_fault_line<E: Write + Drop>(err: &mut Output<E>, end: End) -> Result<(), WriteFault>
     ensures { Wrote (fault_line end) result (channel E.contents err.old) (channel E.contents err.new) }
 {
@@ -133,7 +135,7 @@ pub fn write_fault_line<E: Write + Drop>(err: &mut Output<E>, end: End) -> Resul
     }
 }
 
-/// Writes the line that a query which cannot be asked has on standard error.
+/// Writes the line about an invalid query to standard error.
 pub fn write_query_fault<E: Write + Drop>(
     err: &mut Output<E>,
     fault: QueryFault,
@@ -149,7 +151,7 @@ pub fn write_query_fault<E: Write + Drop>(
     }
 }
 
-/// Writes the line that a limit which is out of its range has on standard error.
+/// Writes the line about a limit out of its range to standard error.
 pub fn write_limit_fault<E: Write + Drop>(
     err: &mut Output<E>,
     fault: LimitFault,
@@ -162,8 +164,8 @@ pub fn write_limit_fault<E: Write + Drop>(
     }
 }
 
-/// Says on standard error how a run ended, whose output was then flushed with this answer. A failure
-/// to write there is told by the result alone.
+/// Writes to standard error how a run ended. `flushed` is the result of the flush after it. Only
+/// the result shows a failed write to standard error.
 pub fn show<E: Write + Drop>(
     flushed: Result<(), WriteFault>,
     ended: End,
@@ -184,8 +186,8 @@ pub fn show<E: Write + Drop>(
     }
 }
 
-/// Says on standard error how a run ended, as [`show`] does, behind reports that were written with this answer: where one of
-/// them was not written whole, nothing more is.
+/// Writes to standard error how a run ended, as [`show`] does. `reported` is the result of writing
+/// the reports: after a failed write it writes nothing more.
 pub fn show_after<E: Write + Drop>(
     reported: Result<(), WriteFault>,
     flushed: Result<(), WriteFault>,

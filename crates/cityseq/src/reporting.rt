@@ -1,4 +1,4 @@
-//! The sink that writes reports of refused lines to standard error, as they come.
+//! The sink that writes reports of invalid lines to standard error, as they come.
 ghost use Rattle.std.specs.Prelude.{◌≡◌, Ok};
 ghost use Rattle.cityseq.specs.Reporting.{loan_name, lent_output, writing as answer_so_far};
 
@@ -6,8 +6,8 @@ use crate::report::write_refusal;
 use cj_stream::{Output, Report, ReportSink, WriteFault};
 use std::io::Write;
 
-/// Writes each report as the line that a run would end with at its refusal, to an output that is lent. Once a write has
-/// failed it writes nothing more; what was written until then is told by [`WriteReports::written`] alone.
+/// Writes each report to a borrowed output, as the line of a run that ends there. After a failed
+/// write it writes nothing more. Only [`WriteReports::written`] shows that failure.
 #[derive(Drop)]
 pub struct WriteReports<'e, E: Write + Drop> {
     err: &'e mut Output<E>,
@@ -15,7 +15,7 @@ pub struct WriteReports<'e, E: Write + Drop> {
 }
 
 impl<'e, E: Write + Drop> WriteReports<'e, E> {
-    /// A sink that has written nothing.
+    /// Returns a sink that has written nothing.
     pub fn new(err: &'e mut Output<E>) -> Self
         ensures same_loan { loan_name result ≡ err.entry.ghost_name }
         ensures output { lent_output result ≡ err.old }
@@ -27,7 +27,7 @@ impl<'e, E: Write + Drop> WriteReports<'e, E> {
         }
     }
 
-    /// What came of all writes so far.
+    /// Returns the result of all writes so far.
     pub fn written(&self) -> Result<(), WriteFault>
         ensures { result ≡ answer_so_far self.now }
     {

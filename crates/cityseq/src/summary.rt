@@ -1,4 +1,4 @@
-//! What `check` and `info` write of a valid stream.
+//! What `check` and `info` write about a stream.
 ghost use Rattle.std.specs.Prelude.{◌≡◌, ◌≤◌, ◌<◌, OnOk, OnErr, get_or, map, ◌∷◌, []};
 ghost use Rattle.std.specs.Io.KnownBytes.{Appends};
 ghost use Rattle.cj_stream.specs.Sink.{AppendsPart, RisesOnErr};
@@ -15,11 +15,11 @@ use cj_stream::{Output, TallySink, WriteFault};
 use itoa::Buffer;
 use std::io::Write;
 
-/// How many classes of LoDs a tally has.
+/// How many LoD classes a tally has.
 const CLASSES: u8 = 6;
 
-/// Writes what `check` says: how many lines were dealt with, how many features are among them, and how many lines that
-/// are refused, if there are some.
+/// Writes the line of `check`: how many lines were dealt with, and how many features are among
+/// them. If lines are invalid, it has their number too.
 ///
 /// # Errors
 ///
@@ -45,7 +45,7 @@ pub fn write_check<W: Write + Drop>(
     }
 }
 
-/// Writes how many lines and features a stream has of which no line is refused.
+/// Writes the number of lines and features of a valid stream.
 fn write_valid<W: Write + Drop>(
     out: &mut Output<W>,
     lines: u64,
@@ -65,7 +65,7 @@ fn write_valid<W: Write + Drop>(
     write_parts(out, &parts)
 }
 
-/// Writes how many lines and features a stream has, and how many of its lines are refused.
+/// Writes the number of lines and features of a stream, and how many of its lines are invalid.
 fn write_invalid<W: Write + Drop>(
     out: &mut Output<W>,
     lines: u64,
@@ -91,7 +91,7 @@ fn write_invalid<W: Write + Drop>(
     write_parts(out, &parts)
 }
 
-/// Writes a line: a name, and words after it, each behind a space.
+/// Writes a line: a name, and words after it, each after a space.
 fn write_line<W: Write + Drop>(
     out: &mut Output<W>,
     name: &str,
@@ -119,7 +119,7 @@ fn write_count<W: Write + Drop>(
     write_line(out, name, &[digits.format(count)])
 }
 
-/// Writes a line with the count of something among others of its kind, unless it is 0.
+/// Writes a line with the count of one name of a kind, unless it is 0.
 fn write_counted<W: Write + Drop>(
     out: &mut Output<W>,
     kind: &str,
@@ -135,7 +135,7 @@ fn write_counted<W: Write + Drop>(
     write_line(out, kind, &[name, digits.format(count)])
 }
 
-/// Writes a number, behind a space, as its coefficient, `e`, and its power of ten.
+/// Writes a space and a number, as its coefficient, `e`, and its power of ten.
 fn write_power<W: Write + Drop>(out: &mut Output<W>, number: Decimal) -> Result<(), WriteFault>
     ensures { Wrote (32 ∷ power_text number) result (channel W.contents out.old) (channel W.contents out.new) }
 {
@@ -168,7 +168,7 @@ fn write_numbers<W: Write + Drop>(
     write_text(out, "\n")
 }
 
-/// Writes how many city objects there are of each type of which there are some.
+/// Writes the number of city objects of each type that occurs.
 fn write_types<W: Write + Drop>(out: &mut Output<W>, tally: &TallySink) -> Result<(), WriteFault>
     ensures { Wrote (types_text tally.now) result (channel W.contents out.old) (channel W.contents out.new) }
 {
@@ -178,7 +178,7 @@ fn write_types<W: Write + Drop>(out: &mut Output<W>, tally: &TallySink) -> Resul
     Ok(())
 }
 
-/// The name of a class of LoDs.
+/// Returns the name of an LoD class.
 fn class_name(class: u8) -> &'static str
     requires { class ≤ 5 }
     ensures { result.now ≡ get_or class_names class [] }
@@ -193,7 +193,7 @@ fn class_name(class: u8) -> &'static str
     }
 }
 
-/// Writes how many geometries there are of each class of LoDs of which there are some.
+/// Writes the number of geometries of each LoD class that occurs.
 fn write_lods<W: Write + Drop>(out: &mut Output<W>, tally: &TallySink) -> Result<(), WriteFault>
     ensures { Wrote (lods_text tally.now) result (channel W.contents out.old) (channel W.contents out.new) }
 {
@@ -203,7 +203,7 @@ fn write_lods<W: Write + Drop>(out: &mut Output<W>, tally: &TallySink) -> Result
     Ok(())
 }
 
-/// Writes the least and the greatest number of the vertices on an axis, if there are some.
+/// Writes the least and the greatest vertex coordinate on an axis, if there is a vertex.
 fn write_range<W: Write + Drop>(
     out: &mut Output<W>,
     axis: &str,
@@ -223,7 +223,7 @@ fn write_range<W: Write + Drop>(
     )
 }
 
-/// Writes the range of each axis.
+/// Writes the range on each axis.
 fn write_ranges<W: Write + Drop>(out: &mut Output<W>, tally: &TallySink) -> Result<(), WriteFault>
     ensures { Wrote (ranges_text tally.now) result (channel W.contents out.old) (channel W.contents out.new) }
 {
@@ -244,7 +244,7 @@ fn write_tally<W: Write + Drop>(out: &mut Output<W>, tally: &TallySink) -> Resul
     write_ranges(out, tally)
 }
 
-/// Writes how much was held at most.
+/// Writes the peaks: how much was held at most.
 fn write_peaks<W: Write + Drop>(out: &mut Output<W>, peaks: Peaks) -> Result<(), WriteFault>
     ensures { Wrote (peaks_text peaks) result (channel W.contents out.old) (channel W.contents out.new) }
 {
@@ -253,12 +253,11 @@ fn write_peaks<W: Write + Drop>(out: &mut Output<W>, peaks: Peaks) -> Result<(),
     write_count(out, "peak open", peaks.depth)
 }
 
-/// Writes the report of `info`: how many lines were dealt with, the tally of the stream, and how much was
-/// held at most.
+/// Writes the summary of `info`: the number of lines, the tally of the stream, and the peaks.
 ///
 /// # Errors
 ///
-/// A write fault, after a prefix of the report.
+/// A write fault, after a prefix of the summary.
 pub fn write_report<W: Write + Drop>(
     out: &mut Output<W>,
     lines: u64,

@@ -1,7 +1,7 @@
-//! Laws of the definitions of what `check` and `info` say, proved once and for all.
+//! Laws of the definitions of what `check` and `info` write, each proved once.
 ghost use Rattle.cityseq.specs.SummaryRows.{BuildingsRow, NothingRow, UndergroundRow, CheckRow};
 
-/// The definitions, on small streams of which it is known what is said.
+/// The definitions, on small streams with known output.
 pub fn summaries_compute()
     ensures buildings { BuildingsRow }
     ensures nothing { NothingRow }

@@ -1,9 +1,10 @@
-//! Tests of what no clause says: printed texts, statuses, and devices that fail. What is read of a stream
-//! is tested with the engine, in `cj_stream`.
+//! Tests of what no clause says: printed texts, exit statuses, and devices that fail. How a stream
+//! is read is tested with the engine, in `cj_stream`.
 //!
-//! `command_rows`, `options`, `going`, `choices` and `long_texts` have inputs with what the program says of them, `texts` a header and a feature,
-//! `devices` the readers and writers that fail, and `calls` what all tests share. A body of many asserts
-//! is dear to prove, and a call is not: a row is one call of a function that checks it.
+//! `command_rows`, `options`, `going`, `choices` and `long_texts` have inputs with the expected
+//! output. `texts` has a header and a feature, and `devices` the readers and writers that fail.
+//! `calls` has what all tests share. A function with many asserts takes long to prove, and one with
+//! many calls does not. So a row is one call of a function that checks it.
 mod calls;
 mod choices;
 mod command_rows;

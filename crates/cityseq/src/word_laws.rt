@@ -1,7 +1,7 @@
-//! Laws of what the words of a command line name and give, proved once and for all.
+//! Laws of what the words of a command line name and give, each proved once.
 ghost use Rattle.cityseq.specs.WordRows.{UsualRow, GivenRow, FaultRow};
 
-/// What `clap` promises to find, on small command lines whose answers are known.
+/// What `clap` promises to find, on small command lines with known results.
 pub fn words_compute()
     ensures usual { UsualRow }
     ensures given { GivenRow }

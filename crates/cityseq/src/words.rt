@@ -1,4 +1,5 @@
-//! The words of the command line, read by `clap`: the help, and the limits and the texts that options give.
+//! The words of the command line, read by `clap`: the help, and the limits and texts of the
+//! options.
 ghost use Rattle.std.specs.Prelude.{◌≡◌, IfOk, IfErr, true, codes, decimal, map, string_bytes};
 ghost use Rattle.clap.specs.Words.{App, FailsBy, fault_of, kind_of, subcommand_of, subcommand_rows_of, new_app, takes};
 ghost use Rattle.clap.specs.declared.error.kind.ErrorKind.{ErrorKind};
@@ -11,10 +12,10 @@ use cj_stream::Options;
 use clap::{Arg, ArgAction, ArgMatches, Command, Error, value_parser};
 use std::alloc::{AllocError, Global};
 
-/// As `--version` tells it.
+/// The version that `--version` prints.
 const VERSION: &str = "0.2.0";
 
-/// The options, by the names that `clap` knows them by.
+/// The names of the options in `clap`.
 const LINE_LIMIT: &str = "line-limit";
 
 const DEPTH: &str = "depth";
@@ -33,7 +34,7 @@ const TREE: &str = "tree";
 
 const EXCLUDE: &str = "exclude";
 
-/// What follows the help on the program.
+/// The text after the help of the program.
 const STATUSES: &str = "\
 Exit status:
   0  the stream is valid up to its end
@@ -47,7 +48,7 @@ Exit status:
 A CityJSONSeq stream is read from standard input: a CityJSON 2.0 header, then a CityJSONFeature a
 line. docs/RULES.md explains each reason, and docs/GUIDE.md shows the program at work.";
 
-/// What follows the help on a command.
+/// The texts after the help of each command.
 const CHECK_EXAMPLE: &str = "\
 Examples:
   cityseq check < town.city.jsonl
@@ -79,21 +80,21 @@ and translation, city objects by type, geometries by LoD, the least and the grea
 vertices on each axis, and the most bytes, tokens and open containers that were held. See
 'cityseq --help' for the exit status.";
 
-/// The line limit where none is given, as the text that `clap` reads and shows.
+/// Returns the default line limit, as the text that `clap` reads and shows.
 fn usual_line() -> &'static str
     ensures { result.now ≡ decimal USUAL_LINE }
 {
     "8388608"
 }
 
-/// The depth limit where none is given, as the text that `clap` reads and shows.
+/// Returns the default depth limit, as the text that `clap` reads and shows.
 fn usual_depth() -> &'static str
     ensures { result.now ≡ decimal USUAL_DEPTH }
 {
     "64"
 }
 
-/// The option of the line limit.
+/// Returns the option of the line limit.
 fn line_limit<'a>(alloc: Global) -> Arg<'a>
     ensures { IsOption result line_rule }
 {
@@ -105,7 +106,7 @@ fn line_limit<'a>(alloc: Global) -> Arg<'a>
         .help("Refuse a line that is longer, from 1 to 1073741824")
 }
 
-/// The option of the depth limit.
+/// Returns the option of the depth limit.
 fn depth_limit<'a>(alloc: Global) -> Arg<'a>
     ensures { IsOption result depth_rule }
 {
@@ -117,14 +118,14 @@ fn depth_limit<'a>(alloc: Global) -> Arg<'a>
         .help("Refuse a line with more arrays and objects open at once, from 1 to 1024")
 }
 
-/// A command with the options that all commands have: the limits.
+/// Returns a command with the options that all commands have: the limits.
 fn with_limits(command: Command<'_>, alloc: Global) -> Result<Command<'_>, AllocError>
     ensures { IfOk result (λ c. (a : App) → IsCommand command.entry a → IsCommand c (limited a)) }
 {
     command.arg(line_limit(alloc))?.arg(depth_limit(alloc))
 }
 
-/// An option that is given or not, and takes no text.
+/// Returns an option that takes no text.
 fn flag<'a>(alloc: Global, name: &'a str, help: &'a str) -> Arg<'a>
     ensures { IsOption result (flag_rule name.entry.now) }
 {
@@ -134,7 +135,7 @@ fn flag<'a>(alloc: Global, name: &'a str, help: &'a str) -> Arg<'a>
         .help(help)
 }
 
-/// The option to go on after invalid lines.
+/// Returns the option to go on after invalid lines.
 fn keep_going<'a>(alloc: Global) -> Arg<'a>
     ensures { IsOption result (flag_rule (codes "keep-going")) }
 {
@@ -145,7 +146,7 @@ fn keep_going<'a>(alloc: Global) -> Arg<'a>
     )
 }
 
-/// The option to ask for trees of city objects.
+/// Returns the option to require that each city object is reached.
 fn tree<'a>(alloc: Global) -> Arg<'a>
     ensures { IsOption result (flag_rule (codes "tree")) }
 {
@@ -156,7 +157,7 @@ fn tree<'a>(alloc: Global) -> Arg<'a>
     )
 }
 
-/// An option of a query, which takes a text.
+/// Returns an option of a query, which takes a text.
 fn query_option<'a>(alloc: Global, name: &'a str, value: &'a str, help: &'a str) -> Arg<'a>
     ensures { IsOption result (text_rule name.entry.now) }
 {
@@ -166,7 +167,7 @@ fn query_option<'a>(alloc: Global, name: &'a str, value: &'a str, help: &'a str)
         .help(help)
 }
 
-/// A command with its texts, and with no options.
+/// Returns a command with its texts, and without options.
 fn described<'a>(
     alloc: Global,
     name: &'a str,
@@ -254,7 +255,8 @@ fn info_command<'a>(alloc: Global) -> Result<Command<'a>, AllocError>
     with_limits(command, alloc)?.arg(tree(alloc))
 }
 
-/// What `clap` knows of the command line: the program with its commands, their options and all help.
+/// Returns what `clap` knows of the command line: the program with its commands, their options and
+/// all help.
 fn program<'a>(alloc: Global) -> Result<Command<'a>, AllocError>
     ensures { IfOk result (λ c. IsCommand c program_app) }
 {
@@ -271,11 +273,11 @@ fn program<'a>(alloc: Global) -> Result<Command<'a>, AllocError>
         .subcommand(info_command(alloc)?)
 }
 
-/// What the words of a command line say, the program's name first.
+/// Reads the words of a command line. The first word is the program's name.
 ///
 /// # Errors
 ///
-/// What is wrong with them, or the help that they ask for, as the text of `clap`.
+/// What is wrong with the words, or the help that they ask for, as the text of `clap`.
 pub fn read_words<'a>(alloc: Global, words: &'a [String]) -> Result<ArgMatches<'a>, Error>
     ensures ok { IfOk result (λ m. subcommand_rows_of m
         ≡ subcommand_of program_app (map string_bytes words.entry.now)) }
@@ -286,18 +288,18 @@ pub fn read_words<'a>(alloc: Global, words: &'a [String]) -> Result<ArgMatches<'
     program(alloc)?.try_get_matches_from(words)
 }
 
-/// The number that an option was given, or the usual one.
+/// Returns the number that an option was given, or the default.
 fn number_of(matches: &ArgMatches, option: &str, usual: u64) -> u64
     ensures { HasNumber matches.now option.now usual result }
 {
     matches.get_one::<u64>(option).unwrap_or(usual)
 }
 
-/// The limits that a command was given, or the usual ones.
+/// Returns the limits that a command was given, or the defaults.
 ///
 /// # Errors
 ///
-/// The first that is out of its range.
+/// The first limit that is out of its range.
 pub fn limits_of(matches: &ArgMatches) -> Result<Limits, LimitFault>
     ensures ok { IfOk result (λ limits. HasLimits matches.now limits) }
     ensures err { IfErr result (λ fault. RefusesLimits matches.now fault) }
@@ -307,56 +309,56 @@ pub fn limits_of(matches: &ArgMatches) -> Result<Limits, LimitFault>
     Limits::new(line, depth)
 }
 
-/// Whether an option that takes no text was given.
+/// Returns whether an option that takes no text was given.
 fn has_flag(matches: &ArgMatches, option: &str) -> bool
     ensures { HasFlag matches.now option.now result }
 {
     matches.get_flag(option)
 }
 
-/// The options that all commands have.
+/// Returns the options that all commands have.
 fn common_options(matches: &ArgMatches) -> Options
     ensures { HasInfoOptions matches.now result }
 {
     Options::new().tree(has_flag(matches, TREE))
 }
 
-/// The options that `check` was given.
+/// Returns the options that `check` was given.
 pub fn check_options(matches: &ArgMatches) -> Options
     ensures { HasCheckOptions matches.now result }
 {
     common_options(matches).keep_going(has_flag(matches, KEEP_GOING))
 }
 
-/// The options that `filter` was given.
+/// Returns the options that `filter` was given.
 pub fn filter_options(matches: &ArgMatches) -> Options
     ensures { HasFilterOptions matches.now result }
 {
     check_options(matches).exclude(has_flag(matches, EXCLUDE))
 }
 
-/// The options that `info` was given.
+/// Returns the options that `info` was given.
 pub fn info_options(matches: &ArgMatches) -> Options
     ensures { HasInfoOptions matches.now result }
 {
     common_options(matches)
 }
 
-/// The texts of the options of a query, as they were given. Where there are commas, what stands between two of
-/// them is one id, name or LoD, also where it is empty.
+/// The texts of the options of a query, as they were given. Commas separate ids, names or LoDs,
+/// which may be empty.
 #[derive(Clone, Copy, Debug)]
 pub struct QueryTexts<'a> {
-    /// Ids of features, with commas between them.
+    /// Ids of features, separated by commas.
     pub ids: Option<&'a str>,
-    /// Names of types of city objects, with commas between them.
+    /// Names of types of city objects, separated by commas.
     pub types: Option<&'a str>,
-    /// LoDs, with commas between them.
+    /// LoDs, separated by commas.
     pub lods: Option<&'a str>,
     /// The edges of a box, `minx,miny,maxx,maxy`.
     pub bbox: Option<&'a str>,
 }
 
-/// The texts of the options of a query that a command was given.
+/// Returns the texts of the options of a query that a command was given.
 pub fn texts_of<'a>(matches: &ArgMatches<'a>) -> QueryTexts<'a>
     ensures { texts_given result ≡ texts_in matches.now }
 {

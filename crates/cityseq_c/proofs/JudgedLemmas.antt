@@ -21,7 +21,7 @@ use Rattle.cj_stream.specs.Sink.{Took}
 use Rattle.cj_stream.specs.Verdict.{Rules, ending, good, item_after, is_kept, kept, kept_from, reported, reported_first, reported_from, refusal_in, verdict}
 use Rattle.cj_stream.proofs.PartsLemmas.{first-headed, lines-headed}
 use Rattle.cityseq_c.specs.Judged.{IsJudged, Judged}
-use Rattle.cityseq_c.specs.Reports.{count_of, noted_loan, noted_room, Holds, NotesOne}
+use Rattle.cityseq_c.specs.Reports.{count_of, noted_loan, noted_room, noted_text, Holds, NotesOne}
 use Rattle.cityseq_c.specs.Request.{AreCut}
 use Rattle.cityseq_c.specs.declared.reports.Noted.{Noted}
 use Rattle.cityseq_c.specs.declared.reports.Told.{Told}
@@ -181,7 +181,7 @@ module _ {S : Type 0} (takes leaves : S → Item → S → Type 0) (rules : Rule
     (delivers : Delivers takes leaves rules (joined (take (k + 1) (header ∷ part ∷ []))) 0 o.lines s t (Some o.ended))
     (notes : Notes NotesOne rules (joined (take (k + 1) (header ∷ part ∷ []))) 0 o.lines a b)
     (good_reported : (r : List ℕ) (n : ℕ) → n ≡ length (good rules r) → reported_first rules n r ≡ reported rules r)
-    (none : count_of a ≡ 0) (lent : noted_room a ≡ old) (back : noted_loan b ≡ noted_loan a → new ≡ noted_room b) where
+    (over : noted_text a ≡ header ++ part) (none : count_of a ≡ 0) (lent : noted_room a ≡ old) (back : noted_loan b ≡ noted_loan a → new ≡ noted_room b) where
   whole : joined (header ∷ part ∷ []) ≡ header ++ part
   whole = all-joined header part
 
@@ -205,7 +205,8 @@ module _ {S : Type 0} (takes leaves : S → Item → S → Type 0) (rules : Rule
   pub judged : Judged takes leaves rules (header ++ part) o s t old new
   judged =
       let first = all-held a b (reported_first rules o.lines (header ++ part)) none of_first.noted in
-      let held : Holds (reported_first rules o.lines (header ++ part)) old new = rw (back first.0, ← lent) first.1 in
+      let held : Holds (header ++ part) (reported_first rules o.lines (header ++ part)) old new =
+      subst (λ z. Holds z (reported_first rules o.lines (header ++ part)) old new) over (rw (back first.0, ← lent) first.1) in
       record {
         tells = record {
           judged = judged-end;
@@ -217,7 +218,7 @@ module _ {S : Type 0} (takes leaves : S → Item → S → Type 0) (rules : Rule
           };
           ends = ends;
           counts = counted;
-          reports = λ free. subst (λ z. Holds z old new) (good_reported (header ++ part) o.lines (counted free).lines) held;
+          reports = λ free. subst (λ z. Holds (header ++ part) z old new) (good_reported (header ++ part) o.lines (counted free).lines) held;
           first = held;
         };
         took = λ free. subst (λ z. Took takes s (kept rules z) t) whole (put-all takes leaves rules (header ∷ part ∷ []) k s t o.ended puts free).1;

@@ -7,11 +7,13 @@ pub mod CursorLemmas
 pub mod CuttingLemmas
 pub mod FaultLemmas
 pub mod FeatureLemmas
+pub mod FinderLemmas
 pub mod FitLemmas
 pub mod ItemLemmas
 pub mod JudgedLemmas
 pub mod LineCutLemmas
 pub mod ListLemmas
+pub mod NarrowLemmas
 pub mod RangeLemmas
 pub mod RecordLemmas
 pub mod ReportLemmas

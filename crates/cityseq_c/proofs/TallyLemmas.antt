@@ -1,16 +1,25 @@
 -- What a sink has tallied of a text.
-use Rattle.std.proofs.Common.{◌≡◌, ℕ, ◌+◌, List, ◌++◌, None, get_or, refl, ap, ◌∙◌}
+use Rattle.std.proofs.Common.{◌≡◌, ℕ, ◌+◌, List, [], ◌∷◌, ◌++◌, Option, None, Some, true, cond, map, get_or, refl, sym, subst, ap, ◌∙◌, arith}
+use Rattle.std.specs.Prelude.{◌≢◌, codes, is_some, option_map}
+use Rattle.std.specs.List.{filter, last_or}
+use Rattle.std.specs.Str.{chars}
+use Rattle.cj_decimal.specs.Number.{Number as Decimal}
+use Rattle.cj_feature.specs.Shown.{transform_values}
+use Rattle.cj_stream.specs.CountSink.{is_header}
+use Rattle.cj_stream.specs.Item.{Item}
 use Rattle.cj_stream.specs.declared.ending.End.TheVariants.{Complete}
 use Rattle.cj_stream.specs.declared.running.Outcome.{Outcome}
 use Rattle.cj_stream.specs.Headline.{IsUnhindered}
 use Rattle.cj_stream.specs.Run.{Puts}
-use Rattle.cj_stream.specs.Parts.{headed, wider, JoinsTallies}
+use Rattle.cj_stream.specs.Parts.{headed, wider, IsCut, JoinsTallies}
 use Rattle.cj_stream.specs.Tallied.{capped}
-use Rattle.cj_stream.specs.TallySink.{no_tally, IsTallyOf, Tallies, TalliesRun, Tally as Tallied}
-use Rattle.cj_stream.specs.Verdict.{Rules, kept}
+use Rattle.cj_stream.specs.TallySink.{no_tally, last_shown, IsTallyOf, Tallies, TalliesRun, Tally as Tallied}
+use Rattle.cj_stream.specs.Lines.{ended_line, lines}
+use Rattle.cj_stream.specs.Verdict.{Rules, ending, item_after, kept, kept_from}
+use Rattle.cj_stream.proofs.PartsLemmas.{front-good, header-valid, kept-first}
 use Rattle.cityseq_c.specs.Called.{IsTalliedOf}
 use Rattle.cityseq_c.specs.Judged.{Judged}
-use Rattle.cityseq_c.specs.Tally.{HasCounts, IsTally}
+use Rattle.cityseq_c.specs.Tally.{AreShown, HasCounts, IsTally}
 use Rattle.cityseq_c.specs.declared.reports.Told.{Told}
 use Rattle.cityseq_c.specs.declared.tally.Tally.{Tally}
 
@@ -20,15 +29,42 @@ pub tallied : (rules : Rules) (text : List ℕ) (o : Outcome) (start t : Tallied
     → IsUnhindered o.ended → IsTalliedOf rules text told
 tallied rules text o start t old new j fresh told same law free = record { tallied = t; all = law fresh (j.took free); told = same }
 
+-- ---- two parts
+
+last-some : {A : Type 0} (x : A) (xs : List A) → last_or (Some x) xs ≡ None → ⊥
+last-some x [] h = absurd (cc h)
+last-some x (y ∷ xs) h = last-some y xs h
+
+-- the header of a complete part is kept, so its transform is known
+module _ (rules : Rules) (h a : List ℕ) (cut : IsCut h a) (done : ending rules (headed h a) ≡ Complete) where
+  kept-begins : kept rules (headed h a) ≡ item_after rules [] (ended_line h) ∷ kept_from rules (ended_line h ∷ []) (lines a)
+  kept-begins = ap (λ z. kept_from rules [] z) (front-good rules h a cut done) ∙ kept-first rules (ended_line h) (header-valid rules h a cut done) (lines a)
+
+  scale-known : (s : Option (List Decimal)) → option_map (map Some) s ≡ last_shown (codes "scale") (kept rules (headed h a)) → is_some s ≡ true
+  scale-known (Some ns) is = refl
+  scale-known None is =
+      let values : Item → List (Option Decimal) = λ i. transform_values (chars (codes "scale")) i.tree in
+      let first = item_after rules [] (ended_line h) in
+      let later = map values (filter is_header (kept_from rules (ended_line h ∷ []) (lines a))) in
+      absurd (last-some (values first) later (sym (is ∙ ap (last_shown (codes "scale")) kept-begins)))
+
+-- a tally with the transform of another
+abbrev with_transform : Tally → Tally → Tally
+with_transform told header = record told { transformed = header.transformed; scale = header.scale; translate = header.translate }
+
 -- what two parts were tallied as, by sinks that have the counts of each
-module _ (rules : Rules) (h a b : List ℕ) (first second result : Tally) (s t u : Tallied) where
-  pub tallied-then : ((x : Tallied) → IsTally x first → HasCounts x s) → ((x : Tallied) → IsTally x second → HasCounts x t) → JoinsTallies s t u → IsTally u result
+module _ (rules : Rules) (h a b : List ℕ) (first second joined header : Tally) (s t u : Tallied) where
+  pub tallied-then : IsCut h a → ending rules (headed h a) ≡ Complete → (first.transformed ≢ 0 → header ≡ first)
+      → ((x : Tallied) → IsTally x first → HasCounts x s) → ((x : Tallied) → IsTally x second → HasCounts x t) → JoinsTallies s t u → IsTally u joined
       → ((x y both : Tallied) → IsTallyOf (kept rules (headed h a)) x → IsTallyOf (kept rules (headed h b)) y → JoinsTallies x y both → IsTallyOf (kept rules (headed h (a ++ b))) both)
-      → IsTalliedOf rules (headed h a) first → IsTalliedOf rules (headed h b) second → IsTalliedOf rules (headed h (a ++ b)) result
-  tallied-then counts more joins told law x y =
+      → IsTalliedOf rules (headed h a) first → IsTalliedOf rules (headed h b) second → IsTalliedOf rules (headed h (a ++ b)) (with_transform joined header)
+  tallied-then cut done own counts more joins told law x y =
       let p = counts x.tallied x.told in
       let q = more y.tallied y.told in
       let both : Tallied = record u { scale = x.tallied.scale; translate = x.tallied.translate } in
+      let some : is_some x.tallied.scale ≡ true = scale-known rules h a cut done x.tallied.scale x.all.scale in
+      let one : first.transformed ≡ 1 = x.told.transformed ∙ ap (λ z. cond z 1 0) some in
+      let same : header ≡ first = own (λ none. absurd (omega (arith, one, none))) in
       record {
         tallied = both;
         all = law x.tallied y.tallied both x.all y.all (record {
@@ -39,5 +75,13 @@ module _ (rules : Rules) (h a b : List ℕ) (first second result : Tally) (s t u
           scale = refl;
           translate = refl;
         });
-        told = record { features = told.features; types = told.types; lods = told.lods; ranges = told.ranges };
+        told = record {
+          features = told.features;
+          types = told.types;
+          lods = told.lods;
+          ranges = told.ranges;
+          transformed = ap (λ z. z.transformed) same ∙ x.told.transformed;
+          scale = subst (λ z. AreShown x.tallied.scale z.scale) (sym same) x.told.scale;
+          translate = subst (λ z. AreShown x.tallied.translate z.translate) (sym same) x.told.translate;
+        };
       }

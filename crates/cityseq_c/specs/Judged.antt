@@ -32,8 +32,8 @@ pub record Tells (rules : Rules) (text : List ℕ) (outcome : Outcome) (old new 
   pub account : Account (run_over rules text outcome) (Unit {0})
   pub ends : IsUnhindered outcome.ended → outcome.ended ≡ ending rules text
   pub counts : IsUnhindered outcome.ended → CountsAll rules text outcome
-  pub reports : IsUnhindered outcome.ended → Holds (reported rules text) old new
-  pub first : Holds (reported_first rules outcome.lines text) old new
+  pub reports : IsUnhindered outcome.ended → Holds text (reported rules text) old new
+  pub first : Holds text (reported_first rules outcome.lines text) old new
 
 -- a text was judged: what is told of it, and what a sink took: all that is kept of it, or that of the lines that were dealt with,
 -- and then what a fault may leave

@@ -1,4 +1,5 @@
 pub mod Answer
+pub mod Begins
 pub mod Called
 pub mod Cutting
 pub mod Features

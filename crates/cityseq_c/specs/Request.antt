@@ -1,8 +1,8 @@
 -- What C asks for, and what is wrong with it.
-use Rattle.std.specs.Prelude.{◌≡◌, ◌⊎◌, ℕ, ◌+◌, ◌^◌, ◌<◌, ◌≤◌, List, [], ◌∷◌, ◌++◌, Bool, true, false, if◌then◌else◌, nat_eq, length, Option, Some, None, Result, Ok, Err, option_map}
+use Rattle.std.specs.Prelude.{◌≡◌, ◌⊎◌, ℕ, ◌+◌, ◌^◌, ◌<◌, ◌≤◌, List, [], ◌∷◌, ◌++◌, Bool, true, false, if◌then◌else◌, nat_eq, length, max, min, Option, Some, None, Result, Ok, Err, option_map}
 use Rattle.std.specs.List.{slice_split}
 use Rattle.std.specs.Str.{is_utf8}
-use Rattle.cj_budget.specs.Limits.{InLine, InDepth}
+use Rattle.cj_budget.specs.Limits.{InLine, InDepth, LimitPair}
 use Rattle.cj_stream.specs.Adding.{flags_with, no_types}
 use Rattle.cj_stream.specs.BoxText.{box_text}
 use Rattle.cj_stream.specs.Criteria.{Criteria, Box}
@@ -109,6 +109,10 @@ options_of r = record { keep_going = r.keep_going; tree = r.tree; exclude = r.ex
 -- and there is no more
 abbrev pub AreCut : List ℕ → List ℕ → Type 0
 AreCut header part = ((h : List ℕ) × NoLf h × (header ≡ h ++ newline ∷ [])) ⊎ (NoLf header × (part ≡ []))
+
+-- the limits that are needed for a header and a part: no line is longer than the longer one of these
+abbrev pub needed_limits : LimitPair → List ℕ → List ℕ → LimitPair
+needed_limits asked header part = record { line = min asked.line (max 1 (max (length header) (length part))); depth = asked.depth }
 
 -- limits are in their ranges, and a header and a part are cut so and have at most 2^60 bytes
 pub record IsFit (r : Request) (header part : List ℕ) : Type 0 where

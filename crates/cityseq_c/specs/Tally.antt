@@ -1,8 +1,15 @@
 -- A tally, as C has it.
-use Rattle.std.specs.Prelude.{◌≡◌, ℕ, ◌<◌, [], ◌∷◌, Option, None, Some, ℤ, pos, get_or, nat_eq, if◌then◌else◌}
+use Rattle.std.specs.Prelude.{◌≡◌, ℕ, ◌+◌, ◌*◌, ◌^◌, ◌<◌, List, [], ◌∷◌, Option, None, Some, ℤ, pos, get_or, int_lt, is_some, nat_eq, unsigned_abs, if◌then◌else◌}
+use Rattle.std.specs.List.{AllZip}
+use Rattle.cj_decimal.specs.Number.{Number}
 use Rattle.cj_stream.specs.TallySink.{Tally as Tallied}
 use Rattle.cityseq_c.specs.declared.tally.Range.{Range}
+use Rattle.cityseq_c.specs.declared.tally.Number.{Number as Told}
 use Rattle.cityseq_c.specs.declared.tally.Tally.{Tally}
+
+-- the number 0
+abbrev pub no_number : Told
+no_number = record { negative = 0; power = pos 0; high = 0; low = 0 }
 
 -- a range, as C has it
 abbrev pub range_of : Option (ℤ × ℤ) → Range
@@ -20,9 +27,23 @@ pub record HasCounts (t s : Tallied) : Type 0 where
   pub lods : s.lods ≡ t.lods
   pub ranges : (axis : ℕ) → axis < 3 → get_or s.ranges axis None ≡ get_or t.ranges axis None
 
--- C has the counts and the ranges of a tally
+-- C has a number: its sign, the size of its coefficient, and its power
+pub record IsDecimal (n : Number) (told : Told) : Type 0 where
+  pub negative : told.negative ≡ (if int_lt n.coefficient (pos 0) then 1 else 0)
+  pub size : told.high * 2 ^ 64 + told.low ≡ unsigned_abs n.coefficient
+  pub power : told.power ≡ n.power
+
+-- C has the numbers of a transform; zeros where there is none
+abbrev pub AreShown : Option (List Number) → List Told → Type 0
+AreShown (Some ns) told = AllZip IsDecimal ns told
+AreShown None told = told ≡ no_number ∷ no_number ∷ no_number ∷ []
+
+-- C has the counts and the ranges of a tally, and the transform
 pub record IsTally (t : Tallied) (told : Tally) : Type 0 where
   pub features : told.features ≡ t.features
   pub types : told.types ≡ t.types
   pub lods : told.lods ≡ t.lods
   pub ranges : told.ranges ≡ range_of (get_or t.ranges 0 None) ∷ range_of (get_or t.ranges 1 None) ∷ range_of (get_or t.ranges 2 None) ∷ []
+  pub transformed : told.transformed ≡ (if is_some t.scale then 1 else 0)
+  pub scale : AreShown t.scale told.scale
+  pub translate : AreShown t.translate told.translate

@@ -1,4 +1,4 @@
-//! What C is told of a stream, and of a stream by its parts.
+//! The result of a call for C, and that of two parts as one.
 ghost use Rattle.std.specs.Prelude.{◌≡◌, Result};
 ghost use Rattle.cityseq_c.specs.Answer.{answer_of, answer_to, not_judged};
 
@@ -6,33 +6,41 @@ use crate::request::NotJudged;
 use crate::words::reason_of;
 use cj_stream::{End, Outcome, Peaks};
 
-/// What came of a stream, as C has it.
+/// The result for a stream, as C has it.
 #[repr(C)]
 #[derive(Clone, Copy, Debug, PartialEq, Eq)]
 pub struct Answer {
-    /// How it ended: 0 complete, 1 a line was refused, 2 the request is wrong, 4 the output did not fit, 5 no memory.
+    /// How the call ended:
+    ///
+    /// - 0: complete.
+    /// - 1: a line is invalid.
+    /// - 2: the request is wrong.
+    /// - 4: the output does not fit.
+    /// - 5: no memory was granted.
     pub status: u32,
-    /// The code of the reason, or of what is wrong with the request.
+    /// The code of the reason, or of the request's fault. Else 0.
     pub code: u32,
-    /// The number of the refused line, from 1.
+    /// The number of the invalid line, from 1. Else 0.
     pub line: u64,
-    /// The byte in its content, from 0.
+    /// The byte in its content, from 0. Else 0.
     pub place: u64,
-    /// The lines that were dealt with.
+    /// The number of lines that were handled: the header, features, blank lines and reported ones.
     pub lines: u64,
-    /// The features that are wanted.
+    /// The number of kept features among them.
     pub kept: u64,
-    /// The lines that were reported.
+    /// The number of reported lines among them, also those without room for their report.
     pub refused: u64,
-    /// The most that was held.
+    /// The most bytes of lines that were held at once. The next two are tokens, and open arrays and
+    /// objects.
     pub peak_bytes: u64,
     pub peak_tokens: u64,
     pub peak_depth: u64,
-    /// The bytes of output that were written.
+    /// The number of bytes of output that were written.
     pub written: u64,
 }
 
-/// An answer of a status with a code alone.
+/// Returns the answer of a call that judged nothing. It has a status and a code, and all counts are
+/// 0.
 fn answer_without_lines(status: u32, code: u32) -> Answer
     ensures { result ≡ not_judged status code }
 {
@@ -51,7 +59,7 @@ fn answer_without_lines(status: u32, code: u32) -> Answer
     }
 }
 
-/// What C is told of an outcome.
+/// Returns the answer for an outcome, with the number of bytes of output.
 fn answer_of_outcome(outcome: Outcome, written: u64) -> Answer
     ensures { result ≡ answer_of outcome written }
 {
@@ -89,7 +97,7 @@ impl Answer {
     ghost use Rattle.cityseq_c.specs.Called.{IsUnjudged};
     ghost use Rattle.cityseq_c.specs.Joined.{ended_by, outcome_by, IsAnswerOf};
 
-    /// What C is told, by how it went.
+    /// Returns the answer of a call, from its outcome or from why nothing was judged.
     pub fn of(judged: Result<Outcome, NotJudged>, written: usize) -> Answer
         ensures { result ≡ answer_to judged written }
     {
@@ -100,7 +108,8 @@ impl Answer {
         }
     }
 
-    /// How a text that was judged ended; none where nothing was judged, or no call answers so.
+    /// Returns how the stream of the answer ended. None if nothing was judged, or if no call
+    /// returns such an answer.
     fn ended(&self) -> Option<End>
         ensures { result ≡ ended_by self.now }
     {
@@ -119,7 +128,7 @@ impl Answer {
         }
     }
 
-    /// How a text went that ended so.
+    /// Returns the outcome with the counts of the answer and with this end.
     fn outcome(&self, ended: End) -> Outcome
         ensures { result ≡ outcome_by self.now ended }
     {
@@ -136,9 +145,12 @@ impl Answer {
         }
     }
 
-    /// What is told of a header with the lines of two parts, by this, what is told of the header with the lines of the first,
-    /// and by `next`, of the header with what follows these. Where the first is not complete it stands for both; where nothing
-    /// of the next one was judged, its status and code go with all that is told of the first. Counts stop at 2^64 - 1.
+    /// Returns the answer for a header with the lines of two parts. This answer is for the header
+    /// with the first part, and `next` is for the header with the second.
+    ///
+    /// If this answer is not complete, it is the answer for both. If nothing of the next part was
+    /// judged, the answer has its status and code, with the counts of this one. Counts stop at
+    /// 2^64 - 1.
     pub fn then(&self, next: &Answer, header_length: usize) -> Answer
         ensures ended { self.now.status ≢ 0 → result ≡ self.now }
         ensures unjudged { self.now.status ≡ 0 → IsUnjudged next.now

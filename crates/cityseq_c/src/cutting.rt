@@ -1,12 +1,12 @@
-//! Where a part of a stream is cut.
+//! Finds where to cut a part of a stream.
 ghost use Rattle.std.specs.Prelude.{◌≡◌, take};
 ghost use Rattle.cj_stream.specs.Lines.{whole};
 ghost use Rattle.cityseq_c.specs.Cutting.{part_end as end_of_part};
 
 use memchr::{memchr, memrchr};
 
-/// Where a part ends that is to have about so many bytes: behind the last LF among them, else behind the first LF, and 0 where
-/// there is none.
+/// Returns where to cut a part of about `wanted` bytes. This is after the last LF among the first
+/// `wanted` bytes, or else after the first LF. It is 0 if there is no LF.
 pub fn part_end(part: &[u8], wanted: usize) -> usize
     ensures end { result ≡ end_of_part part.now wanted }
     ensures whole { whole (take result part.now) ≡ take result part.now }

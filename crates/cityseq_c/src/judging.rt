@@ -1,12 +1,13 @@
-//! How a header and a part are judged as one stream.
+//! Judges a header and a part as one stream.
 ghost use Rattle.std.specs.Prelude.{◌≡◌, ◌↔◌, ◌+◌, ◌++◌, ◌≤◌, ◌^◌, IsTrue, IfOk, IfErr, OnErr, OnOk, length};
 ghost use Rattle.cj_stream.specs.Engine.{IsFresh, rules_of};
 ghost use Rattle.cj_stream.specs.Sink.{HasRisen};
 ghost use Rattle.cj_stream.specs.Verdict.{Rules};
 ghost use Rattle.cityseq_c.specs.Judged.{Judged};
 ghost use Rattle.cityseq_c.specs.Query.{RefusesCall};
-ghost use Rattle.cityseq_c.specs.Request.{AreCut, IsAsked, IsFit, options_of};
+ghost use Rattle.cityseq_c.specs.Request.{AreCut, IsAsked, IsFit, needed_limits, options_of};
 
+use crate::finder::Finder;
 use crate::query::query_of;
 use crate::reports::{Noted, Told};
 use crate::request::{Fault, NotJudged, Request};
@@ -14,13 +15,13 @@ use cj_stream::{End, Engine, LimitFault, Limits, LineSink, NoMemory, Outcome, la
 use memchr::memchr;
 use std::alloc::Global;
 
-/// The most bytes of a stream.
+/// The most bytes of a header and a part together.
 const MOST_BYTES: usize = 1_152_921_504_606_846_976;
 
 const _: () = prove!(MOST_BYTES == 1 << 60);
 
-/// Whether a stream is cut into these two behind its first line, or has no more than that.
-fn are_cut(header: &[u8], part: &[u8]) -> bool
+/// Returns whether the header is one line with its LF. It may lack the LF if the part is empty.
+pub fn are_cut(header: &[u8], part: &[u8]) -> bool
     ensures { IsTrue result ↔ AreCut header.now part.now }
 {
     match memchr(b'\n', header) {
@@ -29,7 +30,15 @@ fn are_cut(header: &[u8], part: &[u8]) -> bool
     }
 }
 
-/// The limits of a request, where it and the pieces of a stream are fit for a run.
+/// Returns the limits of a request, if these and the pieces of the stream are fit for a run.
+///
+/// # Errors
+///
+/// The first of these:
+///
+/// - `LineLimit` or `DepthLimit` if that limit is out of range.
+/// - `TooLong` if the header and the part have more than 2^60 bytes.
+/// - `NoLine` if they are not cut after the first line ([`are_cut`]).
 fn limits_of(header: &[u8], part: &[u8], request: &Request<'_>) -> Result<Limits, NotJudged>
     ensures ok { IfOk result (λ limits. IsFit request.now header.now part.now
         × (limits ≡ record { line = request.now.line_limit; depth = request.now.depth_limit })) }
@@ -49,11 +58,20 @@ fn limits_of(header: &[u8], part: &[u8], request: &Request<'_>) -> Result<Limits
     Ok(limits)
 }
 
-/// Gives an engine that is new a header and a part, which are one stream.
+/// Returns the limits that an engine needs for these pieces. No line is longer than the longer
+/// piece. So a higher line limit would only take more memory.
+fn limits_needed(asked: Limits, header: &[u8], part: &[u8]) -> Limits
+    ensures { result ≡ needed_limits asked header.now part.now }
+{
+    let longest = header.len().max(part.len()).max(1) as u64;
+    Limits::new(asked.line().min(longest), asked.depth()).unwrap_or(asked)
+}
+
+/// Judges a header and a part, which are one stream, with a new engine.
 ///
 /// # Errors
 ///
-/// No memory was granted. Then neither the sink nor the room for reports has changed.
+/// `Memory` if no memory was granted. Then the sink and `reports` are as they were.
 fn judge_stream<S: LineSink>(
     engine: &mut Engine<'_>,
     header: &[u8],
@@ -71,7 +89,7 @@ fn judge_stream<S: LineSink>(
     ensures unread { OnErr result ((sink.new ≡ sink.old) × (reports.new ≡ reports.old)) }
 {
     laws::good_lines_are_kept();
-    let mut noted = Noted::new(reports);
+    let mut noted = Noted::new(Finder::new(header, part), reports);
     let outcome = put_pieces(engine, &[header, part], sink, &mut noted);
     if let End::Memory = outcome.ended {
         return Err(NotJudged::Memory);
@@ -85,12 +103,13 @@ fn judge_stream<S: LineSink>(
     })
 }
 
-/// Judges a header and a part, which are one stream, as is asked. What is kept goes to the sink, and what is reported to the
-/// room for reports.
+/// Judges a header and a part, which are one stream, as a request asks. It puts the header and the
+/// kept features to the sink. It writes the first reports to `reports`, as many as fit.
 ///
 /// # Errors
 ///
-/// What is wrong with the request, or that no memory was granted. Then neither the sink nor the room for reports has changed.
+/// `Fault` if the request is wrong, and `Memory` if no memory was granted. Then the sink and
+/// `reports` are as they were.
 pub fn judge<S: LineSink>(
     alloc: Global,
     header: &[u8],
@@ -108,7 +127,8 @@ pub fn judge<S: LineSink>(
 {
     let limits = limits_of(header, part, request)?;
     let query = query_of(alloc, request)?;
-    let mut engine = match Engine::open(alloc, limits, &query, request.options()) {
+    let needed = limits_needed(limits, header, part);
+    let mut engine = match Engine::open(alloc, needed, &query, request.options()) {
         Ok(engine) => engine,
         Err(NoMemory) => return Err(NotJudged::Memory),
     };

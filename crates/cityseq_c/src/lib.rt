@@ -1,15 +1,23 @@
-//! The library for C: streams that lie in memory are checked, filtered and tallied, each as a header and a part of what is
-//! behind it.
+//! The library for C: it checks, filters and tallies streams that lie in memory.
 //!
-//! `c/cityseq.h` declares what is exported here, and says of it what a C programmer has to know. Each export says again what
-//! the engine of `cj_stream` promises ([`cj_stream::put_pieces`]), over the two slices as the pieces of one stream. Nothing is
-//! kept from one call to the next, so any number of threads may call at once.
+//! A call takes a stream as two pieces: the header and a part. The header is the first line with
+//! its LF. A part is the bytes after the header, all or some. `c/cityseq.h` declares the exports,
+//! and has what a C programmer must know of them.
 //!
-//! - `request`: what is asked, as C spells it, and what is wrong with it; `query`: the query that its texts make;
-//! - `judging`: a header and a part are judged as one stream; `answer`: what C is told of it, and of parts as one;
-//! - `cutting`: where a part ends;
-//! - `room`: bytes that C lends for the output; `reports`: the room that it lends for reports; `tally`: what is tallied;
-//! - `words`: texts of reasons and names of types.
+//! An export promises what the engine of `cj_stream` promises ([`cj_stream::put_pieces`]), for the
+//! two slices as the pieces of one stream. No call keeps anything for the next, so any number of
+//! threads may call at once.
+//!
+//! The modules:
+//!
+//! - `request`: a request as C has it, and its faults. `query` makes the query of its texts.
+//! - `judging`: judges a header and a part as one stream.
+//! - `answer`: the result of a call for C, and that of two parts as one.
+//! - `cutting`: where a part ends. `finder`: where lines begin.
+//! - `room`: the sink that writes the output to bytes of the caller.
+//! - `reports`: the sink of reports. `features`: the sink that writes records of features.
+//! - `tally`: a tally as C has it, and that of two parts as one.
+//! - `words`: the texts of reasons and the names of types.
 #![tactic(auto)]
 
 ghost use Rattle.std.specs.Prelude.{◌≡◌, ◌≢◌, ◌+◌, ◌-◌, ◌<◌, ◌^◌, ◌++◌, ℕ, List, take, length};
@@ -22,11 +30,14 @@ ghost use Rattle.cityseq_c.specs.Answer.{not_judged};
 ghost use Rattle.cityseq_c.specs.Called.{Checks, Filters, IsTalliedOf, IsUnjudged, Lists, TalliesPart};
 ghost use Rattle.cityseq_c.specs.Cutting.{part_end};
 ghost use Rattle.cityseq_c.specs.Joined.{IsAnswerOf};
+ghost use Rattle.cityseq_c.specs.Begins.{begin_of};
+ghost use Rattle.cityseq_c.specs.Request.{AreCut};
 ghost use Rattle.cityseq_c.specs.Words.{reason_words, type_words, IsCopied};
 
 mod answer;
 mod cutting;
 mod features;
+mod finder;
 mod judging;
 mod query;
 mod reports;
@@ -40,7 +51,8 @@ mod words;
 use answer::Answer;
 use cj_stream::{IgnoreSink, TallySink, laws};
 use features::{FeatureRecord, Listed};
-use judging::judge;
+use finder::Finder;
+use judging::{are_cut, judge};
 use reports::Told;
 use request::Request;
 use room::Room;
@@ -50,7 +62,8 @@ use tally::Tally;
 /// The version of the library.
 const VERSION: &str = "0.2.0";
 
-/// The number of this interface: another one where what `c/cityseq.h` declares has changed.
+/// Returns the number of the interface. An interface with other declarations in `c/cityseq.h` has
+/// another number.
 #[unsafe(no_mangle)]
 pub extern "C" fn cityseq_interface() -> u32
     ensures { result ≡ 2 }
@@ -58,7 +71,7 @@ pub extern "C" fn cityseq_interface() -> u32
     2
 }
 
-/// Judges the lines of a stream. The first reports are written to the room for them, as many as fit.
+/// Judges the lines of a stream. It writes the first reports to `reports`, as many as fit.
 #[unsafe(no_mangle)]
 pub extern "C" fn cityseq_check(
     alloc: Global,
@@ -77,7 +90,8 @@ pub extern "C" fn cityseq_check(
     )
 }
 
-/// Judges the lines of a stream, and writes the header and the features that are wanted, as they came.
+/// Judges the lines of a stream. It writes the header and the kept features to `output`, byte for
+/// byte, and reports as [`cityseq_check`] does. A line that does not fit in `output` is the end.
 #[unsafe(no_mangle)]
 pub extern "C" fn cityseq_filter(
     alloc: Global,
@@ -96,7 +110,8 @@ pub extern "C" fn cityseq_filter(
     Answer::of(judged, room.written())
 }
 
-/// Judges the lines of a stream, and tallies the features that are wanted.
+/// Judges the lines of a stream, and tallies the kept features. It reports as [`cityseq_check`]
+/// does. If nothing was judged, `tally` is as it was.
 #[unsafe(no_mangle)]
 pub extern "C" fn cityseq_info(
     alloc: Global,
@@ -120,7 +135,8 @@ pub extern "C" fn cityseq_info(
     Answer::of(judged, 0)
 }
 
-/// Judges the lines of a stream, and writes a record of each feature that is wanted to the room for them, as many as fit.
+/// Judges the lines of a stream. It writes a record of each kept feature to `records`, in order, as
+/// many as fit. It reports as [`cityseq_check`] does.
 #[unsafe(no_mangle)]
 pub extern "C" fn cityseq_features(
     alloc: Global,
@@ -139,8 +155,9 @@ pub extern "C" fn cityseq_features(
     Answer::of(judge(alloc, header, part, request, &mut listed, reports), 0)
 }
 
-/// What is told of a header with the lines of two parts, by what is told of the header with each. Where the first is not complete
-/// it stands for both.
+/// Returns the answer for a header with the lines of two parts, from the answers for the header
+/// with each. If the first answer is not complete, it is the answer for both. The length of the
+/// output counts the header, with its `header_length` bytes, once.
 #[unsafe(no_mangle)]
 pub extern "C" fn cityseq_answer_then(first: &Answer, next: &Answer, header_length: usize) -> Answer
     ensures ended { first.now.status ≢ 0 → result ≡ first.now }
@@ -155,8 +172,8 @@ pub extern "C" fn cityseq_answer_then(first: &Answer, next: &Answer, header_leng
     first.then(next, header_length)
 }
 
-/// What is tallied of a header with the lines of two parts, by what is tallied of the header with each, of which the first is
-/// complete.
+/// Returns the tally for a header with the lines of two parts, from the tallies for the header with
+/// each. The first part is complete.
 #[unsafe(no_mangle)]
 pub extern "C" fn cityseq_tally_then(first: &Tally, next: &Tally) -> Tally
     ensures { (rules : Rules) (h a b : List ℕ) → IsCut h a → ending rules (headed h a) ≡ End.Complete
@@ -166,8 +183,8 @@ pub extern "C" fn cityseq_tally_then(first: &Tally, next: &Tally) -> Tally
     first.then(next)
 }
 
-/// Where a part ends that is to have about so many bytes: behind the last LF among them, else behind the first LF, and 0 where
-/// there is none.
+/// Returns where to cut a part of about `wanted` bytes. This is after the last LF among the first
+/// `wanted` bytes, or else after the first LF. It is 0 if there is no LF.
 #[unsafe(no_mangle)]
 pub extern "C" fn cityseq_part_end(part: &[u8], wanted: usize) -> usize
     ensures end { result ≡ part_end part.now wanted }
@@ -176,7 +193,23 @@ pub extern "C" fn cityseq_part_end(part: &[u8], wanted: usize) -> usize
     cutting::part_end(part, wanted)
 }
 
-/// Writes the words of a reason as far as they fit, and answers how many bytes they have; 0 where no reason has this code.
+/// Returns where the line of this number begins in a header and a part, in bytes from the beginning
+/// of the header. If there is no such line, it is the end of the part. It is 0 if the header is not
+/// one line.
+#[unsafe(no_mangle)]
+pub extern "C" fn cityseq_line_begin(header: &[u8], part: &[u8], line: u64) -> u64
+    ensures cut { AreCut header.now part.now → result ≡ begin_of (header.now ++ part.now) line }
+    ensures uncut { ¬ AreCut header.now part.now → result ≡ 0 }
+{
+    if are_cut(header, part) {
+        Finder::new(header, part).begin(line)
+    } else {
+        0
+    }
+}
+
+/// Writes the words of a reason as far as they fit. Returns how many bytes they have, and 0 if no
+/// reason has this code.
 #[unsafe(no_mangle)]
 pub extern "C" fn cityseq_reason_text(code: u64, text: &mut [u8]) -> usize
     ensures { IsCopied (reason_words code) text.old text.new result }
@@ -184,7 +217,7 @@ pub extern "C" fn cityseq_reason_text(code: u64, text: &mut [u8]) -> usize
     words::copy(words::reason_text(code), text)
 }
 
-/// Writes the name of the type of this number in the same way; 0 where no type has it.
+/// Writes the name of the type of this number in the same way. Returns 0 if no type has it.
 #[unsafe(no_mangle)]
 pub extern "C" fn cityseq_type_name(number: u64, text: &mut [u8]) -> usize
     ensures { IsCopied (type_words number) text.old text.new result }

@@ -1,4 +1,4 @@
-//! The query that the texts of a request make.
+//! Makes the query of a request.
 ghost use Rattle.std.specs.Prelude.{◌≡◌, None, Some, Ok, Err, IfOk, IfErr, OnOk, MatchOption};
 ghost use Rattle.cj_stream.specs.Adding.{flags_with, no_types};
 ghost use Rattle.cj_stream.specs.Query.{criteria};
@@ -9,7 +9,11 @@ use crate::request::{Fault, NotJudged, Request};
 use cj_stream::{Query, QueryFault};
 use std::alloc::Global;
 
-/// A text, if it is asked for.
+/// Returns a text of a request. None if the request does not ask for it.
+///
+/// # Errors
+///
+/// `NotUtf8` if it is asked for and is not UTF-8.
 fn text_of(asked: bool, text: &[u8]) -> Result<Option<&str>, NotJudged>
     ensures { Reads (text_asked asked text.now) result }
 {
@@ -22,7 +26,11 @@ fn text_of(asked: bool, text: &[u8]) -> Result<Option<&str>, NotJudged>
     }
 }
 
-/// Sets the part on ids to the items of a text.
+/// Sets the part on ids to the texts between the LFs of `ids`. An empty `ids` has no text.
+///
+/// # Errors
+///
+/// `Memory` if no memory was granted.
 fn add_ids(query: &mut Query, ids: &str) -> Result<(), NotJudged>
     ensures ok { OnOk result (criteria query.new ≡ record (criteria query.old) { ids = Some (items ids.now) }) }
     ensures memory { IfErr result (λ why. why ≡ NotJudged.Memory) }
@@ -40,7 +48,11 @@ fn add_ids(query: &mut Query, ids: &str) -> Result<(), NotJudged>
     Ok(())
 }
 
-/// Sets the part on LoDs to the items of a text.
+/// Sets the part on LoDs to the texts between the LFs of `lods`. An empty `lods` has no text.
+///
+/// # Errors
+///
+/// `Memory` if no memory was granted.
 fn add_lods(query: &mut Query, lods: &str) -> Result<(), NotJudged>
     ensures ok { OnOk result (criteria query.new ≡ record (criteria query.old) { lods = Some (items lods.now) }) }
     ensures memory { IfErr result (λ why. why ≡ NotJudged.Memory) }
@@ -57,7 +69,12 @@ fn add_lods(query: &mut Query, lods: &str) -> Result<(), NotJudged>
     Ok(())
 }
 
-/// Sets the part on types to those whose names are the items of a text.
+/// Sets the part on types to those with the names between the LFs of `types`. An empty `types` has
+/// no name.
+///
+/// # Errors
+///
+/// `UnknownType` if no type has one of the names.
 fn add_types(query: &mut Query, types: &str) -> Result<(), NotJudged>
     ensures { MatchOption (flags_with (items types.now) no_types)
         (result ≡ Err (NotJudged.Fault Fault.UnknownType))
@@ -75,7 +92,7 @@ fn add_types(query: &mut Query, types: &str) -> Result<(), NotJudged>
     Ok(())
 }
 
-/// What is wrong with the text of a box.
+/// Returns the fault of a request whose box the query rejects.
 fn box_fault(fault: QueryFault) -> Fault
     ensures { result ≡ fault_of_box fault }
 {
@@ -87,7 +104,11 @@ fn box_fault(fault: QueryFault) -> Fault
     }
 }
 
-/// Sets the part on ids, if it is asked for.
+/// Sets the part on ids, if the request asks for it.
+///
+/// # Errors
+///
+/// `NotUtf8` if the text is not UTF-8. `Memory` if no memory was granted.
 fn set_ids(query: &mut Query, request: &Request<'_>) -> Result<(), NotJudged>
     requires { (criteria query.old).ids ≡ None }
     ensures ok { OnOk result ((ids_asked request.now ≡ Ok (criteria query.new).ids)
@@ -100,7 +121,11 @@ fn set_ids(query: &mut Query, request: &Request<'_>) -> Result<(), NotJudged>
     }
 }
 
-/// Sets the part on types, if it is asked for.
+/// Sets the part on types, if the request asks for it.
+///
+/// # Errors
+///
+/// `NotUtf8` if the text is not UTF-8. `UnknownType` if no type has one of the names.
 fn set_types(query: &mut Query, request: &Request<'_>) -> Result<(), NotJudged>
     requires { (criteria query.old).types ≡ None }
     ensures ok { OnOk result ((types_asked request.now ≡ Ok (criteria query.new).types)
@@ -113,7 +138,11 @@ fn set_types(query: &mut Query, request: &Request<'_>) -> Result<(), NotJudged>
     }
 }
 
-/// Sets the part on LoDs, if it is asked for.
+/// Sets the part on LoDs, if the request asks for it.
+///
+/// # Errors
+///
+/// `NotUtf8` if the text is not UTF-8. `Memory` if no memory was granted.
 fn set_lods(query: &mut Query, request: &Request<'_>) -> Result<(), NotJudged>
     requires { (criteria query.old).lods ≡ None }
     ensures ok { OnOk result ((lods_asked request.now ≡ Ok (criteria query.new).lods)
@@ -126,7 +155,11 @@ fn set_lods(query: &mut Query, request: &Request<'_>) -> Result<(), NotJudged>
     }
 }
 
-/// Sets the box, if it is asked for.
+/// Sets the box, if the request asks for it.
+///
+/// # Errors
+///
+/// `NotUtf8` if the text is not UTF-8. `BadBox`, `BoxRange` or `EmptyBox` if it is no box.
 fn set_box(query: &mut Query, request: &Request<'_>) -> Result<(), NotJudged>
     requires { (criteria query.old).box ≡ None }
     ensures ok { OnOk result ((box_asked request.now ≡ Ok (criteria query.new).box)
@@ -142,11 +175,12 @@ fn set_box(query: &mut Query, request: &Request<'_>) -> Result<(), NotJudged>
     }
 }
 
-/// The query that a request asks for. The parts are read in the order ids, types, LoDs, box.
+/// Returns the query that a request asks for. It reads the parts in this order: ids, types, LoDs,
+/// box.
 ///
 /// # Errors
 ///
-/// The first refusal.
+/// The first fault of the parts in this order, or `Memory` if no memory was granted.
 pub fn query_of(alloc: Global, request: &Request<'_>) -> Result<Query, NotJudged>
     ensures ok { IfOk result (λ query. AsksFor request.now (criteria query)) }
     ensures refused { IfErr result (RefusesQuery request.now) }

@@ -1,14 +1,17 @@
-//! The room that C lends for reports: the sink of reports that writes to it.
+//! The sink that writes reports to a slice of the caller.
 ghost use Rattle.std.specs.Prelude.{◌≤◌, length};
 
+use crate::finder::Finder;
 use cj_stream::{Report, ReportSink};
 
-/// A report, as C has it.
+/// An invalid line after which reading went on, as C has it.
 #[repr(C)]
 #[derive(Clone, Copy, Debug, PartialEq, Eq)]
 pub struct Told {
-    /// The line's number, from 1.
+    /// The number of the line in the header and the part, from 1.
     pub line: u64,
+    /// Where the line begins in the header and the part, in bytes from 0.
+    pub begin: u64,
     /// The byte in its content, from 0.
     pub place: u64,
     /// The code of the reason.
@@ -17,23 +20,27 @@ pub struct Told {
 
 impl Told {
     ghost use Rattle.std.specs.Prelude.{◌≡◌};
-    ghost use Rattle.cityseq_c.specs.Reports.{told as told_of};
+    ghost use Rattle.cityseq_c.specs.Reports.{finder_text, told as told_of};
 
-    /// A report, as C has it.
-    fn of(report: Report) -> Told
-        ensures { result ≡ told_of report }
+    /// Returns a report as C has it. `finder` finds where its line begins.
+    fn of(report: Report, finder: &mut Finder<'_>) -> Told
+        ensures told { result ≡ told_of (finder_text finder.old) report }
+        ensures text { finder_text finder.new ≡ finder_text finder.old }
     {
         Told {
             line: report.line,
+            begin: finder.begin(report.line),
             place: report.place,
             code: report.reason.code() as u64,
         }
     }
 }
 
-/// Room that is lent for reports, and how many are in it. Those that do not fit are left out.
+/// A slice of the caller for the reports of a header and a part, and the number of reports in it.
+/// Reports that do not fit are left out.
 #[derive(Drop)]
 pub struct Noted<'a> {
+    finder: Finder<'a>,
     reports: &'a mut [Told],
     count: usize,
     ghost room: { count ≤ length reports.now },
@@ -41,15 +48,20 @@ pub struct Noted<'a> {
 
 impl<'a> Noted<'a> {
     ghost use Rattle.std.specs.Prelude.{◌≡◌};
-    ghost use Rattle.cityseq_c.specs.Reports.{count_of, noted_loan, noted_room};
+    ghost use Rattle.cityseq_c.specs.Reports.{count_of, finder_text, noted_loan, noted_room, noted_text};
 
-    /// Room with no report in it.
-    pub fn new(reports: &'a mut [Told]) -> Noted<'a>
+    /// Returns a sink that has written no report. Lines begin where `finder` finds them.
+    pub fn new(finder: Finder<'a>, reports: &'a mut [Told]) -> Noted<'a>
+        ensures text { noted_text result ≡ finder_text finder.entry }
         ensures loan { noted_loan result ≡ reports.entry.ghost_name }
         ensures room { noted_room result ≡ reports.old }
         ensures count { count_of result ≡ 0 }
     {
-        Noted { reports, count: 0 }
+        Noted {
+            finder,
+            reports,
+            count: 0,
+        }
     }
 }
 
@@ -60,7 +72,7 @@ impl ReportSink for Noted<'_> {
 
     fn report(&mut self, report: Report) {
         if self.count < self.reports.len() {
-            self.reports[self.count] = Told::of(report);
+            self.reports[self.count] = Told::of(report, &mut self.finder);
             self.count += 1;
         }
     }

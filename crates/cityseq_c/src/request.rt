@@ -1,31 +1,32 @@
-//! What C asks for, and what is wrong with it.
+//! A request as C has it, and its faults.
 ghost use Rattle.std.specs.Prelude.{◌≡◌, OnOk, IfErr};
 ghost use Rattle.cityseq_c.specs.Request.{fault_code};
 
 use cj_stream::Options;
 
-/// How lines are judged, and which features are wanted, as C spells it. Ids, types and LoDs are texts in UTF-8 with LF between
-/// them, and none where the text is empty.
+/// How lines are judged, and which features are kept: those that satisfy each part of the query
+/// that is set. Ids, types and LoDs are texts in UTF-8, with an LF between each two. A length of 0
+/// means no text.
 #[repr(C)]
 #[derive(Clone, Copy)]
 pub struct Request<'a> {
-    /// The most bytes of a line.
+    /// The most bytes of a line without its LF.
     pub line_limit: u64,
-    /// The most open arrays and objects.
+    /// The most arrays and objects that are open at once.
     pub depth_limit: u64,
-    /// Whether reading goes on after an invalid line that is not the first.
+    /// Whether an invalid line after the header is reported, and reading goes on.
     pub keep_going: bool,
-    /// Whether each city object has to be reached from the main one.
+    /// Whether each city object must be reached from the feature's main one.
     pub tree: bool,
-    /// Whether the features that satisfy the query are left out.
+    /// Whether the features that satisfy the query are left out, and all others kept.
     pub exclude: bool,
-    /// Whether the id has to be one of `ids`.
+    /// Whether the id must be one of `ids`.
     pub asks_ids: bool,
-    /// Whether some city object has to have one of the `types`.
+    /// Whether some city object must have one of the `types`.
     pub asks_types: bool,
-    /// Whether some geometry has to have one of the `lods`.
+    /// Whether some geometry must have one of the `lods`, spelled the same.
     pub asks_lods: bool,
-    /// Whether some vertices have to be in the box.
+    /// Whether some vertices must be in the box.
     pub asks_box: bool,
     pub ids: &'a [u8],
     pub types: &'a [u8],
@@ -41,33 +42,33 @@ pub enum Fault {
     LineLimit,
     /// The depth limit is out of range.
     DepthLimit,
-    /// The header is not one line that LF ends, and there is a part.
+    /// The header is not one line with its LF. It may lack the LF if the part is empty.
     NoLine,
     /// A text is not UTF-8.
     NotUtf8,
-    /// No type of city objects has this name.
+    /// No city object type has this name.
     UnknownType,
     /// The box is not four numbers with commas between them.
     BadBox,
     /// A number of the box is out of range.
     BoxRange,
-    /// A least edge of the box is above the greatest.
+    /// The least edge of the box is above the greatest.
     EmptyBox,
-    /// The stream has more than 2^60 bytes.
+    /// The header and the part have more than 2^60 bytes.
     TooLong,
 }
 
-/// Why a stream is not judged.
+/// Why nothing of a stream is judged.
 #[derive(Clone, Copy, Debug, PartialEq, Eq)]
 pub enum NotJudged {
     /// The request is wrong.
     Fault(Fault),
-    /// No memory was granted for the query.
+    /// No memory was granted.
     Memory,
 }
 
 impl Fault {
-    /// The number that stands for it in C.
+    /// Returns its number in C, a `cityseq_fault`.
     pub fn code(self) -> u32
         ensures { result ≡ fault_code self }
     {
@@ -88,7 +89,7 @@ impl Fault {
 impl Request<'_> {
     ghost use Rattle.cityseq_c.specs.Request.{options_of};
 
-    /// The options that are set.
+    /// Returns the options that are set.
     pub fn options(&self) -> Options
         ensures { result ≡ options_of self.now }
     {

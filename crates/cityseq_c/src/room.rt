@@ -1,9 +1,10 @@
-//! The bytes that C lends for an output: the sink that writes to them.
+//! The sink that writes the output to bytes of the caller.
 ghost use Rattle.std.specs.Prelude.{◌≤◌, length};
 
 use cj_stream::{Feature, Header, LineSink, WriteFault};
 
-/// Bytes that are lent, of which the first are written. It counts how often a line did not fit; at 2^64 - 1 the count stays.
+/// Bytes of the caller, with the number of those that are written. It counts how often a line did
+/// not fit. The count stops at 2^64 - 1.
 #[derive(Drop)]
 pub struct Room<'a> {
     bytes: &'a mut [u8],
@@ -17,7 +18,7 @@ impl<'a> Room<'a> {
     ghost use Rattle.cj_stream.specs.Lines.{raw};
     ghost use Rattle.cityseq_c.specs.Room.{room_bytes, room_loan, written_of, room_failures, Grows, Stays};
 
-    /// Room in which nothing is written.
+    /// Returns room in which nothing is written.
     pub fn new(bytes: &'a mut [u8]) -> Room<'a>
         ensures loan { room_loan result ≡ bytes.entry.ghost_name }
         ensures bytes { room_bytes result ≡ bytes.old }
@@ -31,14 +32,14 @@ impl<'a> Room<'a> {
         }
     }
 
-    /// How many bytes are written.
+    /// Returns how many bytes are written.
     pub fn written(&self) -> usize
         ensures { result ≡ written_of self.now }
     {
         self.written
     }
 
-    /// Writes bytes behind those that are written, which leave room for them.
+    /// Writes bytes after those that are written. The rest of the room must hold them.
     fn write(&mut self, bytes: &[u8])
         requires { written_of self.old + length bytes.now ≤ length (room_bytes self.old) }
         ensures { Grows self.old bytes.now self.new }
@@ -48,7 +49,11 @@ impl<'a> Room<'a> {
         self.written = end;
     }
 
-    /// Writes a line as it came, if there is room for all of it.
+    /// Writes a line as it came.
+    ///
+    /// # Errors
+    ///
+    /// `WriteFault` if there is no room for all of the line. Then it writes nothing of it.
     fn write_line(&mut self, content: &[u8], lf: bool) -> Result<(), WriteFault>
         ensures ok { OnOk result (Grows self.old (raw (record { content = content.now; lf = lf })) self.new) }
         ensures fault { OnErr result (Stays self.old (raw (record { content = content.now; lf = lf })) self.new) }

@@ -1,10 +1,11 @@
-//! What is tallied, as C has it, and of a stream by its parts.
+//! A tally as C has it, and that of two parts as one.
 ghost use Rattle.std.specs.Prelude.{◌≡◌};
-ghost use Rattle.cityseq_c.specs.Tally.{IsTally, range_of as range_told, range_by};
+ghost use Rattle.cityseq_c.specs.Tally.{AreShown, IsDecimal, IsTally, range_of as range_told, range_by};
 
+use cj_decimal::Decimal;
 use cj_stream::{TallySink, laws};
 
-/// The least and the greatest number on an axis.
+/// The least and the greatest whole number on an axis.
 #[repr(C)]
 #[derive(Clone, Copy, Debug, PartialEq, Eq)]
 pub struct Range {
@@ -14,20 +15,70 @@ pub struct Range {
     pub greatest: i64,
 }
 
-/// What is in the features that are wanted.
+/// The number `(high * 2^64 + low) * 10^power`, exactly. It is below 0 if `negative` is 1.
+#[repr(C)]
+#[derive(Clone, Copy, Debug, PartialEq, Eq)]
+pub struct Number {
+    pub negative: u32,
+    pub power: i32,
+    pub high: u64,
+    pub low: u64,
+}
+
+/// The kept features in numbers, and the transform of the header.
 #[repr(C)]
 #[derive(Clone, Copy, Debug)]
 pub struct Tally {
     pub features: u64,
-    /// City objects by the number of their type.
+    /// The number of city objects of each type, by the type's number.
     pub types: [u64; 33],
-    /// Geometries by the class of their LoD: 0 to 4, and 5 for any other.
+    /// The number of geometries in each LoD class: 0 to 4, and 5 for any other.
     pub lods: [u64; 6],
-    /// The numbers of vertices on x, y and z, as they stand in the features.
+    /// The vertices on x, y and z, as the features have them.
     pub ranges: [Range; 3],
+    /// 1 if the header is valid. Else 0, and so are the numbers below.
+    pub transformed: u64,
+    /// The world coordinate of a vertex on x, y and z is its number times this,
+    pub scale: [Number; 3],
+    /// plus this.
+    pub translate: [Number; 3],
 }
 
-/// A range, as C has it.
+/// The number 0.
+const ZERO: Number = Number {
+    negative: 0,
+    power: 0,
+    high: 0,
+    low: 0,
+};
+
+/// Returns a decimal as C has it.
+fn number_of(decimal: Decimal) -> Number
+    ensures { IsDecimal decimal result }
+{
+    let size = decimal.coefficient().unsigned_abs();
+    Number {
+        negative: (decimal.coefficient() < 0) as u32,
+        power: decimal.power(),
+        high: (size >> 64) as u64,
+        low: (size % (1 << 64)) as u64,
+    }
+}
+
+/// Returns the numbers of a transform as C has them. They are 0 if there is no transform.
+fn numbers_of(numbers: Option<[Decimal; 3]>) -> [Number; 3]
+    ensures { AreShown numbers result }
+{
+    match numbers {
+        Some(numbers) => {
+            let [x, y, z] = numbers;
+            [number_of(x), number_of(y), number_of(z)]
+        }
+        None => [ZERO; 3],
+    }
+}
+
+/// Returns a range as C has it.
 pub fn range_of(range: Option<(i64, i64)>) -> Range
     ensures { result ≡ range_told range }
 {
@@ -45,7 +96,7 @@ pub fn range_of(range: Option<(i64, i64)>) -> Range
     }
 }
 
-/// A range that C has.
+/// Returns the range that C has. None if it is empty.
 fn range_in(range: Range) -> Option<(i64, i64)>
     ensures { result ≡ range_by range }
 {
@@ -65,7 +116,7 @@ impl Tally {
     ghost use Rattle.cityseq_c.specs.Called.{IsTalliedOf};
     ghost use Rattle.cityseq_c.specs.Tally.{HasCounts};
 
-    /// What a sink has tallied.
+    /// Returns the tally of a sink as C has it.
     pub fn of(sink: &TallySink) -> Tally
         ensures { IsTally sink.now result }
     {
@@ -78,10 +129,13 @@ impl Tally {
                 range_of(sink.range(1)),
                 range_of(sink.range(2)),
             ],
+            transformed: sink.scale().is_some() as u64,
+            scale: numbers_of(sink.scale()),
+            translate: numbers_of(sink.translate()),
         }
     }
 
-    /// A sink that has tallied this.
+    /// Returns a sink with the counts and ranges of the tally, and no header.
     fn sink(&self) -> TallySink
         ensures { (tallied : Tallied) → IsTally tallied self.now → HasCounts tallied result }
     {
@@ -94,14 +148,21 @@ impl Tally {
         )
     }
 
-    /// What is tallied of a header with the lines of two parts, by this, what is tallied of the header with the lines of the
-    /// first, which is complete, and by `next`, of the header with what follows these. Counts stop at 2^64 - 1.
+    /// Returns the tally for a header with the lines of two parts. This tally is for the header
+    /// with the first part, which is complete. `next` is for the header with the second. Counts
+    /// stop at 2^64 - 1.
     pub fn then(&self, next: &Tally) -> Tally
         ensures { (rules : Rules) (h a b : List ℕ) → IsCut h a → ending rules (headed h a) ≡ End.Complete
             → IsTalliedOf rules (headed h a) self.now → IsTalliedOf rules (headed h b) next.now
             → IsTalliedOf rules (headed h (a ++ b)) result }
     {
         laws::parts_are_joined();
-        Tally::of(&self.sink().then(&next.sink()))
+        let header = if self.transformed == 0 { next } else { self };
+        Tally {
+            transformed: header.transformed,
+            scale: header.scale,
+            translate: header.translate,
+            ..Tally::of(&self.sink().then(&next.sink()))
+        }
     }
 }

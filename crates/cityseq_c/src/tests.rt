@@ -1,12 +1,13 @@
-//! Each export, run with ample memory: on a header and a feature, on lines that are invalid, and on requests that are wrong.
+//! Runs each export with enough memory. The inputs are a header and a feature, invalid lines, and
+//! wrong requests.
 use crate::features::FeatureRecord;
 use crate::reports::Told;
 use crate::request::Request;
-use crate::tally::{Range, Tally};
+use crate::tally::{Number, Range, Tally};
 use crate::{
     Answer, cityseq_answer_then, cityseq_check, cityseq_features, cityseq_filter, cityseq_info,
-    cityseq_interface, cityseq_part_end, cityseq_reason_text, cityseq_tally_then,
-    cityseq_type_name, cityseq_version,
+    cityseq_interface, cityseq_line_begin, cityseq_part_end, cityseq_reason_text,
+    cityseq_tally_then, cityseq_type_name, cityseq_version,
 };
 use std::process::Abort;
 use std::test::Fail;
@@ -19,18 +20,19 @@ const HEADER: &[u8] =
 const FEATURE: &[u8] =
     b"{\"type\":\"CityJSONFeature\",\"id\":\"b1\",\"CityObjects\":{\"b1\":{\"type\":\"Building\",\"geometry\":[{\"type\":\"MultiSurface\",\"lod\":\"2.2\",\"boundaries\":[[[0,1,2,3]]]}]}},\"vertices\":[[0,0,0],[1000,0,0],[1000,1000,0],[0,1000,0]]}\n";
 
-/// The same with an index that is one too great, and a line that is no JSON text.
+/// The same feature with an index that is one too great, and then a line that is no JSON text.
 const BROKEN: &[u8] =
     b"{\"type\":\"CityJSONFeature\",\"id\":\"b1\",\"CityObjects\":{\"b1\":{\"type\":\"Building\",\"geometry\":[{\"type\":\"MultiSurface\",\"lod\":\"2.2\",\"boundaries\":[[[0,1,2,4]]]}]}},\"vertices\":[[0,0,0],[1000,0,0],[1000,1000,0],[0,1000,0]]}\n{\n";
 
-/// Room for no report.
+/// A report of nothing.
 const NO_REPORT: Told = Told {
     line: 0,
+    begin: 0,
     place: 0,
     code: 0,
 };
 
-/// A request for all features at the usual limits.
+/// Returns a request for all features, at the usual limits.
 fn usual<'a>() -> Request<'a> {
     Request {
         line_limit: 8_388_608,
@@ -49,13 +51,13 @@ fn usual<'a>() -> Request<'a> {
     }
 }
 
-/// Compares how a call ended.
+/// Checks how a call ended: status, code, line and place.
 fn check_ended(rt: &impl Abort, answer: Answer, wanted: (u32, u32, u64, u64)) {
     let ended = (answer.status, answer.code, answer.line, answer.place);
     assert_eq!(rt; ended, wanted);
 }
 
-/// Compares what was counted.
+/// Checks the counts of an answer: lines, kept features, reported lines, and bytes of output.
 fn check_counts(rt: &impl Abort, answer: Answer, wanted: (u64, u64, u64, u64)) {
     let counts = (answer.lines, answer.kept, answer.refused, answer.written);
     assert_eq!(rt; counts, wanted);
@@ -85,12 +87,30 @@ fn invalid_lines_are_reported(rt: HostRuntime) -> Result<(), Fail> {
         keep_going: true,
         ..usual()
     };
-    let mut reports = [NO_REPORT; 1];
+    let mut reports = [NO_REPORT; 2];
     let answer = cityseq_check(rt.alloc(), HEADER, BROKEN, &request, &mut reports);
     check_ended(&rt, answer, (0, 0, 0, 0));
     check_counts(&rt, answer, (3, 0, 2, 0));
     let told = reports[0];
-    assert_eq!(rt; (told.line, told.place, told.code), (2, 144, 25));
+    assert_eq!(rt;
+        (told.line, told.begin, told.place, told.code),
+        (2, 141, 144, 25)
+    );
+    let told = reports[1];
+    assert_eq!(rt;
+        (told.line, told.begin, told.place, told.code),
+        (3, 352, 1, 4)
+    );
+    Ok(())
+}
+
+#[test]
+fn lines_begin_where_they_stand(rt: HostRuntime) -> Result<(), Fail> {
+    assert_eq!(rt; cityseq_line_begin(HEADER, b"ab\nc", 1), 0);
+    assert_eq!(rt; cityseq_line_begin(HEADER, b"ab\nc", 2), 141);
+    assert_eq!(rt; cityseq_line_begin(HEADER, b"ab\nc", 3), 144);
+    assert_eq!(rt; cityseq_line_begin(HEADER, b"ab\nc", 4), 145);
+    assert_eq!(rt; cityseq_line_begin(b"{}", b"ab", 2), 0);
     Ok(())
 }
 
@@ -113,7 +133,17 @@ fn an_output_that_does_not_fit_is_cut(rt: HostRuntime) -> Result<(), Fail> {
     Ok(())
 }
 
-/// The tally of nothing.
+/// Returns the number `low * 10^power`.
+fn number(low: u64, power: i32) -> Number {
+    Number {
+        negative: 0,
+        power,
+        high: 0,
+        low,
+    }
+}
+
+/// Returns the tally of nothing.
 fn no_tally() -> Tally {
     Tally {
         features: 0,
@@ -124,6 +154,9 @@ fn no_tally() -> Tally {
             least: 0,
             greatest: 0,
         }; 3],
+        transformed: 0,
+        scale: [number(0, 0); 3],
+        translate: [number(0, 0); 3],
     }
 }
 
@@ -135,6 +168,11 @@ fn a_feature_is_tallied(rt: HostRuntime) -> Result<(), Fail> {
     assert_eq!(rt; (tally.features, tally.types[1], tally.lods[2]), (1, 1, 1));
     let x = tally.ranges[0];
     assert_eq!(rt; (x.some, x.least, x.greatest), (1, 0, 1000));
+    assert_eq!(rt; (tally.transformed, tally.scale[2]), (1, number(1, -3)));
+    assert_eq!(rt;
+        (tally.translate[1], tally.translate[2]),
+        (number(2, 3), number(0, 0))
+    );
     Ok(())
 }
 
@@ -241,6 +279,7 @@ fn two_tallies_are_joined(rt: HostRuntime) -> Result<(), Fail> {
     let both = cityseq_tally_then(&tally, &tally);
     assert_eq!(rt; (both.features, both.types[1], both.lods[2]), (2, 2, 2));
     assert_eq!(rt; both.ranges[0], tally.ranges[0]);
+    assert_eq!(rt; (both.transformed, both.translate[0]), (1, number(1, 3)));
     Ok(())
 }
 
@@ -252,7 +291,7 @@ fn a_part_is_cut(rt: HostRuntime) -> Result<(), Fail> {
     Ok(())
 }
 
-/// Compares bytes.
+/// Checks bytes.
 fn check_text(rt: &impl Abort, got: &[u8], wanted: &[u8]) {
     assert_eq!(rt; got, wanted);
 }

@@ -1,11 +1,11 @@
-//! Texts of reasons and names of types, by their numbers.
+//! The texts of reasons, by their codes, and the names of types, by their numbers.
 ghost use Rattle.std.specs.Prelude.{◌≡◌, length};
 ghost use Rattle.cityseq_c.specs.Words.{IsCopied, reason_with, reason_words, reasons, type_words};
 
 use cj_geometry::ObjectType;
 use cj_stream::Reason;
 
-/// All reasons, in the order of their codes.
+/// Returns all reasons, in the order of their codes.
 fn all_reasons() -> [Reason; 27]
     ensures { result ≡ reasons }
 {
@@ -40,7 +40,7 @@ fn all_reasons() -> [Reason; 27]
     ]
 }
 
-/// The reason of a code, if there is one.
+/// Returns the reason with this code. None if there is none.
 pub fn reason_of(code: u64) -> Option<Reason>
     ensures { result ≡ reason_with code }
 {
@@ -52,7 +52,7 @@ pub fn reason_of(code: u64) -> Option<Reason>
     None
 }
 
-/// The text of the reason of a code; empty where there is none.
+/// Returns the text of the reason with this code. It is empty if there is none.
 pub fn reason_text(code: u64) -> &'static str
     ensures { result.now ≡ reason_words code }
 {
@@ -62,7 +62,7 @@ pub fn reason_text(code: u64) -> &'static str
     }
 }
 
-/// The name of the type of a number; empty where there is none.
+/// Returns the name of the type with this number. It is empty if there is none.
 pub fn type_name(number: u64) -> &'static str
     ensures { result.now ≡ type_words number }
 {
@@ -74,7 +74,7 @@ pub fn type_name(number: u64) -> &'static str
     ""
 }
 
-/// Copies a text as far as it fits, and answers how many bytes it has.
+/// Copies a text to `room` as far as it fits. Returns how many bytes the text has.
 pub fn copy(text: &str, room: &mut [u8]) -> usize
     ensures { IsCopied text.now room.old room.new result }
 {

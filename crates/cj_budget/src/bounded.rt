@@ -1,18 +1,20 @@
-//! A list with a limit, which keeps its greatest length.
+//! A list with a limit, which remembers its greatest length.
 //!
-//! Three numbers are apart: the length, the peak (the greatest length so far) and the limit. The peak is
-//! told by the list itself, so that what was held inside a call is counted too. Whatever takes elements
-//! away has to store the peak first, as `clear` does; a push need not.
+//! Three numbers are separate: the length, the peak (the greatest length so far) and the limit. The
+//! list itself knows its peak, so that what was held within a call counts too. A function that
+//! removes elements must store the peak first, as `clear` does. A push need not.
 //!
-//! The limit is asked before memory is, so `Full` comes also where memory would have been refused, and
-//! only where the list is full. A refused growth must leave list, peak and room as they were: so room is
-//! asked for first, and the step after it cannot fail. Its answer goes through `Refusals::note`, which counts it:
-//! the count is what contracts see of want of memory (`refused`). Whether there is room for the limit is a part of
-//! what contracts see (`reserved`), so that a caller can know that a call succeeds; each call has to keep
-//! it. `Vec` may take more room than the limit: the bound speaks of lengths alone.
+//! The limit is checked before memory is requested. So the result is `Full` exactly if the list is
+//! full, even if memory would be refused. A refused growth must leave the list, its peak and its
+//! memory as they were. So memory is requested first, and the step after it cannot fail.
 //!
-//! `reserve_all` makes that room by one request for exactly what is missing, as a plain reserve may take
-//! twice of it. From then on nothing asks for memory, so the reserved forms have no answer to refuse with.
+//! The result of a request goes through `Refusals::note`, which counts refusals. Contracts see this
+//! count (`refused`). They also see whether memory is reserved for the limit (`reserved`), so that
+//! a caller knows that a call succeeds. Each call must keep that memory. `Vec` may take more memory
+//! than the limit needs: the bound is about lengths alone.
+//!
+//! `reserve_all` makes one request for exactly the missing memory, as a plain reserve may take
+//! twice as much. After it no call requests memory, so the reserved forms return no error.
 ghost use Rattle.std.specs.Prelude.{◌≡◌, ◌+◌, ◌<◌, ◌≤◌, ◌↔◌, ◌++◌, ◌∷◌, [], length, IsTrue, IsOk, OnOk, OnErr, IsErrOf, slice_set};
 ghost use Rattle.cj_budget.specs.Bounded.{IsNew, IsWithin, IsRefused, Becomes, Adds, Reserves};
 
@@ -21,34 +23,35 @@ use std::alloc::Global;
 use std::marker::Model;
 use thiserror::Error;
 
-/// Why an element was not taken. It is given back.
+/// Why an element was refused. It is returned.
 #[derive(Clone, Copy, Debug, PartialEq, Eq)]
 pub enum Refused<T> {
     /// The list has as many elements as its limit allows.
     Full(T),
-    /// No memory was granted.
+    /// An allocation failed.
     Memory(T),
 }
 
-/// Why a slice was not taken.
+/// Why a slice was refused.
 #[derive(Clone, Copy, Debug, PartialEq, Eq, Error)]
 pub enum ExtendFault {
     /// The slice does not fit under the limit.
     #[error("the list is full")]
     Full,
-    /// No memory was granted.
+    /// An allocation failed.
     #[error("out of memory")]
     Memory,
 }
 
-/// A list that never has more elements than its limit, and that keeps its peak, the greatest
-/// number of elements that it has had. It counts the growths of it that were refused.
+/// A list that never has more elements than its limit. It remembers its peak, the greatest number
+/// of elements so far. It counts its growths that were refused.
 #[derive(Drop)]
 pub struct Bounded<T: Copy> {
     items: Vec<T>,
     limit: usize,
-    /// The greatest number of elements before the list was last emptied: as elements are only added
-    /// in between, the peak is the greater of this and the length, and need not be kept with each.
+    /// The greatest number of elements before the list was last emptied. The peak is the greater of
+    /// this and the length, since elements are only added in between. So a push does not store the
+    /// peak.
     earlier: usize,
     refusals: Refusals,
 }
@@ -73,7 +76,7 @@ impl<T: Copy> Model for Bounded<T> {
 }
 
 impl<T: Copy> Bounded<T> {
-    /// An empty list. It takes no memory.
+    /// Returns an empty list. It allocates nothing.
     pub fn new(alloc: Global, limit: usize) -> Bounded<T>
         ensures { IsNew 0 limit result }
     {
@@ -85,8 +88,12 @@ impl<T: Copy> Bounded<T> {
         }
     }
 
-    /// Adds an element at the end. A refusal changes nothing, but that want of memory is counted. Where there is
-    /// room for the limit it takes no memory.
+    /// Adds an element at the end. With memory reserved it allocates nothing.
+    ///
+    /// # Errors
+    ///
+    /// `Full` or `Memory`, with the element. Nothing else changes, but the list counts a lack of
+    /// memory.
     pub fn push(&mut self, x: T) -> Result<(), Refused<T>>
         ensures { Adds self.old x (self.old.elements ++ x ∷ []) result self.new }
     {
@@ -99,9 +106,12 @@ impl<T: Copy> Bounded<T> {
         }
     }
 
-    /// Adds an element at the end of a list that is not full, for callers who know that it is not: it
-    /// costs a test of the room and a store. A refusal is counted, and changes nothing else. Where there is room
-    /// for the limit it takes no memory.
+    /// Adds an element at the end of a list that is not full. For callers that know this, it costs
+    /// a test of the capacity and a store. With memory reserved it allocates nothing.
+    ///
+    /// # Errors
+    ///
+    /// `NoMemory` if the allocation failed. The refusal is counted, and nothing else changes.
     #[inline(always)]
     pub fn put(&mut self, x: T) -> Result<(), NoMemory>
         requires { length self.old.elements < self.old.limit }
@@ -114,8 +124,12 @@ impl<T: Copy> Bounded<T> {
         Ok(())
     }
 
-    /// Adds all elements of a slice at the end, or none. A refusal changes nothing, but that want of memory is
-    /// counted. To add nothing takes no memory, nor does it where there is room for the limit.
+    /// Adds all elements of a slice at the end, or none. An empty slice needs no allocation, and
+    /// neither does any slice with memory reserved.
+    ///
+    /// # Errors
+    ///
+    /// `Full` or `Memory`. Nothing else changes, but the list counts a lack of memory.
     pub fn extend_from_slice(&mut self, xs: &[T]) -> Result<(), ExtendFault>
         ensures ok { OnOk result (Becomes self.old (self.old.elements ++ xs.now) self.new) }
         ensures full { IsErrOf result ExtendFault.Full ↔ (self.old.limit < length self.old.elements + length xs.now) }
@@ -137,8 +151,12 @@ impl<T: Copy> Bounded<T> {
         }
     }
 
-    /// Makes room for as many elements as the limit allows. It asks for memory once, and not at all where
-    /// that room is there. A refusal is counted, and changes nothing else.
+    /// Reserves memory for as many elements as the limit allows. It requests memory once, or not at
+    /// all if it is reserved.
+    ///
+    /// # Errors
+    ///
+    /// `NoMemory` if the allocation failed. The refusal is counted, and nothing else changes.
     pub fn reserve_all(&mut self) -> Result<(), NoMemory>
         ensures { Reserves self.old result self.new }
     {
@@ -146,7 +164,7 @@ impl<T: Copy> Bounded<T> {
         self.refusals.note(self.items.try_reserve_exact(missing))
     }
 
-    /// Whether there is room for as many elements as the limit allows.
+    /// Returns whether memory is reserved for as many elements as the limit allows.
     pub fn is_reserved(&self) -> bool
         ensures value { result ≡ self.now.reserved }
         ensures within { IsWithin self.now }
@@ -154,8 +172,8 @@ impl<T: Copy> Bounded<T> {
         self.items.capacity() >= self.limit
     }
 
-    /// Adds an element at the end of a list that is not full and has its room reserved. It takes no memory
-    /// and cannot fail.
+    /// Adds an element at the end of a list that is not full and has its memory reserved. It
+    /// allocates nothing and cannot fail.
     #[inline(always)]
     pub fn push_reserved(&mut self, x: T)
         requires reserved { IsTrue self.old.reserved }
@@ -165,8 +183,8 @@ impl<T: Copy> Bounded<T> {
         self.items.push_reserved(x);
     }
 
-    /// Adds all elements of a slice that fits under the limit, to a list that has its room reserved. It
-    /// takes no memory and cannot fail.
+    /// Adds all elements of a slice that fits under the limit, to a list with reserved memory. It
+    /// allocates nothing and cannot fail.
     pub fn extend_reserved(&mut self, xs: &[T])
         requires reserved { IsTrue self.old.reserved }
         requires fits { length self.old.elements + length xs.now ≤ self.old.limit }
@@ -175,7 +193,8 @@ impl<T: Copy> Bounded<T> {
         let _never_fails = self.items.extend_from_slice(xs);
     }
 
-    /// Replaces the element at an index. The length, the peak and the room stay. It takes no memory.
+    /// Replaces the element at an index. The length, the peak and the memory stay. It allocates
+    /// nothing.
     pub fn set(&mut self, i: usize, x: T)
         requires { i < length self.old.elements }
         ensures set { self.new ≡ record self.old { elements = slice_set self.old.elements i x } }
@@ -184,7 +203,7 @@ impl<T: Copy> Bounded<T> {
         self.items[i] = x;
     }
 
-    /// Takes all elements away, and keeps the peak and the room.
+    /// Removes all elements. The peak and the reserved memory stay.
     pub fn clear(&mut self)
         ensures cleared { Becomes self.old [] self.new }
         ensures room { self.new.reserved ≡ self.old.reserved }
@@ -193,7 +212,7 @@ impl<T: Copy> Bounded<T> {
         self.items.clear();
     }
 
-    /// The elements, in order.
+    /// Returns the elements, in order.
     pub fn as_slice(&self) -> &[T]
         ensures value { result.now ≡ self.now.elements }
         ensures within { IsWithin self.now }
@@ -201,7 +220,7 @@ impl<T: Copy> Bounded<T> {
         &self.items
     }
 
-    /// How many elements there are.
+    /// Returns the number of elements.
     pub fn len(&self) -> usize
         ensures value { result ≡ length self.now.elements }
         ensures within { IsWithin self.now }
@@ -209,7 +228,7 @@ impl<T: Copy> Bounded<T> {
         self.items.len()
     }
 
-    /// Whether there is no element.
+    /// Returns whether there is no element.
     pub fn is_empty(&self) -> bool
         ensures value { IsTrue result ↔ (self.now.elements ≡ []) }
         ensures within { IsWithin self.now }
@@ -217,7 +236,7 @@ impl<T: Copy> Bounded<T> {
         self.items.is_empty()
     }
 
-    /// The greatest number of elements so far.
+    /// Returns the greatest number of elements so far.
     pub fn peak(&self) -> usize
         ensures value { result ≡ self.now.peak }
         ensures within { IsWithin self.now }
@@ -225,7 +244,7 @@ impl<T: Copy> Bounded<T> {
         self.earlier.max(self.items.len())
     }
 
-    /// The greatest number of elements that is allowed.
+    /// Returns the greatest number of elements that is allowed.
     pub fn limit(&self) -> usize
         ensures value { result ≡ self.now.limit }
         ensures within { IsWithin self.now }

@@ -1,20 +1,20 @@
-//! Growths that were refused, counted.
+//! A count of refused growths.
 //!
-//! No clause can see a call of the allocator. So each growth hands what it was answered to `note`, which alone raises
-//! the count, and want of memory is told only where the count has risen. The count is private, since it is worth
-//! something only while nobody else can make it.
+//! No clause can see a call of the allocator. So each growth passes its result to `note`. Only
+//! `note` raises the count, and a lack of memory is reported only if the count has risen. The count
+//! is private: a proof can rely on it only if no other code can set it.
 ghost use Rattle.std.specs.Prelude.{◌≡◌, OnOk, OnErr, IsOk, IsErr};
 ghost use Rattle.cj_budget.specs.Counts.{HasRisen, counted};
 
 use std::marker::Model;
 use thiserror::Error;
 
-/// No memory was granted.
+/// An allocation failed.
 #[derive(Clone, Copy, Debug, PartialEq, Eq, Error)]
 #[error("out of memory")]
 pub struct NoMemory;
 
-/// How often a growth was refused. At 2^64 - 1 the count stays.
+/// How often a growth was refused. The count stops at 2^64 - 1.
 #[derive(Drop)]
 pub struct Refusals {
     count: u64,
@@ -29,14 +29,15 @@ impl Model for Refusals {
 }
 
 impl Refusals {
-    /// No growth was refused yet.
+    /// Returns a count of no refusals.
     pub fn none() -> Refusals
         ensures { result ≡ 0 }
     {
         Refusals { count: 0 }
     }
 
-    /// What the answer of a growth is to us. It alone raises the count, and only where growth was refused.
+    /// Returns the result of a growth without its error. It raises the count if the growth was
+    /// refused. No other function raises it.
     pub fn note<E: Drop>(&mut self, answer: Result<(), E>) -> Result<(), NoMemory>
         ensures ok { OnOk answer (IsOk result) }
         ensures err { OnErr answer (IsErr result) }

@@ -1,20 +1,20 @@
 //! Limits, and lists that never grow past one.
 //!
-//! A [`Limits`] holds the two numbers that a user sets: the most bytes of a line, and the most
-//! open containers. A [`Bounded`] is a list that refuses its next element once it is full, and that
-//! remembers its greatest length, its peak. A [`Stack`] does so for the open containers. The layers
-//! above hold nothing that grows in any other list, so what they hold is bounded by the limits.
+//! A [`Limits`] has the two numbers that a user sets: the most bytes of a line, and the most open
+//! containers. A [`Bounded`] is a list that refuses its next element once it is full. It remembers
+//! its greatest length, its peak. A [`Stack`] does the same for the open containers. In the layers
+//! above, only these lists grow with a stream. So the limits bound what they hold.
 //!
-//! Contracts see no call of the allocator. They see how often a growth was refused: each list counts that
-//! by a [`Refusals`], and tells want of memory only where its count has risen.
+//! Contracts see no call of the allocator. They see how often a growth was refused. Each list
+//! counts that with a [`Refusals`], and reports a lack of memory only if its count has risen.
 //!
-//! Either can make room for its limit at once, by `reserve_all`. From then on it asks for no memory, and
-//! `push_reserved` and `extend_reserved` cannot fail.
+//! Both lists can reserve memory for their limit at once, with `reserve_all`. From then on they
+//! request no memory, and `push_reserved` and `extend_reserved` cannot fail.
 //!
 //! ```text
 //! let limits = Limits::usual(); // or Limits::new(1_000_000, 16)?
 //! let mut line = Bounded::new(alloc, limits.line() as usize);
-//! line.extend_from_slice(b"{}")?; // Full past the limit, Memory where no more is granted
+//! line.extend_from_slice(b"{}")?; // Full past the limit, Memory if the allocation failed
 //! line.clear(); // the peak stays 2
 //! ```
 #![tactic(auto)]

@@ -5,10 +5,10 @@ ghost use Rattle.cj_budget.specs.Limits.{InLine, InDepth, usual_limits};
 use std::marker::Model;
 use thiserror::Error;
 
-/// The line limit where none is given, in bytes: 8 MiB.
+/// The default line limit, in bytes: 8 MiB.
 pub const USUAL_LINE: u64 = 8_388_608;
 
-/// The depth limit where none is given.
+/// The default depth limit, in open arrays and objects.
 pub const USUAL_DEPTH: u64 = 64;
 
 /// The least line limit, in bytes.
@@ -23,7 +23,7 @@ const LEAST_DEPTH: u64 = 1;
 /// The greatest depth limit.
 const GREATEST_DEPTH: u64 = 1_024;
 
-/// Why limits are refused.
+/// Why limits are invalid.
 #[derive(Clone, Copy, Debug, PartialEq, Eq, Error)]
 pub enum LimitFault {
     /// The line limit is not from 1 to 1,073,741,824.
@@ -54,7 +54,11 @@ impl Model for Limits {
 }
 
 impl Limits {
-    /// The limits, or the first of the two that is out of range.
+    /// Returns limits of `line` bytes and `depth` open containers.
+    ///
+    /// # Errors
+    ///
+    /// `LineLimit` if the line limit is out of range, otherwise `DepthLimit` if the depth limit is.
     pub fn new(line: u64, depth: u64) -> Result<Limits, LimitFault>
         ensures ok { IfOk result (λ l. (l.line ≡ line) × (l.depth ≡ depth)) }
         ensures accepts { IsOk result ↔ (InLine line × InDepth depth) }
@@ -70,7 +74,7 @@ impl Limits {
         Ok(Limits { line, depth })
     }
 
-    /// The limits where none are given: lines of up to 8 MiB, and up to 64 open containers.
+    /// Returns the default limits: lines of up to 8 MiB, and up to 64 open containers.
     pub fn usual() -> Limits
         ensures { result ≡ usual_limits }
     {
@@ -80,7 +84,7 @@ impl Limits {
         }
     }
 
-    /// The most content bytes of a line: its bytes without the LF.
+    /// Returns the most content bytes of a line: its bytes without the LF.
     pub fn line(&self) -> u64
         ensures value { result ≡ self.now.line }
         ensures range { InLine result }
@@ -88,7 +92,7 @@ impl Limits {
         self.line
     }
 
-    /// The most arrays and objects that may be open at once.
+    /// Returns the most arrays and objects that may be open at once.
     pub fn depth(&self) -> u64
         ensures value { result ≡ self.now.depth }
         ensures range { InDepth result }
@@ -97,12 +101,12 @@ impl Limits {
     }
 }
 
-/// How much is held, or was at most held: bytes, tokens and open containers.
+/// How much is held now, or was held at most: bytes, tokens and open containers.
 #[derive(Clone, Copy, Debug, Default, PartialEq, Eq)]
 pub struct Peaks {
-    /// Bytes of the kept header and of the line that is read.
+    /// Bytes of the kept header and of the line that is being read.
     pub bytes: u64,
-    /// Tokens of the kept header and of the line that is read.
+    /// Tokens of the kept header and of the line that is being read.
     pub tokens: u64,
     /// Open arrays and objects.
     pub depth: u64,

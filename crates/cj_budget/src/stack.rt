@@ -1,9 +1,9 @@
-//! The open containers of a line: a stack with a limit, which keeps its greatest length.
+//! The open containers of a line: a stack with a limit, which remembers its greatest length.
 //!
-//! Contracts see it from the top on, since a scan looks at the innermost container; the code pushes at
-//! the end. Its first items lie in the stack itself, so `push`, `reserve_all` and `is_reserved` have a
-//! clause of their own for them. `reserve_all` asks for exactly what is missing: a plain reserve of a
-//! `SmallVec` goes up to a power of two.
+//! Contracts see the top first, since a scan looks at the innermost container. The code pushes at
+//! the end. The first items are in the stack itself. So `push`, `reserve_all` and `is_reserved`
+//! have a clause of their own for these. `reserve_all` requests exactly the missing memory: a plain
+//! reserve of a `SmallVec` rounds up to a power of two.
 ghost use Rattle.std.specs.Prelude.{◌≡◌, ◌<◌, ◌≤◌, ◌↔◌, ◌∷◌, [], length, drop, IsTrue, IsOk, slice_get};
 ghost use Rattle.cj_budget.specs.Bounded.{IsNew, IsWithin, Becomes, Adds, Reserves};
 
@@ -13,12 +13,12 @@ use smallvec::SmallVec;
 use std::alloc::Global;
 use std::marker::Model;
 
-/// How many items lie in the stack itself: as many as the usual depth limit allows, so that it seldom takes memory.
+/// How many items are in the stack itself: the default depth limit, so it seldom allocates.
 const INLINE: usize = 64;
 
-/// A stack of numbers that never holds more than its limit, and that keeps its peak, the greatest
-/// number of items that it has had. Its first 64 items need no memory. It counts the growths of it that
-/// were refused. Contracts see its items from the top on.
+/// A stack of numbers that never has more items than its limit. It remembers its peak, the greatest
+/// number of items so far. Its first 64 items need no allocation. It counts its growths that were
+/// refused. Contracts see the top item first.
 #[derive(Drop)]
 pub struct Stack {
     items: SmallVec<u32, INLINE>,
@@ -49,7 +49,7 @@ impl Model for Stack {
 }
 
 impl Stack {
-    /// An empty stack. It takes no memory.
+    /// Returns an empty stack. It allocates nothing.
     pub fn new(alloc: Global, limit: usize) -> Stack
         ensures { IsNew INLINE limit result }
     {
@@ -61,8 +61,12 @@ impl Stack {
         }
     }
 
-    /// Puts an item on top. A refusal changes nothing, but that want of memory is counted. While fewer than 64 items
-    /// are there it takes no memory, nor where there is room for the limit.
+    /// Puts an item on top. Below 64 items it allocates nothing, and neither with memory reserved.
+    ///
+    /// # Errors
+    ///
+    /// `Full` or `Memory`, with the item. Nothing else changes, but the stack counts a lack of
+    /// memory.
     pub fn push(&mut self, item: u32) -> Result<(), Refused<u32>>
         ensures adds { Adds self.old item (item ∷ self.old.elements) result self.new }
         ensures inline { length self.old.elements < 64 → length self.old.elements < self.old.limit → IsOk result }
@@ -80,8 +84,12 @@ impl Stack {
         }
     }
 
-    /// Makes room for as many items as the limit allows. It asks for memory once, and not at all where that
-    /// room is there, as it always is under a limit of up to 64. A refusal is counted, and changes nothing else.
+    /// Reserves memory for as many items as the limit allows. It requests memory once, or not at
+    /// all if it is reserved, as is always true of a limit of at most 64.
+    ///
+    /// # Errors
+    ///
+    /// `NoMemory` if the allocation failed. The refusal is counted, and nothing else changes.
     pub fn reserve_all(&mut self) -> Result<(), NoMemory>
         ensures reserves { Reserves self.old result self.new }
         ensures inline { self.old.limit ≤ 64 → IsOk result }
@@ -90,7 +98,7 @@ impl Stack {
         self.refusals.note(self.items.try_reserve_exact(missing))
     }
 
-    /// Whether there is room for as many items as the limit allows.
+    /// Returns whether memory is reserved for as many items as the limit allows.
     pub fn is_reserved(&self) -> bool
         ensures value { result ≡ self.now.reserved }
         ensures inline { self.now.limit ≤ 64 → IsTrue result }
@@ -99,8 +107,8 @@ impl Stack {
         self.items.capacity() >= self.limit
     }
 
-    /// Puts an item on top of a stack that is not full and has its room reserved. It takes no memory and
-    /// cannot fail.
+    /// Puts an item on top of a stack that is not full and has its memory reserved. It allocates
+    /// nothing and cannot fail.
     pub fn push_reserved(&mut self, item: u32)
         requires reserved { IsTrue self.old.reserved }
         requires fits { length self.old.elements < self.old.limit }
@@ -110,7 +118,7 @@ impl Stack {
         self.peak = self.peak.max(self.items.len());
     }
 
-    /// Takes the top item away. It keeps the peak and the room.
+    /// Removes the top item and returns it. The peak and the reserved memory stay.
     pub fn pop(&mut self) -> Option<u32>
         ensures top { result ≡ slice_get self.old.elements 0 }
         ensures rest { Becomes self.old (drop 1 self.old.elements) self.new }
@@ -119,7 +127,7 @@ impl Stack {
         self.items.pop()
     }
 
-    /// The top item.
+    /// Returns the top item.
     pub fn top(&self) -> Option<u32>
         ensures value { result ≡ slice_get self.now.elements 0 }
         ensures within { IsWithin self.now }
@@ -127,7 +135,7 @@ impl Stack {
         self.items.as_slice().last().copied()
     }
 
-    /// Takes all items away, and keeps the peak and the room.
+    /// Removes all items. The peak and the reserved memory stay.
     pub fn clear(&mut self)
         ensures cleared { Becomes self.old [] self.new }
         ensures room { self.new.reserved ≡ self.old.reserved }
@@ -135,7 +143,7 @@ impl Stack {
         self.items.clear();
     }
 
-    /// How many items there are.
+    /// Returns the number of items.
     pub fn len(&self) -> usize
         ensures value { result ≡ length self.now.elements }
         ensures within { IsWithin self.now }
@@ -143,7 +151,7 @@ impl Stack {
         self.items.len()
     }
 
-    /// Whether there is no item.
+    /// Returns whether there is no item.
     pub fn is_empty(&self) -> bool
         ensures value { IsTrue result ↔ (self.now.elements ≡ []) }
         ensures within { IsWithin self.now }
@@ -151,7 +159,7 @@ impl Stack {
         self.items.is_empty()
     }
 
-    /// The greatest number of items so far.
+    /// Returns the greatest number of items so far.
     pub fn peak(&self) -> usize
         ensures value { result ≡ self.now.peak }
         ensures within { IsWithin self.now }
@@ -159,7 +167,7 @@ impl Stack {
         self.peak // never below the length, by the invariant
     }
 
-    /// The greatest number of items that is allowed.
+    /// Returns the greatest number of items that is allowed.
     pub fn limit(&self) -> usize
         ensures value { result ≡ self.now.limit }
         ensures within { IsWithin self.now }

@@ -1,4 +1,4 @@
-//! Rows on limits and lists.
+//! Rows of limits and lists.
 use crate::{
     Bounded, ExtendFault, LimitFault, Limits, NoMemory, Peaks, Refusals, Refused, Stack,
     USUAL_DEPTH, USUAL_LINE,
@@ -14,7 +14,7 @@ struct LimitRow {
     fault: Option<LimitFault>,
 }
 
-/// Makes the limits of each row.
+/// Makes the limits of each row, and compares the result.
 fn check_limits(rt: &impl Abort, rows: &[LimitRow]) {
     for row in rows {
         match Limits::new(row.line, row.depth) {
@@ -86,13 +86,13 @@ fn the_usual_limits(rt: HostRuntime) {
     assert_eq!(rt; Limits::new(USUAL_LINE, USUAL_DEPTH), Ok(usual));
 }
 
-/// Compares how many elements a list has, and has had at most.
+/// Compares the length and the peak of a list.
 fn check_lengths(rt: &impl Abort, list: &Bounded<u8>, length: usize, peak: usize) {
     assert_eq!(rt; list.len(), length);
     assert_eq!(rt; list.peak(), peak);
 }
 
-/// Adds an element and a slice to a list that is full.
+/// Adds an element and a slice to a full list: both are refused.
 fn check_full(rt: &impl Abort, list: &mut Bounded<u8>) {
     assert_eq!(rt; list.push(3), Err(Refused::Full(3)));
     assert_eq!(rt; list.extend_from_slice(&[4]), Err(ExtendFault::Full));
@@ -131,20 +131,20 @@ fn a_list_that_is_not_full(rt: HostRuntime) -> Result<(), Fail> {
     Ok(())
 }
 
-/// Reserves the room of a list that has none, or too little, for its limit.
+/// Reserves memory in a list that has too little for its limit.
 fn reserve(rt: &impl Abort, list: &mut Bounded<u8>) {
     assert!(rt; !list.is_reserved());
     assert_eq!(rt; list.reserve_all(), Ok(()));
     assert!(rt; list.is_reserved());
 }
 
-/// Adds an element by the form that cannot fail.
+/// Adds an element with the form that cannot fail.
 fn push_reserved(rt: &impl Abort, list: &mut Bounded<u8>, x: u8) {
     assert!(rt; list.is_reserved() && list.len() < list.limit());
     list.push_reserved(x);
 }
 
-/// Adds a slice by the form that cannot fail.
+/// Adds a slice with the form that cannot fail.
 fn extend_reserved(rt: &impl Abort, list: &mut Bounded<u8>, xs: &[u8]) {
     assert!(rt; list.is_reserved() && xs.len() <= list.limit() - list.len());
     list.extend_reserved(xs);
@@ -270,7 +270,7 @@ fn a_stack_whose_room_no_machine_has(rt: HostRuntime) -> Result<(), Fail> {
     Ok(())
 }
 
-/// Pushes by the form that cannot fail.
+/// Pushes with the form that cannot fail.
 fn push_item_reserved(rt: &impl Abort, stack: &mut Stack, item: u32) {
     assert!(rt; stack.is_reserved() && stack.len() < stack.limit());
     stack.push_reserved(item);

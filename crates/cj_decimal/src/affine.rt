@@ -1,7 +1,7 @@
-//! Whole numbers scaled and shifted, compared exactly.
+//! Whole numbers, scaled and shifted, compared exactly.
 //!
-//! A scale is split rounding down, not towards 0: what is left is then never negative, and the sign of the
-//! whole part decides.
+//! A scale is split by rounding down, not towards 0. So the remainder is never negative, and the
+//! sign of the whole part decides.
 ghost use Rattle.std.specs.Prelude.{◌≡◌, ◌<◌, ◌≤◌, ◌^◌, ◌+ℤ◌, ◌*ℤ◌, ◌*◌, ◌≤ℤ◌, ◌<ℤ◌, pos, unsigned_abs};
 ghost use Rattle.std.specs.Int.{int_div_euclid, int_rem_euclid};
 ghost use Rattle.std.specs.Ordering.{int_cmp};
@@ -12,16 +12,17 @@ use crate::fixed::Fixed18;
 use std::cmp::Ordering;
 use std::marker::Model;
 
-/// How many units of 10^-18 make one.
+/// The number of units of 10^-18 in one.
 const ONE: i128 = 1_000_000_000_000_000_000;
 
-/// The map of whole numbers v to `v * scale + shift`. Contracts see both in units of 10^-18.
+/// The map of whole numbers v to `v * scale + shift`. Contracts see scale and shift in units of
+/// 10^-18.
 #[derive(Clone, Copy, Debug, PartialEq, Eq)]
 pub struct Affine {
     scale: i128,
-    /// The scale rounded down to a whole number, kept so that no comparison divides it again.
+    /// The scale rounded down to a whole number. It is stored, so that no comparison divides again.
     whole: i64,
-    /// What is then left of the scale, in units.
+    /// The remainder of the scale, in units.
     part: i64,
     shift: i128,
 }
@@ -48,7 +49,7 @@ impl Model for Affine {
 }
 
 impl Affine {
-    /// The map of this scale and shift.
+    /// Returns the map with this scale and shift.
     pub fn new(scale: Fixed18, shift: Fixed18) -> Affine
         ensures { result ≡ record { scale = scale; shift = shift } }
     {
@@ -62,7 +63,7 @@ impl Affine {
         }
     }
 
-    /// How `v * scale + shift` compares with a number, exactly.
+    /// Compares `v * scale + shift` with a number, exactly. `v` is below 10^18 in size.
     pub fn compare(&self, v: i64, q: Fixed18) -> Ordering
         requires { unsigned_abs v < 10 ^ 18 }
         ensures order { result ≡ int_cmp (image self.now v) q }
@@ -74,7 +75,7 @@ impl Affine {
     }
 }
 
-/// The product of two numbers of at most 10^18 in size.
+/// Returns the product of two numbers of at most 10^18 in size.
 fn product(left: i64, right: i64) -> i128
     requires left_fits { unsigned_abs left < 10 ^ 18 }
     requires right_fits { unsigned_abs right ≤ 10 ^ 18 }
@@ -84,7 +85,7 @@ fn product(left: i64, right: i64) -> i128
     left as i128 * right as i128
 }
 
-/// How many whole ones there are in so many units, rounded down, and how many units are left.
+/// Returns this number of units as whole ones, rounded down, and the units that remain.
 fn split(units: i128) -> (i128, i128)
     requires { unsigned_abs units < 4 * 10 ^ 36 }
     ensures whole { result.0 ≡ int_div_euclid units (pos (10 ^ 18)) }
@@ -98,7 +99,7 @@ fn split(units: i128) -> (i128, i128)
     (whole, units - whole * ONE)
 }
 
-/// How so many whole ones and units, less than one, compare with 0.
+/// Compares a number of whole ones and units with 0. The units are less than one.
 fn sign_of(whole: i128, left: i128) -> Ordering
     requires low { pos 0 ≤ℤ left }
     requires high { left <ℤ pos (10 ^ 18) }

@@ -1,8 +1,8 @@
 //! A number c * 10^p in normal form: a coefficient and a power of ten, since a float would round.
 //!
-//! Normal form is made once, in `from_parts`, and is the type's invariant: `==` compares fields, and the
-//! range is judged of it and not of the spelling. A new way to make a `Decimal` has to trim its zeros, and
-//! 0 is (0, 0).
+//! Normal form is made once, in `from_parts`, and is the invariant of the type. So `==` compares
+//! fields, and the range applies to the normal form and not to the spelling. New code that makes a
+//! `Decimal` must trim its zeros, and 0 is (0, 0).
 ghost use Rattle.std.specs.Prelude.{◌≡◌, ◌↔◌, ℕ, ◌+◌, ◌*◌, ◌^◌, ◌<◌, ◌≤◌, ℤ, pos, neg_ℤ, ◌-ℤ◌, ◌*ℤ◌, unsigned_abs, length, slice_range, IsTrue, IfSome, IfNone, IsSome, IfOk, IsOk, IsErrOf};
 ghost use Rattle.std.proofs.Common.{rules};
 ghost use Rattle.std.specs.Cmp.Rules.{comparing};
@@ -42,12 +42,13 @@ pub enum DecimalFault {
     /// The spelling is not a number of JSON.
     #[error("not a number")]
     NotANumber,
-    /// The number has more than 36 digits, or a power of ten past 1,000,000 in size.
+    /// The number has more than 36 digits, or a power of ten above 1,000,000 in size.
     #[error("number out of range")]
     NumberRange,
 }
 
-/// A number `coefficient * 10^power` in normal form: the coefficient is no multiple of 10, or both are 0.
+/// A number `coefficient * 10^power` in normal form: the coefficient is no multiple of 10, or both
+/// are 0.
 #[derive(Clone, Copy, Debug)]
 pub struct Decimal {
     coefficient: i128,
@@ -66,7 +67,7 @@ impl Model for Decimal {
     ghost inverse = { λ n. record { coefficient = n.coefficient; power = n.power } };
 }
 
-/// The number of this size, below 0 where the flag is set.
+/// Returns the number of this size, negative if the flag is set.
 fn with_sign(negative: bool, size: u128) -> i128
     requires { size < 10 ^ 36 }
     ensures { result ≡ signed negative size }
@@ -78,7 +79,7 @@ fn with_sign(negative: bool, size: u128) -> i128
     }
 }
 
-/// The number with zeros at its end, where it then has no more than so many digits.
+/// Returns the number with zeros at its end. None if it then has more than `digits` digits.
 fn with_zeros(number: i128, zeros: u32, digits: u32) -> Option<i128>
     requires fits { unsigned_abs number < 10 ^ 36 }
     requires bounded { digits ≤ 36 }
@@ -111,7 +112,7 @@ impl Eq for Decimal {
 }
 
 impl Decimal {
-    /// The number of a spelling's parts, or `None` where it is out of range.
+    /// Returns the number of a spelling's parts. None if it is out of range.
     fn from_parts(parts: Parts) -> Option<Decimal>
         ensures some { (n : ℕ) (e : ℤ) → StandsFor parts.digits.lead parts.digits.extra parts.digits.lost n
             → Saturates e parts.exponent
@@ -145,12 +146,12 @@ impl Decimal {
         })
     }
 
-    /// Reads the spelling of a number of JSON (RFC 8259, section 6), whatever its length, in one pass.
+    /// Reads the spelling of a number of JSON (RFC 8259, section 6), of any length, in one pass.
     ///
     /// # Errors
     ///
-    /// `NotANumber` where the spelling is no number of JSON, `NumberRange` where its value has more
-    /// than 36 digits in normal form, or a power of ten past 1,000,000 in size.
+    /// `NotANumber` if the spelling is no number of JSON. `NumberRange` if its value has more than
+    /// 36 digits in normal form, or a power of ten above 1,000,000 in size.
     pub fn read(spelling: &[u8]) -> Result<Decimal, DecimalFault>
         ensures value { IfOk result (IsValue spelling.now) }
         ensures in_range { IfOk result IsInRange }
@@ -172,8 +173,9 @@ impl Decimal {
         Ok(decimal)
     }
 
-    /// The number that at most 18 digits spell, where nothing else stands there and no 0 before another digit: what
-    /// nearly all indices are. None where it is anything else, which may be a whole number too.
+    /// Returns the number that at most 18 digits spell, as nearly all indices do. None for any
+    /// other spelling: also for a 0 before another digit, and for other spellings of a whole
+    /// number.
     #[inline(always)]
     pub fn read_few(spelling: &[u8]) -> Option<u64>
         ensures answer { IfSome result (λ n. (c : Class spelling.now) → whole_answer c ≡ Ok (Some (pos n))) }
@@ -183,8 +185,8 @@ impl Decimal {
         read_few_digits(spelling)
     }
 
-    /// The number that such digits spell, or a minus and such digits: what nearly all coordinates are. None where
-    /// it is anything else, which may be a whole number too.
+    /// Returns the number that such digits spell, or a minus and such digits, as nearly all
+    /// coordinates do. None for any other spelling, which may be a whole number too.
     #[inline(always)]
     pub fn read_few_signed(spelling: &[u8]) -> Option<i64>
         ensures answer { IfSome result (λ w. (c : Class spelling.now) → whole_answer c ≡ Ok (Some w)) }
@@ -203,8 +205,9 @@ impl Decimal {
         }
     }
 
-    /// The number of [`Decimal::read_few`] that stands in a line from `start` to `stop`, where it has at most eight
-    /// digits: faster still, since a word of the line has them all. None also of what stands near the front of the line.
+    /// Returns the number of [`Decimal::read_few`] in a line from `start` to `stop`, if it has at
+    /// most eight digits. It is faster still, since one word of the line has them all. None also if
+    /// `stop` is below 8.
     #[inline(always)]
     pub fn read_few_in(line: &[u8], start: usize, stop: usize) -> Option<u64>
         requires order { start < stop }
@@ -218,7 +221,7 @@ impl Decimal {
         read_word(line, start, stop)
     }
 
-    /// The number of [`Decimal::read_few_signed`] that stands there so.
+    /// Does the same for the number of [`Decimal::read_few_signed`].
     #[inline(always)]
     pub fn read_few_signed_in(line: &[u8], start: usize, stop: usize) -> Option<i64>
         requires order { start < stop }
@@ -245,8 +248,8 @@ impl Decimal {
         Some(-(size as i64))
     }
 
-    /// Reads the spelling of a number of JSON (RFC 8259, section 6) as a whole number: its value where that
-    /// is whole and below 10^18 in size, None where it is a number in range and not so.
+    /// Reads the spelling of a number of JSON (RFC 8259, section 6) as a whole number. Returns its
+    /// value if it is whole and below 10^18 in size, and None for any other number in range.
     ///
     /// # Errors
     ///
@@ -262,7 +265,8 @@ impl Decimal {
         }
     }
 
-    /// The number as a number of units of 10^-after_point, where it is a whole number of them, below 10^digits in size.
+    /// Returns the value in units of 10^-after_point. None unless it is a whole number of them,
+    /// below 10^digits in size.
     fn in_units(self, after_point: u32, digits: u32) -> Option<i128>
         requires bounded { digits ≤ 36 }
         requires apart { after_point < digits }
@@ -281,7 +285,7 @@ impl Decimal {
         with_zeros(self.coefficient, power as u32, digits)
     }
 
-    /// The value, where it is whole and below 10^18 in size.
+    /// Returns the value if it is whole and below 10^18 in size.
     pub fn whole(self) -> Option<i64>
         ensures value { IfSome result (IsWhole self) }
         ensures whole { IsSome result ↔ ((w : ℤ) × IsWhole self w) }
@@ -292,7 +296,7 @@ impl Decimal {
         }
     }
 
-    /// The value in units of 10^-18, where it is a multiple of 10^-18 and below 10^18 in size.
+    /// Returns the value in units of 10^-18 if it is a multiple of 10^-18 and below 10^18 in size.
     pub fn fixed18(self) -> Option<Fixed18>
         ensures value { IfSome result (IsFixed self) }
         ensures fixed { IsSome result ↔ ((u : ℤ) × IsFixed self u) }
@@ -303,7 +307,7 @@ impl Decimal {
         }
     }
 
-    /// The coefficient of the normal form.
+    /// Returns the coefficient of the normal form.
     pub fn coefficient(self) -> i128
         ensures value { result ≡ self.coefficient }
         ensures normal { IsNormal self }
@@ -312,7 +316,7 @@ impl Decimal {
         self.coefficient
     }
 
-    /// The power of ten of the normal form.
+    /// Returns the power of ten of the normal form.
     pub fn power(self) -> i32
         ensures value { result ≡ self.power }
         ensures normal { IsNormal self }

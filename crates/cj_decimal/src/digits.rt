@@ -1,21 +1,21 @@
-//! The digits of a spelling, kept in few numbers however many they are.
+//! The digits of a spelling, stored in a few numbers, for any count of digits.
 //!
-//! At most 36 are kept, since a number below 10^36 and the product of two below 10^18 stay well inside 128
-//! bits. They count from the first that is not 0; zeros at the end are counted apart, and only a later
-//! digit that is not 0 makes the number too long.
+//! At most 36 digits are stored. A number below 10^36 and the product of two below 10^18 fit well
+//! into 128 bits. They count from the first digit that is not 0. Zeros at the end are counted
+//! separately. Only a later digit that is not 0 makes the number too long.
 ghost use Rattle.std.specs.Prelude.{◌≡◌, ℕ, ◌+◌, ◌*◌, ◌^◌, ◌<◌, ◌≤◌, length, drop, [], IsTrue, ◌-◌, slice_index};
 ghost use Rattle.cj_decimal.specs.Digits.{StandsFor};
 ghost use Rattle.cj_decimal.specs.Spelling.{value_after};
 ghost use Rattle.cj_decimal.specs.Reading.{Carries, Passes, Stops, begins_digit, digits_front};
 
-/// The least number of 36 digits: up to here one more digit fits.
+/// The least number of 36 digits. One more digit fits after any lesser number.
 const FULL: u128 = 100_000_000_000_000_000_000_000_000_000_000_000;
 
-/// The least number of 18 digits: up to here one more digit fits in the short loop.
+/// The least number of 18 digits. In the short loop one more digit fits after any lesser number.
 const SHORT: u64 = 100_000_000_000_000_000;
 
-/// The digits read so far: the first 36 from the first that is not 0 (`lead`), how many zeros stand after
-/// them (`extra`), and whether another digit does (`lost`).
+/// The digits read so far. `lead` is the first 36, from the first that is not 0. `extra` is the
+/// number of zeros after them. `lost` says whether another digit that is not 0 comes later.
 #[derive(Clone, Copy)]
 pub struct Digits {
     pub lead: u128,
@@ -34,7 +34,7 @@ impl Digits {
         lost: false,
     };
 
-    /// These digits and one more.
+    /// Returns these digits and one more.
     fn push(self, digit: u8) -> Digits
         requires digit { digit < 10 }
         requires room { self.extra + 1 < 2 ^ 64 }
@@ -71,7 +71,8 @@ pub struct Run {
     pub stop: usize,
 }
 
-/// Reads digits while the number stays below 10^18, the usual case: from a number and a place to a number and a place.
+/// Reads digits while the number stays below 10^18, the usual case. It takes and returns a number
+/// and a place.
 #[inline(always)]
 pub fn read_short(spelling: &[u8], from: usize, start: u64) -> (u64, usize)
     requires within { from ≤ length spelling.now }
@@ -93,9 +94,9 @@ pub fn read_short(spelling: &[u8], from: usize, start: u64) -> (u64, usize)
     (value, at)
 }
 
-/// Reads all digits from a place on, whatever their number.
+/// Reads all digits from a place on, for any count of them.
 ///
-/// It is kept apart from the usual case, which then needs no memory for its numbers.
+/// It is separate from the usual case, which then needs no memory for its numbers.
 #[inline(never)]
 pub fn read_long(spelling: &[u8], from: usize, start: Digits) -> Run
     requires within { from ≤ length spelling.now }
@@ -119,7 +120,7 @@ pub fn read_long(spelling: &[u8], from: usize, start: Digits) -> Run
     Run { digits, stop: at }
 }
 
-/// Reads the digits that go on from a short number, which are none in the usual case.
+/// Reads the digits that continue a short number. Usually there are none.
 #[inline(always)]
 pub fn read_on(spelling: &[u8], from: usize, short: u64) -> Run
     requires within { from ≤ length spelling.now }
@@ -140,7 +141,7 @@ pub fn read_on(spelling: &[u8], from: usize, short: u64) -> Run
     read_long(spelling, from, digits)
 }
 
-/// Reads all digits from a place on, after digits that were read before.
+/// Reads all digits from a place on, after the digits in `start`.
 #[inline(always)]
 pub fn read_digits(spelling: &[u8], from: usize, start: Digits) -> Run
     requires within { from ≤ length spelling.now }
@@ -158,7 +159,7 @@ pub fn read_digits(spelling: &[u8], from: usize, start: Digits) -> Run
     read_on(spelling, at, short)
 }
 
-/// Whether a digit stands at a place.
+/// Returns whether a digit is at a place.
 fn has_digit(spelling: &[u8], at: usize) -> bool
     ensures { result ≡ begins_digit (drop at spelling.now) }
 {

@@ -3,7 +3,7 @@ ghost use Rattle.std.specs.Prelude.{◌≡◌, ◌<◌, ◌^◌, unsigned_abs};
 
 use std::marker::Model;
 
-/// A multiple of 10^-18 that is below 10^18 in size. Contracts see its number of units.
+/// A multiple of 10^-18, below 10^18 in size. Contracts see its number of units.
 #[derive(Clone, Copy, Debug, PartialEq, Eq)]
 pub struct Fixed18 {
     units: i128,
@@ -22,7 +22,7 @@ impl Model for Fixed18 {
 }
 
 impl Fixed18 {
-    /// So many units of 10^-18.
+    /// Returns this number of units of 10^-18.
     pub(crate) fn from_units(units: i128) -> Fixed18
         requires { unsigned_abs units < 10 ^ 36 }
         ensures { result ≡ units }
@@ -30,7 +30,7 @@ impl Fixed18 {
         Fixed18 { units }
     }
 
-    /// The number of units of 10^-18.
+    /// Returns the number of units of 10^-18.
     pub fn units(self) -> i128
         ensures value { result ≡ self }
         ensures bound { unsigned_abs result < 10 ^ 36 }

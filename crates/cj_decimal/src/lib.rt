@@ -1,11 +1,14 @@
-//! The numbers of JSON as decimals of whole-number parts, compared exactly: no float, no rounding, and no memory taken.
+//! JSON numbers as exact decimals, compared exactly: no float, no rounding, and no allocation.
 //!
-//! [`Decimal::read`] reads a spelling of any length into a coefficient of at most 36 digits and a power of ten, in normal
-//! form. `==` is equality of values. [`Decimal::whole`] answers the value of an index or a coordinate, and
-//! [`Decimal::read_whole`] reads one at once, several times as fast ([`Decimal::read_few`] and
-//! [`Decimal::read_few_signed`] are its usual cases alone, faster still); [`Decimal::fixed18`] answers the value of a scale, a
-//! shift or the edge of a box, in units of 10^-18. [`Affine::compare`] tells how `v * scale + shift` compares with such an
-//! edge, exactly:
+//! [`Decimal::read`] reads a spelling of any length. The result is a coefficient of at most 36
+//! digits and a power of ten, in normal form. `==` compares values.
+//!
+//! - [`Decimal::whole`] returns the value of an index or a coordinate. To read one directly,
+//!   several times as fast, use [`Decimal::read_whole`]. For its usual cases alone there are
+//!   [`Decimal::read_few`] and [`Decimal::read_few_signed`], faster still.
+//! - [`Decimal::fixed18`] returns the value of a scale, a shift or the edge of a box, in units of
+//!   10^-18.
+//! - [`Affine::compare`] compares `v * scale + shift` with such an edge, exactly:
 //!
 //! ```text
 //! let map = Affine::new(scale, shift);        // 0.001 and 1000, say
@@ -13,9 +16,10 @@
 //! map.compare(1000, edge)                     // Ordering::Equal
 //! ```
 //!
-//! A line's number goes `spelling` (its parts, by `digits`) → `trimming` (no zeros at its end) → `decimal` → `fixed` and
-//! `affine`; one of few digits and nothing else, where a whole number is wanted, `digits` → `whole`. What a spelling is and
-//! what it stands for is in specs/Spelling and specs/Number; [`laws`] holds what is proved of the definitions alone.
+//! A number goes through the modules `spelling` (its parts, by `digits`), `trimming` (no zeros at
+//! the end), `decimal`, and then `fixed` and `affine`. A whole number of few digits goes through
+//! `digits` and `whole`. The definitions of a spelling and its value are in specs/Spelling and
+//! specs/Number. What is proved about the definitions alone is in [`laws`].
 #![tactic(auto)]
 
 mod affine;

@@ -1,7 +1,7 @@
 //! Powers of ten of one machine word.
 ghost use Rattle.std.specs.Prelude.{◌≡◌, ◌^◌, ◌≤◌};
 
-/// Ten to a power from 0 to 18.
+/// Returns ten to a power from 0 to 18.
 pub fn ten_to(power: u32) -> u64
     requires { power ≤ 18 }
     ensures { result ≡ 10 ^ power }
@@ -29,7 +29,7 @@ pub fn ten_to(power: u32) -> u64
     }
 }
 
-/// Ten to a power from 0 to 36.
+/// Returns ten to a power from 0 to 36.
 pub fn wide_ten_to(power: u32) -> u128
     requires { power ≤ 36 }
     ensures { result ≡ 10 ^ power }

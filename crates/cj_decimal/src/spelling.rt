@@ -6,7 +6,8 @@ ghost use Rattle.cj_decimal.specs.Reading.{begins, body, digits_front, digits_re
 
 use crate::digits::{Digits, Run, read_digits, read_long, read_on, read_short};
 
-/// The fraction of a spelling: the digits up to its end, where it stops, and how many digits stand after the point.
+/// The fraction of a spelling: the digits up to its end, where it stops, and the count of digits
+/// after the point.
 #[derive(Clone, Copy)]
 struct Fraction {
     digits: Digits,
@@ -14,21 +15,21 @@ struct Fraction {
     after_point: usize,
 }
 
-/// Whether this byte stands at a place.
+/// Returns whether this byte is at a place.
 pub fn has_byte(spelling: &[u8], at: usize, byte: u8) -> bool
     ensures { result ≡ begins byte (drop at spelling.now) }
 {
     at < spelling.len() && spelling[at] == byte
 }
 
-/// Whether one of two bytes stands at a place.
+/// Returns whether one of two bytes is at a place.
 fn has_one_of(spelling: &[u8], at: usize, first: u8, second: u8) -> bool
     ensures { result ≡ (begins first (drop at spelling.now) || begins second (drop at spelling.now)) }
 {
     has_byte(spelling, at, first) || has_byte(spelling, at, second)
 }
 
-/// Whether digits are an int part: `0` alone, or digits of which the first is not `0`.
+/// Returns whether digits are an int part: `0` alone, or digits that do not begin with `0`.
 pub fn is_int_part(spelling: &[u8], from: usize, stop: usize) -> bool
     requires { Stops spelling.now from stop }
     ensures { result ≡ is_int (digits_front (drop from spelling.now)) }
@@ -40,7 +41,7 @@ pub fn is_int_part(spelling: &[u8], from: usize, stop: usize) -> bool
     }
 }
 
-/// Reads the int part, whose first digits were read already.
+/// Reads the int part. Its first digits have been read.
 fn read_int(spelling: &[u8], from: usize, at: usize, short: u64) -> Option<Run>
     requires passes { Passes spelling.now from at }
     requires carries { Carries spelling.now from 0 at short }
@@ -61,7 +62,7 @@ fn read_int(spelling: &[u8], from: usize, at: usize, short: u64) -> Option<Run>
     }
 }
 
-/// Reads a fraction, if there is one: `.` and one digit or more.
+/// Reads a fraction if there is one: `.` and at least one digit.
 fn read_frac(spelling: &[u8], from: usize, start: Digits) -> Option<Fraction>
     requires within { from ≤ length spelling.now }
     requires bounded { start.extra ≤ from }
@@ -93,7 +94,7 @@ fn read_frac(spelling: &[u8], from: usize, start: Digits) -> Option<Fraction>
     })
 }
 
-/// Where the digits of an exponent begin: after its sign, if there is one.
+/// Returns where the digits of an exponent begin: after its sign, if it has one.
 fn after_sign(spelling: &[u8], at: usize) -> usize
     requires { at ≤ length spelling.now }
     ensures digits { drop result spelling.now ≡ exp_digits (drop at spelling.now) }
@@ -106,7 +107,8 @@ fn after_sign(spelling: &[u8], at: usize) -> usize
     }
 }
 
-/// Reads an exponent's digits, which stand to the end: their number, or one of 36 digits where it has more.
+/// Reads the digits of an exponent, up to the end. Returns their number, or one of 36 digits if
+/// there are more.
 fn read_size(spelling: &[u8], from: usize) -> Option<u128>
     requires { from ≤ length spelling.now }
     ensures reads { MatchOption result (is_whole_digits (drop from spelling.now) ≡ false)
@@ -124,7 +126,7 @@ fn read_size(spelling: &[u8], from: usize) -> Option<u128>
     Some(run.digits.lead)
 }
 
-/// Reads what follows the fraction: an exponent to the end, or nothing.
+/// Reads what follows the fraction: an exponent up to the end, or nothing.
 fn read_exponent(spelling: &[u8], from: usize) -> Option<i128>
     requires { from ≤ length spelling.now }
     ensures reads { MatchOption result (is_exp (drop from spelling.now) ≡ false)
@@ -151,7 +153,7 @@ fn read_exponent(spelling: &[u8], from: usize) -> Option<i128>
     }
 }
 
-/// Where a spelling goes on after its minus sign, if it has one.
+/// Returns where a spelling continues after its minus, if it has one.
 pub fn after_minus(spelling: &[u8], negative: bool) -> usize
     requires { negative ≡ begins 45 spelling.now }
     ensures body { drop result spelling.now ≡ body spelling.now }
@@ -160,19 +162,19 @@ pub fn after_minus(spelling: &[u8], negative: bool) -> usize
     if negative { 1 } else { 0 }
 }
 
-/// The parts of a number's spelling that its value comes from.
+/// The parts of a number's spelling that give its value.
 #[derive(Clone, Copy)]
 pub struct Parts {
     pub negative: bool,
     pub digits: Digits,
-    /// How many digits stand after the point.
+    /// The count of digits after the point.
     pub after_point: usize,
-    /// The exponent, or a number of 36 digits where it has more.
+    /// The exponent, or a number of 36 digits if it has more.
     pub exponent: i128,
     ghost exponent_fits: { unsigned_abs exponent < 10 ^ 36 },
 }
 
-/// The parts of a spelling that ends with its first digits, which are few: the usual case.
+/// Returns the parts of a spelling that ends with its first digits, which are few: the usual case.
 fn integer_parts(spelling: &[u8], negative: bool, from: usize, short: u64) -> Option<Parts>
     requires sign { negative ≡ begins 45 spelling.now }
     requires body { drop from spelling.now ≡ body spelling.now }
@@ -199,7 +201,7 @@ fn integer_parts(spelling: &[u8], negative: bool, from: usize, short: u64) -> Op
     })
 }
 
-/// Reads a spelling whole, in one pass: its parts, or `None` where it is not a number of JSON.
+/// Reads a whole spelling in one pass. Returns its parts, or None if it is not a number of JSON.
 pub fn read_parts(spelling: &[u8]) -> Option<Parts>
     ensures number { IsSome result ↔ IsNumber spelling.now }
     ensures reads { IfSome result

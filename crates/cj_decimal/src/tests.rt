@@ -1,4 +1,5 @@
-//! Rows of spellings and comparisons, with answers of exact arithmetic outside the program.
+//! Rows of spellings and comparisons. The expected results come from exact arithmetic outside the
+//! program.
 ghost use Rattle.cj_decimal.specs.Rows.{WorkedRows};
 
 mod vectors;
@@ -10,7 +11,7 @@ use std::process::Abort;
 use std::test::Fail;
 use vectors::{COMPARISONS, SPELLINGS};
 
-/// The worked rows hold of the definitions: a theorem, in which nothing runs.
+/// The worked rows are true of the definitions: a theorem, in which nothing runs.
 fn worked_rows()
     ensures { WorkedRows }
 {}
@@ -20,7 +21,8 @@ fn worked_rows_hold() {
     worked_rows();
 }
 
-/// In each line a spelling, and what it is as a whole number, by hand: its value, none, or its fault.
+/// Each line has a spelling, and its result as a whole number, by hand: its value, none, or its
+/// fault.
 const WHOLES: &str = "\
 0|0\n\
 7|7\n\
@@ -55,7 +57,8 @@ const WHOLES: &str = "\
 1111111111111111111111111111111111111|NumberRange\n\
 1e1000001|NumberRange";
 
-/// In each line a spelling, and the number of its few digits, without a sign and with one, by hand.
+/// Each line has a spelling, and the number of its few digits, without a sign and with one, by
+/// hand.
 const FEW: &str = "\
 0|0|0\n\
 7|7|7\n\
@@ -88,7 +91,7 @@ const FEW: &str = "\
 -|none|none\n\
 |none|none";
 
-/// What reading a spelling answers, as a pair of numbers.
+/// Returns the result of reading a spelling, as a pair of numbers.
 fn parts(spelling: &[u8]) -> Result<(i128, i32), DecimalFault> {
     match Decimal::read(spelling) {
         Ok(decimal) => Ok((decimal.coefficient(), decimal.power())),
@@ -96,13 +99,13 @@ fn parts(spelling: &[u8]) -> Result<(i128, i32), DecimalFault> {
     }
 }
 
-/// The fixed number of a spelling that has one.
+/// Returns the fixed number of a spelling that has one.
 fn fixed(rt: &impl Abort, spelling: &str) -> Fixed18 {
     let decimal = Decimal::read(spelling.as_bytes()).expect(rt, "a number in range");
     decimal.fixed18().expect(rt, "a fixed number")
 }
 
-/// A prefix, so many zeros and a back.
+/// Returns `front`, then this number of zeros, then `back`.
 fn padded(alloc: Global, front: &[u8], zeros: usize, back: &[u8]) -> Result<Vec<u8>, AllocError> {
     let mut text = Vec::new(alloc);
     text.extend_from_slice(front)?;
@@ -113,7 +116,7 @@ fn padded(alloc: Global, front: &[u8], zeros: usize, back: &[u8]) -> Result<Vec<
     Ok(text)
 }
 
-/// A number, or `none`.
+/// Returns a number, or `none`.
 fn shown<T: Display + Drop>(alloc: Global, number: Option<T>) -> Result<String, AllocError> {
     match number {
         Some(number) => format!(in alloc; "{number}"),
@@ -121,7 +124,7 @@ fn shown<T: Display + Drop>(alloc: Global, number: Option<T>) -> Result<String, 
     }
 }
 
-/// The line of the table for a spelling, as the program answers it.
+/// Returns the line of the table for a spelling, with the program's results.
 fn line_of(alloc: Global, text: &str) -> Result<String, AllocError> {
     let decimal = match Decimal::read(text.as_bytes()) {
         Ok(decimal) => decimal,
@@ -139,7 +142,7 @@ fn line_of(alloc: Global, text: &str) -> Result<String, AllocError> {
     )
 }
 
-/// What a spelling is as a whole number, as the program answers it.
+/// Returns the program's result for a spelling as a whole number.
 fn whole_of(alloc: Global, text: &str) -> Result<String, AllocError> {
     match Decimal::read_whole(text.as_bytes()) {
         Ok(whole) => shown(alloc, whole),

@@ -2,7 +2,8 @@
 ghost use Rattle.std.specs.Prelude.{◌≡◌, ◌*◌, ◌^◌, ◌<◌, ◌≤◌};
 ghost use Rattle.cj_decimal.specs.Digits.{IsTrimmed};
 
-/// The number without the zeros at its end, and how many there are, for the numbers of one machine word.
+/// Returns the number without the zeros at its end, and their count, for numbers of one machine
+/// word.
 fn short_without_zeros(number: u64) -> (u64, u32)
     requires { 0 < number }
     ensures trimmed { IsTrimmed number result.0 result.1 }
@@ -17,7 +18,7 @@ fn short_without_zeros(number: u64) -> (u64, u32)
     (rest, zeros)
 }
 
-/// The number without the zeros at its end, and how many there are.
+/// Returns the number without the zeros at its end, and their count.
 pub fn without_zeros(number: u128) -> (u128, u32)
     requires { 0 < number }
     ensures trimmed { IsTrimmed number result.0 result.1 }

@@ -1,7 +1,8 @@
-//! Whole numbers, which nearly all numbers of a city model are, read without what other numbers need.
+//! Whole numbers, read without the work for other numbers. Nearly all numbers of a city model are
+//! whole.
 //!
-//! `read_few` and `read_few_signed` of a [`Decimal`] answer what digits alone spell. `read_whole` asks them
-//! first, and leaves the rest to `read`: `12.0`, `1e2` and a 0 in front go there.
+//! `read_few` and `read_few_signed` of a [`Decimal`] return what digits alone spell. `read_whole`
+//! tries them first, and leaves the rest to `read`: `12.0`, `1e2` and a leading 0.
 ghost use Rattle.std.specs.Prelude.{◌≡◌, ◌≤◌, length, IfSome, IsSome, ◌↔◌};
 ghost use Rattle.cj_decimal.specs.Class.{Class, whole_answer};
 ghost use Rattle.cj_decimal.specs.Reading.{IsShort};
@@ -10,11 +11,11 @@ ghost use Rattle.cj_decimal.specs.Spelling.{IsInt, IsFewDigits};
 use crate::decimal::{Decimal, DecimalFault};
 use crate::spelling::is_int_part;
 
-/// This many digits spell a number below 10^18.
+/// This count of digits spells a number below 10^18.
 const FEW: usize = 18;
 
-/// The number that so many digits spell, where nothing else stands there and no 0 before another digit. None where
-/// it is anything else.
+/// Returns the number that `count` digits spell. None if there is another byte, or a 0 before
+/// another digit.
 #[inline(always)]
 fn read_counted(digits: &[u8], count: usize) -> Option<u64>
     requires all { count ≡ length digits.now }
@@ -39,11 +40,12 @@ fn read_counted(digits: &[u8], count: usize) -> Option<u64>
     }
 }
 
-/// The number that at most 18 digits spell, where nothing else stands there and no 0 before another digit: the
-/// usual case. None where it is anything else.
+/// Returns the number that at most 18 digits spell, the usual case. None if there is another byte,
+/// or a 0 before another digit.
 ///
-/// The counts that nearly all have stand one by one: with a count that is known the loop is straight code. They stand
-/// in groups of three behind a test of order, since the compiler makes a jump table of four.
+/// The usual counts are cases of their own: if the compiler knows the count, the loop becomes
+/// straight code. The cases are in groups of three after a test of order, since the compiler makes
+/// a jump table of four.
 #[inline(always)]
 pub fn read_few_digits(digits: &[u8]) -> Option<u64>
     ensures short { IfSome result (λ n. IsShort digits.now n) }
@@ -70,7 +72,7 @@ pub fn read_few_digits(digits: &[u8]) -> Option<u64>
     }
 }
 
-/// The value of any spelling.
+/// Returns the value of any spelling.
 #[inline(never)]
 pub fn read_any(spelling: &[u8]) -> Result<Option<i64>, DecimalFault>
     ensures { (c : Class spelling.now) → result ≡ whole_answer c }

@@ -1,10 +1,11 @@
-//! Numbers of at most eight digits in a line, read by one word: the eight bytes that end where the number ends.
+//! Numbers of at most eight digits in a line, read from one word: the eight bytes before the
+//! number's end.
 ghost use Rattle.std.specs.Prelude.{◌≡◌, ℕ, ◌+◌, ◌-◌, ◌*◌, ◌^◌, ◌<◌, ◌≤◌, List, length, map, slice_range, IfSome, IsSome, ◌↔◌};
 ghost use Rattle.cj_decimal.specs.Reading.{IsShort};
 ghost use Rattle.cj_decimal.specs.Spelling.{AllDigits, IsInt, digits_value};
 ghost use Rattle.cj_decimal.specs.Word.{word_of, AllBelow};
 
-/// How many bytes a word has.
+/// The number of bytes in a word.
 const BYTES: usize = 8;
 
 /// The byte `0` at each place of a word.
@@ -13,10 +14,10 @@ const ZEROS: u64 = 0x3030_3030_3030_3030;
 /// The high half of each byte.
 const HIGH: u64 = 0xf0f0_f0f0_f0f0_f0f0;
 
-/// The number 6 in each byte: with it a number above 9 reaches the high half.
+/// The number 6 in each byte. When it is added, a number above 9 reaches the high half.
 const SIXES: u64 = 0x0606_0606_0606_0606;
 
-/// All bits of the last bytes of a word, for each count of them.
+/// All bits of the last bytes of a word, for each count of bytes.
 const LAST: [u64; 9] = [
     0,
     0xff00_0000_0000_0000,
@@ -32,7 +33,7 @@ const LAST: [u64; 9] = [
 /// The first and the fifth byte.
 const PAIRS: u64 = 0x0000_00ff_0000_00ff;
 
-/// The eight bytes before `stop`, of which the first is least.
+/// Returns the eight bytes before `stop` as a word. The first byte is the least.
 #[inline(always)]
 fn word_before(line: &[u8], stop: usize) -> u64
     requires room { 8 ≤ stop }
@@ -45,7 +46,7 @@ fn word_before(line: &[u8], stop: usize) -> u64
     ])
 }
 
-/// All bits of the last bytes of a word.
+/// Returns all bits of the last `count` bytes of a word.
 #[inline(always)]
 fn last_bytes(count: usize) -> u64
     requires { count ≤ 8 }
@@ -54,9 +55,10 @@ fn last_bytes(count: usize) -> u64
     LAST[count]
 }
 
-/// The number that eight digits spell, each given as its number.
+/// Returns the number that eight digits spell. Each byte is the value of a digit.
 ///
-/// Digits are joined to pairs, and of these every second one counts. Two products weigh four of them, and add two each.
+/// Digits are joined into pairs, and every second pair counts. Two products each weigh and add two
+/// pairs.
 #[inline(always)]
 fn value_of(word: u64) -> u64
     requires { word < 2 ^ 60 }
@@ -70,7 +72,7 @@ fn value_of(word: u64) -> u64
     first.wrapping_add(second) >> 32
 }
 
-/// The number that the last `count` bytes before `stop` spell, where these are digits. None where they are not.
+/// Returns the number that the last `count` bytes before `stop` spell. None unless all are digits.
 #[inline(always)]
 fn read_digits_before(line: &[u8], count: usize, stop: usize) -> Option<u64>
     requires few { count ≤ 8 }
@@ -88,8 +90,8 @@ fn read_digits_before(line: &[u8], count: usize, stop: usize) -> Option<u64>
     Some(value_of(word))
 }
 
-/// The number that the bytes from `start` to `stop` spell, where they are at most eight digits and nothing else, and no
-/// 0 before another digit. None where they are anything else, and near the front of the line.
+/// Returns the number that the bytes from `start` to `stop` spell. None unless they are at most
+/// eight digits, with no 0 before another digit. None also if `stop` is below 8.
 #[inline(always)]
 pub fn read_word(line: &[u8], start: usize, stop: usize) -> Option<u64>
     requires order { start < stop }

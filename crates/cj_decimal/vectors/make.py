@@ -170,10 +170,12 @@ def comparison_line(row):
 
 
 def main():
-    print("//! Written by vectors/make.py, by exact arithmetic outside the program: change that and run it again.")
-    table("SPELLINGS", "In each line a spelling, then its coefficient, power, whole value and units of 10^-18, or its fault.",
+    print("//! Written by vectors/make.py, with exact arithmetic outside the program. Change that file and run\n"
+          "//! it again.")
+    table("SPELLINGS", "Each line has a spelling. Then come its coefficient, power, whole value and units of 10^-18, or\n"
+          "/// its fault.",
           map(spelling_line, signed(SPELLINGS)))
-    table("COMPARISONS", "In each line a scale, a shift, v and q, and how `v * scale + shift` compares with q.",
+    table("COMPARISONS", "Each line has a scale, a shift, v and q, and how `v * scale + shift` compares with q.",
           map(comparison_line, comparisons()))
 
 

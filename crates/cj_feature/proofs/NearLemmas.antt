@@ -102,16 +102,16 @@ id-reached feature id objects i o = λ name t at same.
 
 -- ---- steps of the guide
 
-pub same-hand : {O L : ℕ} (a : Near O L) → AddsNone a a
+pub same-hand : {O L P : ℕ} (a : Near O L P) → AddsNone a a
 same-hand a = record { objects = λ k n at small. (k, at) }
 
-pub more-hand : {O L : ℕ} (a b c : Near O L) → AddsNone a b → AddsNone b c → AddsNone a c
+pub more-hand : {O L P : ℕ} (a b c : Near O L P) → AddsNone a b → AddsNone b c → AddsNone a c
 more-hand a b c h k = record { objects = λ i n at small. let from = k.objects i n at small in h.objects from.0 n from.1 small }
 
-pub named-kept : {O L : ℕ} (objects : List (Tree × Tree)) (line : List ℕ) (spans : List Span) (a b : Near O L) → AddsNone a b → AreNamed objects line spans a.objects → AreNamed objects line spans b.objects
+pub named-kept : {O L P : ℕ} (objects : List (Tree × Tree)) (line : List ℕ) (spans : List Span) (a b : Near O L P) → AddsNone a b → AreNamed objects line spans a.objects → AreNamed objects line spans b.objects
 named-kept objects line spans a b h named = λ k n at above small. let from = h.objects k n at small in named from.0 n from.1 above small
 
-pub known-kept : {O L : ℕ} (n : Node) (a b : Near O L) → AddsNone a b → Knows n a → Knows n b
+pub known-kept : {O L P : ℕ} (n : Node) (a b : Near O L P) → AddsNone a b → Knows n a → Knows n b
 known-kept n a b h k = named-kept (members_of (tree n)) (line_of n) (spans_by n) a b h k
 
 pub same-marks : (a : BoundedList Token) → OnlyMarks a a
@@ -121,7 +121,7 @@ pub more-marks : (a b c : BoundedList Token) → OnlyMarks a b → OnlyMarks b c
 more-marks a b c h k = record { tokens = k.tokens ∙ h.tokens; list = k.list ∙ ap (λ (x : BoundedList Token). record x { elements = c.elements }) h.list }
 
 -- the guide stands, with none come to hand and others that wait
-pub guide-on : {O L : ℕ} (line : List ℕ) (tokens : List Token) (a b : Near O L) → IsGuide line tokens a → AddsNone a b → ((f : Tree) → Json line f → WaitsFor f line (spans_of tokens) a → WaitsFor f line (spans_of tokens) b) → IsGuide line tokens b
+pub guide-on : {O L P : ℕ} (line : List ℕ) (tokens : List Token) (a b : Near O L P) → IsGuide line tokens a → AddsNone a b → ((f : Tree) → Json line f → WaitsFor f line (spans_of tokens) a → WaitsFor f line (spans_of tokens) b) → IsGuide line tokens b
 guide-on line tokens a b g h w = record {
   of = g.of;
   known = λ f o j e. named-kept (members_of o) line (spans_of tokens) a b h (g.known f o j e);
@@ -130,7 +130,7 @@ guide-on line tokens a b g h w = record {
 }
 
 -- what waits beside a node, told by its document
-module _ {O L : ℕ} (n : Node) (d : Doc) (source : source_of n ≡ document_source d) (f : Tree) (near : Near O L) where
+module _ {O L P : ℕ} (n : Node) (d : Doc) (source : source_of n ≡ document_source d) (f : Tree) (near : Near O L P) where
   pub waits-there : WaitsFor f (line_of n) (spans_by n) near → WaitsFor f (document_line d) (spans_of (tokens_in (document_source d))) near
   waits-there h = subst (λ s. WaitsFor f (document_line d) (spans_of (tokens_in s)) near) source (subst (λ l. WaitsFor f l (spans_by n) near) (line-of-document n d source) h)
 
@@ -138,7 +138,7 @@ module _ {O L : ℕ} (n : Node) (d : Doc) (source : source_of n ≡ document_sou
   waits-here h = subst (λ l. WaitsFor f l (spans_by n) near) (sym (line-of-document n d source)) (subst (λ s. WaitsFor f (document_line d) (spans_of (tokens_in s)) near) (sym source) h)
 
 -- those at hand beside a node, told by its document
-module _ {O L : ℕ} (n : Node) (d : Doc) (source : source_of n ≡ document_source d) (near : Near O L) where
+module _ {O L P : ℕ} (n : Node) (d : Doc) (source : source_of n ≡ document_source d) (near : Near O L P) where
   pub known-there : Knows n near → AreNamed (members_of (tree n)) (document_line d) (spans_of (tokens_in (document_source d))) near.objects
   known-there h = subst (λ s. AreNamed (members_of (tree n)) (document_line d) (spans_of (tokens_in s)) near.objects) source (subst (λ l. AreNamed (members_of (tree n)) l (spans_by n) near.objects) (line-of-document n d source) h)
 
@@ -146,7 +146,7 @@ module _ {O L : ℕ} (n : Node) (d : Doc) (source : source_of n ≡ document_sou
   known-here h = subst (λ l. AreNamed (members_of (tree n)) l (spans_by n) near.objects) (sym (line-of-document n d source)) (subst (λ s. AreNamed (members_of (tree n)) (document_line d) (spans_of (tokens_in s)) near.objects) (sym source) h)
 
 -- one more mark
-pub guide-marked : {O L : ℕ} (line : List ℕ) (old new : BoundedList Token) (near : Near O L) (n : ℕ) → IsGuide line old.elements near → KeepsTokens old new → ((k : ℕ) → k ≢ n → is_marked_at new.elements k ≡ is_marked_at old.elements k)
+pub guide-marked : {O L P : ℕ} (line : List ℕ) (old new : BoundedList Token) (near : Near O L P) (n : ℕ) → IsGuide line old.elements near → KeepsTokens old new → ((k : ℕ) → k ≢ n → is_marked_at new.elements k ≡ is_marked_at old.elements k)
     → ((f : Tree) → Json line f → IsReachedObject f (tree_at line (spans_of old.elements) n)) → IsGuide line new.elements near
 guide-marked line old new near n g kept others reached = record {
   of = kept.of line g.of;
@@ -160,7 +160,7 @@ guide-marked line old new near n g kept others reached = record {
 }
 
 -- the same guide, told of a document of the line, with none come to hand and the same that wait
-pub guide-at : {O L : ℕ} (line l : List ℕ) (ts us : List Token) (a b : Near O L) → l ≡ line → us ≡ ts → AddsNone a b → b.pending ≡ a.pending → b.waiting ≡ a.waiting → IsGuide line ts a → IsGuide l us b
+pub guide-at : {O L P : ℕ} (line l : List ℕ) (ts us : List Token) (a b : Near O L P) → l ≡ line → us ≡ ts → AddsNone a b → b.pending ≡ a.pending → b.waiting ≡ a.waiting → IsGuide line ts a → IsGuide l us b
 guide-at line l ts us a b e q h p w g =
     let same = guide-on line ts a b g h (λ f j waits. subst (λ k. AreReached f line (spans_of ts) b.pending k) (sym w) (subst (λ ns. AreReached f line (spans_of ts) ns a.waiting) (sym p) waits)) in
     subst (λ vs. IsGuide l vs b) (sym q) (subst (λ m. IsGuide m ts b) (sym e) same)

@@ -106,19 +106,19 @@ abbrev pub spans_by : Node → List Span
 spans_by n = spans_of (tokens_in (source_of n))
 
 -- those at hand are city objects beside this node
-abbrev pub Knows : {O L : ℕ} → Node → Near O L → Type 0
+abbrev pub Knows : {O L P : ℕ} → Node → Near O L P → Type 0
 Knows objects near = AreNamed (members_of (tree objects)) (line_of objects) (spans_by objects) near.objects
 
 -- those that wait to be marked are reached, in the feature of this tree
-abbrev pub WaitsFor : {O L : ℕ} → Tree → List ℕ → List Span → Near O L → Type 0
+abbrev pub WaitsFor : {O L P : ℕ} → Tree → List ℕ → List Span → Near O L P → Type 0
 WaitsFor feature line spans near = AreReached feature line spans near.pending near.waiting
 
 -- each city object at hand that is not done with was at hand before
-pub record AddsNone {O L : ℕ} (old new : Near O L) : Type 0 where
+pub record AddsNone {O L P : ℕ} (old new : Near O L P) : Type 0 where
   pub objects : (k n : ℕ) → slice_get new.objects k ≡ Some n → n < 2147483648 → (j : ℕ) × (slice_get old.objects j ≡ Some n)
 
 -- of a line and its tokens: those at hand are city objects, and what waits and what has marks is reached
-pub record IsGuide {O L : ℕ} (line : List ℕ) (tokens : List Token) (near : Near O L) : Type 0 where
+pub record IsGuide {O L P : ℕ} (line : List ℕ) (tokens : List Token) (near : Near O L P) : Type 0 where
   pub of : AreOf line tokens
   pub known : (feature objects : Tree) → Json line feature → member_of (chars (codes "CityObjects")) feature ≡ Some objects → AreNamed (members_of objects) line (spans_of tokens) near.objects
   pub waiting : (feature : Tree) → Json line feature → WaitsFor feature line (spans_of tokens) near

@@ -103,11 +103,11 @@ AreLeft objects qs marks left =
     (t : Tree) (i : ℕ) → IsFirstOn objects qs t i → slice_index_or marks i false ≡ false → is_known (members_of (tree objects)) t ≡ is_known left t
 
 -- the questions that are noted
-abbrev pub noted : Questions → List Question
+abbrev pub noted : {R K : ℕ} → Questions R K → List Question
 noted a = take a.count a.questions
 
 -- they stand in order, and their marks answer them by all city objects but those that are left
-pub record AreAnswered (list : List ℕ) (objects : Node) (left : List (Tree × Tree)) (a : Questions) : Type 0 where
+pub record AreAnswered {R K : ℕ} (list : List ℕ) (objects : Node) (left : List (Tree × Tree)) (a : Questions R K) : Type 0 where
   pub few : a.count ≤ length a.questions
   pub order : AreInOrder objects (noted a)
   pub listed : AreListed list objects (noted a) a.listed

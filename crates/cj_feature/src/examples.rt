@@ -1,4 +1,4 @@
-//! The rules at worked features and headers: each contract is a theorem in which nothing runs.
+//! The rules on worked features and headers. Each contract is a theorem in which nothing runs.
 ghost use Rattle.std.specs.Prelude.{◌≡◌, ◌∷◌, [], false, true, Some, codes};
 ghost use Rattle.cj_spans.specs.declared.reason.Reason.TheVariants.{MissingMember, DuplicateName, WrongKind, WrongType, WrongVersion, NotEmpty, NotThree, IdNotFound, ChildNotFound, LinkNotMutual, NoParent, NotReached};
 ghost use Rattle.cj_spans.specs.Finding.{least, found_at};
@@ -34,7 +34,7 @@ pub fn parts()
     ensures number { least None (feature bare part_of_number.tree false) ≡ Some (found_at 54 NoParent) }
 {}
 
-/// The children of a group may be anywhere; its members list it as any other parent, and its own
+/// The children of a group may be anywhere. Its members list it as any other parent, and its own
 /// parents list it as any other child.
 pub fn groups()
     ensures group { feature bare group.tree false ≡ [] }
@@ -43,7 +43,8 @@ pub fn groups()
     ensures lost_parent { feature bare group_of_other.tree false ≡ [] }
 {}
 
-/// Links are between names, whichever city object of a name has them, and however it is spelled.
+/// Links are between names, in any spelling. If a name is repeated, it does not matter which city
+/// object has the link.
 pub fn names_of_city_objects()
     ensures doubled { feature bare doubled.tree false ≡ found_at 74 DuplicateName ∷ [] }
     ensures escaped { feature bare escaped.tree false ≡ [] }
@@ -51,7 +52,7 @@ pub fn names_of_city_objects()
     ensures unread { feature bare unread_names.tree false ≡ [] }
 {}
 
-/// A name is an id in the feature also where its value is no city object.
+/// A name is an id in the feature even if its value is no city object.
 pub fn values_that_are_no_city_objects()
     ensures alone { feature bare no_object.tree false ≡ found_at 54 WrongKind ∷ [] }
     ensures child { feature bare child_no_object.tree false ≡ found_at 95 WrongKind ∷ found_at 85 LinkNotMutual ∷ [] }
@@ -65,8 +66,9 @@ pub fn an_id_of_no_city_object()
     ensures none { feature bare no_objects.tree false ≡ found_at 31 IdNotFound ∷ [] }
 {}
 
-/// Where each city object has to be reached from the main one, all that are not have a finding: of either level, wherever
-/// they stand, and whatever the main one is. What is reached hangs on no order.
+/// If each city object must be reached from the main one, all that are not have a finding. It does
+/// not matter what level they have, where they are, and what the main one is. Their order does not
+/// matter.
 pub fn city_objects_that_are_not_reached()
     ensures chain { feature bare chain.tree true ≡ [] }
     ensures apart { feature bare part_apart.tree true ≡ found_at 78 NotReached ∷ found_at 122 NotReached ∷ [] }
@@ -75,13 +77,14 @@ pub fn city_objects_that_are_not_reached()
     ensures unasked_part { feature bare main_part.tree false ≡ [] }
 {}
 
-/// A value that is no object is not reached either, and has the finding of its kind first, at the same place.
+/// A value that is no object is not reached either. The finding of its kind comes first, at the
+/// same byte.
 pub fn a_number_that_is_not_reached()
     ensures all { feature bare number_apart.tree true ≡ found_at 78 WrongKind ∷ found_at 78 NotReached ∷ [] }
     ensures least { least None (feature bare number_apart.tree true) ≡ Some (found_at 78 WrongKind) }
 {}
 
-/// A header has its type and its version, whose digits are those of the version.
+/// A header has its type and its version. The digits of the version must be exact.
 pub fn types_and_versions()
     ensures plain { header false plain_header ≡ [] }
     ensures other_type { header false other_type ≡ found_at 8 WrongType ∷ [] }
@@ -89,7 +92,7 @@ pub fn types_and_versions()
     ensures more_digits { header false more_digits ≡ found_at 29 WrongVersion ∷ [] }
 {}
 
-/// A transform has three numbers twice, and a header has neither city objects nor vertices.
+/// A transform has two lists of three numbers, and a header has no city objects and no vertices.
 pub fn parts_of_a_header()
     ensures no_scale { header false no_scale ≡ found_at 47 MissingMember ∷ [] }
     ensures two_scales { header false two_scales ≡ found_at 56 NotThree ∷ [] }
@@ -97,7 +100,7 @@ pub fn parts_of_a_header()
     ensures with_vertices { header false with_vertices ≡ found_at 113 NotEmpty ∷ [] }
 {}
 
-/// Neither a header nor a feature is the other.
+/// A header is no feature, and a feature is no header.
 pub fn one_taken_for_the_other()
     ensures feature { least None (header false itself.tree) ≡ Some (found_at 0 MissingMember) }
     ensures header { least None (feature bare plain_header false) ≡ Some (found_at 0 MissingMember) }
@@ -135,7 +138,7 @@ pub fn trees_of_features()
     ensures number_apart { forest number_apart.line (preorder number_apart.tree) ≡ number_apart.tree ∷ [] }
 {}
 
-/// And so those of headers.
+/// The same is true of the trees of headers.
 pub fn trees_of_headers()
     ensures bare { forest (codes "{}") (preorder bare) ≡ bare ∷ [] }
     ensures plain { forest plain_header_line (preorder plain_header) ≡ plain_header ∷ [] }

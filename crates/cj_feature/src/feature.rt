@@ -1,4 +1,4 @@
-//! Features: the later lines of a text.
+//! Features: the later lines of a stream.
 ghost use Rattle.std.specs.Prelude.{◌≡◌, ◌<◌, ℕ, List, [], false, Some, IfSome, codes, map, option_map};
 ghost use Rattle.std.specs.Str.{chars};
 ghost use Rattle.cj_spans.specs.Parts.{member_of, text_of};
@@ -31,7 +31,8 @@ pub use reached::mark_reached;
 pub use rules::check_feature;
 pub use vertices::Vertices;
 
-/// A valid feature, beside its header. What its walks begin at is looked up once, when it is judged.
+/// A valid feature, with its header. The nodes where its walks begin are looked up once, when it is
+/// judged.
 #[derive(Clone, Copy)]
 pub struct Feature<'a> {
     doc: Doc<'a>,
@@ -54,8 +55,8 @@ impl<'a> Feature<'a> {
     ghost use Rattle.cj_feature.specs.View.{feature_tree, feature_line, feature_header};
     ghost use Rattle.cj_feature.specs.Walks.{objects_left, objects_line, geometries_left, geometries_line, object_geometries, vertices_left, coordinates_left};
 
-    /// The feature of a document that has no findings beside this header, with these members of the one
-    /// and templates of the other.
+    /// Returns the feature of a document that has no findings with this header. `objects` and
+    /// `vertices` are members of the document, and `templates` those of the header.
     #[tactic(auto, unfolding(crate::specs::View::feature_tree, crate::specs::View::feature_line, crate::specs::View::feature_header))]
     fn of(
         doc: Doc<'a>,
@@ -88,7 +89,7 @@ impl<'a> Feature<'a> {
         }
     }
 
-    /// The id, which is the name of one of the city objects.
+    /// Returns the id, which is the name of one of the city objects.
     #[tactic(auto, unfolding(crate::specs::View::feature_tree, crate::specs::View::feature_line))]
     pub fn id(&self) -> Node<'a>
         ensures tree { member_of (chars (codes "id")) (feature_tree self.now) ≡ Some (tree result) }
@@ -102,7 +103,7 @@ impl<'a> Feature<'a> {
         }
     }
 
-    /// The value that holds the city objects.
+    /// Returns the value of `CityObjects`.
     fn objects_node(&self) -> Node<'a>
         ensures tree { member_of (chars (codes "CityObjects")) (document self.now.doc) ≡ Some (tree result) }
         ensures line { line_of result ≡ document_line self.now.doc }
@@ -110,7 +111,7 @@ impl<'a> Feature<'a> {
         self.objects
     }
 
-    /// The city objects, in order.
+    /// Returns the city objects, in order.
     #[tactic(auto, unfolding(crate::specs::View::feature_tree, crate::specs::View::feature_line))]
     pub fn objects(&self) -> Objects<'a>
         ensures objects { objects_left result
@@ -120,7 +121,7 @@ impl<'a> Feature<'a> {
         Objects::over(self.objects_node().members())
     }
 
-    /// The geometries of all city objects, in order.
+    /// Returns the geometries of all city objects, in order.
     #[tactic(auto, unfolding(crate::specs::View::feature_tree, crate::specs::View::feature_line))]
     pub fn geometries(&self) -> Geometries<'a>
         ensures geometries { geometries_left result
@@ -131,7 +132,7 @@ impl<'a> Feature<'a> {
         Geometries::over(self.objects_node().members())
     }
 
-    /// The vertices, in order.
+    /// Returns the vertices, in order.
     #[tactic(auto, unfolding(crate::specs::View::feature_tree))]
     pub fn vertices(&self) -> Vertices<'a>
         ensures { vertices_left result
@@ -140,7 +141,8 @@ impl<'a> Feature<'a> {
         Vertices::over(self.vertices.items())
     }
 
-    /// The numbers of the vertices on an axis, in order: 0 is x, 1 is y, and 2 is z.
+    /// Returns the coordinates of the vertices on an axis, in order: 0 is x, 1 is y, and 2 is z.
+    /// They are the whole numbers of the line, before the transform.
     #[tactic(auto, unfolding(crate::specs::View::feature_tree, crate::specs::Walks::vertices_left))]
     pub fn coordinates(&self, axis: usize) -> Coordinates<'a>
         requires { axis < 3 }
@@ -151,7 +153,7 @@ impl<'a> Feature<'a> {
         Coordinates::over(self.vertices().items, axis)
     }
 
-    /// The line's content.
+    /// Returns the line's content.
     #[tactic(auto, unfolding(crate::specs::View::feature_line))]
     pub fn bytes(&self) -> &'a [u8]
         ensures { result.now ≡ feature_line self.now }
@@ -159,7 +161,7 @@ impl<'a> Feature<'a> {
         self.doc.line()
     }
 
-    /// The header's templates, which instances name.
+    /// Returns the header's templates, which instances name.
     #[tactic(auto, unfolding(crate::specs::View::feature_header))]
     pub fn templates(&self) -> Templates<'a>
         ensures { given result ≡ templates_of (feature_header self.now) }

@@ -1,4 +1,4 @@
-//! Headers: the first line of a text.
+//! Headers: the first line of a stream.
 ghost use Rattle.std.specs.Prelude.{◌≡◌, Some, None, map, codes};
 ghost use Rattle.std.specs.Str.{chars};
 ghost use Rattle.cj_spans.specs.View.{document, document_line};
@@ -28,7 +28,7 @@ impl<'a> Header<'a> {
     ghost use Rattle.cj_feature.specs.Shown.{transform_values, maps_if, parts_box};
     ghost use Rattle.cj_feature.specs.HeaderView.{header_tree, header_line, has_box};
 
-    /// The header of this document again, where its parts came from it.
+    /// Returns the header of this document again, from the parts that were read of it.
     #[tactic(auto, unfolding(crate::specs::HeaderView::header_tree, crate::specs::HeaderView::header_line, crate::specs::HeaderView::has_box, crate::specs::Shown::parts_box))]
     pub fn of(doc: Doc<'a>, parts: HeaderParts) -> Header<'a>
         requires { ArePartsOf (document doc) parts }
@@ -39,7 +39,7 @@ impl<'a> Header<'a> {
         Header { doc, parts }
     }
 
-    /// What each axis of a vertex is multiplied by (CityJSON 2.0, section 4).
+    /// Returns the scale on each axis (CityJSON 2.0, section 4). A vertex is multiplied by it.
     #[tactic(auto, unfolding(crate::specs::HeaderView::header_tree, crate::specs::HeaderView::header_line))]
     pub fn scale(&self) -> [Decimal; 3]
         ensures { transform_values (chars (codes "scale")) (header_tree self.now) ≡ map Some result }
@@ -48,7 +48,7 @@ impl<'a> Header<'a> {
         parts.scale
     }
 
-    /// What is then added to each axis of a vertex.
+    /// Returns the translation on each axis. It is added to the scaled vertex.
     #[tactic(auto, unfolding(crate::specs::HeaderView::header_tree, crate::specs::HeaderView::header_line))]
     pub fn translate(&self) -> [Decimal; 3]
         ensures { transform_values (chars (codes "translate")) (header_tree self.now) ≡ map Some result }
@@ -57,7 +57,8 @@ impl<'a> Header<'a> {
         parts.translate
     }
 
-    /// The templates that instances of later lines name. Where the header has no list of them, none is looked for.
+    /// Returns the templates that instances of later lines name. If the header has no list of them,
+    /// it searches for none.
     #[tactic(auto, unfolding(crate::specs::HeaderView::header_tree, crate::specs::HeaderView::header_line), using(crate::proofs::Listed::no_list))]
     pub fn templates(&'a self) -> Templates<'a>
         ensures { given result ≡ templates_of (header_tree self.now) }
@@ -71,7 +72,7 @@ impl<'a> Header<'a> {
         }
     }
 
-    /// The document that it is.
+    /// Returns the document of the header.
     #[tactic(auto, unfolding(crate::specs::HeaderView::header_tree))]
     pub(crate) fn doc(&self) -> Doc<'a>
         ensures { document result ≡ header_tree self.now }
@@ -79,8 +80,8 @@ impl<'a> Header<'a> {
         self.doc
     }
 
-    /// The maps of the x and y axes from whole numbers to coordinates, where the header was checked with
-    /// a box.
+    /// Returns the maps of the x and y axes from whole numbers to coordinates, if the header was
+    /// checked for a box.
     #[tactic(auto, unfolding(crate::specs::HeaderView::header_tree, crate::specs::HeaderView::has_box))]
     pub fn affine(&self) -> Option<[Affine; 2]>
         ensures { result ≡ maps_if (has_box self.now) (header_tree self.now) }
@@ -89,7 +90,7 @@ impl<'a> Header<'a> {
         parts.maps
     }
 
-    /// The line's content.
+    /// Returns the line's content.
     #[tactic(auto, unfolding(crate::specs::HeaderView::header_tree, crate::specs::HeaderView::header_line))]
     pub fn bytes(&self) -> &'a [u8]
         ensures { result.now ≡ header_line self.now }
@@ -97,7 +98,7 @@ impl<'a> Header<'a> {
         self.doc.line()
     }
 
-    /// What [`Header::of`] makes the same header of.
+    /// Returns the parts from which [`Header::of`] makes the same header.
     #[tactic(auto, unfolding(crate::specs::HeaderView::header_tree, crate::specs::HeaderView::has_box, crate::specs::Shown::parts_box))]
     pub fn parts(&self) -> HeaderParts
         ensures parts { ArePartsOf (header_tree self.now) result }

@@ -1,22 +1,25 @@
-//! Headers and features of CityJSONSeq texts (CityJSON 2.0, sections 1, 2 and 8, and the CityJSONSeq page of
-//! cityjson.org): what is wrong with a line, and what a valid one shows.
+//! Headers and features of CityJSONSeq streams: what is wrong with a line, and what a valid line
+//! shows. The rules are in CityJSON 2.0, sections 1, 2 and 8, and on the CityJSONSeq page of
+//! cityjson.org.
 //!
-//! [`check_header`] and [`check_feature`] judge a line that was scanned: the least finding by place and code,
-//! or a [`Header`] or [`Feature`] that shows its parts. These are plain values that view the line and its
-//! tokens; no call takes memory, and none can fail but by its finding. What is read of a header once is kept
-//! as [`HeaderParts`], which borrows nothing: beside a copy of the line and its tokens it is the header again.
+//! - [`check_header`] and [`check_feature`] judge a scanned line. The result is the least finding
+//!   by byte and code, or a [`Header`] or [`Feature`].
+//! - [`Header`] and [`Feature`] are views of the line and its tokens. No call allocates. None can
+//!   fail, except with a finding.
+//! - [`HeaderParts`] is what is read of a header once. It borrows nothing. With a copy of the line
+//!   and its tokens it gives the header again.
 //!
 //! ```text
 //! let header = check_header(Doc::of(first, first_tokens), false)?; // no box
 //! let parts = header.parts();
-//! // later, with the first line at hand again, and for each other line:
+//! // later, given the first line again, and for each other line:
 //! let header = Header::of(Doc::of(first, first_tokens), parts);
 //! let feature = check_feature(Doc::of(line, tokens.as_slice()), &header, false)?;
-//! for object in feature.objects() {}                                // id, type and node of each
-//! for [x, y, z] in feature.vertices() {}                            // whole numbers, as they stand there
-//! for x in feature.coordinates(0) {}                                // the first number of each
+//! for object in feature.objects() {}      // id, type and node of each
+//! for [x, y, z] in feature.vertices() {}  // whole numbers, as in the line
+//! for x in feature.coordinates(0) {}      // the first number of each
 //!
-//! // each city object has to hang on the feature's main one, too: those that do are marked first
+//! // if each city object must be reached from the main one, first mark those that are
 //! mark_reached(line, &mut tokens);
 //! let feature = check_feature(Doc::of(line, tokens.as_slice()), &header, true)?;
 //! ```

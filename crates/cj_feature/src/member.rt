@@ -1,4 +1,4 @@
-//! Members that have to be a certain text, and members that are counted.
+//! Members that must be a certain text, and members that are counted.
 ghost use Rattle.std.specs.Prelude.{◌≡◌, option_map};
 ghost use Rattle.std.specs.Str.{chars};
 ghost use Rattle.cj_spans.specs.Finding.{least};
@@ -12,7 +12,7 @@ ghost use Rattle.cj_feature.specs.Header.{is_named, has_member_named};
 use cj_geometry::rule::{add, count_items, needed};
 use cj_spans::{Kind, Least, Node, Reason};
 
-/// The object has this member, which was looked for in it.
+/// Checks that the object has this member. The caller has looked it up.
 pub fn check_there(object: Node, member: Option<Node>, found: &mut Least)
     ensures { found.new ≡ least found.old (missing (tree object.entry) (option_map tree member.entry)) }
 {
@@ -21,7 +21,7 @@ pub fn check_there(object: Node, member: Option<Node>, found: &mut Least)
     }
 }
 
-/// The value is this text; another text has `reason`.
+/// Checks that the value is this text. Another text has `reason`.
 #[inline(always)]
 fn check_name(node: Node, text: &str, reason: Reason, found: &mut Least)
     ensures { found.new ≡ least found.old (of_kind is_text (is_named reason (chars text.now)) (tree node.entry)) }
@@ -36,7 +36,8 @@ fn check_name(node: Node, text: &str, reason: Reason, found: &mut Least)
     }
 }
 
-/// The object has a member of this name, which is this text; another text has `reason`.
+/// Checks that the object has a member with this name, which is this text. Another text has
+/// `reason`.
 #[inline(always)]
 pub fn check_name_member(object: Node, name: &str, text: &str, reason: Reason, found: &mut Least)
     ensures { found.new
@@ -47,7 +48,7 @@ pub fn check_name_member(object: Node, name: &str, text: &str, reason: Reason, f
     }
 }
 
-/// How many items the member of this name has, if it is an array.
+/// Returns how many items the member with this name has, if it is an array.
 pub fn count_member(object: Node, name: &str) -> Option<u64>
     ensures { result ≡ count_of (member_of (chars name.now) (tree object.entry)) }
 {

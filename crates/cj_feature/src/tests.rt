@@ -1,7 +1,10 @@
-//! Rows of headers and features: what is wrong with each is told from the rules, and not by the program. A
-//! table has a row a line, with bars between its cells: a name, what stands in the hole `_` of the
-//! table's line, and the code and the text of the reason, or `none`. The mark `^` stands where the
-//! finding is, and is no part of the line; without a mark a row counts the place itself.
+//! Rows of headers and features. What is wrong with each follows from the rules, not from the
+//! program.
+//!
+//! A table has one row per line, with bars between its cells. The cells are a name, the text for
+//! the hole `_` of the table's line, and the result. The result is the code and the text of the
+//! reason, or `none`. The mark `^` shows where the finding is, and is no part of the line. Without
+//! a mark, a row has the byte itself.
 ghost use Rattle.cj_spans.specs.Marks.{AreUnmarked};
 ghost use Rattle.cj_spans.specs.Sound.{AreOf};
 
@@ -25,7 +28,7 @@ use std::process::Abort;
 const HEADER: &str =
     r#"{"type":"CityJSON","version":"2.0","transform":{"scale":[0.001,0.001,0.001],"translate":[1000.0,2000.0,0.0]},"CityObjects":{},"vertices":[]}"#;
 
-/// The tokens of a line that is a JSON text.
+/// Returns the tokens of a line that is a JSON text.
 fn tokens_of(rt: &impl Abort, alloc: Global, line: &[u8]) -> Bounded<Token>
     ensures of { AreOf line.now result.elements }
     ensures unmarked { AreUnmarked result.elements }
@@ -40,7 +43,7 @@ fn tokens_of(rt: &impl Abort, alloc: Global, line: &[u8]) -> Bounded<Token>
     tokens
 }
 
-/// The finding of a line that is judged as a header, for a box or for none.
+/// Returns the finding of a line that is judged as a header, with or without a box.
 fn header_finding(rt: &impl Abort, alloc: Global, line: &[u8], with_box: bool) -> Option<Finding> {
     let tokens = tokens_of(rt, alloc, line);
     match check_header(Doc::of(line, tokens.as_slice()), with_box) {
@@ -49,7 +52,7 @@ fn header_finding(rt: &impl Abort, alloc: Global, line: &[u8], with_box: bool) -
     }
 }
 
-/// The finding of a line that is judged as a feature, beside a header.
+/// Returns the finding of a line that is judged as a feature, with a header.
 fn feature_finding(
     rt: &impl Abort,
     alloc: Global,
@@ -67,7 +70,7 @@ fn feature_finding(
     }
 }
 
-/// A finding as a row tells it: its place, and the code and the text of its reason.
+/// Returns a finding as a row has it: its byte, and the code and the text of its reason.
 fn finding_text(alloc: Global, found: Option<Finding>) -> Result<String, AllocError> {
     match found {
         Some(Finding { place, reason }) => {
@@ -77,7 +80,7 @@ fn finding_text(alloc: Global, found: Option<Finding>) -> Result<String, AllocEr
     }
 }
 
-/// The line with a cell in the hole.
+/// Returns the line with a cell in the hole.
 fn filled(alloc: Global, pattern: &str, cell: &str) -> Result<String, AllocError> {
     match pattern.split_once('_') {
         Some((front, back)) => format!(in alloc; "{front}{cell}{back}"),
@@ -85,7 +88,7 @@ fn filled(alloc: Global, pattern: &str, cell: &str) -> Result<String, AllocError
     }
 }
 
-/// The line without its mark, and what is wanted with the place of the mark.
+/// Returns the line without its mark, and the expected finding with the byte of the mark.
 fn unmarked(alloc: Global, line: &str, want: &str) -> Result<(String, String), AllocError> {
     match line.split_once('^') {
         Some((front, back)) => Ok((
@@ -99,7 +102,7 @@ fn unmarked(alloc: Global, line: &str, want: &str) -> Result<(String, String), A
     }
 }
 
-/// The line of a row, and what the row wants there.
+/// Returns the line of a row, and what the row expects.
 fn line_of(
     rt: &impl Abort,
     alloc: Global,
@@ -114,7 +117,8 @@ fn line_of(
     unmarked(alloc, &line, want)
 }
 
-/// Each row of the table, as a header for a box or for none, has the finding that it wants.
+/// Checks that each row of the table, as a header with or without a box, has the finding that it
+/// expects.
 fn headers_judged(
     rt: &impl Abort,
     alloc: Global,
@@ -131,7 +135,7 @@ fn headers_judged(
     Ok(())
 }
 
-/// Each row of the table, as a header, has the finding that it wants.
+/// Checks that each row of the table, as a header, has the finding that it expects.
 fn headers_meet(
     rt: &impl Abort,
     alloc: Global,
@@ -141,7 +145,7 @@ fn headers_meet(
     headers_judged(rt, alloc, false, pattern, rows)
 }
 
-/// Each row of the table, as a header for a box, has the finding that it wants.
+/// Checks that each row of the table, as a header for a box, has the finding that it expects.
 fn boxed_headers_meet(
     rt: &impl Abort,
     alloc: Global,
@@ -151,7 +155,8 @@ fn boxed_headers_meet(
     headers_judged(rt, alloc, true, pattern, rows)
 }
 
-/// Each row of the table, as a feature beside this header, has the finding that it wants.
+/// Checks that each row of the table, as a feature with this header, has the finding that it
+/// expects.
 fn features_meet(
     rt: &impl Abort,
     alloc: Global,

@@ -9,8 +9,11 @@ ghost use Rattle.cj_geometry.specs.Geometry.{shape};
 use crate::rule::{add, check_index, count_indices, needed};
 use cj_spans::{Kind, Least, Node, Reason};
 
-/// The value is a list of indices of vertices: the lowest level, where nearly all numbers are. Those at the front that
-/// are as they should be are counted first, in a loop that does nothing else; all is asked of the rest.
+/// Checks that the value is a list of indices of vertices: the lowest level, with nearly all
+/// numbers.
+///
+/// It first counts the valid indices at the front, in a loop that does nothing else. All rules are
+/// checked for the rest.
 #[inline(always)]
 fn check_indices(node: Node, vertices: Option<u64>, found: &mut Least)
     ensures { found.new ≡ least found.old (shape vertices 1 (tree node.entry)) }
@@ -26,7 +29,7 @@ fn check_indices(node: Node, vertices: Option<u64>, found: &mut Least)
     }
 }
 
-/// The value is a list of such lists: a surface of rings.
+/// Checks that the value is a list of such lists: a surface of rings.
 #[inline(always)]
 fn check_rings(node: Node, vertices: Option<u64>, found: &mut Least)
     ensures { found.new ≡ least found.old (shape vertices 2 (tree node.entry)) }
@@ -41,8 +44,8 @@ fn check_rings(node: Node, vertices: Option<u64>, found: &mut Least)
     }
 }
 
-/// The value has lists of this depth, and below them indices of vertices. Most are in surfaces, which are
-/// gone over where they stand, without a call for each.
+/// Checks that the value has lists of this depth, and below them indices of vertices. Most lists
+/// are in surfaces, which it reads without a call for each.
 fn check_shape(node: Node, depth: u8, vertices: Option<u64>, found: &mut Least)
     ensures { found.new ≡ least found.old (shape vertices depth (tree node.entry)) }
 {
@@ -72,7 +75,7 @@ fn check_shape(node: Node, depth: u8, vertices: Option<u64>, found: &mut Least)
     }
 }
 
-/// The geometry has boundaries of this depth.
+/// Checks that the geometry has boundaries of this depth.
 pub fn check_boundaries(object: Node, depth: u8, vertices: Option<u64>, found: &mut Least)
     ensures { found.new
         ≡ least found.old (needs (chars (codes "boundaries")) (shape vertices depth) (tree object.entry)) }

@@ -1,4 +1,5 @@
-//! The rules at worked geometries, and the tables of types: each contract is a theorem in which nothing runs.
+//! The rules on worked geometries, and the tables of types. Each contract is a theorem in which
+//! nothing runs.
 ghost use Rattle.std.specs.Prelude.{◌≡◌, ◌<◌, ◌∷◌, [], ℕ, length, nat_le, true, codes, Some, None};
 ghost use Rattle.std.specs.Str.{chars};
 ghost use Rattle.cj_spans.specs.Parts.{has_text};
@@ -37,7 +38,7 @@ pub fn no_type_of_the_table()
     ensures { least None (geometry (Some 1) empty cone) ≡ Some (found_at 8 UnknownGeometryType) }
 {}
 
-/// An instance needs its members, and a template is none.
+/// An instance needs its members, and a template cannot be an instance.
 pub fn an_instance_of_nothing()
     ensures instance { least None (geometry (Some 1) empty bare_instance) ≡ Some (found_at 0 MissingMember) }
     ensures template { least None (geometry (Some 1) itself bare_instance) ≡ Some (found_at 8 BadInstance) }
@@ -48,7 +49,7 @@ pub fn a_complete_instance()
     ensures { least None (geometry (Some 1) (listed templates) complete_instance) ≡ None }
 {}
 
-/// The matrix has neither less nor more numbers, the vertex is none below 0, and the template is one of the
+/// The matrix has exactly 16 numbers, the vertex is not below 0, and the template is one of the
 /// list.
 pub fn what_an_instance_needs()
     ensures short { least None (geometry (Some 1) (listed templates) short_instance) ≡ Some (found_at 80 BadInstance) }
@@ -60,7 +61,7 @@ pub fn what_an_instance_needs()
     ensures template { least None (geometry (Some 1) itself complete_instance) ≡ Some (found_at 8 BadInstance) }
 {}
 
-/// Two rules find something, and the least finding is that of the second.
+/// Two rules have a finding, and the least one is that of the second.
 pub fn a_doubled_name_and_an_unknown_type()
     ensures all { geometry (Some 1) empty doubled ≡ found_at 15 DuplicateName ∷ found_at 8 UnknownGeometryType ∷ [] }
     ensures least { least None (geometry (Some 1) empty doubled) ≡ Some (found_at 8 UnknownGeometryType) }
@@ -73,13 +74,13 @@ pub fn null_at_each_level()
     ensures surface { least None (geometry (Some 3) empty null_surface) ≡ None }
 {}
 
-/// They are as many as the parts beside them.
+/// There are as many values as parts.
 pub fn as_many_values_as_parts()
     ensures shells { least None (geometry (Some 3) empty no_shell) ≡ Some (found_at 121 SemanticsCount) }
     ensures surfaces { least None (geometry (Some 3) empty one_surface) ≡ Some (found_at 122 SemanticsCount) }
 {}
 
-/// And below the number of surfaces.
+/// An index is below the number of surfaces.
 pub fn an_index_past_the_surfaces()
     ensures { least None (geometry (Some 3) empty past_surfaces) ≡ Some (found_at 125 SemanticsIndex) }
 {}
@@ -94,7 +95,7 @@ pub fn trees_of_their_lines()
     ensures doubled { forest doubled_line (preorder doubled) ≡ doubled ∷ [] }
 {}
 
-/// And so those of the instances and their list.
+/// The same is true of the instances and their list.
 pub fn instances_of_their_lines()
     ensures templates { forest templates_line (preorder templates) ≡ templates ∷ [] }
     ensures complete { forest (placed_line (codes "0") (codes "0") sixteen) (preorder complete_instance)
@@ -108,7 +109,7 @@ pub fn instances_of_their_lines()
     ensures past { forest (placed_line (codes "1") (codes "0") sixteen) (preorder past_instance) ≡ past_instance ∷ [] }
 {}
 
-/// And so those of the solid.
+/// The same is true of the solid.
 pub fn solids_of_their_lines()
     ensures null_whole { forest (solid_line (codes "null")) (preorder null_whole) ≡ null_whole ∷ [] }
     ensures null_shell { forest (solid_line (codes "[null]")) (preorder null_shell) ≡ null_shell ∷ [] }
@@ -118,14 +119,14 @@ pub fn solids_of_their_lines()
     ensures past_surfaces { forest (solid_line (codes "[[0,1]]")) (preorder past_surfaces) ≡ past_surfaces ∷ [] }
 {}
 
-/// The level of detail of a geometry is its own; an instance of nothing has none.
+/// The level of detail of a geometry is its own. An instance of nothing has none.
 pub fn levels_of_detail()
     ensures own { lod empty points ≡ Some (scalar Text (atom_at points_line 27 30)) }
     ensures none { lod empty cone ≡ None }
     ensures instance { lod empty bare_instance ≡ None }
 {}
 
-/// That of an instance is its template's, if the list has it.
+/// The level of detail of an instance is that of its template, if the list has it.
 pub fn levels_of_detail_of_instances()
     ensures listed { lod (listed templates) complete_instance ≡ Some (scalar Text (atom_at templates_line 8 11)) }
     ensures past { lod (listed templates) past_instance ≡ None }
@@ -160,8 +161,8 @@ pub fn no_form_of_other_values()
     ensures number { form_of three ≡ None }
 {}
 
-/// The types of city objects: as many as there are, each at the place of its number, those of the second
-/// level from 16 on, and no name twice. Different types have different rows.
+/// The types of city objects: there are 33, each at the place of its number, with no name twice.
+/// Those of the second level begin at 16. Different types have different rows.
 pub fn table_of_object_types()
     ensures count { length object_types ≡ 33 }
     ensures number { (n : ℕ) → n < 33 → (row_numbered n).number ≡ n }

@@ -12,14 +12,15 @@ pub const INSTANCE: &str = "GeometryInstance";
 /// How deep the lists of a geometry type are.
 #[derive(Clone, Copy)]
 pub enum Form {
-    /// Boundaries of some depth, with semantic values of some depth or unread ones.
+    /// Boundaries of some depth, with semantic values of some depth, or with values that are not
+    /// read.
     Parts { depth: u8, values: Option<u8> },
     /// An instance of a template.
     Instance,
 }
 
 impl Form {
-    /// Boundaries of this depth, with semantic values of a depth or unread ones.
+    /// Returns boundaries of this depth, with semantic values of a depth or unread ones.
     fn parts(depth: u8, values: Option<u8>) -> Form
         ensures { form_value result ≡ parts_of_form depth values }
     {
@@ -27,7 +28,8 @@ impl Form {
     }
 }
 
-/// The form of a type of this name. Most geometries are surfaces, so their name is asked for before those that begin as it does.
+/// Returns the form of the type with this name. Most geometries are surfaces, so it compares their
+/// name before those that begin the same way.
 pub fn form_of(name: Node) -> Option<Form>
     ensures { option_map form_value result ≡ form_of (tree name.entry) }
 {

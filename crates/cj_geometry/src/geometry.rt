@@ -14,7 +14,7 @@ use crate::semantics::check_semantics_member;
 use crate::templates::Templates;
 use cj_spans::{Kind, Least, Node, Reason};
 
-/// The lists of a geometry of a depth.
+/// Checks the lists of a geometry of this depth.
 fn check_parts(
     object: Node,
     depth: u8,
@@ -29,7 +29,7 @@ fn check_parts(
     check_semantics_member(object, values, found);
 }
 
-/// The rules of the geometry's type, whose name is the second node.
+/// Checks the rules of the geometry's type. The second node is the name of the type.
 fn check_form(
     object: Node,
     name: Node,
@@ -57,7 +57,7 @@ fn check_form(
     }
 }
 
-/// The rules by the geometry's type.
+/// Checks the rules that depend on the geometry's type.
 fn check_typed(object: Node, vertices: Option<u64>, templates: Templates, found: &mut Least)
     ensures { found.new ≡ least found.old (typed_rules vertices (given templates.entry) (tree object.entry)) }
 {
@@ -69,8 +69,8 @@ fn check_typed(object: Node, vertices: Option<u64>, templates: Templates, found:
     }
 }
 
-/// Adds what is wrong with a geometry, where there are so many vertices, or an unknown number of
-/// them. It takes no memory and cannot fail.
+/// Adds what is wrong with a geometry. `vertices` is the number of vertices, if it is known. It
+/// allocates nothing and cannot fail.
 pub fn check_geometry(node: Node, vertices: Option<u64>, templates: Templates, found: &mut Least)
     ensures { found.new ≡ least found.old (geometry vertices (given templates.entry) (tree node.entry)) }
 {

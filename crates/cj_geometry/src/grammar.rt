@@ -1,4 +1,4 @@
-//! Numbers of a scanned line and numbers that decimals are read from, by one grammar.
+//! One grammar for the numbers of a scanned line and the numbers that decimals are read from.
 ghost use Rattle.std.specs.Prelude.{◌≡◌, ◌↔◌, ℕ, List, slice_range};
 ghost use Rattle.cj_spans.specs.declared.token.Kind.TheVariants.{Number};
 ghost use Rattle.cj_spans.specs.Tree.{Tree};
@@ -11,10 +11,9 @@ ghost use Rattle.cj_geometry.specs.Grammar.{IsHeld, IsOfNumber};
 
 /// A number of a scanned line is a number for the rules.
 ///
-/// `cj_spans` and `cj_decimal` each state the grammar of numbers. They state the same one: bytes are
-/// a scalar of kind number exactly where they are the spelling of a decimal. So what a scan calls a
-/// number is one to `cj_decimal`, wherever it stands in a JSON text, and its class is never that it
-/// is no number.
+/// `cj_spans` and `cj_decimal` each state the grammar of numbers, and it is the same one. Bytes are
+/// a scalar of kind number exactly if they are the spelling of a decimal. So what a scan calls a
+/// number is one to `cj_decimal`, anywhere in a JSON text. Its class is never that it is no number.
 pub fn one_grammar_of_numbers()
     ensures same { (s : List ℕ) → (IsScalar Number s ↔ IsNumber s) }
     ensures atom { (line : List ℕ) (i j : ℕ) → IsAtom line Number i j → IsNumber (slice_range line i j) }

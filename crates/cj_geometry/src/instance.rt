@@ -1,5 +1,5 @@
-//! Instances of templates: the template, the one vertex where it is set down, and the matrix by which it is
-//! turned and scaled there (CityJSON 2.0, section 3).
+//! Instances of templates (CityJSON 2.0, section 3). An instance has a template, one vertex where
+//! the template is placed, and the matrix that turns and scales it there.
 ghost use Rattle.std.specs.Prelude.{◌≡◌, codes, Some};
 ghost use Rattle.std.specs.Str.{chars};
 ghost use Rattle.cj_spans.specs.declared.reason.Reason.TheVariants.{TemplateIndex, VertexIndex, BadInstance};
@@ -11,7 +11,7 @@ ghost use Rattle.cj_geometry.specs.Geometry.{instance_rules};
 use crate::rule::{check_index, check_length, check_number, needed};
 use cj_spans::{Least, Node, Reason};
 
-/// The instance names a template.
+/// Checks that the instance names a template.
 fn check_template(object: Node, templates: u64, found: &mut Least)
     ensures { found.new
         ≡ least found.old
@@ -22,7 +22,7 @@ fn check_template(object: Node, templates: u64, found: &mut Least)
     }
 }
 
-/// The value is an array of one index of a vertex.
+/// Checks that the value is an array of one index of a vertex.
 fn check_point(node: Node, vertices: Option<u64>, found: &mut Least)
     ensures { found.new ≡ least found.old (of_length BadInstance 1 (index VertexIndex vertices) (tree node.entry)) }
 {
@@ -32,7 +32,7 @@ fn check_point(node: Node, vertices: Option<u64>, found: &mut Least)
     }
 }
 
-/// The instance has one vertex.
+/// Checks that the instance has one vertex.
 fn check_point_member(object: Node, vertices: Option<u64>, found: &mut Least)
     ensures { found.new
         ≡ least found.old
@@ -44,7 +44,7 @@ fn check_point_member(object: Node, vertices: Option<u64>, found: &mut Least)
     }
 }
 
-/// The value is an array of 16 numbers.
+/// Checks that the value is an array of 16 numbers.
 fn check_matrix(node: Node, found: &mut Least)
     ensures { found.new ≡ least found.old (of_length BadInstance 16 number (tree node.entry)) }
 {
@@ -54,7 +54,7 @@ fn check_matrix(node: Node, found: &mut Least)
     }
 }
 
-/// The instance has a matrix.
+/// Checks that the instance has a matrix.
 fn check_matrix_member(object: Node, found: &mut Least)
     ensures { found.new
         ≡ least found.old
@@ -65,7 +65,7 @@ fn check_matrix_member(object: Node, found: &mut Least)
     }
 }
 
-/// An instance of one of so many templates.
+/// Checks an instance of one of this number of templates.
 pub fn check_instance(object: Node, templates: u64, vertices: Option<u64>, found: &mut Least)
     ensures { found.new ≡ least found.old (instance_rules vertices templates (tree object.entry)) }
 {

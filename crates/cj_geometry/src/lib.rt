@@ -1,18 +1,20 @@
-//! Geometries of city objects (CityJSON 2.0, section 3): what is wrong with them, and their level of
-//! detail; and the types of city objects (section 2).
+//! Geometries of city objects (CityJSON 2.0, section 3): their rules and their level of detail.
+//! Also the types of city objects (section 2).
 //!
-//! [`check_geometry`] adds what the rules find in a geometry to a [`cj_spans::Least`], which keeps the least
-//! of it; [`lod_of`] answers a geometry's level of detail. Both are told the [`Templates`] that the geometry
-//! may name. [`rule`] has the words that these rules are written in, for the rules of the layers above. [`ObjectType`] is
-//! the type of a city object.
+//! - [`check_geometry`] adds the findings of a geometry to a [`cj_spans::Least`], which keeps the
+//!   least one.
+//! - [`lod_of`] returns the level of detail of a geometry.
+//! - [`Templates`] are those that a geometry may name. Both functions need them.
+//! - [`rule`] has the functions that these rules are written with, also for the layers above.
+//! - [`ObjectType`] is the type of a city object.
 //!
 //! ```text
 //! let templates = Templates::list(list); // the header's array of templates, counted here
 //! let mut found = Least::new();
 //! check_geometry(node, Some(vertices), templates, &mut found);
 //! match found.get() {
-//!     Some(Finding { place, reason }) => {} // the least by place, and there by the reason's code
-//!     None => {}                            // then lod_of(node, templates) has its level of detail
+//!     Some(Finding { place, reason }) => {} // the least by byte, then by the reason's code
+//!     None => {}                            // so lod_of(node, templates) is its LoD
 //! }
 //! ```
 #![tactic(auto)]

@@ -12,7 +12,7 @@ use crate::rule::read_whole;
 use crate::templates::Templates;
 use cj_spans::{Items, Node};
 
-/// The item of this number, from 0, of what is left of a walk.
+/// Returns the item with this number, from 0, of the rest of a walk.
 pub(crate) fn item_at<'a>(items: Items<'a>, number: u64) -> Option<Node<'a>>
     ensures { option_map tree result ≡ slice_get (items_left items.entry) number }
 {
@@ -26,7 +26,7 @@ pub(crate) fn item_at<'a>(items: Items<'a>, number: u64) -> Option<Node<'a>>
     None
 }
 
-/// The template that this index chooses, if there is one.
+/// Returns the template that this index chooses, if there is one.
 fn choose<'a>(index: Node, templates: Templates<'a>) -> Option<Node<'a>>
     ensures { option_map tree result ≡ chosen (given templates.entry) (tree index.entry) }
 {
@@ -39,7 +39,7 @@ fn choose<'a>(index: Node, templates: Templates<'a>) -> Option<Node<'a>>
     }
 }
 
-/// Whether the geometry is an instance of a template.
+/// Returns whether the geometry is an instance of a template.
 pub(crate) fn is_an_instance(node: Node) -> bool
     ensures { result ≡ is_instance (tree node.entry) }
 {
@@ -49,7 +49,7 @@ pub(crate) fn is_an_instance(node: Node) -> bool
     }
 }
 
-/// The level of detail of an instance's template.
+/// Returns the level of detail of an instance's template.
 fn lod_of_template<'a>(node: Node, templates: Templates<'a>) -> Option<Node<'a>>
     ensures { option_map tree result ≡ template_lod (given templates.entry) (tree node.entry) }
 {
@@ -62,8 +62,8 @@ fn lod_of_template<'a>(node: Node, templates: Templates<'a>) -> Option<Node<'a>>
     }
 }
 
-/// The level of detail of a geometry: its `lod`, and of an instance that of its template. None where
-/// there is none. [`crate::Lods`] finds those of many instances faster.
+/// Returns the level of detail of a geometry: its `lod`, or for an instance the one of its
+/// template. None if there is none. [`crate::Lods`] finds those of many instances faster.
 pub fn lod_of<'a>(node: Node<'a>, templates: Templates<'a>) -> Option<Node<'a>>
     ensures { option_map tree result ≡ lod (given templates.entry) (tree node.entry) }
 {

@@ -1,7 +1,8 @@
 //! Levels of detail of many geometries, one after another (CityJSON 2.0, section 3.1).
 //!
-//! An instance names its template by a number, and the list's steps find it ([`Steps`]), or finer ones where many templates
-//! are looked for. A template may have many members before its level of detail, so the last answers are kept.
+//! An instance names its template by a number. The steps of the list find it ([`Steps`]), or finer
+//! steps after many searches. A template may have many members before its level of detail, so the
+//! last results are kept.
 ghost use Rattle.std.specs.Prelude.{◌≡◌, ◌<◌, ℕ, Some, IfSome, codes, option_and_then, option_map, slice_get, slice_set};
 ghost use Rattle.std.specs.Option.{ForSome};
 ghost use Rattle.std.specs.Str.{chars};
@@ -19,20 +20,20 @@ use crate::steps::{FinerSteps, Steps};
 use crate::templates::Templates;
 use cj_spans::Node;
 
-/// How many answers are kept.
+/// How many results are kept.
 const ANSWERS: usize = 64;
 
-/// The search for a template of this number, from 1, pays for finer steps.
+/// The number of searches after which finer steps are worth their cost.
 const MANY: usize = 64;
 
-/// An answer: the level of detail of the template of this number.
+/// A result: the level of detail of the template with this number.
 #[derive(Clone, Copy)]
 struct Answer<'a> {
     number: u64,
     lod: Option<Node<'a>>,
 }
 
-/// The answer for the template of this number, if one is kept.
+/// Returns the result for the template with this number, if one is kept.
 fn answer_for<'a>(answers: &[Option<Answer<'a>>], number: u64) -> Option<Answer<'a>>
     ensures kept { IfSome result (λ a. (slot : ℕ) × (slice_get answers.now slot ≡ Some (Some a))) }
     ensures number { IfSome result (λ a. a.number ≡ number) }
@@ -47,7 +48,7 @@ fn answer_for<'a>(answers: &[Option<Answer<'a>>], number: u64) -> Option<Answer<
     None
 }
 
-/// These answers, with another one in a slot.
+/// Returns these results, with another one in a slot.
 #[inline(never)]
 fn with_answer<'a>(
     answers: [Option<Answer<'a>>; ANSWERS],
@@ -81,7 +82,7 @@ impl<'a> Lods<'a> {
     ghost use Rattle.cj_geometry.specs.Lod.{chosen, template_lod, lod};
     ghost use Rattle.cj_geometry.specs.Lods.{given_to};
 
-    /// Those of geometries beside these templates.
+    /// Returns a new one for geometries that may name these templates.
     pub fn beside(templates: Templates<'a>) -> Lods<'a>
         ensures { given_to result ≡ given templates.entry }
     {
@@ -95,8 +96,8 @@ impl<'a> Lods<'a> {
         }
     }
 
-    /// The level of detail of a geometry, as [`crate::lod_of`] answers it. Of many instances each is
-    /// found quickly, however long the list of templates is.
+    /// Returns the level of detail of a geometry, as [`crate::lod_of`] does. It finds those of many
+    /// instances fast, for any length of the list of templates.
     pub fn lod_of(&mut self, node: Node<'a>) -> Option<Node<'a>>
         ensures lod { option_map tree result ≡ lod (given_to self.old) (tree node.entry) }
         ensures same { given_to self.new ≡ given_to self.old }
@@ -108,7 +109,7 @@ impl<'a> Lods<'a> {
         }
     }
 
-    /// The level of detail of an instance's template.
+    /// Returns the level of detail of an instance's template.
     #[inline(never)]
     fn lod_of_template(&mut self, node: Node<'a>) -> Option<Node<'a>>
         ensures lod { option_map tree result ≡ template_lod (given_to self.old) (tree node.entry) }
@@ -120,7 +121,7 @@ impl<'a> Lods<'a> {
         }
     }
 
-    /// The level of detail of the template that this index chooses, if there is one.
+    /// Returns the level of detail of the template that this index chooses, if there is one.
     fn lod_chosen(&mut self, index: Node) -> Option<Node<'a>>
         ensures lod { option_map tree result
             ≡ option_and_then (member_of (chars (codes "lod"))) (chosen (given_to self.old) (tree index.entry)) }
@@ -135,7 +136,7 @@ impl<'a> Lods<'a> {
         }
     }
 
-    /// The level of detail of the template of this number in the list, from 0.
+    /// Returns the level of detail of the template with this number in the list, from 0.
     fn lod_at(&mut self, list: Node<'a>, number: u64) -> Option<Node<'a>>
         requires { Some (tree list) ≡ list_of (given_to self.old) }
         ensures lod { option_map tree result
@@ -150,7 +151,7 @@ impl<'a> Lods<'a> {
         lod
     }
 
-    /// The same, looked for in the list.
+    /// Does the same, by a search of the list.
     #[inline(never)]
     fn lod_found(&mut self, list: Node<'a>, number: u64) -> Option<Node<'a>>
         requires { Some (tree list) ≡ list_of (given_to self.old) }
@@ -165,7 +166,7 @@ impl<'a> Lods<'a> {
         }
     }
 
-    /// Counts a search. Where they are many, finer steps are made for those that follow.
+    /// Counts a search. After many searches it makes finer steps for those that follow.
     fn count_search(&mut self, list: Node)
         requires { Some (tree list) ≡ list_of (given_to self.old) }
         ensures { given_to self.new ≡ given_to self.old }
@@ -178,7 +179,7 @@ impl<'a> Lods<'a> {
         }
     }
 
-    /// The template of this number.
+    /// Returns the template with this number.
     fn template(&self, list: Node<'a>, number: u64) -> Option<Node<'a>>
         requires { Some (tree list) ≡ list_of (given_to self.now) }
         ensures { option_map tree result ≡ slice_get (items_of (tree list.entry)) number }
@@ -189,7 +190,7 @@ impl<'a> Lods<'a> {
         }
     }
 
-    /// Keeps an answer, in place of the oldest.
+    /// Keeps a result, in place of the oldest.
     #[inline(never)]
     fn note(&mut self, list: Node<'a>, answer: Answer<'a>)
         requires list { Some (tree list) ≡ list_of (given_to self.old) }

@@ -8,8 +8,8 @@ ghost use Rattle.cj_geometry.specs.ObjectTypes.{object_types, row_of, row_named,
 
 use cj_spans::Node;
 
-/// A type of city objects. They stand in the order of the table, those of the first level before those of
-/// the second.
+/// A type of city objects. The types are in the order of the table, first level before second
+/// level.
 #[derive(Clone, Copy, Debug, PartialEq, Eq)]
 pub enum ObjectType {
     Bridge,
@@ -48,7 +48,7 @@ pub enum ObjectType {
 }
 
 impl ObjectType {
-    /// All types, in the order of the table.
+    /// Returns all types, in the order of the table.
     #[tactic(auto, unfolding(crate::specs::ObjectTypes::object_types))]
     pub fn all() -> [ObjectType; 33]
         ensures { map row_at result ≡ object_types }
@@ -90,8 +90,8 @@ impl ObjectType {
         ]
     }
 
-    /// The type whose name is the text of this node; None for any other node. Texts are compared by
-    /// code points, with the escapes undone (RFC 8259, sections 7 and 8.3).
+    /// Returns the type whose name is the text of this node. None for any other node. Texts are
+    /// compared by code points, with escapes undone (RFC 8259, sections 7 and 8.3).
     pub fn of(node: Node) -> Option<ObjectType>
         ensures { option_map row_at result ≡ row_of (tree node.entry) }
     {
@@ -103,7 +103,7 @@ impl ObjectType {
         None
     }
 
-    /// The type of this name, as the table spells it; None for any other text.
+    /// Returns the type with this name, as the table spells it. None for any other text.
     pub fn named(name: &str) -> Option<ObjectType>
         ensures { option_map row_at result ≡ row_named name.now }
     {
@@ -115,7 +115,7 @@ impl ObjectType {
         None
     }
 
-    /// Its name.
+    /// Returns its name.
     #[tactic(auto, unfolding(crate::specs::ObjectTypes::object_types))]
     pub fn name(self) -> &'static str
         ensures name { result.now ≡ (row_at self).name }
@@ -160,7 +160,7 @@ impl ObjectType {
         }
     }
 
-    /// Whether it is of the second level: such a city object needs a parent.
+    /// Returns whether it is of the second level. Such a city object needs a parent.
     pub fn is_second_level(self) -> bool
         ensures { result ≡ (row_at self).is_second }
     {
@@ -168,7 +168,7 @@ impl ObjectType {
         self.number() >= ObjectType::BridgeConstructiveElement.number()
     }
 
-    /// Its number, from 0 to 32, in the order of the table.
+    /// Returns its number, from 0 to 32, in the order of the table.
     pub fn number(self) -> u8
         ensures number { result ≡ (row_at self).number }
         ensures below { result < 33 }

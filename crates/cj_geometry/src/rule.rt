@@ -1,19 +1,19 @@
-//! The words that rules are written in: what each looks at in a value, and what it adds where the value is
-//! not so.
+//! The functions that rules are written with: what each checks of a value, and which finding it
+//! adds.
 //!
-//! A rule is a function from a value to its findings, of which the least is kept ([`Least`]). The words
-//! here take a value, what a rule wants to know of it and the findings kept so far; what is wrong they add
-//! at the value itself, but for a member that is missing, which is added at the object. No call takes memory,
-//! and none can fail. A rule may use as many of them as it likes, in any order.
+//! A rule is a function from a value to its findings. Only the least finding is kept ([`Least`]).
+//! Each function here takes a value, what the rule requires of it, and the least finding so far. It
+//! adds a finding at the value itself, but a missing member at the object. No function allocates,
+//! and none can fail. A rule may use any number of them, in any order.
 //!
 //! ```text
-//! if check_object(node, found) {                           // else WrongKind at the value
-//!     check_names(node, found);                            // DuplicateName at each name that comes again
-//!     check_text_member(node, "type", found);              // MissingMember at the object, or WrongKind
-//!     if let Some(point) = needed(node, "point", found) {  // MissingMember at the object
-//!         check_length(point, 3, Reason::NotThree, found); // else WrongKind, or NotThree at the array
+//! if check_object(node, found) {                           // or WrongKind at the value
+//!     check_names(node, found);                            // or DuplicateName at the name
+//!     check_text_member(node, "type", found);              // or MissingMember, WrongKind
+//!     if let Some(point) = needed(node, "point", found) {  // or MissingMember at the object
+//!         check_length(point, 3, Reason::NotThree, found); // or WrongKind, NotThree
 //!         for item in point.items() {
-//!             check_number(item, found);                   // else WrongKind, or NumberRange
+//!             check_number(item, found);                   // or WrongKind, NumberRange
 //!         }
 //!     }
 //! }
@@ -50,7 +50,8 @@ pub fn add(node: Node, reason: Reason, found: &mut Least)
     });
 }
 
-/// Whether what was found stands before this value, so that no finding at it is told.
+/// Returns whether the finding so far is before this value. Then no finding at the value is
+/// reported.
 #[tactic(auto, using(crate::proofs::Repeats::told_before))]
 #[inline(always)]
 pub fn is_told_before(found: Least, node: Node) -> bool
@@ -62,7 +63,7 @@ pub fn is_told_before(found: Least, node: Node) -> bool
     }
 }
 
-/// The value is a string, else it is of the wrong kind.
+/// Checks that the value is a string. Otherwise adds `WrongKind`.
 pub fn check_text(node: Node, found: &mut Least)
     ensures { found.new ≡ least found.old (of_kind is_text nothing (tree node.entry)) }
 {
@@ -72,7 +73,7 @@ pub fn check_text(node: Node, found: &mut Least)
     }
 }
 
-/// Whether the value is an array; where it is none, it is of the wrong kind.
+/// Returns whether the value is an array. If it is not, adds `WrongKind`.
 #[inline(always)]
 pub fn check_array(node: Node, found: &mut Least) -> bool
     ensures is { result ≡ is_array (kind_of (tree node.entry)) }
@@ -87,7 +88,7 @@ pub fn check_array(node: Node, found: &mut Least) -> bool
     }
 }
 
-/// Whether the value is an object; where it is none, it is of the wrong kind.
+/// Returns whether the value is an object. If it is not, adds `WrongKind`.
 #[inline(always)]
 pub fn check_object(node: Node, found: &mut Least) -> bool
     ensures is { result ≡ is_object (kind_of (tree node.entry)) }

@@ -1,4 +1,4 @@
-//! Semantics: surfaces, and values beside the boundaries that name them.
+//! Semantics: surfaces, and values that assign a surface to each part of the boundaries.
 ghost use Rattle.std.specs.Prelude.{◌≡◌, ◌++◌, codes, length, nat_eq, option_map};
 ghost use Rattle.std.specs.List.{flat_map};
 ghost use Rattle.std.specs.Str.{chars};
@@ -14,7 +14,7 @@ use crate::rule::{
 };
 use cj_spans::{Items, Kind, Least, Node, Reason};
 
-/// A walk over the parts of a part, if there is one.
+/// Returns a walk over the parts of a part, if there is one.
 #[inline(always)]
 fn walk(part: Option<Node>) -> Option<Items>
     ensures { left_of result ≡ parts_of (option_map tree part.entry) }
@@ -25,7 +25,7 @@ fn walk(part: Option<Node>) -> Option<Items>
     }
 }
 
-/// The next part, if there is one.
+/// Returns the next part, if there is one.
 #[inline(always)]
 fn next_part<'a>(parts: &mut Option<Items<'a>>) -> Option<Node<'a>>
     ensures part { option_map tree result ≡ first_part (left_of parts.old) }
@@ -37,7 +37,8 @@ fn next_part<'a>(parts: &mut Option<Items<'a>>) -> Option<Node<'a>>
     }
 }
 
-/// The part of the boundaries beside an array, if it is an array too, has as many items: the two are even.
+/// Checks that an array and the part of the boundaries for it have equally many items, if the part
+/// is an array too. `even` says whether they have.
 fn check_evenness(node: Node, part: Option<Node>, even: bool, found: &mut Least)
     requires { even ≡ nat_eq (length (items_of (tree node))) (length (parts_of (option_map tree part))) }
     ensures { found.new ≡ least found.old (other_count (tree node.entry) (option_map tree part.entry)) }
@@ -55,7 +56,7 @@ fn check_evenness(node: Node, part: Option<Node>, even: bool, found: &mut Least)
     }
 }
 
-/// The value is null, or an index of a surface.
+/// Checks that the value is null, or an index of a surface.
 #[inline(always)]
 fn check_entry(node: Node, surfaces: Option<u64>, found: &mut Least)
     ensures { found.new ≡ least found.old (entry surfaces (tree node.entry)) }
@@ -66,7 +67,8 @@ fn check_entry(node: Node, surfaces: Option<u64>, found: &mut Least)
     }
 }
 
-/// The items are entries, as many as the parts beside them: the lowest level, where nearly all of them are.
+/// Checks that the items are entries, as many as there are parts: the lowest level, with nearly all
+/// of them.
 fn check_entries(node: Node, part: Option<Node>, surfaces: Option<u64>, found: &mut Least)
     ensures { found.new
         ≡ least found.old
@@ -83,7 +85,8 @@ fn check_entries(node: Node, part: Option<Node>, surfaces: Option<u64>, found: &
     check_evenness(node, part, even, found);
 }
 
-/// The values have this depth, beside a part of the boundaries, and below it are indices of surfaces.
+/// Checks that the values have this depth, for a part of the boundaries, and below it indices of
+/// surfaces.
 fn check_values(node: Node, part: Option<Node>, depth: u8, surfaces: Option<u64>, found: &mut Least)
     ensures { found.new ≡ least found.old (values surfaces depth (tree node.entry) (option_map tree part.entry)) }
 {
@@ -112,7 +115,7 @@ fn check_values(node: Node, part: Option<Node>, depth: u8, surfaces: Option<u64>
     }
 }
 
-/// The value is an object that has a type.
+/// Checks that the value is an object with a type.
 fn check_surface(node: Node, found: &mut Least)
     ensures { found.new ≡ least found.old (surface (tree node.entry)) }
 {
@@ -122,7 +125,7 @@ fn check_surface(node: Node, found: &mut Least)
     }
 }
 
-/// The value is an array of surfaces.
+/// Checks that the value is an array of surfaces.
 fn check_surfaces(node: Node, found: &mut Least)
     ensures { found.new ≡ least found.old (surfaces (tree node.entry)) }
 {
@@ -133,7 +136,7 @@ fn check_surfaces(node: Node, found: &mut Least)
     }
 }
 
-/// The object has surfaces.
+/// Checks that the object has surfaces.
 fn check_surfaces_member(object: Node, found: &mut Least)
     ensures { found.new ≡ least found.old (needs (chars (codes "surfaces")) surfaces (tree object.entry)) }
 {
@@ -142,7 +145,7 @@ fn check_surfaces_member(object: Node, found: &mut Least)
     }
 }
 
-/// How many surfaces the object has, if they are an array.
+/// Returns how many surfaces the object has, if they are an array.
 fn count_surfaces(object: Node) -> Option<u64>
     ensures { result ≡ count_of (member_of (chars (codes "surfaces")) (tree object.entry)) }
 {
@@ -155,7 +158,7 @@ fn count_surfaces(object: Node) -> Option<u64>
     }
 }
 
-/// The object has values of this depth beside the boundaries.
+/// Checks that the object has values of this depth for the boundaries.
 fn check_values_member(object: Node, boundaries: Option<Node>, depth: u8, found: &mut Least)
     ensures { found.new
         ≡ least found.old
@@ -168,7 +171,7 @@ fn check_values_member(object: Node, boundaries: Option<Node>, depth: u8, found:
     }
 }
 
-/// The value is semantics of this depth beside the boundaries.
+/// Checks that the value is a semantics object of this depth for the boundaries.
 fn check_semantics(node: Node, boundaries: Option<Node>, depth: u8, found: &mut Least)
     ensures { found.new ≡ least found.old (semantics depth (option_map tree boundaries.entry) (tree node.entry)) }
 {
@@ -179,7 +182,7 @@ fn check_semantics(node: Node, boundaries: Option<Node>, depth: u8, found: &mut 
     }
 }
 
-/// The geometry may have semantics, where its type has values of a depth.
+/// Checks the semantics of a geometry, if it has any and its type has values of a depth.
 pub fn check_semantics_member(object: Node, values: Option<u8>, found: &mut Least)
     ensures { found.new ≡ least found.old (semantics_if values (tree object.entry)) }
 {

@@ -1,8 +1,8 @@
-//! A long list whose items are asked for by their numbers, many times and beside many lines.
+//! A long list whose items are looked up by number, many times, also for many lines.
 //!
-//! A list can only be walked. So it is gone over once, and at 64 even steps it is kept how many values and names stand
-//! before. That is a fact on the list alone, and finds its items in any copy of its line. Then an item is a walk over at
-//! most a 64th of the list away.
+//! A list can only be walked. So one walk records, at 64 even steps, how many values and names come
+//! before the step. That is a fact about the list alone, and finds its items in any copy of its
+//! line. Then an item is at most a 64th of the list away.
 ghost use Rattle.std.specs.Prelude.{◌≡◌, ◌<◌, ◌*◌, ◌/◌, [], length, option_map, slice_get};
 ghost use Rattle.cj_spans.specs.Parts.{items_of};
 ghost use Rattle.cj_spans.specs.View.{tree};
@@ -18,14 +18,15 @@ const STEPS: usize = 64;
 /// How many finer steps are kept.
 const FINER_STEPS: usize = 1_024;
 
-/// The steps of a list. They borrow nothing, so that they can be kept beside a copy of its line and tokens.
+/// The steps of a list. They borrow nothing, so they can be kept with a copy of its line and
+/// tokens.
 #[derive(Clone, Copy, Debug)]
 pub struct Steps {
     count: u64,
     sizes: [u32; STEPS],
 }
 
-/// The same at more places, for a list of which many items are asked for: an item is a walk over at most a 1,024th of the
+/// The same with more steps, for a list with many look-ups. An item is at most a 1,024th of the
 /// list away.
 #[derive(Clone, Copy)]
 pub(crate) struct FinerSteps {
@@ -33,7 +34,7 @@ pub(crate) struct FinerSteps {
     sizes: [u32; FINER_STEPS],
 }
 
-/// Notes how many values and names stand before each item whose number is a multiple of `step`.
+/// Records how many values and names come before each item whose number is a multiple of `step`.
 fn note_sizes(list: Node, step: u64, sizes: &mut [u32])
     requires { length (items_of (tree list)) < length sizes.old * step }
     ensures room { length sizes.new ≡ length sizes.old }
@@ -53,7 +54,8 @@ fn note_sizes(list: Node, step: u64, sizes: &mut [u32])
     }
 }
 
-/// The item of a number below the count, where sizes are kept at each multiple of `step`.
+/// Returns the item of a number below the count. `sizes` are the records at each multiple of
+/// `step`.
 fn item_behind<'a>(list: Node<'a>, step: u64, sizes: &[u32], number: u64) -> Option<Node<'a>>
     requires some { 0 < step }
     requires sizes { AreSizesAt step (items_of (tree list)) sizes.now }
@@ -66,7 +68,7 @@ fn item_behind<'a>(list: Node<'a>, step: u64, sizes: &[u32], number: u64) -> Opt
 }
 
 impl Steps {
-    /// The steps of the list that a value is; it is gone over twice. No other value has items.
+    /// Returns the steps of a list, by two walks over it. Any other value has no items.
     pub fn of(list: Node) -> Steps
         ensures { AreStepsOf (items_of (tree list.entry)) result }
     {
@@ -76,7 +78,7 @@ impl Steps {
         Steps { count, sizes }
     }
 
-    /// Those of a list of no items.
+    /// Returns the steps of an empty list.
     pub fn none() -> Steps
         ensures { AreStepsOf [] result }
     {
@@ -86,14 +88,14 @@ impl Steps {
         }
     }
 
-    /// How many items the list has.
+    /// Returns how many items the list has.
     pub(crate) fn count(&self) -> u64
         ensures { result ≡ self.now.count }
     {
         self.count
     }
 
-    /// The item of this number, from 0, of the list that they are of.
+    /// Returns the item with this number, from 0. `list` is the list of these steps.
     #[tactic(auto, using(crate::proofs::ListSteps::step_of))]
     pub(crate) fn item<'a>(&self, list: Node<'a>, number: u64) -> Option<Node<'a>>
         requires { AreStepsOf (items_of (tree list)) self.now }
@@ -105,7 +107,7 @@ impl Steps {
         item_behind(list, self.count / STEPS as u64 + 1, &self.sizes, number)
     }
 
-    /// Finer steps of the list that they are of; it is gone over once.
+    /// Returns finer steps of the same list, by one walk over it.
     pub(crate) fn finer(&self, list: Node) -> FinerSteps
         requires { AreStepsOf (items_of (tree list)) self.now }
         ensures { AreFinerStepsOf (items_of (tree list.entry)) result }
@@ -120,7 +122,7 @@ impl Steps {
 }
 
 impl FinerSteps {
-    /// The item of this number, from 0, of the list that they are of.
+    /// Returns the item with this number, from 0. `list` is the list of these steps.
     #[tactic(auto, using(crate::proofs::ListSteps::finer_step_of))]
     pub(crate) fn item<'a>(&self, list: Node<'a>, number: u64) -> Option<Node<'a>>
         requires { AreFinerStepsOf (items_of (tree list)) self.now }

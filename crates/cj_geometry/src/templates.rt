@@ -16,7 +16,7 @@ struct List<'a> {
     ghost counted: { count ≡ length (items_of (tree node)) },
 }
 
-/// A list of templates that was gone over before.
+/// A list of templates with the steps of an earlier walk.
 #[derive(Clone, Copy)]
 struct SteppedList<'a> {
     node: Node<'a>,
@@ -24,7 +24,7 @@ struct SteppedList<'a> {
     ghost known: { AreStepsOf (items_of (tree node)) steps.now },
 }
 
-/// The templates there are: those of a list, or none; or the geometry is one itself.
+/// The templates: those of a list, or none, or the geometry is a template itself.
 #[derive(Clone, Copy)]
 enum Choice<'a> {
     Listed(List<'a>),
@@ -46,7 +46,7 @@ impl<'a> Templates<'a> {
     ghost use Rattle.cj_geometry.specs.Geometry.{listed, empty, itself, list_of, parts_of, template_count, is_itself};
     ghost use Rattle.cj_geometry.specs.Given.{given};
 
-    /// Those of the header's list, which is an array.
+    /// Returns the templates of the header's list, which is an array.
     pub fn list(node: Node<'a>) -> Templates<'a>
         requires { kind_of (tree node) ≡ Array }
         ensures { given result ≡ listed (tree node.entry) }
@@ -59,7 +59,8 @@ impl<'a> Templates<'a> {
         }
     }
 
-    /// Those of the header's list, which is an array and was gone over before: it is not gone over again.
+    /// Returns the templates of the header's list, which is an array with known steps. It needs no
+    /// other walk.
     pub fn stepped(node: Node<'a>, steps: &'a Steps) -> Templates<'a>
         requires list { kind_of (tree node) ≡ Array }
         requires steps { AreStepsOf (items_of (tree node)) steps.now }
@@ -70,7 +71,7 @@ impl<'a> Templates<'a> {
         }
     }
 
-    /// None at all.
+    /// Returns no templates.
     pub fn empty() -> Templates<'a>
         ensures { given result ≡ empty }
     {
@@ -79,7 +80,7 @@ impl<'a> Templates<'a> {
         }
     }
 
-    /// The mark that the geometry is a template itself.
+    /// Returns the mark that the geometry is a template itself.
     pub fn template() -> Templates<'a>
         ensures { given result ≡ itself }
     {
@@ -88,14 +89,14 @@ impl<'a> Templates<'a> {
         }
     }
 
-    /// Whether there is none to name.
+    /// Returns whether there is no template.
     pub fn is_empty(self) -> bool
         ensures { result ≡ nat_eq (template_count (given self.entry)) 0 }
     {
         self.count() == 0
     }
 
-    /// The list, if there is one.
+    /// Returns the list, if there is one.
     pub(crate) fn nodes(self) -> Option<Node<'a>>
         ensures { option_map tree result ≡ list_of (given self.entry) }
     {
@@ -106,7 +107,7 @@ impl<'a> Templates<'a> {
         }
     }
 
-    /// How many there are.
+    /// Returns the number of templates.
     pub(crate) fn count(self) -> u64
         ensures { result ≡ template_count (given self.entry) }
     {
@@ -117,7 +118,7 @@ impl<'a> Templates<'a> {
         }
     }
 
-    /// Whether the geometry is a template itself.
+    /// Returns whether the geometry is a template itself.
     pub(crate) fn is_template(self) -> bool
         ensures { result ≡ is_itself (given self.entry) }
     {
@@ -127,7 +128,8 @@ impl<'a> Templates<'a> {
         }
     }
 
-    /// The steps of the list, which is gone over here if it was not before; without a list those of no items.
+    /// Returns the steps of the list, by a walk over it if they are not known. Without a list they
+    /// are those of an empty one.
     pub(crate) fn steps(self) -> Steps
         ensures { AreStepsOf (parts_of (list_of (given self.entry))) result }
     {

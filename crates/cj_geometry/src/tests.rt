@@ -1,7 +1,9 @@
-//! Rows of geometries: what is wrong with each is told from the rules, and not by the program. A
-//! table has a row a line, with bars between its cells: a name, what stands in the hole `_` of the
-//! table's geometry, and the code and the text of the reason, or `none`. The mark `^` stands where the
-//! finding is, and is no part of the geometry; without a mark a row counts the place itself.
+//! Rows of geometries. What is wrong with each follows from the rules, not from the program.
+//!
+//! A table has one row per line, with bars between its cells. The cells are a name, the text for
+//! the hole `_` of the table's geometry, and the result. The result is the code and the text of the
+//! reason, or `none`. The mark `^` shows where the finding is, and is no part of the geometry.
+//! Without a mark, a row has the byte itself.
 ghost use Rattle.cj_spans.specs.Sound.{AreOf};
 
 mod boundaries;
@@ -24,7 +26,8 @@ use cj_spans::{Doc, Finding, Kind, Least, Node, Token, scan};
 use std::alloc::{AllocError, Global};
 use std::process::Abort;
 
-/// The templates that a geometry may name: those of a list, none, or the mark that it is one itself.
+/// The templates that a geometry may name: those of a list, none, or the mark that it is one
+/// itself.
 #[derive(Clone, Copy)]
 enum Given {
     List(&'static str),
@@ -32,14 +35,14 @@ enum Given {
     Itself,
 }
 
-/// What stands around a geometry: the number of vertices, if it is known, and the templates.
+/// What a geometry depends on: the number of vertices, if it is known, and the templates.
 #[derive(Clone, Copy)]
 struct Around {
     vertices: Option<u64>,
     templates: Given,
 }
 
-/// So many vertices, and no templates.
+/// Returns this number of vertices, and no templates.
 fn with_vertices(vertices: u64) -> Around {
     Around {
         vertices: Some(vertices),
@@ -47,7 +50,7 @@ fn with_vertices(vertices: u64) -> Around {
     }
 }
 
-/// The tokens of a line that is a JSON text.
+/// Returns the tokens of a line that is a JSON text.
 fn tokens_of(rt: &impl Abort, alloc: Global, line: &[u8]) -> Bounded<Token>
     ensures { AreOf line.now result.elements }
 {
@@ -61,7 +64,7 @@ fn tokens_of(rt: &impl Abort, alloc: Global, line: &[u8]) -> Bounded<Token>
     tokens
 }
 
-/// The templates, of which `list` is the list where there is one.
+/// Returns the templates. `list` is their list, if there is one.
 fn templates_of<'a>(rt: &impl Abort, given: Given, list: Node<'a>) -> Templates<'a> {
     match given {
         Given::Itself => Templates::template(),
@@ -73,7 +76,7 @@ fn templates_of<'a>(rt: &impl Abort, given: Given, list: Node<'a>) -> Templates<
     }
 }
 
-/// The line of the list of templates, or of an empty one.
+/// Returns the line of the list of templates, or of an empty one.
 fn list_line(given: Given) -> &'static [u8] {
     match given {
         Given::List(list) => list.as_bytes(),
@@ -81,7 +84,7 @@ fn list_line(given: Given) -> &'static [u8] {
     }
 }
 
-/// The least finding of a line that is a geometry, after an earlier one.
+/// Returns the least finding of a line that is a geometry, after an earlier finding.
 fn least_of(
     rt: &impl Abort,
     alloc: Global,
@@ -103,7 +106,7 @@ fn least_of(
     least.get()
 }
 
-/// A finding as a row tells it: its place, and the code and the text of its reason.
+/// Returns a finding as a row has it: its byte, and the code and the text of its reason.
 fn shown(alloc: Global, found: Option<Finding>) -> Result<String, AllocError> {
     match found {
         Some(Finding { place, reason }) => {
@@ -113,7 +116,7 @@ fn shown(alloc: Global, found: Option<Finding>) -> Result<String, AllocError> {
     }
 }
 
-/// The line with a cell in the hole.
+/// Returns the line with a cell in the hole.
 fn filled(alloc: Global, geometry: &str, cell: &str) -> Result<String, AllocError> {
     match geometry.split_once('_') {
         Some((front, back)) => format!(in alloc; "{front}{cell}{back}"),
@@ -121,7 +124,7 @@ fn filled(alloc: Global, geometry: &str, cell: &str) -> Result<String, AllocErro
     }
 }
 
-/// The line without its mark, and what is wanted with the place of the mark.
+/// Returns the line without its mark, and the expected finding with the byte of the mark.
 fn unmarked(alloc: Global, line: &str, want: &str) -> Result<(String, String), AllocError> {
     match line.split_once('^') {
         Some((front, back)) => Ok((
@@ -135,7 +138,7 @@ fn unmarked(alloc: Global, line: &str, want: &str) -> Result<(String, String), A
     }
 }
 
-/// The line of a row, and what the row wants there.
+/// Returns the line of a row, and what the row expects.
 fn line_of(
     rt: &impl Abort,
     alloc: Global,
@@ -150,7 +153,7 @@ fn line_of(
     unmarked(alloc, &line, want)
 }
 
-/// Each row of the table has the finding that it wants.
+/// Checks that each row of the table has the finding that it expects.
 fn meets(
     rt: &impl Abort,
     alloc: Global,

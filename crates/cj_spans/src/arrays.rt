@@ -1,7 +1,7 @@
-//! Arrays of whole numbers, nested or not, with no white space: most of a city model.
+//! Arrays of whole numbers, nested or not, without white space: the largest part of a city model.
 //!
-//! The pass reads any line without this, one byte after another. Here such arrays are read in one go, and what
-//! is not of this form is left to the pass.
+//! The scanner could read any line without this module, one byte after another. Here such arrays
+//! are read in one go, and everything else is left to the scanner.
 ghost use Rattle.std.specs.Prelude.{◌≡◌, ◌≤◌, ◌<◌, ◌↔◌, length, suc, ℕ, Some, OnOk, IfOk, IsTrue};
 ghost use Rattle.cj_budget.specs.Bounded.{BoundedList, IsWithin};
 ghost use Rattle.cj_spans.specs.declared.token.Token.{Token as TokenOf};
@@ -15,7 +15,7 @@ use crate::step::{Mode, Move, Next, open};
 use crate::token::{Kind, Token};
 use cj_budget::{Bounded, Stack};
 
-/// Whether an array is innermost.
+/// Returns whether the innermost container is an array.
 #[inline(always)]
 fn in_array(tokens: &Bounded<Token>, stack: &Stack) -> bool
     ensures { IsTrue result → InArray stack.now.elements tokens.now.elements }
@@ -29,7 +29,7 @@ fn in_array(tokens: &Bounded<Token>, stack: &Stack) -> bool
     }
 }
 
-/// Closes the array that is innermost, by the bracket at `place`.
+/// Closes the innermost array with the bracket at `place`.
 #[inline(always)]
 fn close_array(place: usize, tokens: &mut Bounded<Token>, stack: &mut Stack)
     requires small { FitsToken place tokens.old }
@@ -51,14 +51,14 @@ fn close_array(place: usize, tokens: &mut Bounded<Token>, stack: &mut Stack)
     tokens.set(index as usize, whole);
 }
 
-/// Where the pass stands behind an item, and whether the comma of an array stands there.
+/// The place after an item, and whether the comma of an array is there.
 #[derive(Clone, Copy)]
 struct Behind {
     place: usize,
     comma: bool,
 }
 
-/// Closes the arrays that end from `from` on, where an array is innermost.
+/// Closes the arrays that end from `from` on. The innermost container is an array.
 #[inline(always)]
 fn close_arrays(line: &[u8], from: usize, tokens: &mut Bounded<Token>, stack: &mut Stack) -> Behind
     requires stands { Stands line.now tokens.old stack.old After from }
@@ -84,7 +84,7 @@ fn close_arrays(line: &[u8], from: usize, tokens: &mut Bounded<Token>, stack: &m
     Behind { place, comma }
 }
 
-/// Goes on behind a number that ends at `stop`, where an array is innermost.
+/// Continues after a number that ends at `stop`. The innermost container is an array.
 #[inline(always)]
 fn end_number(line: &[u8], stop: usize, tokens: &mut Bounded<Token>, stack: &mut Stack) -> Behind
     requires stands { Stands line.now tokens.old stack.old After stop }
@@ -105,8 +105,8 @@ fn end_number(line: &[u8], stop: usize, tokens: &mut Bounded<Token>, stack: &mut
     close_arrays(line, stop, tokens, stack)
 }
 
-/// Reads arrays and whole numbers from a place on where a value may begin in an array. It stops before what is
-/// no such value, and behind an array that is in an object.
+/// Reads arrays and whole numbers from a place on where a value may begin in an array. It stops
+/// before any other value, and after an array that is in an object.
 pub fn read_arrays(
     line: &[u8],
     from: Next,
@@ -152,7 +152,8 @@ pub fn read_arrays(
     Ok(next)
 }
 
-/// Whether the byte of this move leaves an array innermost in which a value may begin: it is `[`, or a comma of an array.
+/// Returns whether a value may begin in an array after the byte of this move. The byte is then `[`,
+/// or a comma of an array.
 #[inline(always)]
 pub fn enters_array(byte: u8, taken: Move) -> bool
     ensures { IsTrue result ↔ StaysInArrayNext byte taken }

@@ -1,7 +1,7 @@
-//! A scalar or a name, read to its end: strings, numbers and words.
+//! Reads a scalar or a name to its end: strings, numbers and words.
 //!
-//! What a good line has is read by straight code, where the place in the code tells what has been read. What is left,
-//! an exponent or a fault, goes on in `read_on`, byte by byte.
+//! Straight code reads the forms that valid lines have: the place in the code shows what has been
+//! read. `read_on` reads everything else, an exponent or a fault, byte by byte.
 ghost use Rattle.std.specs.Prelude.{◌≡◌, ◌+◌, ◌≤◌, ◌<◌, ℕ, length, suc, IfSome, IsTrue, Some};
 ghost use Rattle.cj_spans.specs.declared.lex.Lex.{Lex as LexOf};
 ghost use Rattle.cj_spans.specs.declared.lex.Lex.TheVariants.{Fraction, Hex4, InString, Minus, Point, Whole, Zero};
@@ -12,14 +12,14 @@ ghost use Rattle.cj_spans.specs.Atom.{GoesTo, ReadsTo};
 use crate::bytes::{is_digit, is_escape, is_hex, stands_at};
 use crate::lex::{Lex, ends_string, lex_step, skip, skip_digits, skip_plain};
 
-/// How far a scalar goes, and what has been read of it there.
+/// Where a scalar ends, and what has been read of it there.
 #[derive(Clone, Copy)]
 pub struct Reach {
     pub stop: usize,
     pub read: Lex,
 }
 
-/// Whether the line ends here, or a byte stands here that does not go on with what has been read.
+/// Returns whether the line ends here, or has a byte that does not continue what has been read.
 #[inline(always)]
 fn halts(line: &[u8], place: usize, read: Lex) -> bool
     ensures { IsTrue result → Halts line.now place read }
@@ -30,7 +30,7 @@ fn halts(line: &[u8], place: usize, read: Lex) -> bool
     lex_step(read, line[place]).is_none()
 }
 
-/// Reads on, up to the first byte that does not go on with the scalar, whatever has been read of it.
+/// Reads up to the first byte that does not continue the scalar, whatever has been read of it.
 #[inline(never)]
 fn read_on(line: &[u8], place: usize, first: Lex) -> Reach
     requires { place ≤ length line.now }
@@ -50,7 +50,7 @@ fn read_on(line: &[u8], place: usize, first: Lex) -> Reach
     Reach { stop, read }
 }
 
-/// Whether four hexadecimal digits stand here.
+/// Returns whether four hexadecimal digits are here.
 #[inline(always)]
 fn has_hex(line: &[u8], place: usize) -> bool
     requires { place + 4 ≤ length line.now }
@@ -62,7 +62,7 @@ fn has_hex(line: &[u8], place: usize) -> bool
     is_hex(line[place + 3])
 }
 
-/// Where the escape ends that begins here in a string. None where none begins, or one that is no escape.
+/// Returns where the escape that begins here in a string ends. None if no valid escape begins here.
 #[inline(always)]
 fn escape_stop(line: &[u8], place: usize) -> Option<usize>
     requires { place ≤ length line.now }
@@ -81,7 +81,7 @@ fn escape_stop(line: &[u8], place: usize) -> Option<usize>
     None
 }
 
-/// Reads on in a string, whose next byte does not stand for itself.
+/// Continues to read a string whose next byte is not plain.
 #[inline(never)]
 fn read_escapes(line: &[u8], place: usize) -> Reach
     requires { place ≤ length line.now }
@@ -100,7 +100,7 @@ fn read_escapes(line: &[u8], place: usize) -> Reach
     read_on(line, stop, Lex::InString)
 }
 
-/// Reads a string behind its first quote. Most end at the first byte that does not stand for itself.
+/// Reads a string after its first quote. Most strings end at the first byte that is not plain.
 #[inline(always)]
 fn read_string(line: &[u8], place: usize) -> Reach
     requires { place ≤ length line.now }
@@ -116,7 +116,7 @@ fn read_string(line: &[u8], place: usize) -> Reach
     read_escapes(line, stop)
 }
 
-/// Whether a point and a digit stand here.
+/// Returns whether a point and a digit are here.
 #[inline(always)]
 fn begins_fraction(line: &[u8], place: usize) -> bool
     requires { place ≤ length line.now }
@@ -128,7 +128,7 @@ fn begins_fraction(line: &[u8], place: usize) -> bool
     is_digit(line[place + 1])
 }
 
-/// Reads on in a number behind the digits before the point.
+/// Continues to read a number after the digits before the point.
 #[inline(never)]
 fn read_tail(line: &[u8], place: usize, digits: Lex) -> Reach
     requires point { lex_step_of digits 46 ≡ Some Point }
@@ -148,7 +148,7 @@ fn read_tail(line: &[u8], place: usize, digits: Lex) -> Reach
     read_on(line, stop, Lex::Fraction)
 }
 
-/// Reads on in a number behind its first digit, which is no 0.
+/// Continues to read a number after its first digit, which is not 0.
 #[inline(always)]
 fn read_whole(line: &[u8], place: usize) -> Reach
     requires { place ≤ length line.now }
@@ -164,7 +164,7 @@ fn read_whole(line: &[u8], place: usize) -> Reach
     read_tail(line, stop, Lex::Whole)
 }
 
-/// Reads on in a number behind the 0 that begins it.
+/// Continues to read a number after the 0 that begins it.
 #[inline(always)]
 fn read_zero(line: &[u8], place: usize) -> Reach
     requires { place ≤ length line.now }
@@ -179,7 +179,7 @@ fn read_zero(line: &[u8], place: usize) -> Reach
     read_tail(line, place, Lex::Zero)
 }
 
-/// Reads on in a number behind its minus.
+/// Continues to read a number after its minus.
 #[inline(never)]
 fn read_minus(line: &[u8], place: usize) -> Reach
     requires { place ≤ length line.now }
@@ -194,7 +194,7 @@ fn read_minus(line: &[u8], place: usize) -> Reach
     read_whole(line, place + 1)
 }
 
-/// Whether these three bytes stand here.
+/// Returns whether these three bytes are here.
 #[inline(always)]
 fn has_letters(line: &[u8], place: usize, first: u8, second: u8, third: u8) -> bool
     requires { place ≤ length line.now }
@@ -208,7 +208,7 @@ fn has_letters(line: &[u8], place: usize, first: u8, second: u8, third: u8) -> b
         && line[place + 2] == third
 }
 
-/// Reads on in a word behind its first letter.
+/// Continues to read a word after its first letter.
 #[inline(never)]
 fn read_word(line: &[u8], place: usize, first: Lex) -> Reach
     requires { place ≤ length line.now }
@@ -244,7 +244,7 @@ fn read_word(line: &[u8], place: usize, first: Lex) -> Reach
     read_on(line, place, first)
 }
 
-/// Reads on in a scalar that is no string and begins by no digit but 0.
+/// Continues to read a scalar that is no string and begins with no digit other than 0.
 #[inline(never)]
 fn read_other(line: &[u8], place: usize, first: Lex) -> Reach
     requires { place ≤ length line.now }
@@ -257,7 +257,7 @@ fn read_other(line: &[u8], place: usize, first: Lex) -> Reach
     }
 }
 
-/// Reads on in the scalar that began at `start`, up to the first byte that does not go on with it.
+/// Reads the scalar that began at `start`, up to the first byte that does not continue it.
 #[inline(always)]
 pub fn read_atom(line: &[u8], start: usize, first: Lex) -> Reach
     requires within { start < length line.now }

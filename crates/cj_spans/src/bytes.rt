@@ -1,31 +1,31 @@
-//! The bytes that the grammar tells apart.
+//! The classes of bytes in the grammar of JSON.
 ghost use Rattle.std.specs.Prelude.{◌≡◌, ◌<◌, length, IsTrue};
 ghost use Rattle.cj_spans.specs.Json.{byte as byte_of};
 ghost use Rattle.cj_spans.specs.Spelling.{is_white_space as is_white_space_of, is_hex as is_hex_of, is_plain as is_plain_of, is_escape as is_escape_of};
 ghost use Rattle.cj_spans.specs.Machine.{is_digit as is_digit_of};
 
-/// One of the four bytes that may stand round values, names and signs.
+/// Returns whether the byte is one of the four that may surround values, names and signs.
 pub fn is_white_space(byte: u8) -> bool
     ensures { result ≡ is_white_space_of byte }
 {
     byte == b' ' || byte == b'\t' || byte == b'\n' || byte == b'\r'
 }
 
-/// `0` to `9`.
+/// Returns whether the byte is `0` to `9`.
 pub fn is_digit(byte: u8) -> bool
     ensures { result ≡ is_digit_of byte }
 {
     byte >= b'0' && byte <= b'9'
 }
 
-/// A hexadecimal digit of either case.
+/// Returns whether the byte is a hexadecimal digit, in either case.
 pub fn is_hex(byte: u8) -> bool
     ensures { result ≡ is_hex_of byte }
 {
     is_digit(byte) || (byte >= b'A' && byte <= b'F') || (byte >= b'a' && byte <= b'f')
 }
 
-/// What may follow a backslash, beside `u`.
+/// Returns whether the byte, not `u`, may follow a backslash.
 pub fn is_escape(byte: u8) -> bool
     ensures { result ≡ is_escape_of byte }
 {
@@ -39,14 +39,15 @@ pub fn is_escape(byte: u8) -> bool
         || byte == b't'
 }
 
-/// A byte of a string that stands for itself, or is a part of a longer character.
+/// Returns whether the byte is plain in a string: no control character, no quote and no backslash.
+/// It may be a part of a longer character.
 pub fn is_plain(byte: u8) -> bool
     ensures { result ≡ is_plain_of byte }
 {
     byte >= b' ' && byte != b'"' && byte != b'\\'
 }
 
-/// Whether this byte stands at the place.
+/// Returns whether this byte is at the place.
 #[inline(always)]
 pub fn stands_at(line: &[u8], place: usize, byte: u8) -> bool
     ensures { IsTrue result → (place < length line.now) × (byte_of line.now place ≡ byte) }

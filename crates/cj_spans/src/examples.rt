@@ -1,4 +1,4 @@
-//! The definitions at worked lines: each contract is a theorem on one line.
+//! The definitions on worked lines: each contract is a theorem about one line.
 ghost use Rattle.std.specs.Prelude.{◌≡◌, ◌∷◌, [], codes, ℕ};
 ghost use Rattle.cj_spans.specs.declared.token.Kind.TheVariants.{Number};
 ghost use Rattle.cj_spans.specs.Tree.{scalar, array, no_items, item, size, nest};
@@ -52,7 +52,7 @@ pub fn whole_text()
     ensures { (i : ℕ) → IsFirstFault (codes "{}") i → ⊥ }
 {}
 
-/// One container too many, before a fault.
+/// One container too many, before another fault.
 pub fn too_deep()
     ensures { DeepAt (codes "[[}") 1 1 }
 {}
@@ -62,7 +62,7 @@ pub fn one_number()
     ensures { let b = codes "[0]" in Json b (array 0 3 (item (scalar Number (atom_at b 1 2)) no_items)) }
 {}
 
-/// The size and the nest of the tree of `{"a":{"b":[]},"c":0}`.
+/// The size and the depth of the tree of `{"a":{"b":[]},"c":0}`.
 pub fn seven_values_and_names()
     ensures size { size seven ≡ 7 }
     ensures nest { nest seven ≡ 3 }

@@ -1,4 +1,4 @@
-//! Why a line is no JSON text within the limits.
+//! Why a line is not a JSON text within the limits.
 ghost use Rattle.std.specs.Prelude.{◌≡◌};
 ghost use Rattle.cj_spans.specs.declared.fault.ScanFault.TheVariants.{Memory};
 ghost use Rattle.cj_spans.specs.Judgement.{widened_fault};
@@ -6,36 +6,36 @@ ghost use Rattle.cj_spans.specs.Judgement.{widened_fault};
 use cj_budget::NoMemory;
 use thiserror::Error;
 
-/// Why [`crate::scan`] refuses a line. Places are offsets in the line, from 0.
+/// Why [`crate::scan`] rejects a line. Places are bytes of the line, from 0.
 #[derive(Clone, Copy, Debug, PartialEq, Eq, Error)]
 pub enum ScanFault {
-    /// The line is not UTF-8: the end of its longest valid prefix.
+    /// The line is not UTF-8. The byte is the end of its longest valid prefix.
     #[error("not UTF-8 at byte {0}")]
     NotUtf8(u64),
-    /// The least place up to and with which the line begins no JSON text, or the length of a line
-    /// that only begins one.
+    /// The first byte that no JSON text can have here. If the line only begins a JSON text, this is
+    /// its length.
     #[error("no JSON text at byte {0}")]
     Syntax(u64),
-    /// The least place at which more containers are open than the limit allows.
+    /// The first byte at which more containers are open than the limit allows.
     #[error("nested too deep at byte {0}")]
     TooDeep(u64),
-    /// No room for tokens or open containers was granted. Of the line nothing is said.
+    /// Memory for tokens or open containers was refused. The line was not read.
     #[error("out of memory")]
     Memory,
 }
 
-/// Why [`crate::scan_reserved`] refuses a line: what [`ScanFault`] has but for `Memory`. Places are offsets
-/// in the line, from 0.
+/// Why [`crate::scan_reserved`] rejects a line: as [`ScanFault`], without `Memory`. Places are
+/// bytes of the line, from 0.
 #[derive(Clone, Copy, Debug, PartialEq, Eq, Error)]
 pub enum LineFault {
-    /// The line is not UTF-8: the end of its longest valid prefix.
+    /// The line is not UTF-8. The byte is the end of its longest valid prefix.
     #[error("not UTF-8 at byte {0}")]
     NotUtf8(u64),
-    /// The least place up to and with which the line begins no JSON text, or the length of a line
-    /// that only begins one.
+    /// The first byte that no JSON text can have here. If the line only begins a JSON text, this is
+    /// its length.
     #[error("no JSON text at byte {0}")]
     Syntax(u64),
-    /// The least place at which more containers are open than the limit allows.
+    /// The first byte at which more containers are open than the limit allows.
     #[error("nested too deep at byte {0}")]
     TooDeep(u64),
 }

@@ -1,4 +1,4 @@
-//! What is wrong at a place of a line.
+//! A broken rule and its byte.
 ghost use Rattle.std.specs.Prelude.{nat_eq};
 ghost use Rattle.std.proofs.Common.{rules};
 ghost use Rattle.std.specs.Cmp.{partial_order_from_own_ties, both_tied, unsigned_ties};
@@ -9,8 +9,8 @@ ghost use Rattle.cj_spans.specs.Reason.{code_of};
 use crate::reason::Reason;
 use std::cmp::Ordering;
 
-/// A reason, and the place of the line that it is found at: an offset in bytes, from 0. Findings
-/// are ordered by place and, at one place, by the reason's code.
+/// A reason, and the byte of the line where it was found, from 0. Findings are ordered by byte, and
+/// at one byte by the code of the reason.
 #[derive(Clone, Copy, Debug)]
 pub struct Finding {
     pub place: u64,

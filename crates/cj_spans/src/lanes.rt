@@ -7,13 +7,13 @@ ghost use Rattle.cj_spans.specs.Machine.{is_digit as is_digit_of};
 
 use std::simd::prelude::*;
 
-/// How many bytes are looked at in one go: those of a vector of the baseline x86-64.
+/// The number of bytes in one step: those of a vector of the baseline x86-64.
 pub const LANES: usize = 16;
 
-/// How many are looked at in one go where fewer than `LANES` are left.
+/// The number of bytes in one step if fewer than `LANES` remain.
 pub const FEW_LANES: usize = 8;
 
-/// The first byte that is no digit, of the 16 from `place` on.
+/// Returns the place of the first byte that is no digit, among the 16 from `place` on.
 #[inline(always)]
 pub fn find_other(line: &[u8], place: usize) -> Option<usize>
     requires { place + 16 ≤ length line.now }
@@ -31,7 +31,7 @@ pub fn find_other(line: &[u8], place: usize) -> Option<usize>
     }
 }
 
-/// The first byte that does not stand for itself in a string, of the 16 from `place` on.
+/// Returns the place of the first byte that is not plain in a string, among the 16 from `place` on.
 #[inline(always)]
 pub fn find_special(line: &[u8], place: usize) -> Option<usize>
     requires { place + 16 ≤ length line.now }
@@ -52,8 +52,8 @@ pub fn find_special(line: &[u8], place: usize) -> Option<usize>
     }
 }
 
-/// How many bytes of two strings are alike before the first of 16 that are not: the same, and each a character that stands
-/// for itself, ASCII and no backslash. None where all 16 are alike.
+/// Returns how many bytes of two strings are alike before the first of 16 that are not. None if all
+/// 16 are alike. Two bytes are alike if they are the same, ASCII, and no backslash.
 #[inline(always)]
 pub fn find_unlike(bytes: &[u8], place: usize, others: &[u8], other_place: usize) -> Option<usize>
     requires first { place + 16 ≤ length bytes.now }
@@ -74,7 +74,7 @@ pub fn find_unlike(bytes: &[u8], place: usize, others: &[u8], other_place: usize
     }
 }
 
-/// The same of 8 bytes.
+/// Does the same for 8 bytes.
 #[inline(always)]
 pub fn find_unlike_of_few(
     bytes: &[u8],

@@ -1,4 +1,4 @@
-//! The least of the findings of a line.
+//! The least finding of a line.
 ghost use Rattle.std.specs.Prelude.{◌≡◌, ◌∷◌, ◌++◌, List, Option as OptionOf, None};
 ghost use Rattle.cj_spans.specs.declared.finding.Finding.{Finding as FindingOf};
 ghost use Rattle.cj_spans.specs.Finding.{lesser, least, list_found, is_before as is_before_of, IsLeast, HaveSame};
@@ -11,7 +11,7 @@ mod tests;
 use crate::finding::Finding;
 use std::marker::Model;
 
-/// The least finding so far, by place and code, or none. Contracts see it as that finding.
+/// The least finding so far, by byte and code, or none. Contracts see it as that finding.
 #[derive(Clone, Copy, Debug)]
 pub struct Least {
     found: Option<Finding>,
@@ -28,7 +28,7 @@ impl Model for Least {
     ghost inverse = { λ o. record { found = o } };
 }
 
-/// Whether the first comes before the second.
+/// Returns whether the first finding comes before the second.
 fn is_before(finding: Finding, other: Finding) -> bool
     ensures { result ≡ is_before_of finding other }
 {
@@ -37,18 +37,18 @@ fn is_before(finding: Finding, other: Finding) -> bool
 }
 
 impl Least {
-    /// No finding yet.
+    /// Returns a `Least` without a finding.
     pub fn new() -> Least
         ensures { result ≡ None }
     {
         Least { found: None }
     }
 
-    /// Takes one finding more.
+    /// Adds one finding.
     pub fn add(&mut self, finding: Finding)
         ensures lesser { self.new ≡ lesser self.old finding }
 
-        // Whatever the findings so far, what was their least becomes the least with this one.
+        // If this was the least of any findings so far, it is now the least of those and this one.
         ensures least { (fs : List FindingOf) → IsLeast fs self.old → IsLeast (finding ∷ fs) self.new }
     {
         match self.found {
@@ -61,11 +61,12 @@ impl Least {
         }
     }
 
-    /// The least finding that was added, or none.
+    /// Returns the least finding that was added, or none.
     pub fn get(self) -> Option<Finding>
         ensures held { result ≡ self }
 
-        // Any findings have one least, in whatever order they are told, and it is what is kept of them.
+        // Findings have one least, in whatever order they are added, and it is the one that is
+        // kept.
         ensures only { (fs gs : List FindingOf) (o : OptionOf FindingOf) → HaveSame fs gs
             → IsLeast fs result → IsLeast gs o → o ≡ result }
         ensures fold { (fs : List FindingOf) → IsLeast (list_found result ++ fs) (least result fs) }

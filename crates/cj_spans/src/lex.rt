@@ -1,4 +1,4 @@
-//! How far the spelling of a scalar or a name has been read.
+//! How much of the spelling of a scalar or a name has been read.
 ghost use Rattle.std.specs.Prelude.{◌≡◌, ◌≤◌, ◌<◌, ℕ, length, IfSome, IsTrue, Some, true, false};
 ghost use Rattle.cj_spans.specs.declared.lex.Lex.{Lex as LexOf};
 ghost use Rattle.cj_spans.specs.declared.lex.Lex.TheVariants.{InString};
@@ -41,7 +41,7 @@ pub enum Lex {
     StringDone,
 }
 
-/// What the first byte begins of a scalar that is no number.
+/// Returns what the first byte begins of a scalar that is no number.
 #[inline(never)]
 fn lex_start_other(byte: u8) -> Option<Lex>
     requires digit { is_digit_of byte ≡ false }
@@ -57,8 +57,10 @@ fn lex_start_other(byte: u8) -> Option<Lex>
     }
 }
 
-/// What the first byte of a scalar begins. Numbers, which are most, are told by tests: of all the bytes in one `match`
-/// the compiler makes a jump table.
+/// Returns what the first byte of a scalar begins.
+///
+/// Numbers come first, by comparisons, since most scalars are numbers. For one `match` on all bytes
+/// the compiler would make a jump table.
 #[inline(always)]
 pub fn lex_start(byte: u8) -> Option<Lex>
     ensures { result ≡ lex_start_of byte }
@@ -72,7 +74,7 @@ pub fn lex_start(byte: u8) -> Option<Lex>
     }
 }
 
-/// The kind of the scalar, where it may end here.
+/// Returns the kind of the scalar if it may end here.
 #[inline(always)]
 pub fn lex_kind(read: Lex) -> Option<Kind>
     ensures { result ≡ lex_kind_of read }
@@ -103,7 +105,7 @@ fn hex(byte: u8, next: Lex) -> Option<Lex>
     if is_hex(byte) { Some(next) } else { None }
 }
 
-/// Takes a digit of a number; `other` is what comes of any other byte.
+/// Takes a digit of a number. `other` is the result for any other byte.
 #[inline(always)]
 fn digit_or(byte: u8, next: Lex, other: Option<Lex>) -> Option<Lex>
     ensures { result ≡ digit_or_of byte next other }
@@ -111,7 +113,7 @@ fn digit_or(byte: u8, next: Lex, other: Option<Lex>) -> Option<Lex>
     if is_digit(byte) { Some(next) } else { other }
 }
 
-/// Takes the letter that an exponent begins with.
+/// Takes the letter that begins an exponent.
 fn mark(byte: u8) -> Option<Lex>
     ensures { result ≡ mark_of byte }
 {
@@ -184,7 +186,7 @@ fn escape_step(byte: u8) -> Option<Lex>
     }
 }
 
-/// Reads one byte more of a scalar; None where the byte does not go on with it.
+/// Reads one byte more of a scalar. None if the byte does not continue it.
 #[inline(always)]
 pub fn lex_step(read: Lex, byte: u8) -> Option<Lex>
     ensures { result ≡ lex_step_of read byte }
@@ -220,7 +222,7 @@ pub fn lex_step(read: Lex, byte: u8) -> Option<Lex>
     }
 }
 
-/// Skips the bytes of a string that stand for themselves, one by one.
+/// Skips plain bytes of a string, one by one.
 #[inline(always)]
 fn skip_plain_singly(line: &[u8], place: usize) -> usize
     requires { place ≤ length line.now }
@@ -235,7 +237,7 @@ fn skip_plain_singly(line: &[u8], place: usize) -> usize
     stop
 }
 
-/// Skips the bytes of a string that stand for themselves, 16 at once while the line has so many.
+/// Skips plain bytes of a string, 16 at once as long as the line has 16 more.
 #[inline(always)]
 pub fn skip_plain(line: &[u8], place: usize) -> usize
     requires { place ≤ length line.now }
@@ -253,7 +255,7 @@ pub fn skip_plain(line: &[u8], place: usize) -> usize
     skip_plain_singly(line, stop)
 }
 
-/// Skips digits, which leave these readings of a number as they are, one by one.
+/// Skips digits one by one. They do not change these readings of a number.
 #[inline(always)]
 fn skip_digits_singly(line: &[u8], read: Lex, place: usize) -> usize
     requires stays { (b : ℕ) → is_digit_of b ≡ true → lex_step_of read b ≡ Some read }
@@ -269,8 +271,8 @@ fn skip_digits_singly(line: &[u8], read: Lex, place: usize) -> usize
     stop
 }
 
-/// Skips digits, which leave these readings of a number as they are. Up to 16 are read at once, so that
-/// numbers of other lengths than the last take no longer.
+/// Skips digits, which do not change these readings of a number. It reads up to 16 at once, so
+/// numbers of varying length take no longer.
 #[inline(always)]
 pub fn skip_digits(line: &[u8], read: Lex, place: usize) -> usize
     requires stays { (b : ℕ) → is_digit_of b ≡ true → lex_step_of read b ≡ Some read }
@@ -288,7 +290,7 @@ pub fn skip_digits(line: &[u8], read: Lex, place: usize) -> usize
     }
 }
 
-/// Skips the bytes that leave the reading as it is, where there may be many.
+/// Skips the bytes that do not change the reading, if there may be many.
 #[inline(always)]
 pub fn skip(line: &[u8], read: Lex, place: usize) -> usize
     requires { place ≤ length line.now }
@@ -305,7 +307,7 @@ pub fn skip(line: &[u8], read: Lex, place: usize) -> usize
     }
 }
 
-/// Whether the quote stands here that ends a string.
+/// Returns whether the quote that ends a string is here.
 #[inline(always)]
 pub fn ends_string(line: &[u8], place: usize) -> bool
     ensures { IsTrue result → (place < length line.now) × (byte_of line.now place ≡ 34) }
@@ -313,8 +315,8 @@ pub fn ends_string(line: &[u8], place: usize) -> bool
     place < line.len() && line[place] == b'"'
 }
 
-/// Where the string that begins at `place` ends, if the first of its bytes that does not stand for itself is the
-/// closing quote. None where no string begins there, or another one.
+/// Returns where the string that begins at `place` ends, if all its bytes are plain. None if no
+/// such string begins there.
 #[inline(always)]
 pub fn plain_string_stop(line: &[u8], place: usize) -> Option<usize>
     requires { place < length line.now }

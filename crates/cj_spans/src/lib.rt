@@ -1,19 +1,21 @@
 //! JSON lines as lists of tokens.
 //!
-//! [`scan`] reads a line once. Where the line is a JSON text, it leaves one [`Token`] for each value
-//! and each member name, in the order in which they start; else it answers the place of the fault. It
-//! holds nothing but the two lists that it is given, a [`cj_budget::Bounded`] and a
-//! [`cj_budget::Stack`], so what it takes is bounded by their limits. It sees first that both have room for
-//! these, which alone may be refused, and then is [`scan_reserved`], which takes no memory.
-//! [`Reason`] is the list of all that a line can be refused for.
+//! [`scan`] reads a line once. If the line is a JSON text, `scan` leaves one [`Token`] for each
+//! value and each member name, in the order in which they start. Otherwise it returns the byte of
+//! the fault.
 //!
-//! [`Doc`] and [`Node`] view a line that was scanned: they read like its tree, and hold no more than
-//! the line and its tokens. A rule of the layers above looks at nodes and adds each [`Finding`] to a
-//! [`Least`], which keeps the one that is told. What is found out of some nodes before others are looked at is
-//! noted by [`set_mark`] at their tokens, by their numbers, and seen again by [`Node::marked`].
+//! `scan` uses only the two lists that it gets, a [`cj_budget::Bounded`] and a
+//! [`cj_budget::Stack`]. So their limits bound its memory. It first reserves the memory of both
+//! lists, and only this can fail. The rest is [`scan_reserved`], which allocates nothing.
+//! [`Reason`] lists all reasons why a line is invalid.
 //!
-//! The contracts cite definitions, and [`laws`] holds what is proved of these: a line has one judgement
-//! and a string one text.
+//! [`Doc`] and [`Node`] are views of a scanned line. They read like its tree, and refer to the line
+//! and its tokens. A rule of the layers above looks at nodes, and adds each [`Finding`] to a
+//! [`Least`], which keeps the one that is reported. A rule can mark tokens by number with
+//! [`set_mark`], and read the marks later with [`Node::marked`].
+//!
+//! Contracts cite definitions, and [`laws`] has the facts that are proved about these. For example,
+//! a line has one judgement and a string has one text.
 //!
 //! ```text
 //! let mut tokens = Bounded::new(alloc, (line.len() + 64 + 1) / 2);
@@ -21,11 +23,11 @@
 //! match scan(line, &mut tokens, &mut stack) {
 //!     Ok(()) => {
 //!         let root = Doc::of(line, tokens.as_slice()).root();
-//!         let kind = root.get("type");       // the first member of that name, however it is spelled
+//!         let kind = root.get("type");       // the first member with this name, in any spelling
 //!         for (name, value) in root.members() {}
 //!     }
 //!     Err(ScanFault::Syntax(place)) => {}    // no JSON text begins with line[..=place]
-//!     Err(fault) => return Err(fault),       // Memory: both lists are empty, and nothing is known of the line
+//!     Err(fault) => return Err(fault),       // Memory: both lists are empty, the line is unread
 //! }
 //! ```
 #![tactic(auto)]

@@ -1,7 +1,8 @@
 //! Marks on tokens.
 //!
-//! A mark is the top bit of a token's link, which no link reaches. So it takes no room, and all that a token
-//! shows stays: where it starts and stops, and what it links to.
+//! A mark is the top bit of a token's link. No link is large enough to use this bit. So a mark
+//! takes no memory, and a token shows the same as before: where it starts and stops, and what it
+//! links to.
 ghost use Rattle.std.specs.Prelude.{◌≡◌, ◌≢◌, ◌<◌, ◌+◌, ◌%◌, ◌^◌, ℕ, length, true};
 ghost use Rattle.cj_spans.specs.Marks.{has_mark as has_mark_of, is_marked_at, KeepsTokens};
 ghost use Rattle.cj_spans.specs.Preorder.{token_at as token_at_of};
@@ -11,17 +12,17 @@ use crate::node::token_at;
 use crate::token::Token;
 use cj_budget::Bounded;
 
-/// Links are below this: the top bit may be a mark.
+/// Links are below this. The top bit may be a mark.
 pub(crate) const LINKS: u32 = 1 << 31;
 
-/// Whether a token has a mark.
+/// Returns whether a token has a mark.
 pub(crate) fn has_mark(token: Token) -> bool
     ensures { result ≡ has_mark_of token }
 {
     token.link >= LINKS
 }
 
-/// The token with a mark.
+/// Returns the token with a mark.
 fn with_mark(token: Token) -> Token
     ensures { result ≡ token_at_of token.start token.stop (link_of token + 2 ^ 31) }
 {
@@ -31,8 +32,10 @@ fn with_mark(token: Token) -> Token
     }
 }
 
-/// Gives the token of this number a mark, or leaves the one that it has. No other token's mark changes, and the
-/// tokens show what they showed; so views of them are made again by [`crate::Doc::of`]. It takes no memory.
+/// Marks the token with this number, if it has no mark. The marks of other tokens stay.
+///
+/// The tokens show the same as before, so make views of them again with [`crate::Doc::of`]. It
+/// allocates nothing.
 pub fn set_mark(tokens: &mut Bounded<Token>, number: u32)
     requires { number < length tokens.old.elements }
     ensures marked { is_marked_at tokens.new.elements number ≡ true }

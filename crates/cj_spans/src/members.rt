@@ -1,7 +1,7 @@
-//! Members of an object, names with their colons and values that are strings, with no white space.
+//! Members of an object without white space: names with their colons, and values that are strings.
 //!
-//! The pass reads any line without this, one byte after another. Here several names and strings are read in one go,
-//! and what is not of this form is left to the pass.
+//! The scanner could read any line without this module, one byte after another. Here several names
+//! and strings are read in one go, and everything else is left to the scanner.
 ghost use Rattle.std.specs.Prelude.{◌≡◌, ◌+◌, ◌^◌, ◌≤◌, ◌<◌, ◌++◌, ◌∷◌, ◌↔◌, [], length, IfSome, IfNone, IsTrue};
 ghost use Rattle.cj_budget.specs.Bounded.{Becomes};
 ghost use Rattle.cj_spans.specs.declared.step.Mode.TheVariants.{Ready};
@@ -16,8 +16,8 @@ use crate::step::{Mode, Move, Next};
 use crate::token::{Token, keep_atom};
 use cj_budget::Bounded;
 
-/// Reads the string that begins at `place` and keeps its token; where it ends. None where no string begins there
-/// whose bytes all stand for themselves.
+/// Reads the string that begins at `place`, and keeps its token. Returns where it ends. None if no
+/// string begins there, or if a byte of it is not plain.
 #[inline(always)]
 fn read_string(line: &[u8], place: usize, tokens: &mut Bounded<Token>) -> Option<usize>
     requires short { length line.now < 2 ^ 31 }
@@ -35,7 +35,8 @@ fn read_string(line: &[u8], place: usize, tokens: &mut Bounded<Token>) -> Option
     Some(stop)
 }
 
-/// Goes on from where a name may begin: past it and its colon, or past what of them stands there.
+/// Continues where a name may begin: past the name and its colon, or past as much of them as is
+/// there.
 #[inline(always)]
 fn pass_name(line: &[u8], from: Next, tokens: &mut Bounded<Token>) -> Next
     requires stands { StandsInObject line.now tokens.old from.mode from.place }
@@ -60,8 +61,8 @@ fn pass_name(line: &[u8], from: Next, tokens: &mut Bounded<Token>) -> Next
     }
 }
 
-/// Goes on from where the value of a member may begin: past a string and the comma behind it, or past what of them
-/// stands there.
+/// Continues where the value of a member may begin: past a string and its comma, or past as much of
+/// them as is there.
 #[inline(always)]
 fn pass_value(line: &[u8], place: usize, tokens: &mut Bounded<Token>) -> Next
     requires stands { StandsInObject line.now tokens.old Ready place }
@@ -90,7 +91,7 @@ fn pass_value(line: &[u8], place: usize, tokens: &mut Bounded<Token>) -> Next
     }
 }
 
-/// Whether a name may begin in the mode.
+/// Returns whether a name may begin in the mode.
 #[inline(always)]
 fn begins_name(mode: Mode) -> bool
     ensures { IsTrue result ↔ BeginsName mode }
@@ -102,8 +103,8 @@ fn begins_name(mode: Mode) -> bool
     }
 }
 
-/// Reads names, colons, strings and commas from a place on where a name may begin. It stops before what is no
-/// such part.
+/// Reads names, colons, strings and commas from a place on where a name may begin. It stops before
+/// anything else.
 pub fn read_members(line: &[u8], from: Next, tokens: &mut Bounded<Token>) -> Next
     requires stands { StandsInObject line.now tokens.old from.mode from.place }
     ensures leads { Leads line.now tokens.old from.mode from.place tokens.new result.mode result.place }
@@ -121,7 +122,8 @@ pub fn read_members(line: &[u8], from: Next, tokens: &mut Bounded<Token>) -> Nex
     next
 }
 
-/// Whether the byte of this move leaves an object innermost in which a name may begin: it is `{`, or a comma of an object.
+/// Returns whether a name may begin in an object after the byte of this move. The byte is then `{`,
+/// or a comma of an object.
 #[inline(always)]
 pub fn enters_object(byte: u8, taken: Move) -> bool
     ensures { IsTrue result ↔ StaysInObjectNext byte taken }

@@ -1,4 +1,4 @@
-//! Where the tokens of a value end, told by their places alone.
+//! Where the tokens of a value end, found by their places alone.
 ghost use Rattle.std.specs.Prelude.{◌≡◌, ◌<◌, ◌≤◌, ◌+◌, length, drop};
 ghost use Rattle.cj_spans.specs.Preorder.{spans_of};
 ghost use Rattle.cj_spans.specs.Sound.{AreOf, before};
@@ -8,7 +8,8 @@ ghost use Rattle.cj_spans.specs.View.{tree_at};
 use crate::node::token_at;
 use crate::token::Token;
 
-/// The first token, from this index on, that does not start before the place, or the number of tokens.
+/// Returns the first token, from this index on, that does not start before the place, or the number
+/// of tokens.
 fn first_from(tokens: &[Token], from: usize, stop: u32) -> usize
     requires { from ≤ length tokens.now }
     ensures first { result ≡ from + before stop (drop from tokens.now) }
@@ -24,12 +25,12 @@ fn first_from(tokens: &[Token], from: usize, stop: u32) -> usize
     next
 }
 
-/// The first token after the value of the token `index` and all its parts, or the number of tokens,
-/// found by places and not by links: each token that starts before the value ends is passed over. Of
-/// the token of a name it is the next one.
+/// Returns the first token after the value of the token `index` and all its parts, or the number of
+/// tokens. For the token of a name it is the next one.
 ///
-/// A walk by links needs no such search. This says the same for tokens whose links are not to be gone
-/// by, and costs a step for each part of the value.
+/// It uses places and no links: it passes over each token that starts before the value ends. A walk
+/// by links needs no such search. This one is for tokens whose links cannot be relied on, and takes
+/// a step for each part of the value.
 pub fn slow_next(line: &[u8], tokens: &[Token], index: u32) -> u32
     requires scanned { AreOf line.now tokens.now }
     requires short { length line.now ≤ 1073741824 }

@@ -1,12 +1,12 @@
 //! Views of a scanned line: its tree, shown by the line and its tokens.
 //!
-//! A [`Doc`] shows the tree of a line that a scan has accepted, a [`Node`] one value or name of it. They
-//! take no memory and none of their calls can fail; what is asked is looked up in the line.
+//! A [`Doc`] shows the tree of a line that a scan accepted. A [`Node`] shows one value or name of
+//! it. They allocate nothing, and no call can fail. Each call looks up its result in the line.
 //!
 //! ```text
 //! let root = Doc::of(line, tokens.as_slice()).root();
-//! for (name, value) in root.members() {} // in order, also names that come again
-//! match root.get("type") {               // the first member of that name, however it is spelled
+//! for (name, value) in root.members() {} // in order, also repeated names
+//! match root.get("type") {               // the first member with this name, in any spelling
 //!     Some(value) => value.text_is("CityJSON"),
 //!     None => false,
 //! }
@@ -62,7 +62,7 @@ pub struct Node<'a> {
     ghost known: { index < length source.tokens.now },
 }
 
-/// The items of an array that are left, in order.
+/// The remaining items of an array, in order.
 #[derive(Clone, Copy)]
 pub struct Items<'a> {
     source: Source<'a>,
@@ -71,7 +71,7 @@ pub struct Items<'a> {
     ghost whole: { AreWhole source.tokens.now next stop },
 }
 
-/// The members of an object that are left, in order.
+/// The remaining members of an object, in order.
 #[derive(Clone, Copy)]
 pub struct Members<'a> {
     source: Source<'a>,
@@ -81,7 +81,7 @@ pub struct Members<'a> {
     ghost named: { ShowMembers source.line.now source.tokens.now next stop },
 }
 
-/// The token at an index.
+/// Returns the token at an index.
 pub(crate) fn token_at(tokens: &[Token], index: usize) -> Token
     requires { index < length tokens.now }
     ensures { slice_get tokens.now index ≡ Some result }
@@ -89,7 +89,7 @@ pub(crate) fn token_at(tokens: &[Token], index: usize) -> Token
     tokens[index]
 }
 
-/// The kind of the value or name that starts here (RFC 8259, section 3).
+/// Returns the kind of the value or name that starts here (RFC 8259, section 3).
 fn kind_at(line: &[u8], start: usize) -> Kind
     requires { start < length line.now }
     ensures { result ≡ kind_by (byte line.now start) }
@@ -105,7 +105,8 @@ fn kind_at(line: &[u8], start: usize) -> Kind
     }
 }
 
-/// Where a walk over the items of a value of this kind ends, whose token links to `link`.
+/// Returns where a walk over the items of a value of this kind ends. `link` is the link of its
+/// token.
 fn items_end(kind: Kind, link: usize) -> usize
     ensures { result ≡ items_end_of kind link }
 {
@@ -115,7 +116,8 @@ fn items_end(kind: Kind, link: usize) -> usize
     }
 }
 
-/// Where a walk over the members of a value of this kind ends, whose token links to `link`.
+/// Returns where a walk over the members of a value of this kind ends. `link` is the link of its
+/// token.
 fn members_end(kind: Kind, link: usize) -> usize
     ensures { result ≡ members_end_of kind link }
 {
@@ -126,7 +128,7 @@ fn members_end(kind: Kind, link: usize) -> usize
 }
 
 impl<'a> Source<'a> {
-    /// The first later token that does not start before the end of the token at this index.
+    /// Returns the first later token that does not start before the end of the token at this index.
     fn after(self, index: usize) -> usize
         requires { index < length self.tokens.now }
         ensures order { (index < result) × (result ≤ length self.entry.tokens.now) }
@@ -140,8 +142,8 @@ impl<'a> Source<'a> {
 impl<'a> Doc<'a> {
     ghost use Rattle.cj_spans.specs.View.{document, document_line, document_source, tree, line_of, source_of, tokens_in};
 
-    /// Views a line by the tokens that a scan of it has left with `Ok`. A copy of the line and the tokens
-    /// serves as well, also later.
+    /// Returns a view of a line, given the tokens that a scan of it left with `Ok`. A copy of the
+    /// line and the tokens works too, also later.
     pub fn of(line: &'a [u8], tokens: &'a [Token]) -> Doc<'a>
         requires { AreOf line.now tokens.now }
         ensures json { Json line.now (document result) }
@@ -154,7 +156,7 @@ impl<'a> Doc<'a> {
         }
     }
 
-    /// The value that the line is.
+    /// Returns the value that the line is.
     pub fn root(self) -> Node<'a>
         ensures tree { tree result ≡ document self.entry }
         ensures line { line_of result ≡ document_line self.entry }
@@ -166,7 +168,7 @@ impl<'a> Doc<'a> {
         }
     }
 
-    /// The line, lent for as long as it was lent to [`Doc::of`].
+    /// Returns the line, borrowed for as long as [`Doc::of`] borrowed it.
     pub fn line(self) -> &'a [u8]
         ensures { result.now ≡ document_line self.entry }
     {
@@ -180,7 +182,7 @@ impl<'a> Node<'a> {
     ghost use Rattle.cj_spans.specs.Tree.{start_of, size, total_size};
     ghost use Rattle.cj_spans.specs.View.{tree, line_of, source_of, items_left, items_line, items_source, members_left, members_line, members_source};
 
-    /// What kind of value it is. A member name is a `Text`.
+    /// Returns the kind of value. A member name is a `Text`.
     pub fn kind(self) -> Kind
         ensures { result ≡ kind_of (tree self.entry) }
     {
@@ -188,15 +190,15 @@ impl<'a> Node<'a> {
         kind_at(self.source.line, token.start as usize)
     }
 
-    /// Where it starts: the offset of its first byte in the line, from 0. For a string that is its
-    /// opening quote.
+    /// Returns the place of its first byte in the line, from 0. For a string that is the opening
+    /// quote.
     pub fn start(self) -> u64
         ensures { result ≡ start_of (tree self.entry) }
     {
         token_at(self.source.tokens, self.index).start as u64
     }
 
-    /// Its bytes in the line, as they are spelled there.
+    /// Returns its bytes in the line, as they are spelled there.
     pub fn bytes(self) -> &'a [u8]
         ensures spelling { result.now ≡ spelling_of (line_of self.entry) (tree self.entry) }
         ensures filled { 0 < length result.now }
@@ -205,7 +207,7 @@ impl<'a> Node<'a> {
         &self.source.line[token.start as usize..token.stop as usize]
     }
 
-    /// The line that it stands in.
+    /// Returns the line that it is in.
     #[inline(always)]
     pub fn line(self) -> &'a [u8]
         ensures { result.now ≡ line_of self.entry }
@@ -214,7 +216,8 @@ impl<'a> Node<'a> {
         source.line
     }
 
-    /// Where it stands in the line: where its first byte is, and where the first byte behind it is.
+    /// Returns where it is in the line: the place of its first byte, and of the first byte after
+    /// it.
     #[inline(always)]
     pub fn span(self) -> (usize, usize)
         ensures order { result.0 < result.1 }
@@ -227,14 +230,14 @@ impl<'a> Node<'a> {
         (token.start as usize, token.stop as usize)
     }
 
-    /// How many values and member names it is: itself, and all that it holds.
+    /// Returns how many values and member names it is: itself and everything in it.
     pub fn size(self) -> u32
         ensures { result ≡ size (tree self.entry) }
     {
         (self.source.after(self.index) - self.index) as u32
     }
 
-    /// The items of an array, in order (RFC 8259, section 5); none of any other value.
+    /// Returns the items of an array, in order (RFC 8259, section 5). Any other value has none.
     pub fn items(self) -> Items<'a>
         ensures items { items_left result ≡ items_of (tree self.entry) }
         ensures line { items_line result ≡ line_of self.entry }
@@ -250,8 +253,8 @@ impl<'a> Node<'a> {
         }
     }
 
-    /// The items of an array behind the first ones that are `size` values and names together ([`Node::size`]), found
-    /// without a walk over those.
+    /// Returns the items of an array after its first ones, without a walk over these. `size` is the
+    /// number of values and names in the first ones ([`Node::size`]).
     pub fn items_behind(self, size: u32) -> Items<'a>
         ensures { (k : ℕ) → k ≤ length (items_of (tree self.entry))
             → total_size (take k (items_of (tree self.entry))) ≡ size
@@ -265,8 +268,8 @@ impl<'a> Node<'a> {
         }
     }
 
-    /// The members of an object, names with values, in order (RFC 8259, section 4); none of any other
-    /// value.
+    /// Returns the members of an object, names with values, in order (RFC 8259, section 4). Any
+    /// other value has none.
     pub fn members(self) -> Members<'a>
         ensures members { members_left result ≡ members_of (tree self.entry) }
         ensures order { AreInOrder (members_left result) }
@@ -290,8 +293,9 @@ impl<'a> Node<'a> {
     ghost use Rattle.cj_spans.specs.Preorder.{spans_of};
     ghost use Rattle.cj_spans.specs.View.{tree, line_of, source_of, tokens_in, tree_in, tree_at};
 
-    /// Its number in the line, by which [`Node::at`] finds it again: a number takes 4 bytes, and a node takes
-    /// ten times as many. It is that of its token, which [`crate::set_mark`] takes.
+    /// Returns its number in the line. [`Node::at`] finds the node again by this number, and
+    /// [`crate::set_mark`] takes it as that of the token. A number takes 4 bytes, a node ten times
+    /// as many.
     pub fn number(self) -> u32
         ensures node { tree_in (source_of self.entry) result ≡ tree self.entry }
         ensures token { tree_at (line_of self.entry) (spans_of (tokens_in (source_of self.entry))) result ≡ tree self.entry }
@@ -300,7 +304,7 @@ impl<'a> Node<'a> {
         self.index as u32
     }
 
-    /// Whether its token has a mark.
+    /// Returns whether its token has a mark.
     pub fn marked(self) -> bool
         ensures yes { result ≡ true → IsMarked (line_of self.entry) (tokens_in (source_of self.entry)) (tree self.entry) }
         ensures no { result ≡ false → IsMarked (line_of self.entry) (tokens_in (source_of self.entry)) (tree self.entry) → ⊥ }
@@ -308,8 +312,8 @@ impl<'a> Node<'a> {
         has_mark(token_at(self.source.tokens, self.index))
     }
 
-    /// The node of this number in the same line, or its last one where it has none of that number: so any number may be
-    /// asked for, as in a comparison that a sort is given.
+    /// Returns the node with this number in the same line, or the last node if there is none. So
+    /// any number is allowed, for example in a comparison that a sort uses.
     pub fn at(self, number: u32) -> Node<'a>
         ensures tree { tree result ≡ tree_in (source_of self.entry) number }
         ensures source { source_of result ≡ source_of self.entry }
@@ -332,7 +336,7 @@ impl<'a> Node<'a> {
     ghost use Rattle.cj_spans.specs.Order.{compare_texts, word_of};
     ghost use Rattle.cj_spans.specs.View.{tree, line_of, source_of};
 
-    /// A string or a name as it is spelled, with its quotes; None for any other value.
+    /// Returns the spelling of a string or a name, with its quotes. None for any other value.
     fn spelling(self) -> Option<&'a [u8]>
         ensures text { option_map (λ s. text s.now) result ≡ text_of (tree self.entry) }
         ensures filled { IfSome result (λ s. 0 < length s.now) }
@@ -343,7 +347,7 @@ impl<'a> Node<'a> {
         }
     }
 
-    /// The code points of a string or a name, one at a time; None for any other value.
+    /// Returns the code points of a string or a name, one at a time. None for any other value.
     fn points(self) -> Option<CodePoints<'a>>
         ensures { option_map code_points_left result ≡ text_of (tree self.entry) }
     {
@@ -353,8 +357,8 @@ impl<'a> Node<'a> {
         }
     }
 
-    /// The first code point of the text of a string or a name, its escapes undone (RFC 8259, section
-    /// 7); None for an empty text and for any other value.
+    /// Returns the first code point of the text of a string or a name, with escapes undone (RFC
+    /// 8259, section 7). None for an empty text and for any other value.
     pub fn first_code(self) -> Option<u32>
         ensures { result ≡ first_code_of (tree self.entry) }
     {
@@ -367,9 +371,10 @@ impl<'a> Node<'a> {
         }
     }
 
-    /// Whether it is a string or a name with this text. Texts are compared by code points, with the
-    /// escapes undone (RFC 8259, sections 7 and 8.3); what text a string has is the law
-    /// [`crate::laws::one_text`].
+    /// Returns whether it is a string or a name with this text.
+    ///
+    /// Texts are compared by code points, with escapes undone (RFC 8259, sections 7 and 8.3). The
+    /// law [`crate::laws::one_text`] says what text a string has.
     #[inline(always)]
     pub fn text_is(self, text: &str) -> bool
         ensures test { result ≡ has_text (chars text.now) (tree self.entry) }
@@ -381,7 +386,7 @@ impl<'a> Node<'a> {
         }
     }
 
-    /// Whether both are strings or names and have the same text.
+    /// Returns whether both are strings or names with the same text.
     pub fn same_text(self, other: Node) -> bool
         ensures test { result ≡ are_same_texts (text_of (tree self.entry)) (text_of (tree other.entry)) }
         ensures means { IsTrue result ↔ ((t : List ℕ) × (text_of (tree self.entry) ≡ Some t)
@@ -396,9 +401,10 @@ impl<'a> Node<'a> {
         }
     }
 
-    /// How two strings or names are ordered by their texts: by code points in turn, where a text comes before
-    /// those that go on from it, however they are spelled. Any other value comes before all texts. Two texts are
-    /// equal in this order exactly where they are the same.
+    /// Compares two strings or names by their texts: code point by code point, in any spelling.
+    ///
+    /// A text comes before the longer texts that begin with it. Any other value comes before all
+    /// texts. Two texts are equal in this order exactly if they are the same.
     pub fn compare_text(self, other: Node) -> Ordering
         ensures { result ≡ compare_texts (text_of (tree self.entry)) (text_of (tree other.entry)) }
     {
@@ -410,7 +416,7 @@ impl<'a> Node<'a> {
         }
     }
 
-    /// How a string or a name is ordered beside this text, as [`Node::compare_text`] orders texts.
+    /// Compares a string or a name with this text, as [`Node::compare_text`] compares texts.
     pub fn compare_with(self, text: &str) -> Ordering
         ensures { result ≡ compare_texts (text_of (tree self.entry)) (Some (chars text.now)) }
     {
@@ -420,9 +426,11 @@ impl<'a> Node<'a> {
         }
     }
 
-    /// The first eight code points of the text of a string or a name as one number; 0 for any other value. A text of
-    /// a lesser number is less, by the law [`crate::laws::words_are_ordered`]: so most texts are ordered by two
-    /// numbers, without a look at the line.
+    /// Returns the first eight code points of the text of a string or a name as one number. 0 for
+    /// any other value.
+    ///
+    /// A text with a lesser number is less, by the law [`crate::laws::words_are_ordered`]. So two
+    /// numbers order most texts, without a look at the line.
     pub fn text_word(self) -> u64
         ensures { result ≡ word_of (text_of (tree self.entry)) }
     {
@@ -432,9 +440,11 @@ impl<'a> Node<'a> {
         }
     }
 
-    /// The last eight code points of the text of a string or a name as one number; 0 for any other value. Equal texts
-    /// have equal numbers, however they are spelled: so texts that begin alike and end otherwise are told apart without
-    /// a look at the line.
+    /// Returns the last eight code points of the text of a string or a name as one number. 0 for
+    /// any other value.
+    ///
+    /// Equal texts have equal numbers in any spelling. So texts that begin alike and end
+    /// differently are distinguished without a look at the line.
     pub fn text_tail(self) -> u64
         ensures { result ≡ tail_of (text_of (tree self.entry)) }
     {
@@ -444,9 +454,11 @@ impl<'a> Node<'a> {
         }
     }
 
-    /// All code points of the text of a string or a name mixed to one number; 0 for any other value. Equal texts have
-    /// equal numbers, however they are spelled, and nearly all others have others, wherever they differ: so most texts
-    /// are told apart without a look at the line.
+    /// Returns all code points of the text of a string or a name, mixed to one number. 0 for any
+    /// other value.
+    ///
+    /// Equal texts have equal numbers in any spelling, and nearly all different texts have
+    /// different numbers. So most texts are distinguished without a look at the line.
     pub fn text_mix(self) -> u64
         ensures { result ≡ mix_of (text_of (tree self.entry)) }
     {
@@ -456,8 +468,8 @@ impl<'a> Node<'a> {
         }
     }
 
-    /// The value of the first member whose name has this text; None where there is none, and for any
-    /// value that is no object.
+    /// Returns the value of the first member whose name has this text. None if there is no such
+    /// member, or the value is no object.
     #[inline(always)]
     pub fn get(self, name: &str) -> Option<Node<'a>>
         ensures value { option_map tree result ≡ member_of (chars name.now) (tree self.entry) }

@@ -1,4 +1,4 @@
-//! Whole numbers that are items of an array, with no white space before what ends them.
+//! Whole numbers that are items of an array, with no white space after them.
 ghost use Rattle.std.specs.Prelude.{◌≡◌, ◌+◌, ◌^◌, ◌≤◌, ◌<◌, ◌++◌, ◌∷◌, ◌↔◌, ◌⊎◌, [], length, IfSome, IfNone, IsTrue};
 ghost use Rattle.cj_budget.specs.Bounded.{Becomes};
 ghost use Rattle.cj_spans.specs.Json.{byte as byte_of};
@@ -10,7 +10,7 @@ use crate::lex::{Lex, skip_digits};
 use crate::token::{Token, keep_atom};
 use cj_budget::Bounded;
 
-/// A comma, or the bracket that closes an array.
+/// Returns whether the byte is a comma, or the bracket that closes an array.
 #[inline(always)]
 fn ends_item(byte: u8) -> bool
     ensures { IsTrue result ↔ ((byte ≡ 44) ⊎ (byte ≡ 93)) }
@@ -18,8 +18,8 @@ fn ends_item(byte: u8) -> bool
     byte == b',' || byte == b']'
 }
 
-/// Where the digits that begin at `place` end, if they are a whole number and an item of an array ends
-/// there too.
+/// Returns where the digits that begin at `place` end. None unless they are a whole number,
+/// followed by the end of an array's item.
 #[inline(always)]
 fn digits_stop(line: &[u8], place: usize) -> Option<usize>
     requires { place < length line.now }
@@ -39,8 +39,8 @@ fn digits_stop(line: &[u8], place: usize) -> Option<usize>
     Some(stop)
 }
 
-/// Where the whole number that begins at `place`, by a digit or by a minus, ends, if an item of an array
-/// ends there too.
+/// Returns where the whole number that begins at `place` ends. It begins with a digit or a minus.
+/// None unless the end of an array's item follows it.
 #[inline(always)]
 fn number_stop(line: &[u8], place: usize) -> Option<usize>
     requires { place < length line.now }
@@ -55,8 +55,8 @@ fn number_stop(line: &[u8], place: usize) -> Option<usize>
     digits_stop(line, place + 1)
 }
 
-/// Reads the whole number that begins at `place` and keeps its token; where it ends. None where there is no such
-/// number with the end of an item behind it.
+/// Reads the whole number that begins at `place`, and keeps its token. Returns where it ends. None
+/// unless there is such a number, followed by the end of an item.
 #[inline(always)]
 pub fn read_number(line: &[u8], place: usize, tokens: &mut Bounded<Token>) -> Option<usize>
     requires short { length line.now < 2 ^ 31 }

@@ -1,8 +1,8 @@
-//! What a line can be refused for.
+//! Why a line is invalid.
 ghost use Rattle.std.specs.Prelude.{◌≡◌};
 ghost use Rattle.cj_spans.specs.Reason.{code_of, words_of};
 
-/// Why a line is refused. A reason has a code, which orders the findings at one place, and a text.
+/// Why a line is invalid. A reason has a code and a text. The code orders the findings at one byte.
 #[derive(Clone, Copy, Debug, PartialEq, Eq)]
 pub enum Reason {
     /// There is no line.
@@ -15,21 +15,21 @@ pub enum Reason {
     Syntax,
     /// A line opens more arrays and objects than the depth limit.
     TooDeep,
-    /// A member that is needed is not there.
+    /// A required member is missing.
     MissingMember,
-    /// A name stands twice in one object.
+    /// A name occurs twice in one object.
     DuplicateName,
-    /// A value has another kind than is wanted.
+    /// A value does not have the required kind.
     WrongKind,
     /// A number has too many digits or too great a power of ten.
     NumberRange,
-    /// The type of the line is not the one wanted.
+    /// The `type` of the line is not the required one.
     WrongType,
     /// The version is not 2.0.
     WrongVersion,
     /// A list or an object of the header is not empty.
     NotEmpty,
-    /// A list has not three items.
+    /// A list does not have three items.
     NotThree,
     /// A number is not whole, or too great.
     NotWhole,
@@ -45,19 +45,19 @@ pub enum Reason {
     NoParent,
     /// No geometry type has this name.
     UnknownGeometryType,
-    /// An index names no vertex.
+    /// An index is not that of a vertex.
     VertexIndex,
-    /// There are not as many semantic values as parts.
+    /// The number of semantic values is not the number of parts.
     SemanticsCount,
-    /// An index names no semantic surface.
+    /// An index is not that of a semantic surface.
     SemanticsIndex,
-    /// An index names no template.
+    /// An index is not that of a template.
     TemplateIndex,
-    /// An instance has not one index, or not 16 numbers.
+    /// An instance does not have one index, or does not have 16 numbers.
     BadInstance,
     /// A number of the transform cannot be compared with a box.
     TransformNotFixed,
-    /// A city object is not reached from the main one.
+    /// A city object is not reached from the main city object.
     NotReached,
 }
 
@@ -68,7 +68,7 @@ struct Entry {
     text: &'static str,
 }
 
-/// A row of the table: its code and its text in one line.
+/// Returns a row of the table, so that code and text are on one line.
 fn make_entry(code: u8, text: &'static str) -> Entry
     ensures code { result.code ≡ code }
     ensures text { result.text.now ≡ text.now }
@@ -113,14 +113,14 @@ impl Reason {
         }
     }
 
-    /// The number that stands for the reason.
+    /// Returns the code of the reason.
     pub fn code(self) -> u8
         ensures { result ≡ code_of self }
     {
         self.entry().code
     }
 
-    /// The reason in a few words.
+    /// Returns the reason in a few words.
     pub fn text(self) -> &'static str
         ensures { result.now ≡ words_of self }
     {

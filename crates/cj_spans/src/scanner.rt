@@ -1,19 +1,21 @@
-//! The pass over a line.
+//! The scanner: the pass over a line.
 //!
-//! The *machine* (`specs/Machine.antt`) reads one byte a step. It is what proofs go by, and private clauses
-//! alone cite it: promises speak of the grammar (`Json`), of prefixes and of trees. So a change of the
-//! grammar is a change in `Spelling`, `Json`, `Front` and `Machine`, and a faster body is none of these.
+//! The *machine* (`specs/Machine.antt`) reads one byte per step. Proofs use it, and only private
+//! clauses cite it. Public clauses use the grammar (`Json`), prefixes and trees. So a change of the
+//! grammar changes `Spelling`, `Json`, `Front` and `Machine`. A faster body changes none of them.
 //!
-//! Places of faults are told twice, by prefixes (what a proof can follow) and by the JSON texts that a line
-//! begins (what a reader expects). Both stand on `scan`, and both have to hold at the edges: the empty line,
-//! a line that is cut, a number that is whole at the end of the line but not before a letter. UTF-8 is judged
-//! first and of the whole line, so the grammar speaks of bytes.
+//! Clauses describe the byte of a fault in two ways. A proof can follow prefixes, and a reader
+//! expects the JSON texts that a line begins. `scan` has clauses of both kinds, and both must hold
+//! at the edges: the empty line, a line that is cut short, and a number that may end at the end of
+//! the line but not before a letter. UTF-8 is checked first, for the whole line, so the grammar is
+//! about bytes.
 //!
-//! Memory is asked for before all of this, by `make_room` alone, and for what the limits allow. The pass pushes by
-//! the reserved forms, so what it calls has no answer for want of memory, and a path that is added must have none.
+//! `make_room` requests all memory before this, as much as the limits allow. The pass uses the
+//! reserved forms of push. So no function in it has a result for a lack of memory, and a new one
+//! must have none.
 //!
-//! Each token but the last has two bytes of its own or a container that is open. A token for anything else
-//! breaks `2 * tokens ≤ bytes + open + 1`, by which the lists are long enough.
+//! Each token but the last has two bytes of its own, or a container that is open. So the lists are
+//! long enough: `2 * tokens ≤ bytes + open + 1`. A token for anything else would break this.
 ghost use Rattle.std.specs.Prelude.{◌≡◌, ◌+◌, ◌*◌, ◌/◌, ◌^◌, ◌≤◌, ◌<◌, ◌↔◌, ◌⊎◌, [], length, List, ℕ, suc, OnOk, OnErr, IfOk, IsOk, IsErrOf, IsTrue, IsUtf8};
 ghost use Rattle.std.specs.Str.{IsValidUpTo};
 ghost use Rattle.cj_budget.specs.Bounded.{BoundedList, IsWithin};
@@ -72,7 +74,7 @@ fn end_atom(
     })
 }
 
-/// Goes on past the colon that stands right behind a name.
+/// Continues past the colon directly after a name.
 #[inline(always)]
 fn pass_colon(line: &[u8], from: Next) -> Next
     ensures answer { (s : State) (ks : List ℕ) (ts : List TokenOf) (p : ℕ)
@@ -96,7 +98,7 @@ fn pass_colon(line: &[u8], from: Next) -> Next
     }
 }
 
-/// Goes on after a move: past a scalar, a name and its colon, or to the next byte.
+/// Continues after a move: past a scalar, past a name and its colon, or to the next byte.
 #[inline(always)]
 fn follow(
     line: &[u8],
@@ -138,8 +140,9 @@ fn follow(
     }
 }
 
-/// Goes on behind the byte at `place`, whose move came to `next`: past the arrays and numbers that follow where the
-/// byte left an array innermost, and past names and strings where it left an object.
+/// Continues after the byte at `place`, whose move came to `next`. If the innermost container is
+/// then an array, it passes the arrays and numbers that follow. If it is an object, it passes names
+/// and strings.
 #[inline(always)]
 fn pass_parts(
     line: &[u8],
@@ -169,7 +172,7 @@ fn pass_parts(
     Ok(next)
 }
 
-/// Whether the line is a JSON text if it ends here.
+/// Returns whether the line is a JSON text if it ends here.
 #[inline(always)]
 fn is_end(mode: Mode, stack: &Stack) -> bool
     ensures { IsTrue result ↔ ((mode ≡ After) × (stack.now.elements ≡ [])) }
@@ -180,7 +183,7 @@ fn is_end(mode: Mode, stack: &Stack) -> bool
     }
 }
 
-/// Reads the line, from empty lists that have their room.
+/// Reads the line into empty lists with reserved memory.
 fn run(line: &[u8], tokens: &mut Bounded<Token>, stack: &mut Stack) -> Result<(), LineFault>
     requires short { length line.now ≤ 1073741824 }
     requires room { (length line.now + stack.old.limit + 1) / 2 ≤ tokens.old.limit }
@@ -216,8 +219,10 @@ fn run(line: &[u8], tokens: &mut Bounded<Token>, stack: &mut Stack) -> Result<()
     }
 }
 
-/// Scans a line as [`scan`] does, into lists that have their room reserved. It takes no memory, so it
-/// answers what the line is, whatever is free. The room stays reserved, and both lists are emptied first.
+/// Scans a line as [`scan`] does, into lists with reserved memory.
+///
+/// It allocates nothing, so its result depends only on the line and the depth limit. It empties
+/// both lists first. Their memory stays reserved.
 pub fn scan_reserved(
     line: &[u8],
     tokens: &mut Bounded<Token>,
@@ -227,7 +232,7 @@ pub fn scan_reserved(
     requires room { (length line.now + stack.old.limit + 1) / 2 ≤ tokens.old.limit }
     requires reserved { IsTrue tokens.old.reserved × IsTrue stack.old.reserved }
 
-    // At Ok the lists show the one tree that the line spells.
+    // At `Ok` the lists show the one tree that the line spells.
     ensures tree { OnOk result ((t : Tree)
         × IsScanOf line.now t tokens.old tokens.new stack.old stack.new) }
     ensures sized { OnOk result (AreSized line.now tokens.new.elements) }
@@ -241,12 +246,12 @@ pub fn scan_reserved(
     ensures syntax { (i : ℕ) → IsErrOf result (LineFault.Syntax i)
         → SyntaxAt line.now i × NowhereDeep line.now stack.old.limit }
 
-    // The same places, told by the JSON texts that the line begins.
+    // The same places, by the JSON texts that the line begins.
     ensures first_too_deep { (i : ℕ) → IsErrOf result (LineFault.TooDeep i)
         → IsFirstTooDeep line.now stack.old.limit i }
     ensures first_fault { (i : ℕ) → IsErrOf result (LineFault.Syntax i) → IsFirstFault line.now i }
 
-    // And no line is answered otherwise.
+    // Each fault is found: no line gets another result.
     ensures finds_tree { IsUtf8 line.now → (t : Tree) → Json line.now t → nest t ≤ stack.old.limit
         → IsOk result }
     ensures finds_deep { IsUtf8 line.now → (i : ℕ) → DeepAt line.now stack.old.limit i
@@ -254,11 +259,11 @@ pub fn scan_reserved(
     ensures finds_syntax { IsUtf8 line.now → NowhereDeep line.now stack.old.limit
         → (i : ℕ) → SyntaxAt line.now i → IsErrOf result (LineFault.Syntax i) }
 
-    // In one: each line has a judgement, and the answer is that judgement's.
+    // In one: each line has a judgement, and the result is that judgement's.
     ensures judgement { Judgement line.now stack.old.limit }
     ensures judged { (j : Judgement line.now stack.old.limit) → IsUtf8 line.now → IsReservedAnswerOf j result }
 
-    // Whatever the answer, the lists keep the law of the bound, and their room.
+    // With any result, the lists keep the law of the bound, and their reserved memory.
     ensures law { KeepsLaw line.now tokens.old tokens.new stack.old stack.new }
 {
     tokens.clear();
@@ -269,7 +274,7 @@ pub fn scan_reserved(
     }
 }
 
-/// Empties both lists, and makes room in each for as many elements as its limit allows.
+/// Empties both lists, and reserves memory in each for as many elements as its limit allows.
 fn make_room(tokens: &mut Bounded<Token>, stack: &mut Stack) -> Result<(), NoMemory>
     ensures emptied { IsEmptied tokens.old tokens.new × IsEmptied stack.old stack.new }
     ensures ok { OnOk result (IsTrue tokens.new.reserved × IsTrue stack.new.reserved) }
@@ -283,20 +288,27 @@ fn make_room(tokens: &mut Bounded<Token>, stack: &mut Stack) -> Result<(), NoMem
     stack.reserve_all()
 }
 
-/// Scans a line into tokens, under the stack's limit of open containers. Both lists are emptied
-/// first, and get room for their limits where that is not there. At `Ok` there is one token for each
-/// value and each member name (RFC 8259).
+/// Scans a line into tokens, under the stack's limit of open containers.
 ///
-/// A line that is not UTF-8 is refused as such, whatever else is wrong with it. A line that opens
-/// more containers than the limit allows is refused at the place of the first one too many: what
-/// comes after is not read. Else a line that is no JSON text is refused at the first place that no
-/// JSON text can have, or at its end. `Memory` comes before all of these, where the room was not
-/// granted: the line is then not looked at, both lists are empty, and one of them has counted a refusal.
+/// It empties both lists first, and reserves memory for their limits if it is not reserved. At `Ok`
+/// there is one token for each value and each member name (RFC 8259).
+///
+/// # Errors
+///
+/// The first of these:
+///
+/// - `Memory` if the memory was refused. The line was not read, both lists are empty, and one of
+///   them has counted a refusal.
+/// - `NotUtf8` if the line is not UTF-8, whatever else is wrong with it.
+/// - `TooDeep` if the line opens more containers than the limit allows. The place is the first
+///   container too many. The bytes after it are not read.
+/// - `Syntax` if the line is no JSON text. The place is the first byte that no JSON text can have,
+///   or the end of the line.
 pub fn scan(line: &[u8], tokens: &mut Bounded<Token>, stack: &mut Stack) -> Result<(), ScanFault>
     requires short { length line.now ≤ 1073741824 }
     requires room { (length line.now + stack.old.limit + 1) / 2 ≤ tokens.old.limit }
 
-    // At Ok the lists show the one tree that the line spells.
+    // At `Ok` the lists show the one tree that the line spells.
     ensures tree { OnOk result ((t : Tree)
         × IsScanOf line.now t tokens.old tokens.new stack.old stack.new) }
     ensures sized { OnOk result (AreSized line.now tokens.new.elements) }
@@ -311,8 +323,9 @@ pub fn scan(line: &[u8], tokens: &mut Bounded<Token>, stack: &mut Stack) -> Resu
     ensures syntax { (i : ℕ) → IsErrOf result (ScanFault.Syntax i)
         → SyntaxAt line.now i × NowhereDeep line.now stack.old.limit }
 
-    // Memory is asked for first: where it is refused both lists are empty, and else both have their room. It is
-    // not refused where that room was there, and the growth of a list that was refused is its cause.
+    // Memory is requested first. If it is refused, both lists are empty, and otherwise both have
+    // their memory reserved. It is not refused if it was reserved before. The cause is a list's
+    // growth that was refused.
     ensures memory { IsTrue tokens.old.reserved → IsTrue stack.old.reserved
         → IsErrOf result ScanFault.Memory → ⊥ }
     ensures cause { IsErrOf result ScanFault.Memory
@@ -322,12 +335,12 @@ pub fn scan(line: &[u8], tokens: &mut Bounded<Token>, stack: &mut Stack) -> Resu
     ensures reserved { (IsErrOf result ScanFault.Memory → ⊥)
         → IsTrue tokens.new.reserved × IsTrue stack.new.reserved }
 
-    // The same places, told by the JSON texts that the line begins.
+    // The same places, by the JSON texts that the line begins.
     ensures first_too_deep { (i : ℕ) → IsErrOf result (ScanFault.TooDeep i)
         → IsFirstTooDeep line.now stack.old.limit i }
     ensures first_fault { (i : ℕ) → IsErrOf result (ScanFault.Syntax i) → IsFirstFault line.now i }
 
-    // And no line is answered otherwise, but for want of memory.
+    // Each fault is found: no line gets another result, except for a lack of memory.
     ensures finds_not_utf8 { (i : ℕ) → IsValidUpTo line.now i
         → IsErrOf result (ScanFault.NotUtf8 i) ⊎ IsErrOf result ScanFault.Memory }
     ensures finds_tree { IsUtf8 line.now → (t : Tree) → Json line.now t → nest t ≤ stack.old.limit
@@ -338,12 +351,12 @@ pub fn scan(line: &[u8], tokens: &mut Bounded<Token>, stack: &mut Stack) -> Resu
         → (i : ℕ) → SyntaxAt line.now i
         → IsErrOf result (ScanFault.Syntax i) ⊎ IsErrOf result ScanFault.Memory }
 
-    // In one: each line has a judgement, by the law `one_judgement` no second one, and the answer is
+    // In one: each line has a judgement, and by the law `one_judgement` only one. The result is
     // that judgement's.
     ensures judgement { Judgement line.now stack.old.limit }
     ensures judged { (j : Judgement line.now stack.old.limit) → IsUtf8 line.now → IsAnswerOf j result }
 
-    // Whatever the answer, the lists keep the law of the bound.
+    // With any result, the lists keep the law of the bound.
     ensures law { KeepsLaw line.now tokens.old tokens.new stack.old stack.new }
 {
     make_room(tokens, stack)?;

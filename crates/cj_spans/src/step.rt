@@ -1,4 +1,4 @@
-//! One byte of a line: what may come, and what the byte makes of the open containers and the tokens.
+//! One byte of a line: what may come, and how the byte changes the open containers and the tokens.
 ghost use Rattle.std.specs.Prelude.{◌≡◌, ◌⊎◌, true, false, ◌≤◌, ◌<◌, ◌++◌, ◌∷◌, [], length, List, ℕ, slice_get, Some, None, OnErr, IsTrue};
 ghost use Rattle.cj_budget.specs.Bounded.{IsWithin};
 ghost use Rattle.cj_spans.specs.declared.token.Token.{Token as TokenOf};
@@ -32,17 +32,17 @@ pub enum Mode {
 /// What a byte does.
 #[derive(Clone, Copy)]
 pub enum Move {
-    /// It is white space.
+    /// The byte is white space.
     Stay,
-    /// It is a bracket or a sign.
+    /// The byte is a bracket or a sign.
     To(Mode),
-    /// It opens a container.
+    /// The byte opens a container.
     Open(Mode),
-    /// It begins a scalar or a name, after which the mode comes.
+    /// The byte begins a scalar or a name. The mode comes after that.
     Atom(Mode, Lex),
 }
 
-/// The token at an index.
+/// Returns the token at an index.
 #[inline(always)]
 fn token_of(tokens: &[Token], index: u32) -> Option<Token>
     ensures { result ≡ slice_get tokens.now index }
@@ -50,7 +50,7 @@ fn token_of(tokens: &[Token], index: u32) -> Option<Token>
     tokens.get(index as usize).copied()
 }
 
-/// The link of a container of the kind while it is open: it tells the kind.
+/// Returns the link of an open container of this kind. The link shows the kind.
 #[inline(always)]
 fn open_link(kind: Kind) -> u32
     ensures { result ≡ open_link_of kind }
@@ -61,7 +61,7 @@ fn open_link(kind: Kind) -> u32
     }
 }
 
-/// The kind of the open container whose token this is.
+/// Returns the kind of the open container with this token.
 #[inline(always)]
 fn open_kind(token: Token) -> Kind
     ensures { result ≡ open_kind_of token }
@@ -73,7 +73,8 @@ fn open_kind(token: Token) -> Kind
     }
 }
 
-/// Opens a container. Its token is kept at once, before those of its parts; stop and link come when it closes.
+/// Opens a container. Its token is kept at once, before those of its parts. Stop and link are set
+/// when it closes.
 #[inline(always)]
 pub fn open(
     kind: Kind,
@@ -130,7 +131,7 @@ fn begin_value(
     }
 }
 
-/// Closes the innermost container, whose token is at this index.
+/// Closes the innermost container. Its token is at this index.
 #[inline(always)]
 fn close(
     index: u32,
@@ -159,7 +160,7 @@ fn close(
     }
 }
 
-/// Closes the innermost container, which holds nothing.
+/// Closes the innermost container, which is empty.
 fn close_empty(
     place: usize,
     tokens: &mut Bounded<Token>,
@@ -175,7 +176,8 @@ fn close_empty(
     }
 }
 
-/// Goes on after a value in the container of this kind: a comma, or the bracket that closes it.
+/// Continues after a value in a container of this kind: with a comma, or the bracket that closes
+/// it.
 #[inline(always)]
 fn after_in(
     kind: Kind,
@@ -213,7 +215,7 @@ fn after_in(
     }
 }
 
-/// Goes on after a value.
+/// Continues after a value.
 #[inline(always)]
 fn after_value(
     byte: u8,
@@ -260,8 +262,10 @@ fn read_colon(byte: u8, place: usize) -> Result<Move, LineFault>
     }
 }
 
-/// Whether a value may come, or what follows one. It is told by the order of the modes: of a `match` on all six the
-/// compiler makes a jump table.
+/// Returns whether a value may come, or what follows one.
+///
+/// The test uses the order of the modes. For a `match` on all six the compiler would make a jump
+/// table.
 #[inline(always)]
 fn is_at_value(mode: Mode) -> bool
     ensures yes { result ≡ true → (mode ≡ Ready) ⊎ ((mode ≡ FirstItem) ⊎ (mode ≡ After)) }
@@ -270,7 +274,7 @@ fn is_at_value(mode: Mode) -> bool
     mode as u8 <= Mode::After as u8
 }
 
-/// Reads a byte that is no white space where a name or a colon may come.
+/// Reads a byte other than white space where a name or a colon may come.
 #[inline(always)]
 fn read_name_byte(
     mode: Mode,

@@ -10,7 +10,8 @@ use std::alloc::Global;
 use std::process::Abort;
 use std::test::Fail;
 
-/// A line, the depth limit, and the tokens and the greatest number of open containers, or the fault.
+/// A line and the depth limit, with the number of tokens and the peak of open containers, or the
+/// fault.
 #[derive(Clone, Copy, Drop)]
 struct Row {
     name: &'static str,
@@ -31,13 +32,14 @@ const FEATURE: &[u8] =
 const SMALL: &[u8] =
     b"{\"type\":\"CityJSONFeature\",\"id\":\"b\",\"CityObjects\":{\"b\":{\"type\":\"Building\"}},\"vertices\":[]}";
 
-/// Reserves the room of two lists.
+/// Reserves the memory of two lists.
 fn reserve(rt: &impl Abort, tokens: &mut Bounded<Token>, stack: &mut Stack) {
     assert_eq!(rt; tokens.reserve_all(), Ok(()));
     assert_eq!(rt; stack.reserve_all(), Ok(()));
 }
 
-/// Scans a line into lists that have their room, and tells the tokens and the peak of the stack, or the fault.
+/// Scans a line into lists with reserved memory. Returns the number of tokens and the peak of the
+/// stack, or the fault.
 fn answer_reserved(
     rt: &impl Abort,
     line: &[u8],
@@ -53,7 +55,7 @@ fn answer_reserved(
     }
 }
 
-/// Scans a line into fresh lists that have their room, and compares the answer.
+/// Scans a line into fresh lists with reserved memory, and compares the result.
 fn meets_reserved(rt: &impl Abort, alloc: Global, row: &Row) {
     let line = row.line;
     let depth = row.depth;
@@ -65,8 +67,8 @@ fn meets_reserved(rt: &impl Abort, alloc: Global, row: &Row) {
     assert_eq!(rt; got, row.want, "{}", row.name);
 }
 
-/// Scans a line into fresh lists, and compares the answer, the tokens and the peaks; then into lists
-/// that have their room, and compares the answer.
+/// Scans a line into fresh lists, and compares the result, the tokens and the peaks. Then scans it
+/// into lists with reserved memory, and compares the result.
 fn meets(rt: &impl Abort, alloc: Global, row: &Row) {
     let line = row.line;
     let depth = row.depth;
@@ -86,7 +88,7 @@ fn meets(rt: &impl Abort, alloc: Global, row: &Row) {
     meets_reserved(rt, alloc, row);
 }
 
-/// A row at the usual depth limit.
+/// Returns a row at the usual depth limit.
 fn at_64(line: &'static [u8], want: Result<(usize, usize), ScanFault>) -> Row {
     at_depth(64, "a row at depth 64", line, want)
 }
@@ -227,7 +229,7 @@ fn lines_that_are_no_utf8(rt: HostRuntime) -> Result<(), Fail> {
     Ok(())
 }
 
-/// A row under this depth limit.
+/// Returns a row at this depth limit.
 fn at_depth(
     depth: usize,
     name: &'static str,
@@ -456,7 +458,7 @@ fn tokens_stand_where_the_values_do(rt: HostRuntime) -> Result<(), Fail> {
     Ok(())
 }
 
-/// Each token has its link, and places tell the same.
+/// Checks that each token has its link, and that places give the same.
 fn are_linked(rt: &impl Abort, line: &[u8], tokens: &[Token], want: &[u32])
     requires scanned { AreOf line.now tokens.now }
     requires short { length line.now ≤ 60 }
@@ -470,7 +472,7 @@ fn are_linked(rt: &impl Abort, line: &[u8], tokens: &[Token], want: &[u32])
     }
 }
 
-/// The links that a scan of the line leaves.
+/// Checks the links that a scan of the line leaves.
 fn has_links(rt: &impl Abort, alloc: Global, line: &[u8], want: &[u32]) {
     let mut tokens: Bounded<Token> = Bounded::new(alloc, 64);
     let mut stack = Stack::new(alloc, 64);
@@ -519,7 +521,7 @@ fn lists_are_emptied_first(rt: HostRuntime) -> Result<(), Fail> {
     Ok(())
 }
 
-/// Run also with each growth refused in turn, by `rt try --test --fail-alloc N`.
+/// This is also run with each growth refused, one after another: `rt try --test --fail-alloc N`.
 #[test]
 fn a_refused_growth_is_memory(rt: HostRuntime) -> Result<(), Fail> {
     let line = [b'['; 300];

@@ -1,4 +1,7 @@
 //! The code points of strings (RFC 8259, section 7), one at a time, without a buffer.
+//!
+//! The functions on whole texts have a fast form for plain bytes: ASCII and no backslash. A plain
+//! byte is a code point by itself. A slow form, marked cold, handles escapes and everything else.
 ghost use Rattle.std.specs.Prelude.{◌≡◌, ◌+◌, ◌-◌, ◌*◌, ◌<◌, ◌≤◌, ◌^◌, ℕ, suc, [], ◌∷◌, length, drop, get_or, nat_eq, IfSome, is_some, Some, List, true, false};
 ghost use Rattle.std.specs.Str.{chars, chars_after};
 ghost use Rattle.std.specs.Char.{digit_value as digit_value_of};
@@ -24,7 +27,7 @@ pub(crate) struct CodePoint {
     pub(crate) stop: usize,
 }
 
-/// Takes one byte more of a character; None where there is none.
+/// Reads one more byte of a character. None if there is none.
 #[inline(always)]
 fn add_byte(bytes: &[u8], read: CodePoint) -> Option<CodePoint>
     requires { read.code < 2 ^ 25 }
@@ -42,7 +45,7 @@ fn add_byte(bytes: &[u8], read: CodePoint) -> Option<CodePoint>
     })
 }
 
-/// Takes two bytes more of a character.
+/// Reads two more bytes of a character.
 fn add_two(bytes: &[u8], read: CodePoint) -> Option<CodePoint>
     requires { read.code < 2 ^ 18 }
     ensures more { (n : ℕ) → chars_after (suc (suc n)) read.code (drop read.stop bytes.now)
@@ -56,7 +59,7 @@ fn add_two(bytes: &[u8], read: CodePoint) -> Option<CodePoint>
     }
 }
 
-/// Takes three bytes more of a character.
+/// Reads three more bytes of a character.
 fn add_three(bytes: &[u8], read: CodePoint) -> Option<CodePoint>
     requires { read.code < 256 }
     ensures more { (n : ℕ) → chars_after (suc (suc (suc n))) read.code (drop read.stop bytes.now)
@@ -69,7 +72,7 @@ fn add_three(bytes: &[u8], read: CodePoint) -> Option<CodePoint>
     }
 }
 
-/// The character of UTF-8 at a place (RFC 3629, section 3); None where there is none.
+/// Returns the UTF-8 character at a place (RFC 3629, section 3). None if there is none.
 #[inline(always)]
 fn first_char(bytes: &[u8], place: usize) -> Option<CodePoint>
     ensures char { left bytes.now place ≡ after_read bytes.now 0 result }
@@ -95,7 +98,7 @@ fn first_char(bytes: &[u8], place: usize) -> Option<CodePoint>
     }
 }
 
-/// The character at a place, or 0 at the end where there is none.
+/// Returns the character at a place, or 0 at the end if there is none.
 #[inline(always)]
 fn char_at(bytes: &[u8], place: usize) -> CodePoint
     ensures { (cs : List ℕ) → left bytes.now place ≡ cs → ReadsCodePoint bytes.now cs (char_of cs 0) 1 result }
@@ -109,7 +112,7 @@ fn char_at(bytes: &[u8], place: usize) -> CodePoint
     }
 }
 
-/// The value of a hexadecimal digit.
+/// Returns the value of a hexadecimal digit.
 fn digit_value(digit: u32) -> u32
     ensures value { result ≡ digit_value_of digit }
     ensures size { result ≤ 36 }
@@ -122,7 +125,7 @@ fn digit_value(digit: u32) -> u32
     }
 }
 
-/// The number of four hexadecimal digits.
+/// Returns the number that four hexadecimal digits spell.
 fn read_digits(bytes: &[u8], place: usize) -> CodePoint
     ensures reads { (cs : List ℕ) → left bytes.now place ≡ cs → ReadsCodePoint bytes.now cs (four_digits cs) 4 result }
     ensures size { result.code < 2 ^ 18 }
@@ -139,7 +142,7 @@ fn read_digits(bytes: &[u8], place: usize) -> CodePoint
     }
 }
 
-/// The unit of an escape with `u`; None where another character or escape is at the place.
+/// Returns the unit of an escape with `u`. None if another character or escape is at the place.
 fn read_unit(bytes: &[u8], place: usize) -> Option<CodePoint>
     ensures is { (cs : List ℕ) → left bytes.now place ≡ cs → is_some result ≡ is_unicode cs }
     ensures reads { IfSome result
@@ -155,7 +158,7 @@ fn read_unit(bytes: &[u8], place: usize) -> Option<CodePoint>
     }
 }
 
-/// What a letter after a backslash stands for.
+/// Returns the code point of a letter after a backslash.
 fn escaped(letter: u32) -> u32
     ensures { result ≡ escaped_of letter }
 {
@@ -175,24 +178,24 @@ const HIGH_SURROGATES: u32 = 0xD800;
 /// The least second unit of a surrogate pair.
 const LOW_SURROGATES: u32 = 0xDC00;
 
-/// The least unit past those of pairs.
+/// The least unit above those of pairs.
 const PAST_SURROGATES: u32 = 0xE000;
 
-/// Whether a unit is the first one of a surrogate pair.
+/// Returns whether a unit is the first one of a surrogate pair.
 fn is_high(unit: u32) -> bool
     ensures { result ≡ is_high_of unit }
 {
     unit >= HIGH_SURROGATES && unit < LOW_SURROGATES
 }
 
-/// Whether a unit is the second one of a surrogate pair.
+/// Returns whether a unit is the second one of a surrogate pair.
 fn is_low(unit: u32) -> bool
     ensures { result ≡ is_low_of unit }
 {
     unit >= LOW_SURROGATES && unit < PAST_SURROGATES
 }
 
-/// The code point of a unit, and of the one that is escaped behind it where the two are a pair.
+/// Returns the code point of a unit, joined with the escaped unit after it if the two are a pair.
 fn join(bytes: &[u8], high: CodePoint) -> CodePoint
     requires { high.code < 2 ^ 18 }
     ensures { (cs : List ℕ) → is_unicode cs ≡ true → ReadsCodePoint bytes.now cs (unit cs) 6 high
@@ -218,7 +221,7 @@ fn join(bytes: &[u8], high: CodePoint) -> CodePoint
     }
 }
 
-/// The code point of an escape.
+/// Returns the code point of an escape.
 fn read_escape(bytes: &[u8], place: usize) -> CodePoint
     ensures { (cs : List ℕ) → left bytes.now place ≡ cs → is_escaped cs ≡ true
         → ReadsCodePoint bytes.now cs (first_code_point cs) (first_width cs) result }
@@ -236,7 +239,7 @@ fn read_escape(bytes: &[u8], place: usize) -> CodePoint
     }
 }
 
-/// The code point at a place, whose first character has been read.
+/// Returns the code point at a place. Its first character has been read.
 #[inline(always)]
 fn code_point_of(bytes: &[u8], place: usize, first: CodePoint) -> CodePoint
     requires { left bytes.now place ≡ after_read bytes.now 0 (Some first) }
@@ -258,7 +261,7 @@ pub(crate) struct CodePoints<'a> {
 }
 
 impl<'a> CodePoints<'a> {
-    /// The code points of a string, given with its quotes.
+    /// Returns the code points of a string. `spelling` includes its quotes.
     pub(crate) fn of(spelling: &'a [u8]) -> CodePoints<'a>
         requires { 0 < length spelling.now }
         ensures { code_points_left result ≡ text spelling.now }
@@ -299,7 +302,7 @@ pub(crate) struct Characters<'a> {
 }
 
 impl<'a> Characters<'a> {
-    /// The characters of a `str`, from its start on.
+    /// Returns the characters of a `str`, from its start on.
     pub(crate) fn of(text: &'a str) -> Characters<'a>
         ensures { characters_left result ≡ chars text.now }
     {
@@ -330,7 +333,7 @@ impl<'a> Iterator for Characters<'a> {
     }
 }
 
-/// The byte at a place, where it alone is a character that stands for itself: ASCII, and no backslash.
+/// Returns the byte at a place if it is plain: ASCII, and no backslash.
 #[tactic(auto, using(crate::proofs::Texts::plain_character, crate::proofs::Texts::plain_code, crate::proofs::Texts::front_end, crate::proofs::Texts::front_cons, std::proofs::lemmas::Bool::Decides::nat_tests))]
 #[inline(always)]
 fn plain_at(bytes: &[u8], place: usize) -> Option<u8>
@@ -351,7 +354,8 @@ fn plain_at(bytes: &[u8], place: usize) -> Option<u8>
     }
 }
 
-/// Whether a byte that stands for itself is at a place inside the bytes: one that [`plain_at`] answers elsewhere.
+/// Returns whether this plain byte is at a place inside the bytes. [`plain_at`] returned it for
+/// another string.
 #[tactic(auto, using(crate::proofs::Texts::plain_character, crate::proofs::Texts::plain_code, std::proofs::lemmas::Bool::Decides::nat_tests))]
 #[inline(always)]
 fn is_here(bytes: &[u8], place: usize, byte: u8) -> bool
@@ -364,7 +368,7 @@ fn is_here(bytes: &[u8], place: usize, byte: u8) -> bool
     bytes[place] == byte
 }
 
-/// Whether a byte that stands for itself is at a place: one that [`plain_at`] answers elsewhere.
+/// Returns whether this plain byte is at a place. [`plain_at`] returned it for another string.
 #[tactic(auto, using(crate::proofs::Texts::plain_character, crate::proofs::Texts::plain_code, std::proofs::lemmas::Bool::Decides::nat_tests))]
 #[inline(always)]
 fn is_at(bytes: &[u8], place: usize, byte: u8) -> bool
@@ -377,7 +381,7 @@ fn is_at(bytes: &[u8], place: usize, byte: u8) -> bool
     place < bytes.len() && bytes[place] == byte
 }
 
-/// Whether a string's text is these characters, by code points: for what is spelled by escapes or is not ASCII.
+/// Returns whether a string's text is these characters. The slow form, by code points.
 #[cold]
 #[inline(never)]
 fn is_text_slowly(points: CodePoints, characters: Characters) -> bool
@@ -397,8 +401,9 @@ fn is_text_slowly(points: CodePoints, characters: Characters) -> bool
     rest.next().is_none()
 }
 
-/// Whether a string, given with its quotes, is spelled by just the bytes of this text, each of which stands for itself, as
-/// nearly every name is. Where the text is known when the program is compiled, a byte of it costs one comparison.
+/// Returns whether the spelling of a string, with its quotes, is exactly the plain bytes of this
+/// text, as for nearly every name. If the text is known at compile time, a byte of it costs one
+/// comparison.
 #[tactic(auto, using(crate::proofs::Texts::code_points_between, crate::proofs::Texts::text_ends))]
 #[inline(always)]
 fn is_spelled_so(spelling: &[u8], wanted: &str) -> bool
@@ -420,7 +425,7 @@ fn is_spelled_so(spelling: &[u8], wanted: &str) -> bool
     count >= characters.len()
 }
 
-/// Whether a string's text is these characters.
+/// Returns whether a string's text is these characters.
 #[tactic(auto, using(crate::proofs::Texts::text_ends))]
 #[inline(never)]
 fn is_text(points: CodePoints, characters: Characters) -> bool
@@ -444,7 +449,7 @@ fn is_text(points: CodePoints, characters: Characters) -> bool
     is_text_slowly(left, wanted)
 }
 
-/// How many bytes there are from a place on.
+/// Returns how many bytes there are from a place on.
 #[inline(always)]
 fn bytes_from(bytes: &[u8], place: usize) -> usize
     ensures { result ≡ length bytes.now - place }
@@ -452,7 +457,7 @@ fn bytes_from(bytes: &[u8], place: usize) -> usize
     bytes.len().saturating_sub(place)
 }
 
-/// Whether two bytes are one that stands for itself.
+/// Returns whether two bytes are the same plain byte.
 #[tactic(auto, using(std::proofs::lemmas::Bool::Decides::nat_tests))]
 #[inline(always)]
 fn is_alike(first: u8, second: u8) -> bool
@@ -463,7 +468,8 @@ fn is_alike(first: u8, second: u8) -> bool
     first == second && first < 128 && first != b'\\'
 }
 
-/// How many bytes of two strings are alike from here on, of which so many are known to be.
+/// Returns how many bytes of two strings are alike from here on. The first `known` of them are
+/// known to be.
 #[tactic(auto, using(crate::proofs::Texts::alike_one_more))]
 #[inline(always)]
 fn count_alike_on(
@@ -484,7 +490,7 @@ fn count_alike_on(
     count
 }
 
-/// The same, by 8 bytes where there are so many.
+/// Does the same, by 8 bytes while there are that many.
 #[inline(always)]
 fn count_few_alike(
     bytes: &[u8],
@@ -506,7 +512,7 @@ fn count_few_alike(
     }
 }
 
-/// How many bytes of two strings are alike from here on.
+/// Returns how many bytes of two strings are alike from here on.
 #[tactic(auto, using(crate::proofs::Texts::alike_none))]
 #[inline(never)]
 fn count_alike(bytes: &[u8], place: usize, others: &[u8], other_place: usize) -> usize
@@ -523,8 +529,7 @@ fn count_alike(bytes: &[u8], place: usize, others: &[u8], other_place: usize) ->
     count_few_alike(bytes, place, others, other_place, count)
 }
 
-/// Passes over the code points that two strings share from here on, as far as these stand for themselves, where there may
-/// be many.
+/// Skips the plain code points that two strings share from here on, if there may be many.
 #[tactic(auto, using(crate::proofs::Texts::same_passed, crate::proofs::Texts::order_passed, crate::proofs::Texts::fewer_left))]
 #[inline(always)]
 fn pass_alike(left: &mut CodePoints, right: &mut CodePoints)
@@ -544,7 +549,7 @@ fn pass_alike(left: &mut CodePoints, right: &mut CodePoints)
     right.place += count;
 }
 
-/// Whether two strings have one text, by code points: for what is spelled by escapes or is not ASCII.
+/// Returns whether two strings have one text. The slow form, by code points.
 #[cold]
 #[inline(never)]
 fn is_same_text_slowly(points: CodePoints, others: CodePoints) -> bool
@@ -566,7 +571,7 @@ fn is_same_text_slowly(points: CodePoints, others: CodePoints) -> bool
     right.next().is_none()
 }
 
-/// Whether two strings have one text.
+/// Returns whether two strings have one text.
 #[tactic(auto, using(crate::proofs::Texts::texts_end))]
 #[inline]
 fn is_same_text(points: CodePoints, others: CodePoints) -> bool
@@ -591,7 +596,8 @@ fn is_same_text(points: CodePoints, others: CodePoints) -> bool
     is_same_text_slowly(left, right)
 }
 
-/// Whether the first bytes of two texts tell them apart: other bytes, each of which stands for itself.
+/// Returns whether the first bytes of two texts show that they differ: they are different plain
+/// bytes.
 #[tactic(auto, using(std::proofs::lemmas::Bool::Decides::nat_tests))]
 #[inline(always)]
 fn tell_apart(first: u8, second: u8) -> bool
@@ -602,8 +608,8 @@ fn tell_apart(first: u8, second: u8) -> bool
     first != second && first < 128 && second < 128 && first != b'\\' && second != b'\\'
 }
 
-/// Whether a string, given with its quotes, has this text. Most names that are passed over differ in their first
-/// byte, so it is compared before anything else is set up.
+/// Returns whether a string has this text. `spelling` includes its quotes. Most names that a search
+/// passes over differ in the first byte, so it compares this byte before anything else.
 #[tactic(auto, using(crate::proofs::Texts::other_text))]
 #[inline(always)]
 pub(crate) fn spells(spelling: &[u8], wanted: &str) -> bool
@@ -617,8 +623,8 @@ pub(crate) fn spells(spelling: &[u8], wanted: &str) -> bool
     is_spelled_so(spelling, wanted) || is_text(CodePoints::of(spelling), Characters::of(wanted))
 }
 
-/// Whether two strings, given with their quotes, have one text. Their first bytes are compared before anything else, where
-/// the second has one between its quotes.
+/// Returns whether two strings, with their quotes, have one text. It compares their first bytes
+/// before anything else, if the second string is not empty.
 #[tactic(auto, using(crate::proofs::Texts::other_texts))]
 #[inline(always)]
 pub(crate) fn spell_one_text(spelling: &[u8], other: &[u8]) -> bool
@@ -632,7 +638,7 @@ pub(crate) fn spell_one_text(spelling: &[u8], other: &[u8]) -> bool
     is_same_text(CodePoints::of(spelling), CodePoints::of(other))
 }
 
-/// How the texts of two strings are ordered, by code points: for what is spelled by escapes or is not ASCII.
+/// Compares the texts of two strings. The slow form, by code points.
 #[cold]
 #[inline(never)]
 fn compare_slowly(points: CodePoints, others: CodePoints) -> Ordering
@@ -658,7 +664,7 @@ fn compare_slowly(points: CodePoints, others: CodePoints) -> Ordering
     }
 }
 
-/// How the texts of two strings are ordered.
+/// Compares the texts of two strings.
 #[tactic(auto, using(crate::proofs::Texts::order_ends))]
 #[inline]
 fn compare_points(points: CodePoints, others: CodePoints) -> Ordering
@@ -683,8 +689,7 @@ fn compare_points(points: CodePoints, others: CodePoints) -> Ordering
     compare_slowly(left, right)
 }
 
-/// How the text of a string is ordered beside these characters, by code points: for what is spelled by escapes or is not
-/// ASCII.
+/// Compares the text of a string with these characters. The slow form, by code points.
 #[cold]
 #[inline(never)]
 fn compare_slowly_with(points: CodePoints, characters: Characters) -> Ordering
@@ -708,7 +713,7 @@ fn compare_slowly_with(points: CodePoints, characters: Characters) -> Ordering
     }
 }
 
-/// How the text of a string is ordered beside these characters.
+/// Compares the text of a string with these characters.
 #[tactic(auto, using(crate::proofs::Texts::order_ends_with))]
 #[inline]
 fn compare_points_with(points: CodePoints, characters: Characters) -> Ordering
@@ -732,7 +737,7 @@ fn compare_points_with(points: CodePoints, characters: Characters) -> Ordering
     compare_slowly_with(left, wanted)
 }
 
-/// How the texts of two strings, given with their quotes, are ordered.
+/// Compares the texts of two strings, given with their quotes.
 pub(crate) fn compare_spellings(spelling: &[u8], other: &[u8]) -> Ordering
     requires first { 0 < length spelling.now }
     requires second { 0 < length other.now }
@@ -741,7 +746,7 @@ pub(crate) fn compare_spellings(spelling: &[u8], other: &[u8]) -> Ordering
     compare_points(CodePoints::of(spelling), CodePoints::of(other))
 }
 
-/// How the text of a string, given with its quotes, is ordered beside this text.
+/// Compares the text of a string, given with its quotes, with this text.
 pub(crate) fn compare_spelling_with(spelling: &[u8], wanted: &str) -> Ordering
     requires { 0 < length spelling.now }
     ensures { result ≡ compare (text spelling.now) (chars wanted.now) }
@@ -749,17 +754,17 @@ pub(crate) fn compare_spelling_with(spelling: &[u8], wanted: &str) -> Ordering
     compare_points_with(CodePoints::of(spelling), Characters::of(wanted))
 }
 
-/// What the first code point of a text weighs in its word: the top eight of 64 bits.
+/// The weight of the first code point of a text in its word: the top eight of 64 bits.
 const FIRST_WEIGHT: u64 = 1 << 56;
 
-/// What each code point weighs beside the next one.
+/// The weight of a code point in units of the next one.
 const BASE: u64 = 256;
 
 /// The least code point that ends a word.
 const PAST_DIGITS: u32 = 255;
 
-/// A word and these code points, of which the first weighs so much, by code points: for what is spelled by escapes or is
-/// not ASCII.
+/// Returns a word with these code points. The first of them has this weight. The slow form, by code
+/// points.
 #[tactic(auto, using(crate::proofs::Words::digits_none, crate::proofs::Words::digits_few, crate::proofs::Words::digits_cut))]
 #[cold]
 #[inline(never)]
@@ -782,7 +787,8 @@ fn word_slowly(front: u64, first_weight: u64, points: CodePoints) -> u64
     word
 }
 
-/// The first eight code points of a string's text as one number, in which texts are ordered as far as it tells them apart.
+/// Returns the first eight code points of a string's text as one number. The order of such numbers
+/// is the order of the texts, as far as they differ.
 #[tactic(auto, using(crate::proofs::Words::digits_none, crate::proofs::Words::digits_end))]
 #[inline]
 pub(crate) fn word(points: CodePoints) -> u64
@@ -809,10 +815,10 @@ pub(crate) fn word(points: CodePoints) -> u64
     word
 }
 
-/// Seven code points of a tail are below this: the next one takes the place of the first of eight.
+/// Seven code points of a tail are below this. The next code point displaces the first of eight.
 const SEVEN_DIGITS: u64 = 1 << 56;
 
-/// The tail after one code point more.
+/// Returns the tail after one more code point.
 #[inline(always)]
 fn tail_with(tail: u64, point: u32) -> u64
     ensures { result ≡ tail_step tail point }
@@ -820,7 +826,7 @@ fn tail_with(tail: u64, point: u32) -> u64
     tail % SEVEN_DIGITS * BASE + point.min(PAST_DIGITS) as u64
 }
 
-/// The tail after these code points, from a front on, by code points: for what is spelled by escapes or is not ASCII.
+/// Returns the tail after these code points, continued from `front`. The slow form, by code points.
 #[cold]
 #[inline(never)]
 fn tail_slowly(front: u64, points: CodePoints) -> u64
@@ -833,7 +839,7 @@ fn tail_slowly(front: u64, points: CodePoints) -> u64
     tail
 }
 
-/// The last eight code points of a string's text as one number.
+/// Returns the last eight code points of a string's text as one number.
 #[tactic(auto, using(crate::proofs::Texts::tail_ends))]
 #[inline]
 pub(crate) fn tail(points: CodePoints) -> u64
@@ -851,10 +857,10 @@ pub(crate) fn tail(points: CodePoints) -> u64
     tail_slowly(tail, left)
 }
 
-/// What the number of a text is multiplied by before each code point: odd, so that no code point is lost.
+/// The factor of a number before each code point is added. It is odd, so no code point is lost.
 const MULTIPLIER: u64 = 0x9E37_79B9_7F4A_7C15;
 
-/// The number of a text that goes on by one code point.
+/// Returns the number of a text after one more code point.
 #[inline(always)]
 fn mix_with(mix: u64, point: u32) -> u64
     ensures { result ≡ mix_step mix point }
@@ -862,7 +868,8 @@ fn mix_with(mix: u64, point: u32) -> u64
     mix.wrapping_mul(MULTIPLIER).wrapping_add(point as u64)
 }
 
-/// The number after these code points, from a front on, by code points: for what is spelled by escapes or is not ASCII.
+/// Returns the number after these code points, continued from `front`. The slow form, by code
+/// points.
 #[cold]
 #[inline(never)]
 fn mix_slowly(front: u64, points: CodePoints) -> u64
@@ -875,7 +882,7 @@ fn mix_slowly(front: u64, points: CodePoints) -> u64
     mix
 }
 
-/// All code points of a string's text mixed to one number.
+/// Returns all code points of a string's text, mixed to one number.
 #[tactic(auto, using(crate::proofs::Texts::mix_ends))]
 #[inline]
 pub(crate) fn mix(points: CodePoints) -> u64

@@ -1,13 +1,16 @@
-//! Tokens: where each value and each member name of a line stands.
+//! Tokens: where each value and each member name of a line is.
 //!
-//! They are one flat list in the order of their starts, so nothing is built and a copy is a copy of
-//! numbers. A token has no kind: that of a value is told by the byte at its start.
+//! Tokens are one flat list in the order of their starts. So nothing is built, and a copy is a copy
+//! of numbers. A token has no kind: the byte at its start shows the kind of a value.
 //!
-//! A *link* is the index of the first token after a token and its parts. It is set when a container closes;
-//! while that is open, stop is 0 and link tells the scan which kind of container it is (`open_link`,
-//! `open_kind`). Its top bit is free for a *mark* (`mark.rt`), as no line has 2^31 tokens: `link_of` of the
-//! definitions and `Source::after` alone read links, and leave it out. What else is put into a token must leave
-//! starts and stops as they are, since trees are told by these.
+//! A *link* is the index of the first token after a token and its parts. It is set when a container
+//! closes. While the container is open, stop is 0 and link shows the scanner its kind (`open_link`,
+//! `open_kind`).
+//!
+//! The top bit of a link is free for a *mark* (`mark.rt`), as no line has 2^31 tokens. Only
+//! `link_of` of the definitions and `Source::after` read links, and they leave this bit out.
+//! Anything else that is put into a token must not change starts and stops, since these determine
+//! the tree.
 ghost use Rattle.std.specs.Prelude.{◌≡◌, ◌+◌, ◌^◌, ◌<◌, ◌++◌, ◌∷◌, [], length, IsTrue};
 ghost use Rattle.cj_budget.specs.Bounded.{Becomes};
 ghost use Rattle.cj_spans.specs.Preorder.{token_at};
@@ -31,7 +34,7 @@ pub enum Kind {
     Object,
 }
 
-/// One value or member name of a line: the places where it starts and stops, and its link.
+/// One value or member name of a line: the bytes where it starts and stops, and its link.
 #[derive(Clone, Copy, Debug, PartialEq, Eq)]
 pub struct Token {
     pub(crate) start: u32,
@@ -41,7 +44,7 @@ pub struct Token {
 
 const _: () = prove!(size_of::<Token>() == 12);
 
-/// Keeps the token of a scalar or a name. It has no parts, so it links to the token behind it.
+/// Keeps the token of a scalar or a name. It has no parts, so it links to the next token.
 #[inline(always)]
 pub(crate) fn keep_atom(place: usize, stop: usize, tokens: &mut Bounded<Token>)
     requires short { (place < 2 ^ 31) × (stop < 2 ^ 31) }

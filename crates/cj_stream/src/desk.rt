@@ -1,10 +1,12 @@
-//! Judges whole lines, and puts those that are kept to a sink.
+//! Judges whole lines, and puts the kept ones to a sink.
 //!
-//! It knows what lines are judged by and what is asked of features, and keeps what a line is judged with: the tokens of
-//! the header with what was read of it once, the tokens of the line that is judged, and the open containers. The lines
-//! themselves are lent to it. That the header's tokens and parts belong to the header (`KeepsHeader`) is asked for by
-//! what uses them. A view borrows the lists, so what changes them comes after the sink. A line's number is one more than
-//! the lines before it, so the header's is 1.
+//! The desk knows the limits, the query and the options. It has the lists that judging needs: the
+//! tokens of the header, those of the judged line, and the open containers. It also has the parts
+//! read of the header. It borrows the bytes of the lines.
+//!
+//! That the header's tokens and parts belong to the header (`KeepsHeader`) is required by the
+//! functions that use them. A view borrows the lists, so they change only after the call of the
+//! sink. A line's number is the number of lines before it plus one, so the header has number 1.
 ghost use Rattle.std.specs.Prelude.{◌≡◌, ◌+◌, ◌<◌, ◌≤◌, ◌^◌, ◌/◌, List, length, [], OnOk, OnErr, IfOk, IfErr, IsErrOf, MatchResult, IsTrue, None, Some};
 ghost use Rattle.cj_budget.specs.Bounded.{IsNew, Becomes};
 ghost use Rattle.cj_budget.specs.Limits.{InLine};
@@ -45,7 +47,7 @@ impl<'q> Desk<'q> {
     ghost use Rattle.cj_stream.specs.Query.{rules_for};
     ghost use Rattle.cj_stream.specs.Scanning.{scanning, HasRoom, IsOpen, JudgesLine, Forgets};
 
-    /// A desk that no line has come to. It takes no memory.
+    /// Returns a desk that has judged no line. It allocates nothing.
     pub fn new(alloc: Global, limits: Limits, query: &'q Query, options: Options) -> Desk<'q>
         ensures limits { result.limits ≡ limits }
         ensures query { result.query.now ≡ query.now }
@@ -68,8 +70,8 @@ impl<'q> Desk<'q> {
         }
     }
 
-    /// What the content of the line after so many is as a text. Its tokens are taken by the lists of the first line or
-    /// of a later one.
+    /// Decides what the content of a line is as a text. `before` is the number of lines before it.
+    /// The tokens go into the list of the first line or that of later lines.
     pub fn judge(&mut self, before: u64, content: &[u8]) -> Content
         requires range { InLine self.old.limits.line }
         requires room { before < 2 ^ 62 }
@@ -98,7 +100,8 @@ impl<'q> Desk<'q> {
         }
     }
 
-    /// Judges the tree of the first line: what is read of a valid header once, or the end that its least finding makes.
+    /// Judges the tree of the first line. Returns the parts of a valid header, or the end that its
+    /// least finding makes.
     pub fn check_first(&self, content: &[u8]) -> Result<HeaderParts, End>
         requires shows { ShowsTree content.now self.now.limits.depth self.now.header_tokens.elements }
         ensures ok { IfOk result (λ parts. IsHeaderOf (tree_of self.now.limits.depth content.now)
@@ -116,7 +119,7 @@ impl<'q> Desk<'q> {
         }
     }
 
-    /// Puts a valid header to the sink, and keeps what was read of it.
+    /// Puts a valid header to the sink, and keeps the parts read of it.
     pub fn put_first<S: LineSink>(
         &mut self,
         content: &[u8],
@@ -149,7 +152,8 @@ impl<'q> Desk<'q> {
         Ok(())
     }
 
-    /// Marks the city objects of a later line that are reached, where each has to be.
+    /// Marks the city objects of a later line that are reached, if the options require that each
+    /// is.
     pub fn mark(&mut self, content: &[u8])
         requires shows { ShowsTree content.now self.old.limits.depth self.old.line_tokens.elements }
         requires unmarked { AreUnmarked self.old.line_tokens.elements }
@@ -164,8 +168,9 @@ impl<'q> Desk<'q> {
         }
     }
 
-    /// Judges the tree of the line after so many, and puts it to the sink if it is a valid feature that is asked for:
-    /// whether it is.
+    /// Judges the tree of a later line, and puts it to the sink if it is a valid feature to keep.
+    /// The query and the options decide that. Returns whether the sink took it. `before` is the
+    /// number of lines before it.
     pub fn put_later<S: LineSink>(
         &self,
         before: u64,
@@ -207,7 +212,7 @@ impl<'q> Desk<'q> {
         Ok(true)
     }
 
-    /// The line that was judged is done with. What is kept of the header stays.
+    /// Empties the lists of the judged line. What is kept of the header stays.
     pub fn forget(&mut self)
         ensures forgets { Forgets (scanning self.old) (scanning self.new) }
         ensures rest { self.new ≡ record self.old { line_tokens = self.new.line_tokens; opened = self.new.opened } }
@@ -217,7 +222,7 @@ impl<'q> Desk<'q> {
     }
 }
 
-/// The end that a finding on a line makes.
+/// Returns the end that a finding on a line makes.
 fn refused(line: u64, finding: Finding) -> End
     ensures { result ≡ End.Refused line finding.place finding.reason }
 {

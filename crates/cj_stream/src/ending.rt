@@ -1,4 +1,4 @@
-//! How a stream ends, and how the two readers of one do.
+//! How a stream ends, and how its two readers end.
 ghost use Rattle.std.specs.Prelude.{◌≡◌, IfErr};
 ghost use Rattle.cj_stream.specs.Ending.{header_end, line_end, IsFirstEnd, IsLaterEnd};
 ghost use Rattle.cj_stream.specs.Engine.{end_of};
@@ -8,9 +8,9 @@ use cj_spans::Reason;
 /// How a stream ended.
 #[derive(Clone, Copy, Debug, PartialEq, Eq)]
 pub enum End {
-    /// All lines were read, and none was refused.
+    /// All lines were read, and no invalid line ended the stream.
     Complete,
-    /// A line was refused: its number from 1, the byte offset in its content, and why.
+    /// A line is invalid: its number from 1, the byte in its content, and the reason.
     Refused {
         line: u64,
         place: u64,
@@ -22,16 +22,16 @@ pub enum End {
     ReadLimit,
     /// A write failed.
     WriteFault,
-    /// No memory was granted.
+    /// An allocation failed.
     Memory,
 }
 
-/// How a stream ended whose first line was read.
+/// How the reader of a header ended.
 #[derive(Clone, Copy, Debug, PartialEq, Eq)]
 pub enum HeaderEnd {
-    /// The header was all there was.
+    /// The stream is a valid header without LF, and nothing else.
     Complete,
-    /// The first line was refused, or there was none.
+    /// The first line is invalid, or there is none.
     Refused {
         line: u64,
         place: u64,
@@ -39,16 +39,16 @@ pub enum HeaderEnd {
     },
     /// A write failed.
     WriteFault,
-    /// No memory was granted for later lines.
+    /// The allocation for later lines failed.
     Memory,
 }
 
-/// How a stream ended whose later lines were read. Memory is never refused to these.
+/// How the reader of later lines ended. It never allocates, so no end is a lack of memory.
 #[derive(Clone, Copy, Debug, PartialEq, Eq)]
 pub enum LineEnd {
-    /// All lines were read, and none was refused.
+    /// All lines were read, and no invalid line ended the stream.
     Complete,
-    /// A line was refused: its number from 1, the byte offset in its content, and why.
+    /// A line is invalid: its number from 1, the byte in its content, and the reason.
     Refused {
         line: u64,
         place: u64,
@@ -59,7 +59,7 @@ pub enum LineEnd {
 }
 
 impl HeaderEnd {
-    /// What an end of the first line is.
+    /// Returns an end of the first line as an end of the reader of a header.
     pub(crate) fn of(end: End) -> HeaderEnd
         requires { IsFirstEnd end }
         ensures { header_end result ≡ end }
@@ -81,7 +81,7 @@ impl HeaderEnd {
         }
     }
 
-    /// The end of a stream, by what came of its first line.
+    /// Returns how the reader of a header ends, given the result of the first line.
     pub(crate) fn after(answer: Result<(), End>) -> HeaderEnd
         requires { IfErr answer IsFirstEnd }
         ensures { header_end result ≡ end_of answer }
@@ -94,7 +94,7 @@ impl HeaderEnd {
 }
 
 impl LineEnd {
-    /// What an end of a later line is.
+    /// Returns an end of a later line as an end of the reader of lines.
     pub(crate) fn of(end: End) -> LineEnd
         requires { IsLaterEnd end }
         ensures { line_end result ≡ end }
@@ -115,7 +115,7 @@ impl LineEnd {
         }
     }
 
-    /// The end of a stream, by what came of its last line.
+    /// Returns how the reader of lines ends, given the result of the last line.
     pub(crate) fn after(answer: Result<(), End>) -> LineEnd
         requires { IfErr answer IsLaterEnd }
         ensures { line_end result ≡ end_of answer }

@@ -1,10 +1,12 @@
 //! The engine: it takes a stream in pieces, and puts each kept line to a sink.
 //!
-//! It holds one of the two states of a stream, the reader of its header or that of its lines, and gives each piece on. A
-//! piece whose LF makes the header accepted goes on with the reader of lines. What either promises of a piece and of the
-//! end is one record each (`Feeds`, `IsFinished`), and the engine promises the same. It keeps a count of its own of the
-//! bytes taken: a piece that ended the stream in its second part was not taken, though its first part was by the
-//! reader of the header.
+//! It holds one of the two states of a stream, the reader of the header or the reader of later
+//! lines. It gives each piece to that state. If the header is accepted within a piece, the reader
+//! of lines takes the rest of that piece. Both states promise the same of a piece and of the end
+//! (`Feeds`, `IsFinished`), and so does the engine.
+//!
+//! The engine has its own count of the bytes taken. If the rest of such a piece ends the stream,
+//! the engine has not taken the piece, although the reader of the header took its first bytes.
 ghost use Rattle.std.specs.Prelude.{◌≡◌, ◌≢◌, ◌+◌, ◌++◌, ◌^◌, ◌≤◌, ◌<◌, ℕ, List, [], length, OnOk, OnErr, IfOk, Some, None, Err};
 ghost use Rattle.cj_stream.specs.Ending.{header_end, line_end, IsAccepted};
 ghost use Rattle.cj_stream.specs.Feeding.{Feeds, IsFinished};
@@ -24,17 +26,18 @@ use cj_budget::{Limits, NoMemory, Peaks};
 use std::alloc::Global;
 use std::marker::Model;
 
-/// The state that a stream is in.
+/// The state of a stream.
 #[derive(Drop)]
 enum Phase<'q> {
-    /// Its header is read.
+    /// The header is being read.
     Header(HeaderReader<'q>),
-    /// Its later lines are read.
+    /// The later lines are being read.
     Lines(LineReader<'q>),
 }
 
 impl<'q> Phase<'q> {
-    /// Gives a piece to it, and tells the state that the stream is in then.
+    /// Gives a piece to the state. Returns the state after it, and the end if the piece ended the
+    /// stream.
     fn feed<S: LineSink, N: ReportSink>(
         self,
         piece: &[u8],
@@ -72,12 +75,13 @@ impl<'q> Phase<'q> {
     }
 }
 
-/// Reads a stream once, within a bound, and puts its kept lines to a sink.
+/// Reads a stream once, in bounded memory, and puts its kept lines to a sink.
 ///
-/// After an end every call answers that end again, puts nothing and changes nothing.
+/// After an end, every call returns that end again and changes nothing.
 #[derive(Drop)]
 pub struct Engine<'q> {
-    /// Taken out while it is given a piece, since the reader of a header may become one of lines.
+    /// `None` only while the state takes a piece, since the reader of a header may become one of
+    /// lines.
     phase: Option<Phase<'q>>,
     taken: u64,
     ended: Option<End>,
@@ -98,9 +102,14 @@ impl<'q> Model for Engine<'q> {
 }
 
 impl<'q> Engine<'q> {
-    /// An engine that has read nothing. It takes the memory for the first line: its bytes, its tokens, and the open
-    /// containers where more than 64 may be. That for later lines is taken once, when the first line is valid and LF
-    /// has ended it.
+    /// Returns an engine that has read nothing.
+    ///
+    /// It allocates for the first line: its bytes, its tokens, and the open containers if the depth
+    /// limit is above 64. It allocates for later lines once, when LF has ended a valid first line.
+    ///
+    /// # Errors
+    ///
+    /// `NoMemory` if an allocation failed.
     pub fn open(
         alloc: Global,
         limits: Limits,
@@ -132,10 +141,10 @@ impl<'q> Engine<'q> {
         ensures taken { OnOk result (self.new.taken ≡ self.old.taken + length piece.now) }
         ensures untaken { OnErr result (self.new.taken ≡ self.old.taken) }
 
-        // Once a line was dealt with, memory is not refused any more.
+        // Once a line was dealt with, memory cannot be refused any more.
         ensures late { 0 < lines_of self.old → result ≢ Err End.Memory }
 
-        // What the answer says of all bytes so far, and of the sinks.
+        // What the result says of all bytes so far, and of the sinks.
         ensures reports { (p : List ℕ) → StandsFor self.old p → self.old.ended ≡ None → Notes N.notes (rules_of self.old)
             (p ++ piece.now) (lines_of self.old) (lines_of self.new) reports.old reports.new }
         ensures feeds { Feeds S.takes S.leaves S.failures self.old piece.now result self.new sink.old sink.new }
@@ -160,7 +169,7 @@ impl<'q> Engine<'q> {
         }
     }
 
-    /// Ends the stream, and deals with a last line that LF has not ended.
+    /// Ends the stream, and deals with a last line that has no LF.
     pub fn finish<S: LineSink, N: ReportSink>(&mut self, sink: &mut S, reports: &mut N) -> End
         ensures again { (e : End) → self.old.ended ≡ Some e →
             (result ≡ e) × (self.new ≡ self.old) × (sink.new ≡ sink.old) × (reports.new ≡ reports.old) }
@@ -180,7 +189,7 @@ impl<'q> Engine<'q> {
         end
     }
 
-    /// The bytes of the pieces whose `feed` answered Ok.
+    /// Returns the number of bytes in all pieces for which `feed` returned `Ok`.
     pub fn taken(&self) -> u64
         ensures value { result ≡ self.now.taken }
         ensures bound { result ≤ 2 ^ 60 }
@@ -188,8 +197,8 @@ impl<'q> Engine<'q> {
         self.taken
     }
 
-    /// What is held now: of bytes and tokens those of the first line and of the line that is read, and
-    /// the open containers of a line that was refused.
+    /// Returns what the engine holds now. Bytes and tokens are those of the first line and of the
+    /// line being read. Depth is the number of containers that an invalid line left open.
     pub fn held(&self) -> Peaks
         ensures { result ≡ held_by self.now }
     {
@@ -200,7 +209,7 @@ impl<'q> Engine<'q> {
         }
     }
 
-    /// The most that was held.
+    /// Returns the peaks: the most of each that the engine held.
     pub fn peaks(&self) -> Peaks
         ensures { result ≡ peaks_of self.now }
     {
@@ -211,7 +220,8 @@ impl<'q> Engine<'q> {
         }
     }
 
-    /// How many lines were dealt with: the header, features, blank lines, and those that reading went on after.
+    /// Returns how many lines were dealt with: the header, features, blank lines, and invalid lines
+    /// after which reading went on.
     pub fn lines(&self) -> u64
         ensures { result ≡ lines_of self.now }
     {
@@ -222,7 +232,7 @@ impl<'q> Engine<'q> {
         }
     }
 
-    /// How many features the sink took.
+    /// Returns how many features the sink took.
     pub fn kept(&self) -> u64
         ensures { result ≡ self.now.reading.kept }
     {
@@ -233,7 +243,7 @@ impl<'q> Engine<'q> {
         }
     }
 
-    /// How many lines were refused, and reading went on after them.
+    /// Returns the number of invalid lines after which reading went on.
     pub fn refused(&self) -> u64
         ensures { result ≡ refused_of self.now }
     {
@@ -245,8 +255,8 @@ impl<'q> Engine<'q> {
     }
 }
 
-/// Gives a piece to the reader of a header, and the rest of a piece that makes the header accepted to the reader of
-/// lines that it becomes.
+/// Gives a piece to the reader of a header. If the header is accepted, it becomes a reader of
+/// lines, which takes the rest of the piece.
 fn feed_header<'q, S: LineSink, N: ReportSink>(
     mut header: HeaderReader<'q>,
     piece: &[u8],

@@ -1,20 +1,28 @@
-//! Cuts pieces into lines, and deals with each.
+//! Cuts pieces into lines, and deals with each line.
 //!
-//! A line goes one way: it is cut here, kept by the store until it is whole, then judged by the desk and put to the sink,
-//! and then it is passed: it counts, and the lists of the line are emptied. The store has the bytes, and the desk the
-//! trees and what is read of the header; that the header's belong together (`KeepsFirst`), that all lists have their
-//! limits, and that none is above its own (`IsFramed`) always holds, and is the invariant here. A line is counted only
-//! where the sink has taken it, or, if reading goes on after invalid lines, where it is refused: then it is reported, and
-//! counts among the refused ones. A line that is too long is refused when the byte past the limit comes; where reading goes
-//! on, it is dropped from then on, and reported when it ends.
+//! Each line goes the same way. The framer cuts it, and the store keeps its bytes until it is
+//! whole. The desk judges the line and puts it to the sink. Then the line is passed: it is counted,
+//! and the lists of the line are emptied. The store has the bytes. The desk has the tokens and what
+//! was read of the header.
 //!
-//! Memory is asked for twice: for the lists of the first line by `open`, and for those of later lines by `make_room`,
-//! once the first line is valid and LF has ended it, before the sink gets it. So the lists that the next line goes
-//! into have their room (`IsReady`), and nothing else here asks for any. The first line has functions of its own
-//! (`take_front`, `finish_first`), so that those of later lines (`take_piece`, `finish`) call nothing that may ask for
-//! memory. A refusal by `make_room`, or a fault of the sink after it, leaves all as it was but for that room and its
-//! count of refusals (`IsLeft`, `IsStill`). Each list counts the growths of it that were refused, and want of memory is
-//! told only where such a count has risen.
+//! The invariant says that the bytes, tokens and parts of the header belong together
+//! (`KeepsFirst`). It also says that all lists have their limits, and that none is above its limit
+//! (`IsFramed`).
+//!
+//! A line that ends the stream is not counted. If reading goes on after invalid lines, an invalid
+//! line is reported and passed, and counts as refused too. A line that is too long is invalid as
+//! soon as the byte past the limit comes. If reading goes on, the framer drops the rest of the
+//! line, and reports the line at its end.
+//!
+//! The framer allocates twice. `open` allocates the lists of the first line. `make_room` allocates
+//! those of later lines, when LF has ended a valid first line, before the sink gets it. So the
+//! lists for the next line have their memory (`IsReady`), and no other function allocates. The
+//! first line has functions of its own (`take_front`, `finish_first`). So those for later lines
+//! (`take_piece`, `finish`) call nothing that may allocate.
+//!
+//! If `make_room` fails, or the sink fails after it, only this memory and the count of refused
+//! growths change (`IsLeft`, `IsStill`). Each list counts the growths that were refused. An end
+//! reports a lack of memory only if such a count has risen.
 ghost use Rattle.std.specs.Prelude.{◌≡◌, ◌+◌, ◌^◌, ◌<◌, ◌≤◌, ℕ, List, [], ◌∷◌, ◌++◌, ◌⊎◌, true, false, length, take, if◌then◌else◌, OnOk, OnErr, IfOk, IfErr, IsErrOf, IsTrue, Some};
 ghost use Rattle.cj_budget.specs.Bounded.{IsWithin};
 ghost use Rattle.cj_spans.specs.Marks.{AreUnmarked};
@@ -48,10 +56,10 @@ use memchr::memchr;
 use std::alloc::Global;
 use std::marker::Model;
 
-/// The content of the first line with its tokens and what is read of the header once, and that of a
-/// later line that has begun.
+/// Holds the content of the first line with its tokens and the parts of the header, and the content
+/// of a later line that has begun.
 ///
-/// Beside the five lists of its store and its desk nothing is held that takes memory.
+/// Only the five lists of its store and its desk take memory.
 #[derive(Drop)]
 pub struct Framer<'q> {
     store: Store,
@@ -75,8 +83,8 @@ impl<'q> Model for Framer<'q> {
 }
 
 impl<'q> Framer<'q> {
-    /// A framer that has read nothing, with room for the first line. It asks for memory for its bytes and its tokens,
-    /// and for open containers where the depth limit is above 64.
+    /// Returns a framer that has read nothing, with memory for the first line. It allocates the
+    /// bytes and the tokens, and the open containers if the depth limit is above 64.
     pub fn open(
         alloc: Global,
         limits: Limits,
@@ -102,7 +110,7 @@ impl<'q> Framer<'q> {
         })
     }
 
-    /// The content of the begun line so far.
+    /// Returns the content of the begun line so far.
     fn begun(&self) -> &[u8]
         ensures value { result.now ≡ begun_of self.now.reading }
         ensures framed { IsFramed self.now }
@@ -110,7 +118,7 @@ impl<'q> Framer<'q> {
         self.store.begun()
     }
 
-    /// Whether a line has begun: some of it is held, or it is dropped.
+    /// Returns whether a line has begun: some of it is held, or it is being dropped.
     fn has_begun(&self) -> bool
         ensures none { result ≡ false → (begun_of self.now.reading ≡ []) × (self.now.reading.dropped ≡ false) }
         ensures some { result ≡ true → (0 < length (begun_of self.now.reading)) ⊎ (self.now.reading.dropped ≡ true) }
@@ -119,7 +127,7 @@ impl<'q> Framer<'q> {
         self.store.dropped || !self.begun().is_empty()
     }
 
-    /// Whether reading goes on after the begun line, a later one, if it is refused.
+    /// Returns whether reading goes on after the begun line, a later one, if it is invalid.
     fn is_lenient(&self) -> bool
         requires room { self.now.reading.lines < 2 ^ 62 }
         requires later { 0 < self.now.reading.lines }
@@ -128,7 +136,7 @@ impl<'q> Framer<'q> {
         self.desk.options.keeps_going()
     }
 
-    /// The refusal of the begun line for its length.
+    /// Returns the end at the begun line if it is too long.
     fn too_long(&self) -> End
         requires room { self.now.reading.lines < 2 ^ 62 }
         ensures { result ≡ End.Refused (self.now.reading.lines + 1) self.now.reading.rules.limits.line Reason.LineTooLong }
@@ -140,7 +148,7 @@ impl<'q> Framer<'q> {
         }
     }
 
-    /// Stores a part of the first line. One that is too long by it is refused.
+    /// Stores a part of the first line. Rejects the line if this part makes it too long.
     fn store_first(&mut self, part: &[u8]) -> Result<(), End>
         requires first { self.old.reading.lines ≡ 0 }
         requires undropped { self.old.reading.dropped ≡ false }
@@ -160,7 +168,8 @@ impl<'q> Framer<'q> {
         }
     }
 
-    /// Stores a part of a later line, unless that is dropped. One that is too long by it is dropped, or refused.
+    /// Stores a part of a later line, unless the line is being dropped. If this part makes the line
+    /// too long, the line is dropped or rejected.
     fn store(&mut self, part: &[u8]) -> Result<(), End>
         requires room { self.old.reading.lines < 2 ^ 62 }
         requires later { 0 < self.old.reading.lines }
@@ -186,7 +195,7 @@ impl<'q> Framer<'q> {
         }
     }
 
-    /// Makes room for a later line. A refusal is counted, and changes nothing else.
+    /// Reserves memory for a later line. A refusal is counted, and changes nothing else.
     fn make_room(&mut self) -> Result<(), NoMemory>
         ensures ok { OnOk result (IsTrue self.new.reading.line.reserved × IsTrue self.new.scanning.line.reserved) }
         ensures counts { OnOk result ((self.new.reading.line.refused ≡ self.old.reading.line.refused)
@@ -201,7 +210,7 @@ impl<'q> Framer<'q> {
         self.desk.line_tokens.reserve_all()
     }
 
-    /// The begun line is done with.
+    /// Ends the begun line, and counts it. `put` says whether the sink took it.
     fn pass(&mut self, put: bool)
         requires room { self.old.reading.lines < 2 ^ 62 }
         requires later { 0 < self.old.reading.lines }
@@ -216,7 +225,7 @@ impl<'q> Framer<'q> {
         self.desk.forget();
     }
 
-    /// The begun line was refused, and is done with.
+    /// Ends the begun line, and counts it as refused.
     fn pass_refused(&mut self)
         requires room { self.old.reading.lines < 2 ^ 62 }
         requires later { 0 < self.old.reading.lines }
@@ -229,7 +238,7 @@ impl<'q> Framer<'q> {
         self.desk.forget();
     }
 
-    /// What the begun line is as a text.
+    /// Decides what the begun line is as a text.
     fn judge(&mut self) -> Content
         requires room { self.old.reading.lines < 2 ^ 62 }
         requires ready { IsReady self.old.reading self.old.scanning }
@@ -289,8 +298,8 @@ impl<'q> Framer<'q> {
         }
     }
 
-    /// Judges the tree of the first line, and puts it to the sink if it is a valid header. Where LF ended it, room
-    /// for later lines is made first.
+    /// Judges the tree of the first line, and puts it to the sink if it is a valid header. If LF
+    /// ended the line, memory for later lines is reserved first.
     fn put_header<S: LineSink>(&mut self, lf: bool, sink: &mut S) -> Result<(), End>
         requires first { self.old.reading.lines ≡ 0 }
         requires ready { IsReady self.old.reading self.old.scanning }
@@ -322,7 +331,8 @@ impl<'q> Framer<'q> {
         }
     }
 
-    /// Judges the tree of a later line, and puts it to the sink if it is a valid feature that is asked for.
+    /// Judges the tree of a later line, and puts it to the sink if it is a valid feature to keep.
+    /// The query and the options decide that.
     fn put_feature<S: LineSink>(&mut self, lf: bool, sink: &mut S) -> Result<(), End>
         requires room { self.old.reading.lines < 2 ^ 62 }
         requires later { 0 < self.old.reading.lines }
@@ -357,7 +367,8 @@ impl<'q> Framer<'q> {
         }
     }
 
-    /// Judges the first line, and puts it to the sink if it is a valid header. No first line is told blank.
+    /// Judges the first line, and puts it to the sink if it is a valid header. The first line is
+    /// never treated as blank.
     fn settle_first<S: LineSink>(&mut self, lf: bool, sink: &mut S) -> Result<(), End>
         requires ready { IsReady self.old.reading self.old.scanning }
         requires first { self.old.reading.lines ≡ 0 }
@@ -384,7 +395,8 @@ impl<'q> Framer<'q> {
         }
     }
 
-    /// Judges the begun later line, and puts it to the sink if it is kept. One that is dropped is too long.
+    /// Judges the begun later line, and puts it to the sink if it is kept. A dropped line is too
+    /// long.
     fn settle<S: LineSink>(&mut self, lf: bool, sink: &mut S) -> Result<(), End>
         requires ready { IsReady self.old.reading self.old.scanning }
         requires room { self.old.reading.lines < 2 ^ 62 }
@@ -417,8 +429,8 @@ impl<'q> Framer<'q> {
         }
     }
 
-    /// Judges the begun later line, and puts it to the sink if it is kept. One that is refused is reported, if reading goes
-    /// on after it.
+    /// Judges the begun later line, and puts it to the sink if it is kept. Reports an invalid line
+    /// if reading goes on after it.
     fn deal<S: LineSink, N: ReportSink>(
         &mut self,
         lf: bool,
@@ -460,7 +472,7 @@ impl<'q> Framer<'q> {
         }
     }
 
-    /// Takes the last part of the first line, which LF ends.
+    /// Takes the last part of the first line, up to its LF.
     fn take_first<S: LineSink>(&mut self, part: &[u8], sink: &mut S) -> Result<(), End>
         requires ready { IsReady self.old.reading self.old.scanning }
         requires first { self.old.reading.lines ≡ 0 }
@@ -490,7 +502,7 @@ impl<'q> Framer<'q> {
         Ok(())
     }
 
-    /// Takes the last part of a later line that LF ends.
+    /// Takes the last part of a later line, up to its LF.
     fn take_line<S: LineSink, N: ReportSink>(
         &mut self,
         part: &[u8],
@@ -526,8 +538,9 @@ impl<'q> Framer<'q> {
         Ok(())
     }
 
-    /// Takes a piece of the stream up to and with the first LF, and deals with the first line; or all of it, if
-    /// there is none. Nothing is reported of it: the first line is none that reading goes on after.
+    /// Takes a piece of the stream up to and including the first LF, and deals with the first line.
+    /// If the piece has no LF, takes all of it. It reports nothing, since an invalid first line is
+    /// the end.
     pub fn take_front<S: LineSink>(&mut self, piece: &[u8], sink: &mut S) -> Result<Progress, End>
         requires ready { IsReady self.old.reading self.old.scanning }
         requires first { self.old.reading.lines ≡ 0 }
@@ -567,7 +580,7 @@ impl<'q> Framer<'q> {
         })
     }
 
-    /// Takes a piece of the stream behind the first line, and deals with each line that it ends.
+    /// Takes a piece of the stream after the first line, and deals with each line that ends in it.
     pub fn take_piece<S: LineSink, N: ReportSink>(
         &mut self,
         piece: &[u8],
@@ -605,7 +618,7 @@ impl<'q> Framer<'q> {
         Ok(())
     }
 
-    /// Deals with a first line that LF has not ended, and with a stream that has no line.
+    /// Deals with a first line that has no LF, and with a stream that has no line.
     pub fn finish_first<S: LineSink>(&mut self, sink: &mut S) -> Result<(), End>
         requires ready { IsReady self.old.reading self.old.scanning }
         requires first { self.old.reading.lines ≡ 0 }
@@ -632,7 +645,7 @@ impl<'q> Framer<'q> {
         })
     }
 
-    /// Deals with a last line behind the first that LF has not ended.
+    /// Deals with a last line, after the first, that has no LF.
     pub fn finish<S: LineSink, N: ReportSink>(
         &mut self,
         sink: &mut S,
@@ -662,28 +675,28 @@ impl<'q> Framer<'q> {
         Ok(())
     }
 
-    /// How many lines were dealt with.
+    /// Returns how many lines were dealt with.
     pub fn lines(&self) -> u64
         ensures { result ≡ self.now.reading.lines }
     {
         self.store.lines
     }
 
-    /// How many features were kept.
+    /// Returns how many features were kept.
     pub fn kept(&self) -> u64
         ensures { result ≡ self.now.reading.kept }
     {
         self.kept
     }
 
-    /// How many lines were refused, and reading went on after them.
+    /// Returns the number of invalid lines after which reading went on.
     pub fn refused(&self) -> u64
         ensures { result ≡ self.now.reading.refused }
     {
         self.refused
     }
 
-    /// What is held now.
+    /// Returns what is held now.
     pub fn held(&self) -> Peaks
         ensures bytes { result.bytes ≡ length self.now.reading.header.elements + length self.now.reading.line.elements }
         ensures tokens { result.tokens ≡ length self.now.scanning.header.elements + length self.now.scanning.line.elements }
@@ -696,7 +709,7 @@ impl<'q> Framer<'q> {
         }
     }
 
-    /// The most that each list has held; of two lists of a kind, added up.
+    /// Returns the most that each list has held. The peaks of two lists of one kind are added up.
     pub fn peaks(&self) -> Peaks
         ensures bytes { result.bytes ≡ self.now.reading.header.peak + self.now.reading.line.peak }
         ensures tokens { result.tokens ≡ self.now.scanning.header.peak + self.now.scanning.line.peak }
@@ -710,7 +723,8 @@ impl<'q> Framer<'q> {
     }
 }
 
-/// Makes room for the first line, and for as many open containers as the depth limit allows. A refusal is counted.
+/// Reserves memory for the first line, and for as many open containers as the depth limit allows. A
+/// refusal is counted.
 fn reserve_first(store: &mut Store, desk: &mut Desk) -> Result<(), NoMemory>
     ensures bytes { OnOk result (store.new ≡ record store.old { header = record store.old.header { reserved = true } }) }
     ensures trees { OnOk result (desk.new ≡ record desk.old {

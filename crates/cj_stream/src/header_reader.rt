@@ -1,9 +1,12 @@
-//! The reader of a header: the first of two states of a stream.
+//! The reader of a header: the first of the two states of a stream.
 //!
-//! It takes all the memory that the stream will need: for the first line when it opens, and for later lines when the
-//! header is valid and its LF has come, before the sink gets it. Then it is accepted, and turns into a
-//! [`LineReader`], to which memory is never refused. What both stand for is told by one record (`EngineState`), and
-//! their ends are seen as ends of a stream, so all that an engine promises is said of them in the same words.
+//! It allocates all memory that the stream will need. It allocates for the first line when it
+//! opens. For later lines it allocates when LF has ended a valid header, before the sink gets the
+//! header. Then the header is accepted, and the reader becomes a [`LineReader`], which never
+//! allocates.
+//!
+//! One record (`EngineState`) describes both states, and their ends count as ends of a stream. So
+//! their contracts use the same words as those of the engine.
 ghost use Rattle.std.specs.Prelude.{◌≡◌, ◌+◌, ◌^◌, ◌≤◌, ◌↔◌, [], length, take, OnOk, OnErr, IfOk, IsTrue, MatchResult, Some, None, Ok, Err};
 ghost use Rattle.cj_stream.specs.Ending.{header_end, IsAccepted};
 ghost use Rattle.cj_stream.specs.Feeding.{Feeds, IsFinished};
@@ -22,10 +25,11 @@ use cj_budget::{Limits, NoMemory, Peaks};
 use std::alloc::Global;
 use std::marker::Model;
 
-/// How far a piece was used.
+/// How much of a piece was used.
 #[derive(Clone, Copy, Debug, PartialEq, Eq)]
 pub struct Progress {
-    /// The bytes of the piece that were used: with acceptance those up to and with the first LF, and else all.
+    /// The number of bytes used: up to and including the first LF if the header was accepted, else
+    /// all.
     pub used: usize,
     /// Whether the header was accepted.
     pub accepted: bool,
@@ -33,7 +37,7 @@ pub struct Progress {
 
 /// Reads the first line of a stream, and puts a valid header to a sink.
 ///
-/// After an end every call answers that end again, puts nothing and changes nothing.
+/// After an end, every call returns that end again and changes nothing.
 #[derive(Drop)]
 pub struct HeaderReader<'q> {
     framer: Framer<'q>,
@@ -59,8 +63,14 @@ impl<'q> Model for HeaderReader<'q> {
 }
 
 impl<'q> HeaderReader<'q> {
-    /// A reader that has read nothing. It takes the memory for the first line: its bytes, its tokens, and the open
-    /// containers where more than 64 may be.
+    /// Returns a reader that has read nothing.
+    ///
+    /// It allocates for the first line: its bytes, its tokens, and the open containers if the depth
+    /// limit is above 64.
+    ///
+    /// # Errors
+    ///
+    /// `NoMemory` if an allocation failed.
     pub fn open(
         alloc: Global,
         limits: Limits,
@@ -78,7 +88,8 @@ impl<'q> HeaderReader<'q> {
         })
     }
 
-    /// Takes a piece of the stream, up to and with the first LF. An error is the end of the stream.
+    /// Takes a piece of the stream, up to and including the first LF. An error is the end of the
+    /// stream.
     pub fn feed<S: LineSink>(&mut self, piece: &[u8], sink: &mut S) -> Result<Progress, HeaderEnd>
         requires small { self.old.taken + length piece.now ≤ 2 ^ 60 }
         requires unaccepted { ¬ IsAccepted self.old }
@@ -87,7 +98,7 @@ impl<'q> HeaderReader<'q> {
         ensures again { (e : HeaderEnd) → self.old.ended ≡ Some (header_end e) →
             (result ≡ Err e) × (self.new ≡ self.old) × (sink.new ≡ sink.old) }
 
-        // What is used of the piece, and whether the header was accepted by that.
+        // How much of the piece is used, and whether the header is accepted with it.
         ensures used { IfOk result (λ t. IsFront piece.now t) }
         ensures accepted { IfOk result (λ t. IsTrue t.accepted ↔ IsAccepted self.new) }
         ensures taken { IfOk result (λ t. self.new.taken ≡ self.old.taken + t.used) }
@@ -96,8 +107,8 @@ impl<'q> HeaderReader<'q> {
         ensures reserved { OnOk result (IsReady self.new.reading self.new.scanning) }
         ensures none { result ≡ Err HeaderEnd.Memory → lines_of self.new ≡ 0 }
 
-        // What the answer says of all bytes so far, and of the sink: of those that were used, or of the whole piece
-        // where it ended in them.
+        // What the result says of the sink and of all bytes so far. These end with the bytes that
+        // were used, or with the whole piece if the stream ended in it.
         ensures feeds { MatchResult result
             (λ t. Feeds S.takes S.leaves S.failures self.old (take t.used piece.now) (Ok tt) self.new sink.old sink.new)
             (λ e. Feeds S.takes S.leaves S.failures self.old piece.now (Err (header_end e)) self.new
@@ -119,7 +130,7 @@ impl<'q> HeaderReader<'q> {
         }
     }
 
-    /// Ends the stream, and deals with a first line that LF has not ended. It takes no memory.
+    /// Ends the stream, and deals with a first line that has no LF. It allocates nothing.
     pub fn finish<S: LineSink>(&mut self, sink: &mut S) -> HeaderEnd
         requires unaccepted { ¬ IsAccepted self.old }
         ensures again { (e : HeaderEnd) → self.old.ended ≡ Some (header_end e) →
@@ -137,14 +148,14 @@ impl<'q> HeaderReader<'q> {
         end
     }
 
-    /// Whether `feed` has accepted the header.
+    /// Returns whether `feed` has accepted the header.
     pub fn accepted(&self) -> bool
         ensures { IsTrue result ↔ IsAccepted self.now }
     {
         self.ended.is_none() && self.framer.lines() > 0
     }
 
-    /// The reader of the lines behind an accepted header. It takes no memory.
+    /// Returns the reader of the lines after an accepted header. It allocates nothing.
     pub fn into_lines(self) -> LineReader<'q>
         requires { IsAccepted self }
         ensures same { result ≡ self.entry }
@@ -158,7 +169,7 @@ impl<'q> HeaderReader<'q> {
         LineReader::of(framer, taken)
     }
 
-    /// The bytes that were used by calls of `feed` that answered Ok.
+    /// Returns the number of bytes used by calls of `feed` that returned `Ok`.
     pub fn taken(&self) -> u64
         ensures value { result ≡ self.now.taken }
         ensures bound { result ≤ 2 ^ 60 }
@@ -166,21 +177,22 @@ impl<'q> HeaderReader<'q> {
         self.taken
     }
 
-    /// What is held now: bytes and tokens of the first line, and the open containers of one that was refused.
+    /// Returns what the reader holds now. Bytes and tokens are those of the first line. Depth is
+    /// the number of containers that an invalid first line left open.
     pub fn held(&self) -> Peaks
         ensures { result ≡ held_by self.now }
     {
         self.framer.held()
     }
 
-    /// The most that was held.
+    /// Returns the peaks: the most of each that the reader held.
     pub fn peaks(&self) -> Peaks
         ensures { result ≡ peaks_of self.now }
     {
         self.framer.peaks()
     }
 
-    /// How many lines were dealt with: none, or the header.
+    /// Returns how many lines were dealt with: none, or the header.
     pub fn lines(&self) -> u64
         ensures value { result ≡ lines_of self.now }
         ensures few { result ≤ 1 }
@@ -188,14 +200,14 @@ impl<'q> HeaderReader<'q> {
         self.framer.lines()
     }
 
-    /// How many features the sink took: none.
+    /// Returns how many features the sink took: none.
     pub fn kept(&self) -> u64
         ensures { result ≡ self.now.reading.kept }
     {
         self.framer.kept()
     }
 
-    /// How many lines were refused, and reading went on after them: none.
+    /// Returns the number of invalid lines after which reading went on: none.
     pub fn refused(&self) -> u64
         ensures { result ≡ refused_of self.now }
     {

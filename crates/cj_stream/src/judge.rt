@@ -1,6 +1,6 @@
 //! What a line is as a text.
 //!
-//! `judge` knows the line's number and nothing of the header: what it tells holds beside any.
+//! `judge` knows the line's number and nothing of the header, so its result holds with any header.
 ghost use Rattle.std.specs.Prelude.{◌≡◌, ◌≤◌, ◌+◌, ◌/◌, length, IsTrue};
 ghost use Rattle.std.specs.List.{list_all};
 ghost use Rattle.cj_stream.specs.Verdict.{is_blank_byte, is_blank_line};
@@ -11,18 +11,18 @@ ghost use Rattle.cj_spans.specs.Marks.{AreUnmarked};
 use cj_budget::{Bounded, Stack};
 use cj_spans::{LineFault, Reason, Token, scan_reserved};
 
-/// What the content of a line is as a text, before any rule is looked at.
+/// What the content of a line is as a text, before any rule is checked.
 #[derive(Clone, Copy, Debug, PartialEq, Eq)]
 pub enum Content {
-    /// It is refused at this byte offset.
+    /// It is invalid at this byte, for this reason.
     Faulty { place: u64, reason: Reason },
     /// It is blank.
     BlankLine,
-    /// It is a JSON text, whose tokens are there.
+    /// It is a JSON text, and its tokens are in the list.
     Sound,
 }
 
-/// Whether there are spaces, tabs and CR alone.
+/// Returns whether all bytes are spaces, tabs or CR.
 fn is_all_blank(content: &[u8]) -> bool
     ensures { result ≡ list_all is_blank_byte content.now }
 {
@@ -31,15 +31,18 @@ fn is_all_blank(content: &[u8]) -> bool
         .all(|b| *b == b' ' || *b == b'\t' || *b == b'\r')
 }
 
-/// Whether a line is blank, which the first one never is.
+/// Returns whether a line is blank. The first line never is.
 fn is_blank(number: u64, content: &[u8]) -> bool
     ensures { result ≡ is_blank_line number content.now }
 {
     number > 1 && is_all_blank(content)
 }
 
-/// What a content is that is within the line limit, by the line's number. The lists take the tokens of
-/// one that is not blank; they have room for any, so no memory is asked for.
+/// Decides what the content of a line is, given the line's number. The content is within the line
+/// limit.
+///
+/// If the line is not blank, the lists take its tokens and open containers. They have reserved
+/// memory for any such line, so nothing is allocated.
 pub fn judge(
     number: u64,
     content: &[u8],

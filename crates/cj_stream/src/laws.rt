@@ -1,11 +1,13 @@
-//! Laws of the definitions, proved once and for all.
+//! Laws of the definitions, each proved once.
 //!
-//! A law is a function that does nothing: a call of it makes its clauses known to the proof of the caller. [`crate::run`] and
-//! [`crate::put_pieces`] say of every sink what it took. What is written, counted and tallied then follows by a law:
+//! A law is a function that does nothing. A call of it makes its clauses known to the proof of the
+//! caller. [`crate::run`] and [`crate::put_pieces`] say of every sink what it took. The laws say
+//! what is then written, counted and tallied:
 //!
 //! ```text
 //! let mut tally = TallySink::new();
-//! let outcome = run(alloc, &mut reader, &mut tally, &mut NoReports, limits, &query, Options::new());
+//! let usual = Options::new();
+//! let outcome = run(alloc, &mut reader, &mut tally, &mut NoReports, limits, &query, usual);
 //! laws::puts_are_tallied();                     // so the tally is that of what is kept
 //! ```
 ghost use Rattle.std.specs.Prelude.{◌≡◌, ◌≢◌, ◌+◌, ◌++◌, ℕ, List, [], Bool, Option, Some, None, true, false, drop, length, map, take};
@@ -40,9 +42,9 @@ ghost use Rattle.cj_stream.specs.declared.sink.CountSink.{CountSink};
 use crate::reporting::ReportSink;
 use std::io::Write;
 
-/// The lines of a stream are the one list of contents without LF that gives the stream when each is
-/// followed by the LF that ended it; LF ends each but perhaps the last, which is then not empty. A
-/// stream up to its last LF is its whole lines.
+/// The lines of a stream are contents without LF. Each followed by the LF that ended it, they give
+/// the stream back. LF ends each but perhaps the last, which is then not empty. No other list of
+/// lines has these properties. A stream up to its last LF is its whole lines.
 pub fn lines_are_the_lines(stream: &[u8])
     ensures are { IsLines stream.now (lines stream.now) }
     ensures only { (ls : List Line) → IsLines stream.now ls → ls ≡ lines stream.now }
@@ -51,8 +53,8 @@ pub fn lines_are_the_lines(stream: &[u8])
     let _ = stream;
 }
 
-/// The good lines of a stream are the longest prefix of its lines of which no refusal is an end, and its ending
-/// is that of the line after them: under all rules.
+/// The good lines of a stream are the longest prefix of its lines in which no invalid line is an
+/// end. The ending of the stream is that of the line after them. Both hold under all rules.
 pub fn good_lines_are_the_longest(stream: &[u8])
     ensures are { (rules : Rules) → AreGood rules stream.now (good rules stream.now) }
     ensures only { (rules : Rules) (ls : List Line) → AreGood rules stream.now ls → ls ≡ good rules stream.now }
@@ -62,8 +64,8 @@ pub fn good_lines_are_the_longest(stream: &[u8])
     let _ = stream;
 }
 
-/// Where reading goes on after invalid lines, the good lines are all lines, unless the first one is refused: then there
-/// are none.
+/// If reading goes on after invalid lines, all lines are good, unless the first one is invalid.
+/// Then none is good.
 pub fn good_lines_are_all_or_none()
     ensures all { (rules : Rules) (r : List ℕ) → rules.options.keep_going ≡ true → refusal_in rules (take 1 (lines r)) ≡ None
         → good rules r ≡ lines r }
@@ -71,8 +73,8 @@ pub fn good_lines_are_all_or_none()
         → good rules r ≡ [] }
 {}
 
-/// Where the first invalid line is the end, none of the good lines is refused, so none is reported; and what is held at
-/// most of a complete stream is told exactly, as each of its later lines is blank or spells a tree.
+/// If the first invalid line is the end, no good line is invalid, so nothing is reported. The peaks
+/// of a complete stream are then known exactly, as each later line is blank or spells a tree.
 pub fn first_invalid_line_is_the_end()
     ensures unreported { (rules : Rules) (r : List ℕ) → rules.options.keep_going ≡ false → reported rules r ≡ [] }
     ensures unreported_first { (rules : Rules) (r : List ℕ) (n : ℕ) → rules.options.keep_going ≡ false
@@ -81,12 +83,17 @@ pub fn first_invalid_line_is_the_end()
         → ending rules r ≡ End.Complete → IsExact rules.limits r peaks → peaks ≡ exact_peaks rules.limits r }
 {}
 
-/// A stream may be read in parts: a header with whole lines, and the same header with what follows these, which may be any
-/// bytes. Where the first part is complete, what is kept, written and reported of the stream is that of the first part, and
-/// then that of the second one without its header, each of whose lines has a number that is greater by the lines of the
-/// first part behind the header. The ending is that of the second part, moved so. The lines that are good, the features that are
-/// kept and the lines that are reported add up, with the header counted once. Of what is held at most, whatever the endings are,
-/// each count is the greater of both. The first part may itself be joined of two, so this holds of any number of parts.
+/// A stream can be read in two parts. The first is the header with some whole lines. The second is
+/// the header with what follows them, which may be any bytes. If the first part is complete:
+///
+/// - What is kept, written and reported of the stream is that of the first part, followed by that
+///   of the second part without its header.
+/// - The number of a line in the second part is greater by the number of later lines in the first
+///   part. The ending is that of the second part, with its line moved in this way.
+/// - The good lines, the kept features and the reported lines add up, with the header counted once.
+///
+/// For any endings, each peak is the greater one of both parts. The first part may itself be joined
+/// from two, so the law holds for any number of parts.
 pub fn parts_are_joined()
     ensures kept { (rules : Rules) (h a b : List ℕ) → IsCut h a → ending rules (headed h a) ≡ End.Complete
         → kept rules (headed h (a ++ b)) ≡ kept rules (headed h a) ++ later_of (kept rules (headed h b)) }
@@ -116,9 +123,10 @@ pub fn parts_are_joined()
         → IsTallyOf (kept rules (headed h (a ++ b))) both }
 {}
 
-/// A header with all the lines of any number of parts, each of which is complete with the header, is complete. What is kept of
-/// it is the header, and then what is kept of each part behind the header. What is written is the header's line, and then what
-/// is written of each part without that line. A last part, which may end in any way, follows by [`parts_are_joined`].
+/// If a header is complete with each of any number of parts, it is complete with all their lines.
+/// What is kept is the header, and then what is kept of each part after the header. What is written
+/// is the header's line, and then what is written of each part without that line. A last part may
+/// end in any way: add it by [`parts_are_joined`].
 pub fn complete_parts_are_joined()
     ensures complete { (rules : Rules) (h : List ℕ) (parts : List (List ℕ)) → IsCut h []
         → ending rules (headed h []) ≡ End.Complete → AreComplete rules h parts
@@ -133,7 +141,8 @@ pub fn complete_parts_are_joined()
         ≡ headed h (flat_map (λ a. drop (length h + 1) (output rules (headed h a))) parts) }
 {}
 
-/// Where the first part is not complete, its ending is that of the stream, and what follows changes nothing.
+/// If the first part is not complete, its ending is that of the stream, and what follows changes
+/// nothing.
 pub fn refused_parts_are_the_end()
     ensures ending { (rules : Rules) (h a b : List ℕ) → IsCut h a → ending rules (headed h a) ≢ End.Complete
         → ending rules (headed h (a ++ b)) ≡ ending rules (headed h a) }
@@ -147,9 +156,11 @@ pub fn refused_parts_are_the_end()
         → reported rules (headed h (a ++ b)) ≡ reported rules (headed h a) }
 {}
 
-/// Lines that are not kept can be left out of a complete stream. The rest is complete, the same is kept of it, and the same is
-/// written. So a filter over a header and some lines behind it, all kept ones among them, in their order, writes what a filter
-/// over the whole stream writes.
+/// Lines that are not kept can be left out of a complete stream. The rest is complete, and the same
+/// is kept and written of it.
+///
+/// So a filter may read the header and only some later lines, in their order. If they include all
+/// kept ones, it writes what a filter over the whole stream writes.
 pub fn lines_left_out_change_nothing()
     ensures ending { (rules : Rules) (h a b : List ℕ) (xs : List (Line × Bool)) → NoLf h → lines a ≡ all_lines xs
         → lines b ≡ staying xs → LeavesKept rules (ended_line h) xs → ending rules (headed h a) ≡ End.Complete
@@ -162,7 +173,8 @@ pub fn lines_left_out_change_nothing()
         → output rules (headed h b) ≡ output rules (headed h a) }
 {}
 
-/// After as many lines as are good, what is kept of these is what is kept of all, and likewise what is reported.
+/// What is kept of the good lines is what is kept of all lines, and the same is true of what is
+/// reported.
 pub fn good_lines_are_kept()
     ensures kept { (rules : Rules) (r : List ℕ) (n : ℕ) → n ≡ length (good rules r)
         → kept_first rules n r ≡ kept rules r }
@@ -170,7 +182,7 @@ pub fn good_lines_are_kept()
         → reported_first rules n r ≡ reported rules r }
 {}
 
-/// What a `CountSink` that has counted nothing takes is counted: in a run, by its end, and of pieces.
+/// A `CountSink` that starts at zero counts what it takes: in a run, given its end, and of pieces.
 pub fn puts_are_counted()
     ensures runs { (rules : Rules) (r : List ℕ) (e : End) (c : CountSink)
         → Puts Counts (λ a i b. ⊥) rules r e no_counts c → CountsRun rules r e c }
@@ -178,8 +190,8 @@ pub fn puts_are_counted()
         → PutsPieces Counts (λ a i b. ⊥) rules pieces n e no_counts c → CountsPieces rules pieces n e c }
 {}
 
-/// What a `CountReports` that has counted nothing notes is counted: of the first lines of a stream, in a run, by its
-/// end, and of pieces.
+/// A `CountReports` that starts at zero counts what it notes: of the first lines of a stream, in a
+/// run, given its end, and of pieces.
 pub fn reports_are_counted()
     ensures lines { (rules : Rules) (q : List ℕ) (n : ℕ) (c : CountReports)
         → Notes CountsReport rules q 0 n no_reports c → c ≡ count_of (reported_first rules n q) }
@@ -189,7 +201,7 @@ pub fn reports_are_counted()
         → NotesPieces CountsReport rules pieces n e no_reports c → CountsReportsOfPieces rules pieces n e c }
 {}
 
-/// What a `TallySink` that has tallied nothing takes is tallied: in a run, by its end, and of pieces.
+/// A `TallySink` that starts empty tallies what it takes: in a run, given its end, and of pieces.
 pub fn puts_are_tallied()
     ensures runs { (rules : Rules) (r : List ℕ) (e : End) (start t : Tally) → start ≡ no_tally
         → Puts Tallies (λ a i b. ⊥) rules r e start t → TalliesRun rules r e t }
@@ -197,8 +209,8 @@ pub fn puts_are_tallied()
         → PutsPieces Tallies (λ a i b. ⊥) rules pieces n e start t → TalliesPieces rules pieces n e t }
 {}
 
-/// What an `Output` takes is written: in a run, by its end and by the lines that were dealt with, and of pieces; and of
-/// a run the headline holds, the cause of a write fault with it.
+/// An `Output` writes what it takes: in a run, given its end and the lines that were dealt with,
+/// and of pieces. The headline holds for a run, with the cause of a write fault.
 pub fn puts_are_written<W: Write + Drop, N: ReportSink>()
     ensures runs { (rules : Rules) (r : List ℕ) (e : End) (a b : Output W)
         → Puts (WritesItem W.contents) (WritesPart W.contents) rules r e a b
@@ -218,8 +230,8 @@ pub fn puts_are_written<W: Write + Drop, N: ReportSink>()
         → Copies rules pieces n e (W.contents (output_writer a)) (W.contents (output_writer b)) }
 {}
 
-/// The reports of a run, seen as the list of what is reported of the lines that it dealt with: a sink that collects them has
-/// got this list, and with it the headline holds where the lines go to an `Output`.
+/// The reports of a run are the list of what is reported of the lines that it dealt with. A sink
+/// that collects reports has this list. If the lines go to an `Output`, the headline holds with it.
 pub fn reports_are_collected<W: Write + Drop>()
     ensures runs { (run : Run) (left : Option (List ℕ)) → Account run (IsAtEnd left)
         → (run.outcome.ended ≡ End.Memory → run.outcome.lines ≡ 0)
@@ -232,7 +244,7 @@ pub fn reports_are_collected<W: Write + Drop>()
         [] (reported_first run.rules run.outcome.lines run.read) }
 {}
 
-/// No end of a reader of lines is want of memory: its end, seen as an end of the stream, is another.
+/// The end of a reader of lines, seen as an end of the stream, is never `End::Memory`.
 pub fn lines_are_never_refused_memory()
     ensures { (e : LineEnd) → line_end e ≢ End.Memory }
 {}

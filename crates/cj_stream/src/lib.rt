@@ -1,13 +1,17 @@
-//! The engine: it reads a CityJSONSeq stream once, within a bound, judges each line, and puts the header
-//! and the features to a sink.
+//! The engine: it reads a CityJSONSeq stream once, in bounded memory, judges each line, and passes
+//! the header and the features to a sink.
 //!
-//! An [`Engine`] is fed pieces of a stream. Its framer cuts them into lines. Each line is judged when it is
-//! whole: as a text, and then by the rules of `cj_feature`, the first line as a header and each later one as
-//! a feature beside it. A valid header and the valid features that a [`Query`] asks for are lent to a
-//! [`LineSink`]; the first line that is not valid is the end, or, by [`Options`], each later one is lent to a
-//! [`ReportSink`] and the next is read. [`run`] does so with what a reader gives. What the engine holds are
-//! five lists with limits, and the six numbers of the header's transform, so it never grows past the bound,
-//! whatever comes.
+//! A caller feeds pieces of a stream to an [`Engine`]. Its framer cuts them into lines. Each whole
+//! line is judged: first as a JSON text, then by the rules of `cj_feature`. The first line is
+//! judged as a header, and each later line as a feature of that header.
+//!
+//! A [`LineSink`] receives the valid header and the valid features that a [`Query`] selects. By
+//! default the first invalid line is the end. With [`Options::keep_going`], a [`ReportSink`]
+//! receives each later invalid line, and reading goes on. [`run`] does all this with the bytes of a
+//! reader.
+//!
+//! The engine holds five lists with limits and the six numbers of the header's transform. So its
+//! memory stays within a bound that the limits give, for any input.
 //!
 //! ```text
 //! let mut out = Output::new(writer);
@@ -15,30 +19,37 @@
 //! let limits = Limits::new(8_388_608, 64)?;
 //! let outcome = run(alloc, &mut reader, &mut out, &mut NoReports, limits, &query, Options::new());
 //! match outcome.ended {
-//!     End::Complete => {}                           // all lines were read, and none was refused
-//!     End::Refused { line, place, reason } => {}    // the first bad line: number, byte and reason
+//!     End::Complete => {}                           // all lines were read, and none is invalid
+//!     End::Refused { line, place, reason } => {}    // an invalid line: number, byte, reason
 //!     End::ReadFault | End::ReadLimit | End::WriteFault | End::Memory => {}
 //! }
 //! ```
 //!
 //! The modules, from the caller down:
 //!
-//! - `running`: a whole run, from a reader to a sink ([`run`]), also within a number of reads ([`run_within`]), with the
-//!   reader's faults in `source`;
-//! - `parts`: runs over parts of a stream as one ([`Outcome::then`]);
-//! - `pieces`: the same of a stream that comes in pieces ([`put_pieces`]), and the promise of the whole ([`headline`]);
-//!   `line_pieces`: both of what comes after a header ([`put_lines`], [`headline_of_lines`]);
-//! - `sink`: what a sink is ([`LineSink`]), one that ignores and one that counts; `output`: the one that writes
-//!   ([`Output`]); `tally`: the one that tallies ([`TallySink`]);
-//! - `query`: what is asked of features ([`Query`]); `options`: what is told beside that ([`Options`]); `reporting`: what a
-//!   sink of reports is ([`ReportSink`]), one that counts and one that ignores;
-//! - `engine`: the stream so far ([`Engine`]), in one of its two states, `header_reader` ([`HeaderReader`]) and
-//!   `line_reader` ([`LineReader`]); `ending`: how it ended ([`End`]);
-//! - `framer`: each line cut and dealt with; `store`: its bytes until it is whole; `desk`: judged and put to the sink, with
-//!   `judge`: what it is as a text;
-//! - [`laws`]: what follows of what a sink took, and of the definitions; [`row_laws`]: these on worked rows.
+//! - `running`: a whole run, from a reader to a sink ([`run`]), also with a limit on the number of
+//!   reads ([`run_within`]). The faults of the reader are in `source`.
+//! - `parts`: the outcome of two runs over parts of a stream, as one ([`Outcome::then`]).
+//! - `pieces`: a stream that comes in pieces ([`put_pieces`]), and the theorem about the whole
+//!   ([`headline`]).
+//! - `line_pieces`: both for what comes after a header ([`put_lines`], [`headline_of_lines`]).
+//! - `sink`: the trait of a sink ([`LineSink`]), a sink that ignores and one that counts.
+//! - `output`: the sink that writes ([`Output`]).
+//! - `tally`: the sink that tallies ([`TallySink`]).
+//! - `query`: which features are selected ([`Query`]).
+//! - `options`: how a stream is read and judged ([`Options`]).
+//! - `reporting`: the trait of a sink of reports ([`ReportSink`]), one that counts and one that
+//!   ignores.
+//! - `engine`: the stream so far ([`Engine`]), in one of two states: `header_reader`
+//!   ([`HeaderReader`]) and `line_reader` ([`LineReader`]).
+//! - `ending`: how a stream ended ([`End`]).
+//! - `framer`: cuts lines and deals with each.
+//! - `store`: keeps the bytes of a line until it is whole.
+//! - `desk`: judges a line and puts it to the sink. `judge` decides what a line is as a text.
+//! - [`laws`]: what follows from what a sink took, and from the definitions.
+//! - [`row_laws`]: the definitions on worked examples.
 //!
-//! What a caller needs of the crates below is here too, so that one `use` names it all.
+//! The crate also exports what a caller needs of the crates below, so one `use` names everything.
 #![tactic(auto)]
 
 mod desk;

@@ -1,6 +1,7 @@
-//! Pieces for a reader of lines: the promise of the whole for a stream whose header was accepted.
+//! Pieces for a reader of lines: the theorem about a stream whose header was accepted.
 //!
-//! It says of what comes after the header what `pieces` says of a whole stream, and has no case for want of memory.
+//! It says of the bytes after the header what `pieces` says of a whole stream. It has no case for a
+//! lack of memory.
 ghost use Rattle.std.specs.Prelude.{◌≡◌, ◌+◌, ◌++◌, ◌≤◌, ◌^◌, ℕ, List, None, Some, length, map, take};
 ghost use Rattle.cj_stream.specs.Cut.{joined, TookWhole, Fed};
 ghost use Rattle.cj_stream.specs.Ending.{line_end};
@@ -19,11 +20,11 @@ use crate::sink::LineSink;
 use cj_budget::Peaks;
 use std::io::Write;
 
-/// How it went to give pieces to a reader of lines.
+/// The outcome of giving pieces to a reader of lines.
 #[derive(Clone, Copy, Debug, PartialEq, Eq)]
 pub struct LinesOutcome {
-    /// The pieces that were wholly taken. Where a line was the end, it is the next one that made it so,
-    /// if there is one.
+    /// How many pieces were taken whole. If a line was the end, the next piece, if there is one,
+    /// made it so.
     pub taken: usize,
     /// The most that was held.
     pub peaks: Peaks,
@@ -31,7 +32,7 @@ pub struct LinesOutcome {
     pub ended: LineEnd,
 }
 
-/// Feeds all pieces, and finishes, until an end.
+/// Feeds all pieces and then the end, until the reader ends.
 fn feed_all<S: LineSink, N: ReportSink>(
     reader: &mut LineReader,
     pieces: &[&[u8]],
@@ -71,11 +72,16 @@ fn feed_all<S: LineSink, N: ReportSink>(
     }
 }
 
-/// Gives all pieces to a reader of lines that has not ended, and then the end, until it ends. However they are
-/// cut, the sink takes what is kept of the stream after the lines that were dealt with, one after another, and the
-/// end is the ending of the whole stream, unless a step of the sink fails: then it took a prefix of what is kept of the
-/// pieces that were given, with all that is kept of the whole lines of those that were wholly taken. The sink of
-/// reports notes what is reported of the lines that were dealt with. It takes no memory.
+/// Gives all pieces and then the end to a reader of lines, until the reader ends. The reader must
+/// not have ended before. Nothing is allocated.
+///
+/// However the pieces are cut, the sink takes all that is kept of the lines that were not dealt
+/// with before, in order. The end is the ending of the whole stream. This holds unless a step of
+/// the sink fails.
+///
+/// After such a failure the sink took a prefix of what is kept of the given pieces. The prefix has
+/// all that is kept of the whole lines in the pieces that were taken whole. The sink of reports
+/// notes what is reported of the lines that were dealt with.
 pub fn put_lines<S: LineSink, N: ReportSink>(
     reader: &mut LineReader,
     pieces: &[&[u8]],
@@ -101,14 +107,19 @@ pub fn put_lines<S: LineSink, N: ReportSink>(
     feed_all(reader, pieces, sink, reports)
 }
 
-/// Writes what comes after the lines that were dealt with: for every stream however it is cut, exactly the valid
-/// features that satisfy the query, byte for byte, in order, up to the first invalid line or, told to go on, all of
-/// them, and gives each invalid line with its number, place and reason, unless a write fails: then the writer has a
-/// prefix of the output of the pieces that were given, with all of the output of the whole lines of those that were wholly
-/// taken. No memory is taken, so no end tells that it lacks.
+/// The headline for what comes after the lines that were dealt with, however the pieces are cut.
 ///
-/// The stream is one that the reader stands for, with these pieces after it: where the header came to it through
-/// [`crate::HeaderReader`], that begins with the first line.
+/// The reader writes exactly the kept features, byte for byte, in order. By default these are the
+/// ones before the first invalid line. If reading goes on after invalid lines, these are all of
+/// them. The reader gives each invalid line with its number, byte and reason. This holds unless a
+/// write fails.
+///
+/// After a failed write the writer has a prefix of the output of the given pieces. The prefix has
+/// all output of the whole lines in the pieces that were taken whole. Nothing is allocated, so no
+/// end is a lack of memory.
+///
+/// The stream is all bytes that the reader represents (`StandsFor`), followed by these pieces. If
+/// the reader came from [`crate::HeaderReader`], the stream begins with the first line.
 pub fn headline_of_lines<W: Write + Drop, N: ReportSink>(
     reader: &mut LineReader,
     pieces: &[&[u8]],

@@ -1,8 +1,8 @@
-//! The reader of the lines behind a header: the second of two states of a stream.
+//! The reader of the lines after a header: the second of the two states of a stream.
 //!
-//! [`crate::HeaderReader::into_lines`] makes it of an accepted header. The lists that a line goes into have their
-//! room reserved, which is a part of what always holds of it, so none of its calls asks for memory, and its end has
-//! no variant for that.
+//! [`crate::HeaderReader::into_lines`] makes it from an accepted header. The lists that take a line
+//! have their memory reserved, and this is part of the invariant. So no call allocates, and no end
+//! is a lack of memory.
 ghost use Rattle.std.specs.Prelude.{◌≡◌, ◌+◌, ◌++◌, ◌^◌, ◌≤◌, ◌<◌, ℕ, List, length, OnOk, OnErr, MatchResult, Some, None, Ok, Err};
 ghost use Rattle.cj_stream.specs.Ending.{line_end};
 ghost use Rattle.cj_stream.specs.Feeding.{Feeds, IsFinished};
@@ -17,9 +17,9 @@ use crate::sink::LineSink;
 use cj_budget::Peaks;
 use std::marker::Model;
 
-/// Reads the lines behind a header, and puts the kept ones to a sink. It never asks for memory.
+/// Reads the lines after a header, and puts the kept ones to a sink. It never allocates.
 ///
-/// After an end every call answers that end again, puts nothing and changes nothing.
+/// After an end, every call returns that end again and changes nothing.
 #[derive(Drop)]
 pub struct LineReader<'q> {
     framer: Framer<'q>,
@@ -42,7 +42,7 @@ impl<'q> Model for LineReader<'q> {
 }
 
 impl<'q> LineReader<'q> {
-    /// A reader of the lines behind a header that this framer has dealt with.
+    /// Returns a reader of the lines after a header that this framer has dealt with.
     pub(crate) fn of(framer: Framer<'q>, taken: u64) -> LineReader<'q>
         requires first { 0 < framer.reading.lines }
         requires few { framer.reading.lines ≤ taken }
@@ -78,7 +78,7 @@ impl<'q> LineReader<'q> {
         ensures untaken { OnErr result (self.new.taken ≡ self.old.taken) }
         ensures reserved { IsReady self.new.reading self.new.scanning × (0 < lines_of self.new) }
 
-        // What the answer says of all bytes so far, and of the sinks.
+        // What the result says of all bytes so far, and of the sinks.
         ensures reports { (p : List ℕ) → StandsFor self.old p → self.old.ended ≡ None → Notes N.notes (rules_of self.old)
             (p ++ piece.now) (lines_of self.old) (lines_of self.new) reports.old reports.new }
         ensures feeds { MatchResult result
@@ -101,7 +101,7 @@ impl<'q> LineReader<'q> {
         }
     }
 
-    /// Ends the stream, and deals with a last line that LF has not ended.
+    /// Ends the stream, and deals with a last line that has no LF.
     pub fn finish<S: LineSink, N: ReportSink>(&mut self, sink: &mut S, reports: &mut N) -> LineEnd
         ensures again { (e : LineEnd) → self.old.ended ≡ Some (line_end e) →
             (result ≡ e) × (self.new ≡ self.old) × (sink.new ≡ sink.old) × (reports.new ≡ reports.old) }
@@ -120,7 +120,8 @@ impl<'q> LineReader<'q> {
         end
     }
 
-    /// The bytes of the stream that were used by calls that answered Ok, those of the header's reader among them.
+    /// Returns the number of bytes used by calls that returned `Ok`. It includes the bytes that the
+    /// reader of the header used.
     pub fn taken(&self) -> u64
         ensures value { result ≡ self.now.taken }
         ensures bound { result ≤ 2 ^ 60 }
@@ -128,22 +129,23 @@ impl<'q> LineReader<'q> {
         self.taken
     }
 
-    /// What is held now: of bytes and tokens those of the header and of the line that is read, and the open
-    /// containers of a line that was refused.
+    /// Returns what the reader holds now. Bytes and tokens are those of the header and of the line
+    /// being read. Depth is the number of containers that an invalid line left open.
     pub fn held(&self) -> Peaks
         ensures { result ≡ held_by self.now }
     {
         self.framer.held()
     }
 
-    /// The most that was held.
+    /// Returns the peaks: the most of each that the reader held.
     pub fn peaks(&self) -> Peaks
         ensures { result ≡ peaks_of self.now }
     {
         self.framer.peaks()
     }
 
-    /// How many lines were dealt with: the header, features, blank lines, and those that reading went on after.
+    /// Returns how many lines were dealt with: the header, features, blank lines, and invalid lines
+    /// after which reading went on.
     pub fn lines(&self) -> u64
         ensures value { result ≡ lines_of self.now }
         ensures header { 0 < result }
@@ -151,14 +153,14 @@ impl<'q> LineReader<'q> {
         self.framer.lines()
     }
 
-    /// How many features the sink took.
+    /// Returns how many features the sink took.
     pub fn kept(&self) -> u64
         ensures { result ≡ self.now.reading.kept }
     {
         self.framer.kept()
     }
 
-    /// How many lines were refused, and reading went on after them.
+    /// Returns the number of invalid lines after which reading went on.
     pub fn refused(&self) -> u64
         ensures { result ≡ refused_of self.now }
     {

@@ -1,13 +1,13 @@
-//! What a reader of a stream is told beside the limits and the query.
+//! How a stream is read and judged, in addition to the limits and the query.
 ghost use Rattle.std.specs.Prelude.{◌≡◌};
 ghost use Rattle.cj_stream.specs.Options.{usual_options};
 
 use std::marker::Model;
 
-/// How a stream is read and judged, where the usual way is not wanted.
+/// Options of how a stream is read and judged.
 ///
-/// Usually the first invalid line is the end, and the features that satisfy the query are kept. An option is set by a call
-/// that gives its name: `Options::new().keep_going(true)`.
+/// By default the first invalid line is the end, and the features that the query selects are kept.
+/// A method sets the option of its name: `Options::new().keep_going(true)`.
 #[derive(Clone, Copy, Debug, PartialEq, Eq)]
 pub struct Options {
     keep_going: bool,
@@ -26,7 +26,7 @@ impl Model for Options {
 }
 
 impl Options {
-    /// The usual way: no option is set.
+    /// Returns the defaults: no option is set.
     pub fn new() -> Options
         ensures { result ≡ usual_options }
     {
@@ -37,8 +37,8 @@ impl Options {
         }
     }
 
-    /// The same, and whether reading goes on after an invalid line that is not the first: it is reported then, and the
-    /// next line is read.
+    /// Sets whether reading goes on after an invalid line. Each invalid line is then reported. An
+    /// invalid first line is always the end.
     pub fn keep_going(self, on: bool) -> Options
         ensures { result ≡ record self { keep_going = on } }
     {
@@ -48,16 +48,16 @@ impl Options {
         }
     }
 
-    /// The same, and whether each city object of a feature has to be reached from its main one, which the feature's `id`
-    /// names: by the children that each lists, one after another.
+    /// Sets whether each city object of a feature must be reached from the main city object,
+    /// through lists of `children`. The feature's `id` names the main city object.
     pub fn tree(self, on: bool) -> Options
         ensures { result ≡ record self { tree = on } }
     {
         Options { tree: on, ..self }
     }
 
-    /// The same, and whether the features that satisfy the query are left out, in place of those that do not. With a query
-    /// that asks for nothing, the header alone is kept.
+    /// Sets whether the features that the query selects are left out, and the others are kept. With
+    /// a query that has no part set, only the header is kept.
     pub fn exclude(self, on: bool) -> Options
         ensures { result ≡ record self { exclude = on } }
     {
@@ -67,21 +67,21 @@ impl Options {
         }
     }
 
-    /// Whether reading goes on.
+    /// Returns whether reading goes on after an invalid line.
     pub fn keeps_going(self) -> bool
         ensures { result ≡ self.keep_going }
     {
         self.keep_going
     }
 
-    /// Whether each city object has to be reached.
+    /// Returns whether each city object must be reached.
     pub fn asks_for_trees(self) -> bool
         ensures { result ≡ self.tree }
     {
         self.tree
     }
 
-    /// Whether what satisfies the query is left out.
+    /// Returns whether the features that the query selects are left out.
     pub fn excludes(self) -> bool
         ensures { result ≡ self.exclude }
     {

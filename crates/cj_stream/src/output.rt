@@ -1,9 +1,11 @@
-//! A writer, and what its calls have answered: the sink that writes.
+//! The sink that writes: a writer, and what its calls have returned.
 //!
-//! What is easy to get wrong. `write_whole` has its own loop: std's `write_all` tries again after `Interrupted`, and here any
-//! error is a failure, which counts once. What a device answered is read by a small function with an exact clause, as no
-//! clause of its caller can see the answer. The count and the note are private, since they are worth something only while
-//! nobody else can make them; each write drops the note of a flush.
+//! What is easy to get wrong: `write_whole` has its own loop. `write_all` of std tries again after
+//! `Interrupted`, but here every error is a failure and counts once.
+//!
+//! A small function with an exact clause interprets what a device returned, as no clause of its
+//! caller can see that result. The count and the note are private: a proof can rely on them only if
+//! no other code can set them. Each write drops the note of a flush.
 ghost use Rattle.std.specs.Prelude.{◌≡◌, ◌<◌, ◌≤◌, None, Some, OnOk, OnErr, IfOk, length, take};
 ghost use Rattle.std.specs.Io.KnownBytes.{Appends, Keeps};
 ghost use Rattle.cj_stream.specs.Device.{taken_by, flushed_by};
@@ -17,13 +19,13 @@ use std::io;
 use std::io::Write;
 use thiserror::Error;
 
-/// Bytes were not taken.
+/// Some bytes were not taken.
 #[derive(Clone, Copy, Debug, PartialEq, Eq, Error)]
 #[error("a line could not be written")]
 pub struct WriteFault;
 
-/// What a write of some bytes says by its answer: how many it took, or that it failed. Each error is a
-/// failure, also `Interrupted`, and so is a write that took none.
+/// Returns how many bytes a write took, or that it failed. Every error is a failure, also
+/// `Interrupted`, and so is a write that took no byte.
 fn bytes_taken(answer: io::Result<usize>) -> Result<usize, WriteFault>
     ensures { result ≡ taken_by answer }
 {
@@ -33,7 +35,7 @@ fn bytes_taken(answer: io::Result<usize>) -> Result<usize, WriteFault>
     }
 }
 
-/// What a flush says by its answer. Each error is a failure.
+/// Returns whether a flush failed. Every error is a failure.
 fn flushed(answer: io::Result<()>) -> Result<(), WriteFault>
     ensures { result ≡ flushed_by answer }
 {
@@ -43,12 +45,13 @@ fn flushed(answer: io::Result<()>) -> Result<(), WriteFault>
     }
 }
 
-/// A writer that counts how often a write to it has failed, and notes what its last flush answered,
-/// until more is written. Clauses cannot see a call of the system: they see the count and the note,
-/// which nobody else can make. At 2^64 - 1 the count stays.
+/// A writer with a count of failed writes, and a note of the last flush.
 ///
-/// As a sink it writes each line as it came, with LF exactly if it came with one. A run borrows it, so
-/// the lender goes on with what the run has left of it.
+/// The note lasts until more is written. Clauses cannot see a call of the system. They see the
+/// count and the note, which no other code can set. The count stops at 2^64 - 1.
+///
+/// As a sink it writes each line as it came, with LF exactly if the line had one. A run borrows the
+/// output, so its owner can go on with it after the run.
 #[derive(Drop)]
 pub struct Output<W: Write + Drop> {
     writer: W,
@@ -59,7 +62,7 @@ pub struct Output<W: Write + Drop> {
 impl<W: Write + Drop> Output<W> {
     ghost use Rattle.cj_stream.specs.Output.{output_writer, output_failures, flush_answer};
 
-    /// An output to a writer that has not failed, and of which no flush is known.
+    /// Returns an output for a writer. It has counted no failure and noted no flush.
     pub fn new(writer: W) -> Self
         ensures writer { output_writer result ≡ writer }
         ensures failures { output_failures result ≡ 0 }
@@ -72,7 +75,7 @@ impl<W: Write + Drop> Output<W> {
         }
     }
 
-    /// The writer, as it is now.
+    /// Returns the writer, as it is now.
     pub fn into_inner(self) -> W
         ensures { result ≡ output_writer self }
     {
@@ -106,8 +109,12 @@ impl<W: Write + Drop> Output<W> {
         taken
     }
 
-    /// Writes all of the bytes, by one write after another, or as many as the writer takes before it
-    /// fails. An error of a write, also `Interrupted`, and a write that takes none are failures.
+    /// Writes all bytes, by one write after another, or as many as the writer takes before it
+    /// fails.
+    ///
+    /// # Errors
+    ///
+    /// `WriteFault` if a write returned an error, also `Interrupted`, or took no byte.
     pub fn write_whole(&mut self, bytes: &[u8]) -> Result<(), WriteFault>
         ensures ok { OnOk result
             (Appends (W.contents (output_writer self.old)) (W.contents (output_writer self.new)) bytes.now) }
@@ -130,7 +137,7 @@ impl<W: Write + Drop> Output<W> {
         Ok(())
     }
 
-    /// Writes a line as it came.
+    /// Writes a line as it came: its content, and LF if the line had one.
     pub fn write_line(&mut self, content: &[u8], lf: bool) -> Result<(), WriteFault>
         ensures ok { OnOk result (Appends (W.contents (output_writer self.old)) (W.contents (output_writer self.new))
             (raw (record { content = content.now; lf = lf }))) }
@@ -149,7 +156,7 @@ impl<W: Write + Drop> Output<W> {
         Ok(())
     }
 
-    /// Flushes the writer, and notes the answer.
+    /// Flushes the writer, and notes the result.
     pub fn flush(&mut self) -> Result<(), WriteFault>
         ensures bytes { Keeps (W.contents (output_writer self.old)) (W.contents (output_writer self.new)) }
         ensures failures { output_failures self.new ≡ output_failures self.old }
@@ -161,7 +168,7 @@ impl<W: Write + Drop> Output<W> {
     }
 }
 
-/// An output, by the name that it has as a sink.
+/// The output under the name that it has as a sink.
 pub type WriteSink<W> = Output<W>;
 
 impl<W: Write + Drop> LineSink for Output<W> {

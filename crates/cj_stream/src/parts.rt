@@ -1,7 +1,7 @@
 //! Runs over the parts of a stream, seen as one run over all of it.
 //!
-//! A stream may be read in parts that begin with its header: each is the header with some of the lines behind it, in their
-//! order. What the sinks and the reports of these runs got follows by [`crate::laws::parts_are_joined`].
+//! A part is the header with some of the later lines, in their order. So each part can be read on
+//! its own. [`crate::laws::parts_are_joined`] says what the sinks of these runs got together.
 ghost use Rattle.std.specs.Prelude.{◌≡◌, ◌≢◌, ◌+◌, ◌-◌, ◌<◌, ◌^◌, ◌++◌, ℕ, List, Option};
 ghost use Rattle.std.specs.Io.KnownBytes.{IsAtEnd};
 ghost use Rattle.cj_stream.specs.Cut.{IsUnread};
@@ -13,7 +13,7 @@ use crate::ending::End;
 use crate::running::Outcome;
 use cj_budget::Peaks;
 
-/// The greater of each two counts.
+/// Returns the greater of each two counts.
 fn greater(first: Peaks, second: Peaks) -> Peaks
     ensures { result ≡ greater_peaks first second }
 {
@@ -24,7 +24,8 @@ fn greater(first: Peaks, second: Peaks) -> Peaks
     }
 }
 
-/// An end of a second part, seen as one of the stream: so many lines later.
+/// Returns an end of the second part as an end of the stream: its line is that number of lines
+/// later.
 fn moved(end: End, lines: u64) -> End
     ensures { result ≡ capped_end (moved_end lines end) }
 {
@@ -42,7 +43,7 @@ fn moved(end: End, lines: u64) -> End
     }
 }
 
-/// Two runs as one, where the first was complete: the header counts once.
+/// Returns two runs as one, where the first was complete. The header counts once.
 fn both(first: Outcome, second: Outcome) -> Outcome
     ensures { result ≡ capped_outcome (both_outcomes first second) }
 {
@@ -56,10 +57,12 @@ fn both(first: Outcome, second: Outcome) -> Outcome
 }
 
 impl Outcome {
-    /// How a run over a header and the lines of two parts goes, by how one over the header with the lines of the first part
-    /// went, and by `next`, how one over the header with what follows these went. Where the first one did not end complete, it
-    /// stands for both. The first part ends with an LF, no read of it failed, and its reads did not run out. Counts and line
-    /// numbers stop at 2^64 - 1.
+    /// Returns the outcome of a run over two parts as one.
+    ///
+    /// `self` is the outcome of the run over the first part, and `next` that of the run over the
+    /// header with the lines after it. If the first run did not end complete, its outcome is the
+    /// result. The first part must end with LF, and its run must not have ended in a failed read or
+    /// at the limit of reads. Counts and line numbers stop at 2^64 - 1.
     pub fn then(self, next: Outcome) -> Outcome
         ensures ended { self.ended ≢ End.Complete → result ≡ self }
         ensures complete { self.ended ≡ End.Complete → result ≡ capped_outcome (both_outcomes self next) }

@@ -1,4 +1,4 @@
-//! Streams that come in pieces: the promise of the whole, for any cut.
+//! Streams that come in pieces: the theorem about the whole, for any cut.
 //!
 //! What is held does not depend on the cut, as each line is put together in the engine's own list.
 ghost use Rattle.std.specs.Prelude.{◌≡◌, ◌+◌, ◌≤◌, ◌^◌, [], Some, length, map, take};
@@ -18,11 +18,11 @@ use crate::sink::LineSink;
 use cj_budget::Peaks;
 use std::io::Write;
 
-/// How it went to give pieces to an engine.
+/// The outcome of giving pieces to an engine.
 #[derive(Clone, Copy, Debug, PartialEq, Eq)]
 pub struct PiecesOutcome {
-    /// The pieces that were wholly taken. Where a line was the end, it is the next one that made it so,
-    /// if there is one.
+    /// How many pieces were taken whole. If a line was the end, the next piece, if there is one,
+    /// made it so.
     pub taken: usize,
     /// The most that was held.
     pub peaks: Peaks,
@@ -30,7 +30,7 @@ pub struct PiecesOutcome {
     pub ended: End,
 }
 
-/// Feeds all pieces, and finishes, until an end.
+/// Feeds all pieces and then the end, until the engine ends.
 fn feed_all<S: LineSink, N: ReportSink>(
     engine: &mut Engine,
     pieces: &[&[u8]],
@@ -71,12 +71,18 @@ fn feed_all<S: LineSink, N: ReportSink>(
     }
 }
 
-/// Gives all pieces of a stream to an engine that has been given nothing, and then the end, until it
-/// ends. However the stream is cut, the sink takes what is kept of it, one after another, and the
-/// end is its ending, unless a step of the sink fails or memory is refused: then it took a prefix of what
-/// is kept of the pieces that were given, with all that is kept of the whole lines of those that were
-/// wholly taken. The sink of reports notes what is reported, by the same measure. Without a fault the engine's counts are of
-/// the whole stream. Whatever the end is, counts, sink and reports are those of the first lines, as many as the engine counts.
+/// Gives all pieces of a stream and then its end to an engine, until the engine ends. The engine
+/// must have been given nothing before.
+///
+/// However the stream is cut, the sink takes all that is kept of it, in order. The end is the
+/// ending of the stream. This holds unless a step of the sink fails or memory is refused.
+///
+/// Otherwise the sink took a prefix of what is kept of the given pieces. The prefix has all that is
+/// kept of the whole lines in the pieces that were taken whole. The sink of reports notes what is
+/// reported, to the same extent.
+///
+/// Without a fault the engine's counts are those of the whole stream. After any end, the counts and
+/// both sinks are those of the first lines of the stream, as many as the engine counts.
 pub fn put_pieces<S: LineSink, N: ReportSink>(
     engine: &mut Engine,
     pieces: &[&[u8]],
@@ -105,17 +111,25 @@ pub fn put_pieces<S: LineSink, N: ReportSink>(
     feed_all(engine, pieces, sink, reports)
 }
 
-/// For every stream however it is cut, all limits L and D, query and options, the engine writes exactly the
-/// header and the valid features that satisfy the query, byte for byte, in order, up to the first invalid
-/// line or, told to go on past a valid header, all of them, gives each invalid line met with number, place
-/// and reason, and never holds more than `h + L` bytes, `(h + L + D) / 2 + 1` tokens and D open containers,
-/// where h is the length of the first line, cut at L.
+/// The headline: what the engine does with every stream, however it is cut, for all limits, queries
+/// and options.
 ///
-/// An invalid line that is the end is given by that end, and one that reading goes on after by a report. The
-/// engine is one that `Engine::open` has made for the limits, the query and the options, and that has been
-/// given nothing. What is written and reported, and how it ends, is said where no write fails and no memory is
-/// refused, of a writer that tells its bytes; what is held, whatever comes. After a fault the writer has a
-/// prefix of the output of the pieces that were given, with all of the output of those that were wholly taken.
+/// L is the limit on the bytes of a line, D the limit on depth, and h the length of the first line,
+/// cut at L.
+///
+/// 1. The engine writes exactly the header and the kept features, byte for byte, in order. By
+///    default these are the ones before the first invalid line. If reading goes on after invalid
+///    lines, and the header is valid, these are all of them.
+/// 2. It gives each invalid line that it meets, with number, byte and reason. The end gives the
+///    line, or a report does if reading goes on after it.
+/// 3. It never holds more than `h + L` bytes, `(h + L + D) / 2 + 1` tokens and D open containers.
+///
+/// The first two hold unless a write fails or memory is refused, for a writer whose contract says
+/// which bytes it got. The third always holds. After a fault the writer has a prefix of the output
+/// of the given pieces. The prefix has all output of the pieces that were taken whole.
+///
+/// The engine comes from `Engine::open` with these limits, query and options, and has been given
+/// nothing.
 pub fn headline<W: Write + Drop, N: ReportSink>(
     engine: &mut Engine,
     pieces: &[&[u8]],

@@ -1,4 +1,4 @@
-//! What is asked of a stream.
+//! Which features of a stream are selected.
 ghost use Rattle.std.specs.Prelude.{◌≡◌, true, Some, Ok, Err, [], IfErr, OnOk, OnErr, MatchOption, MatchResult};
 ghost use Rattle.cj_spans.specs.Tree.{Tree};
 ghost use Rattle.cj_feature.specs.HeaderView.{header_tree, has_box};
@@ -27,11 +27,11 @@ use ids::{Ids, add_id};
 use std::alloc::Global;
 use texts::add_text;
 
-/// How many types of city objects there are.
+/// The number of types of city objects.
 const TYPES: usize = 33;
 
-/// What a feature has to be, to be put to a sink: each part that is set has to hold. It counts the growths of it
-/// that were refused.
+/// Selects features: a feature is selected if it satisfies each part that is set. The query counts
+/// its growths that were refused.
 #[derive(Drop)]
 pub struct Query {
     alloc: Global,
@@ -43,7 +43,7 @@ pub struct Query {
 }
 
 impl Query {
-    /// No part is set, so every feature satisfies it. It takes no memory.
+    /// Returns a query with no part set, so it selects every feature. It allocates nothing.
     #[tactic(auto, unfolding(crate::specs::Query::criteria, crate::specs::Criteria::holds))]
     pub fn all(alloc: Global) -> Query
         ensures all { criteria result ≡ everything }
@@ -60,7 +60,7 @@ impl Query {
         }
     }
 
-    /// Whether there is a box. The header of a stream is judged for it.
+    /// Returns whether there is a box. Then the header of a stream is judged for it too.
     #[tactic(auto, unfolding(crate::specs::Query::criteria))]
     pub fn wants_box(&self) -> bool
         ensures { result ≡ needs_box (criteria self.now) }
@@ -68,8 +68,8 @@ impl Query {
         self.bounds.is_some()
     }
 
-    /// Sets the part on ids to no id, whatever it was: no feature holds there until one is added. It
-    /// takes no memory.
+    /// Sets the part on ids to an empty list, in place of an earlier one. Until an id is added, no
+    /// feature satisfies it. It allocates nothing.
     #[tactic(auto, unfolding(crate::specs::Query::criteria))]
     pub fn start_ids(&mut self)
         ensures asks { criteria self.new ≡ record (criteria self.old) { ids = Some [] } }
@@ -78,8 +78,8 @@ impl Query {
         self.ids = Some(Ids::new(self.alloc));
     }
 
-    /// Sets the part on types to no type, whatever it was: no feature holds there until one is added. It
-    /// takes no memory.
+    /// Sets the part on types to an empty set, in place of an earlier one. Until a type is added,
+    /// no feature satisfies it. It allocates nothing.
     #[tactic(auto, unfolding(crate::specs::Query::criteria))]
     pub fn start_types(&mut self)
         ensures asks { criteria self.new ≡ record (criteria self.old) { types = Some no_types } }
@@ -88,8 +88,8 @@ impl Query {
         self.types = Some([false; TYPES]);
     }
 
-    /// Sets the part on LoDs to no LoD, whatever it was: no feature holds there until one is added. It
-    /// takes no memory.
+    /// Sets the part on LoDs to an empty list, in place of an earlier one. Until an LoD is added,
+    /// no feature satisfies it. It allocates nothing.
     #[tactic(auto, unfolding(crate::specs::Query::criteria))]
     pub fn start_lods(&mut self)
         ensures asks { criteria self.new ≡ record (criteria self.old) { lods = Some [] } }
@@ -98,12 +98,11 @@ impl Query {
         self.lods = Some(Vec::new(self.alloc));
     }
 
-    /// Adds an id to the part on ids: a feature holds there whose `id` is one of them. A refusal
-    /// changes nothing of what is asked.
+    /// Adds an id to the part on ids. A feature satisfies the part if its `id` is one of them.
     ///
     /// # Errors
     ///
-    /// `Memory` where none was granted. The query counts that.
+    /// `Memory` if an allocation failed. The query counts that, and selects the same as before.
     #[tactic(auto, unfolding(crate::specs::Query::criteria))]
     pub fn add_id(&mut self, id: &str) -> Result<(), QueryFault>
         ensures ok { OnOk result (criteria self.new ≡ with_id id.now (criteria self.old)) }
@@ -118,8 +117,8 @@ impl Query {
         }
     }
 
-    /// Puts the ids that were added in one order, in which each is found in fewer steps: for a query of many ids, when all
-    /// are added. What it asks stays the same. It takes no memory.
+    /// Sorts the ids that were added, so that each is found in fewer steps. Call it after the last
+    /// of many ids. The query selects the same as before. It allocates nothing.
     #[tactic(auto, unfolding(crate::specs::Query::criteria))]
     pub fn sort_ids(&mut self)
         ensures asks { criteria self.new ≡ criteria self.old }
@@ -130,12 +129,12 @@ impl Query {
         }
     }
 
-    /// Adds a type to the part on types, by its name (CityJSON 2.0, section 2): a feature holds there of
-    /// which some city object has one of them. A refusal changes nothing. It takes no memory.
+    /// Adds a type to the part on types, by its name (CityJSON 2.0, section 2). A feature satisfies
+    /// the part if some city object has one of the types. It allocates nothing.
     ///
     /// # Errors
     ///
-    /// `UnknownTypeName` where no type has this name.
+    /// `UnknownTypeName` if no type has this name. Then nothing changes.
     #[tactic(auto, unfolding(crate::specs::Query::criteria))]
     pub fn add_type(&mut self, name: &str) -> Result<(), QueryFault>
         ensures asks { MatchOption (row_named name.now)
@@ -152,12 +151,12 @@ impl Query {
         Ok(())
     }
 
-    /// Adds a level of detail to the part on LoDs: a feature holds there of which some geometry has one
-    /// of them as its `lod` (CityJSON 2.0, section 3). A refusal changes nothing of what is asked.
+    /// Adds a level of detail to the part on LoDs. A feature satisfies the part if some geometry
+    /// has one of them as its `lod` (CityJSON 2.0, section 3).
     ///
     /// # Errors
     ///
-    /// `Memory` where none was granted. The query counts that.
+    /// `Memory` if an allocation failed. The query counts that, and selects the same as before.
     #[tactic(auto, unfolding(crate::specs::Query::criteria))]
     pub fn add_lod(&mut self, lod: &str) -> Result<(), QueryFault>
         ensures ok { OnOk result (criteria self.new ≡ with_lod lod.now (criteria self.old)) }
@@ -172,15 +171,17 @@ impl Query {
         }
     }
 
-    /// Sets the box, in place of an earlier one, to that of a text `minx,miny,maxx,maxy`: four numbers as
-    /// JSON spells them (RFC 8259, section 6), with commas between them and nothing else. A refusal
-    /// changes nothing. It takes no memory.
+    /// Sets the box, in place of an earlier one, from a text `minx,miny,maxx,maxy`. It is four
+    /// numbers in the spelling of JSON (RFC 8259, section 6), with commas between them and nothing
+    /// else. It allocates nothing.
     ///
     /// # Errors
     ///
-    /// The first of these: `BadBox` where the text is not of this form; `BoxRange` where a number is out
-    /// of range, no multiple of 10^-18, or 10^18 or more in size; `EmptyBox` where a least edge is above
-    /// the greatest on its axis.
+    /// The first of these, and then nothing changes:
+    ///
+    /// - `BadBox` if the text does not have this form.
+    /// - `BoxRange` if a number is out of range, no multiple of 10^-18, or 10^18 or more in size.
+    /// - `EmptyBox` if a least edge is above the greatest on its axis.
     #[tactic(auto, unfolding(crate::specs::Query::criteria))]
     pub fn bbox(&mut self, text: &str) -> Result<(), QueryFault>
         ensures asks { MatchResult (box_text text.now)
@@ -192,8 +193,8 @@ impl Query {
         Ok(())
     }
 
-    /// Whether a feature satisfies it, beside the header of its stream. The parts are tried cheapest
-    /// first.
+    /// Returns whether the query selects a feature, given the header of its stream. It tries the
+    /// cheapest part first.
     #[tactic(auto, unfolding(crate::specs::Criteria::holds))]
     pub fn holds(&self, feature: &Feature, header: &Header) -> bool
         requires { has_box header.now ≡ needs_box (criteria self.now) }
@@ -205,7 +206,7 @@ impl Query {
             && self.is_in(feature, header)
     }
 
-    /// Whether the part on ids holds.
+    /// Returns whether a feature satisfies the part on ids.
     #[tactic(auto, unfolding(crate::specs::Query::criteria))]
     fn has_id(&self, feature: &Feature) -> bool
         ensures { result ≡ if_set (λ ids. id_holds ids (feature_tree feature.now)) (criteria self.now).ids }
@@ -216,7 +217,7 @@ impl Query {
         }
     }
 
-    /// Whether the part on types holds.
+    /// Returns whether a feature satisfies the part on types.
     #[tactic(auto, unfolding(crate::specs::Query::criteria))]
     fn has_type(&self, feature: &Feature) -> bool
         ensures { result ≡ if_set (λ types. type_holds types (feature_tree feature.now)) (criteria self.now).types }
@@ -227,7 +228,7 @@ impl Query {
         }
     }
 
-    /// Whether the part on LoDs holds.
+    /// Returns whether a feature satisfies the part on LoDs.
     #[tactic(auto, unfolding(crate::specs::Query::criteria))]
     fn has_lod(&self, feature: &Feature, header: &Header) -> bool
         ensures { result
@@ -240,7 +241,7 @@ impl Query {
         }
     }
 
-    /// Whether the part on the box holds.
+    /// Returns whether a feature satisfies the part on the box.
     #[tactic(auto, unfolding(crate::specs::Query::criteria))]
     fn is_in(&self, feature: &Feature, header: &Header) -> bool
         requires { has_box header.now ≡ needs_box (criteria self.now) }

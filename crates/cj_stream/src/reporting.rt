@@ -1,23 +1,24 @@
-//! Where invalid lines are told, if reading goes on after them: what a sink of reports is, one that takes no notice, and one
-//! that counts.
+//! Sinks of reports: they receive the invalid lines if reading goes on after them. The trait is
+//! here, one sink that ignores reports, and one that counts them.
 ghost use Rattle.std.specs.Prelude.{◌≡◌};
 ghost use Rattle.cj_stream.specs.declared.reporting.Report.{Report};
 
 use cj_spans::Reason;
 
-/// A line that was refused, and after which reading went on.
+/// An invalid line after which reading went on.
 #[derive(Clone, Copy, Debug, PartialEq, Eq)]
 pub struct Report {
-    /// The line's number, from 1.
+    /// The number of the line, from 1.
     pub line: u64,
-    /// The byte offset in its content.
+    /// The byte in its content, from 0.
     pub place: u64,
-    /// Why it was refused.
+    /// Why the line is invalid.
     pub reason: Reason,
 }
 
-/// What takes reports, one after another, in the order of their lines. It never fails: what becomes of a report that
-/// cannot be passed on is its own affair.
+/// Receives reports one after another, in the order of their lines.
+///
+/// A sink of reports never fails: it deals itself with a report that it cannot pass on.
 pub trait ReportSink {
     /// What one report makes of the sink.
     ghost notes: { Self → Report → Self → Type 0 };
@@ -27,7 +28,8 @@ pub trait ReportSink {
         ensures { notes self.old report self.new };
 }
 
-/// Takes no notice of a report: for a stream whose first invalid line is the end, or of which the counts alone are wanted.
+/// Ignores reports. It suits a stream that ends at the first invalid line, and callers who need
+/// only counts.
 #[derive(Clone, Copy, Debug, PartialEq, Eq)]
 pub struct NoReports;
 
@@ -37,10 +39,10 @@ impl ReportSink for NoReports {
     fn report(&mut self, _report: Report) {}
 }
 
-/// Counts reports. At 2^64 - 1 the count stays.
+/// Counts reports. The count stops at 2^64 - 1.
 #[derive(Clone, Copy, Debug, PartialEq, Eq)]
 pub struct CountReports {
-    /// The reports that it took.
+    /// The number of reports that it took.
     pub reports: u64,
 }
 

@@ -1,5 +1,5 @@
-//! The definitions that promises end in, on small cases whose answers are known, with cases that are refuted beside them.
-//! Each row is a theorem, proved once and for all.
+//! Worked examples of the definitions in the promises: small cases with known results, and cases
+//! that are refuted. Each row is a theorem, proved once.
 ghost use Rattle.cj_stream.specs.BoundRows.{EmptyRow as BoundOfNothing, HeaderRow as BoundOfHeader, CutRow as BoundOfLongLine, EdgeRow, ExactRow};
 ghost use Rattle.cj_stream.specs.BoxRows.{BoxRow, FieldRows, RangeRows, EmptyRow as BoxOfNothing, OrderRows};
 ghost use Rattle.cj_stream.specs.ChoiceRows.{ApartRow, ChainRow, ExcludeRow};
@@ -23,22 +23,23 @@ pub fn rows_compute()
     ensures deep { DeepRow }
 {}
 
-/// How a stream ends in which reading goes on after invalid lines, and what is written and reported of it.
+/// How a stream ends if reading goes on after invalid lines, and what is written and reported of
+/// it.
 pub fn going_rows_compute()
     ensures between { BetweenRow }
     ensures first { GoingFirst }
     ensures last { LastRow }
 {}
 
-/// How a stream ends of which each city object has to be reached, or of which what is asked for is left out, and what is
-/// written of it.
+/// How a stream ends, and what is written, if each city object must be reached, or if selected
+/// features are left out.
 pub fn choice_rows_compute()
     ensures apart { ApartRow }
     ensures chain { ChainRow }
     ensures exclude { ExcludeRow }
 {}
 
-/// The bound on what is held, and what is held at most.
+/// The bound on what is held, and the exact peaks.
 pub fn bounds_compute()
     ensures nothing { BoundOfNothing }
     ensures header { BoundOfHeader }
@@ -66,7 +67,7 @@ pub fn lines_compute()
     ensures header { HeaderRow }
 {}
 
-/// Which features satisfy what is asked.
+/// Which features a query selects.
 pub fn queries_compute()
     ensures ids { IdRows }
     ensures types { TypeRows }

@@ -20,22 +20,23 @@ use source::{ReadFault, Source};
 use std::alloc::Global;
 use std::io::Read;
 
-/// The most reads of one run, and those of a run to which no number is given.
+/// The most reads of one run, and those of [`run`].
 const MOST_READS: u64 = 1_099_511_627_776;
 
 const _: () = prove!(MOST_READS == 1 << 40);
 
-/// The bytes of one read at most.
+/// The most bytes of one read.
 const PIECE_LENGTH: usize = 8_192;
 
 /// How a run went.
 #[derive(Clone, Copy, Debug, PartialEq, Eq)]
 pub struct Outcome {
-    /// The lines that were wholly dealt with: the header, features, blank lines, and those that reading went on after.
+    /// The number of lines that were dealt with: the header, features, blank lines, and invalid
+    /// lines after which reading went on.
     pub lines: u64,
-    /// The features that the sink took.
+    /// The number of features that the sink took.
     pub kept: u64,
-    /// The lines that were refused, and that reading went on after.
+    /// The number of invalid lines after which reading went on.
     pub refused: u64,
     /// The most that was held.
     pub peaks: Peaks,
@@ -44,7 +45,7 @@ pub struct Outcome {
 }
 
 impl Outcome {
-    /// The outcome of a run that was refused its memory before the first read.
+    /// Returns the outcome of a run whose allocation failed before the first read.
     fn without_memory() -> Outcome
         ensures { result
             ≡ record { lines = 0; kept = 0; refused = 0; peaks = record { bytes = 0; tokens = 0; depth = 0 }; ended = End.Memory } }
@@ -63,8 +64,8 @@ impl Outcome {
     }
 }
 
-/// Feeds what the source gives, by pieces of at most the buffer's length, and finishes at its end. The
-/// first read that fails is the end, and so is the last of the reads, if none of them gave one.
+/// Feeds what the source gives, in pieces of at most the buffer's length, and finishes at its end.
+/// The first failed read is the end. If no read gives an end, the last one is the end.
 fn drive<R: Read, S: LineSink, N: ReportSink>(
     engine: &mut Engine,
     buffer: &mut [u8],
@@ -112,11 +113,11 @@ fn drive<R: Read, S: LineSink, N: ReportSink>(
     End::ReadLimit
 }
 
-/// Puts the kept lines of what the reader gives to the sink, until its end or a fault. Told to go on after an invalid line
-/// that is not the first, it reports that line, and reads the next one.
+/// Puts the kept lines of what the reader gives to the sink, until an end. If the options say so,
+/// it reports an invalid line that is not the first, and reads on.
 ///
-/// It makes at most 2^40 reads, as [`run_within`] says, and none after the one that gives the end. Memory is refused
-/// before the sink has taken anything, or not at all.
+/// It makes at most 2^40 reads, as [`run_within`] says, and none after the read that gives the end.
+/// Memory is refused before the sink has taken anything, or not at all.
 pub fn run<R: Read, S: LineSink, N: ReportSink>(
     alloc: Global,
     reader: &mut R,
@@ -143,13 +144,15 @@ pub fn run<R: Read, S: LineSink, N: ReportSink>(
     )
 }
 
-/// Does what [`run`] does, with at most `reads` reads, of at most 8,192 bytes each.
+/// Does what [`run`] does, with at most `reads` reads of at most 8,192 bytes each.
 ///
-/// The read that finds the end of the input counts, and so does one that fails. An end or a fault that comes with a
-/// read, the last one too, is the end. Where none came, the end is [`End::ReadLimit`]: the whole lines were dealt
-/// with, and the line that had begun was not judged. So with no read that is the end of each input, also of an empty
-/// one, unless memory for the first line is refused, and the reader and the sink stay as they are. One read more than
-/// the input has bytes is always enough, even if each gives one byte.
+/// The read that finds the end of the input counts, and so does a failed read. An end or a fault in
+/// any read, also the last one, is the end. If no read gives one, the end is [`End::ReadLimit`].
+/// The whole lines were then dealt with, and the line that had begun was not judged.
+///
+/// With no reads, the end is [`End::ReadLimit`] for every input, also an empty one, unless the
+/// memory for the first line is refused. The reader and the sink stay unchanged. It is always
+/// enough to allow one read more than the input has bytes, even if each read gives one byte.
 pub fn run_within<R: Read, S: LineSink, N: ReportSink>(
     alloc: Global,
     reader: &mut R,

@@ -1,7 +1,8 @@
-//! Where the kept lines go: what a sink is, one that ignores, and one that counts.
+//! Where the kept lines go: the trait of a sink, one sink that ignores, and one that counts.
 //!
-//! A sink is lent views of the engine's own lists, so it takes what it wants to keep. Contracts speak of any sink by the
-//! three ghost members of [`LineSink`]. [`crate::Output`] is the sink that writes, [`crate::TallySink`] one that tallies.
+//! A sink borrows views of the engine's own lists, so it copies what it wants to keep. Contracts
+//! describe any sink by the three ghost members of [`LineSink`]. [`crate::Output`] is the sink that
+//! writes, and [`crate::TallySink`] the one that tallies.
 ghost use Rattle.std.specs.Prelude.{◌≡◌, ◌≤◌, ℕ, OnOk, OnErr};
 ghost use Rattle.cj_stream.specs.Item.{Item, header_item, feature_item};
 ghost use Rattle.cj_stream.specs.Sink.{HasRisen};
@@ -9,9 +10,9 @@ ghost use Rattle.cj_stream.specs.Sink.{HasRisen};
 use crate::output::WriteFault;
 use cj_feature::{Feature, Header};
 
-/// What takes a header and then features, one after another.
+/// Receives a header and then features, one after another.
 ///
-/// A law: a fault is answered only where the count of device failures rose in that call.
+/// An implementation must return a fault only if the count of device failures rose in that call.
 pub trait LineSink {
     /// What one whole item makes of the sink.
     ghost takes: { Self → Item → Self → Type 0 };
@@ -22,14 +23,14 @@ pub trait LineSink {
     /// How often its device has failed.
     ghost failures: { Self → ℕ };
 
-    /// Takes the header, and whether LF ended its line.
+    /// Takes the header. `lf` says whether LF ended its line.
     fn header(&mut self, header: &Header<'_>, lf: bool) -> Result<(), WriteFault>
         ensures ok { OnOk result (takes self.old (header_item header.now lf) self.new) }
         ensures fault { OnErr result (leaves self.old (header_item header.now lf) self.new) }
         ensures cause { OnErr result (HasRisen (failures self.old) (failures self.new)) }
         ensures counts { failures self.old ≤ failures self.new };
 
-    /// Takes a feature, and whether LF ended its line.
+    /// Takes a feature. `lf` says whether LF ended its line.
     fn put(&mut self, feature: &Feature<'_>, lf: bool) -> Result<(), WriteFault>
         ensures ok { OnOk result (takes self.old (feature_item feature.now lf) self.new) }
         ensures fault { OnErr result (leaves self.old (feature_item feature.now lf) self.new) }
@@ -37,7 +38,8 @@ pub trait LineSink {
         ensures counts { failures self.old ≤ failures self.new };
 }
 
-/// Takes everything, keeps nothing and never fails: for a run of which the outcome alone is wanted.
+/// Takes everything, keeps nothing and never fails. It suits a run whose outcome is all that
+/// matters.
 #[derive(Clone, Copy, Debug, PartialEq, Eq)]
 pub struct IgnoreSink;
 
@@ -57,12 +59,12 @@ impl LineSink for IgnoreSink {
     }
 }
 
-/// Counts headers and features. At 2^64 - 1 a count stays.
+/// Counts headers and features. A count stops at 2^64 - 1.
 #[derive(Clone, Copy, Debug, PartialEq, Eq)]
 pub struct CountSink {
-    /// The headers that it took.
+    /// The number of headers that it took.
     pub headers: u64,
-    /// The features that it took.
+    /// The number of features that it took.
     pub features: u64,
 }
 

@@ -1,11 +1,12 @@
-//! Keeps the bytes of a stream: those of its first line, and those of a later line that has begun.
+//! Keeps the bytes of the first line of a stream, and those of a later line that has begun.
 //!
-//! The first line has a list of its own, since it stays while lines come and go; so its peak and that of the later
-//! lines add up, and exactly. Each line is put together here before it is judged, also where it stands whole in a
-//! piece, so that what is held does not depend on how the stream is cut. LF is no content: it is not stored.
+//! The first line has a list of its own, since it stays while later lines come and go. So the peaks
+//! of both lists add up exactly. Each line is put together here before it is judged, even if it is
+//! whole in one piece. So what is held does not depend on how the stream is cut. LF is no content,
+//! and is not stored.
 //!
-//! A later line that is too long may be dropped: what fits of it is stored first, whatever the cut, and from then on nothing of
-//! it is held, up to its LF.
+//! A later line that is too long may be dropped. The bytes that fit are stored first, however the
+//! line is cut. From then on nothing of the line is held, up to its LF.
 ghost use Rattle.std.specs.Prelude.{◌≡◌, ◌+◌, ◌<◌, ◌≤◌, ◌^◌, ◌==◌, ◌++◌, [], false, true, length, if◌then◌else◌, OnOk, OnErr, IsTrue};
 ghost use Rattle.cj_budget.specs.Bounded.{IsNew, IsWithin, Becomes};
 
@@ -16,19 +17,20 @@ use std::alloc::Global;
 #[derive(Clone, Copy, Debug, PartialEq, Eq)]
 pub struct TooLong;
 
-/// The content of the first line, and that of a later line that has begun. Both lists have the line limit.
+/// The content of the first line, and that of a later line that has begun. Both lists have the line
+/// limit.
 #[derive(Drop)]
 pub struct Store {
     pub header: Bounded<u8>,
     pub line: Bounded<u8>,
     /// How many lines were dealt with.
     pub lines: u64,
-    /// Whether the begun line is dropped, since it is too long.
+    /// Whether the begun line is being dropped, since it is too long.
     pub dropped: bool,
 }
 
 impl Store {
-    /// A store that holds nothing, under this line limit. It takes no memory.
+    /// Returns a store that holds nothing, under this line limit in bytes. It allocates nothing.
     pub fn new(alloc: Global, limit: usize) -> Store
         ensures header { IsNew 0 limit result.header }
         ensures line { IsNew 0 limit result.line }
@@ -43,7 +45,7 @@ impl Store {
         }
     }
 
-    /// The content of the begun line so far.
+    /// Returns the content of the begun line so far.
     pub fn begun(&self) -> &[u8]
         ensures value { result.now ≡ (if self.now.lines == 0 then self.now.header.elements else self.now.line.elements) }
         ensures header { IsWithin self.now.header }
@@ -53,7 +55,11 @@ impl Store {
         if self.lines == 0 { header } else { line }
     }
 
-    /// Adds a part to the begun line, or nothing of it where it does not fit.
+    /// Adds a part to the begun line.
+    ///
+    /// # Errors
+    ///
+    /// `TooLong` if the part does not fit under the line limit. Then nothing is added.
     pub fn add(&mut self, part: &[u8]) -> Result<(), TooLong>
         requires limits { self.old.line.limit ≡ self.old.header.limit }
         requires first { self.old.lines ≡ 0 → IsTrue self.old.header.reserved }
@@ -83,7 +89,8 @@ impl Store {
         Ok(())
     }
 
-    /// Drops the later line that has begun, which this part makes too long, once what fits of it was stored.
+    /// Drops the later line that has begun, and that this part makes too long. The bytes that fit
+    /// are stored first.
     pub fn drop_line(&mut self, part: &[u8])
         requires reserved { IsTrue self.old.line.reserved }
         requires long { self.old.line.limit < length self.old.line.elements + length part.now }
@@ -99,7 +106,7 @@ impl Store {
         self.dropped = true;
     }
 
-    /// The begun line is done with. The first one stays.
+    /// Ends the begun line, and counts it. The first line stays.
     pub fn pass(&mut self)
         requires room { self.old.lines < 2 ^ 62 }
         ensures lines { self.new.lines ≡ self.old.lines + 1 }

@@ -18,12 +18,12 @@ use cj_geometry::ObjectType;
 use joining::{add_counts, join_ranges};
 use std::marker::Model;
 
-/// How many classes of LoDs there are: 0 to 4, and other.
+/// The number of LoD classes: 0 to 4, and other.
 const CLASSES: usize = 6;
 
-/// Tallies what is kept of a stream: its features, their city objects by type, their geometries by LoD
-/// class, and the least and the greatest number of their vertices on each axis; and keeps the numbers of
-/// the header's transform. At 2^64 - 1 a count stays. It takes no memory.
+/// Tallies the kept features of a stream. It counts features, city objects by type, and geometries
+/// by LoD class. It has the least and greatest vertex coordinate on each axis, and the numbers of
+/// the header's transform. A count stops at 2^64 - 1. It allocates nothing.
 #[derive(Clone, Copy, Debug)]
 pub struct TallySink {
     features: u64,
@@ -59,7 +59,7 @@ impl Model for TallySink {
 }
 
 impl TallySink {
-    /// The tally of nothing.
+    /// Returns the tally of nothing.
     pub fn new() -> TallySink
         ensures { result ≡ no_tally }
     {
@@ -73,7 +73,8 @@ impl TallySink {
         }
     }
 
-    /// A sink with these counts and ranges, and no header: as if a tally of features were gone on with that was kept elsewhere.
+    /// Returns a sink with these counts and ranges, and no header. So a tally that was stored
+    /// elsewhere can be continued.
     pub fn of_counts(
         features: u64,
         types: [u64; 33],
@@ -99,36 +100,37 @@ impl TallySink {
         }
     }
 
-    /// How many features it took.
+    /// Returns the number of features that it took.
     pub fn features(&self) -> u64
         ensures { result ≡ self.now.features }
     {
         self.features
     }
 
-    /// How many city objects of its features have this type.
+    /// Returns the number of city objects of this type.
     pub fn by_type(&self, object_type: ObjectType) -> u64
         ensures { result ≡ get_or self.now.types (row_at object_type).number 0 }
     {
         self.types[object_type.number() as usize]
     }
 
-    /// How many city objects of its features have each type, by the type's number.
+    /// Returns the number of city objects of each type, by the type's number.
     pub fn types(&self) -> [u64; 33]
         ensures { result ≡ self.now.types }
     {
         self.types
     }
 
-    /// How many geometries of its features have an LoD of each class, as for [`TallySink::by_lod`].
+    /// Returns the number of geometries in each LoD class, as [`TallySink::by_lod`] counts them.
     pub fn lods(&self) -> [u64; CLASSES]
         ensures { result ≡ self.now.lods }
     {
         self.lods
     }
 
-    /// How many geometries of its features have an LoD of this class: 0 to 4 for a text that begins with
-    /// `0` to `4`, and 5 for any other and for none. An instance has the LoD of its template.
+    /// Returns the number of geometries in an LoD class. The classes 0 to 4 are LoDs that begin
+    /// with `0` to `4`. Class 5 is any other LoD, and none. An instance has the LoD of its
+    /// template.
     pub fn by_lod(&self, class: u8) -> u64
         requires { class ≤ 5 }
         ensures { result ≡ get_or self.now.lods class 0 }
@@ -136,8 +138,8 @@ impl TallySink {
         self.lods[class as usize]
     }
 
-    /// The least and the greatest number of a vertex of its features on an axis, as it stands there, if
-    /// there is a vertex: 0 is x, 1 is y, and 2 is z.
+    /// Returns the least and the greatest vertex coordinate on an axis: 0 is x, 1 is y, and 2 is z.
+    /// These are the numbers in `vertices`, before the transform. None if there is no vertex.
     pub fn range(&self, axis: usize) -> Option<(i64, i64)>
         requires { axis < 3 }
         ensures { result ≡ get_or self.now.ranges axis None }
@@ -145,22 +147,25 @@ impl TallySink {
         self.ranges[axis]
     }
 
-    /// What each axis of a vertex is multiplied by, if it took a header (CityJSON 2.0, section 4).
+    /// Returns the header's scale on each axis (CityJSON 2.0, section 4). A vertex is multiplied by
+    /// it. None if the sink took no header.
     pub fn scale(&self) -> Option<[Decimal; 3]>
         ensures { result ≡ self.now.scale }
     {
         self.scale
     }
 
-    /// What is then added to each axis of a vertex, if it took a header.
+    /// Returns the header's translation on each axis. It is added to the scaled vertex. None if the
+    /// sink took no header.
     pub fn translate(&self) -> Option<[Decimal; 3]>
         ensures { result ≡ self.now.translate }
     {
         self.translate
     }
 
-    /// The tally of a stream by those of two parts, this one and `next`: each part is the header with some of the lines behind
-    /// it, and the first one is complete. At 2^64 - 1 a count stays.
+    /// Returns the tally of a stream from those of its two parts, this one and `next`. Each part is
+    /// the header with some of the later lines, and the first part is complete. A count stops at
+    /// 2^64 - 1.
     pub fn then(&self, next: &TallySink) -> TallySink
         ensures { JoinsTallies self.now next.now result }
     {

@@ -1,15 +1,35 @@
-//! Tests of what no clause says: worked rows, and devices that fail.
+//! Tests of what no clause says: worked examples, and devices that fail.
 //!
-//! `rows`, `engine_rows`, `blank_lines`, `long_lines`, `large`, `order`, `queries` and `ids` have inputs with their
-//! answers, `table` those of the folder `vectors/`, which `vectors` tries by every cut, `lent` and `tally` what sinks see
-//! of them, `faults` and `long_devices` what comes of readers and writers that fail, which are in `devices`, `reads`
-//! what comes of few reads, `states` rows through the two states, `turns` what these tell call by call, `line_pieces`
-//! what comes behind a header, `steps` takes the calls of an engine that a row lists, and `calls` has what all tests share. Of
-//! going on after refused lines `going` has rows by every cut, `dropped` lines that are too long, step by step, `reports` what is
-//! reported and when, and `streams` many lines beside the slow program in `plain`. What comes of the other options is in
-//! `choosing`: features whose city objects do not hang together, and features that are left out; and in `pairs` that of two
-//! options beside two parts of a query. `parts` has streams that are read in parts. A body of many asserts is dear to prove, and
-//! a call is not: a row is one call of a function that checks it.
+//! Inputs with their expected results:
+//!
+//! - `rows`, `engine_rows`, `blank_lines`, `long_lines`, `large`, `order`, `queries` and `ids`.
+//! - `table`: the vectors of the folder `vectors/`. `vectors` runs each with every cut.
+//! - `lent` and `tally`: what sinks get.
+//!
+//! States and calls:
+//!
+//! - `states`: rows through the two states of a stream. `turns`: what the states return, call by
+//!   call.
+//! - `line_pieces`: what comes after a header, in pieces.
+//! - `steps`: lists of calls of an engine.
+//! - `reads`: runs with a limit on the number of reads.
+//!
+//! Devices:
+//!
+//! - `faults` and `long_devices`: readers and writers that fail. They are in `devices`.
+//!
+//! Options and parts:
+//!
+//! - `going`: streams with invalid lines that reading goes on after, with every cut.
+//! - `dropped`: lines that are too long, step by step.
+//! - `reports`: what is reported, and when.
+//! - `streams`: many lines, compared with the slow program in `plain`.
+//! - `choosing`: features with city objects that are not reached, and features that are left out.
+//! - `pairs`: two options with two parts of a query.
+//! - `parts`: streams that are read in parts.
+//!
+//! All tests share `calls`. A function with many asserts takes long to prove, and one with many
+//! calls does not. So a row is one call of a function that checks it.
 mod blank_lines;
 mod calls;
 mod choosing;

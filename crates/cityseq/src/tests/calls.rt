@@ -1,5 +1,5 @@
-//! What the tests share: comparisons, and the calls that are tested without what their contracts
-//! say. A test compares values when it runs, and its proof grows with each fact that a call leaves.
+//! What the tests share: comparisons, and calls of the tested functions without their contracts. A
+//! test compares values when it runs. Its proof would grow with each fact that a call adds.
 use crate::command::command;
 use cj_spans::Reason;
 use cj_stream::{End, Output};
@@ -8,8 +8,8 @@ use std::io::Read;
 use std::process::Abort;
 use std::test::Fail;
 
-/// Compares bytes, at a place of a row. The asserts stand in functions of their own, since each one
-/// makes the proof of its function dearer.
+/// Compares bytes, at a place of a row. The asserts have functions of their own, since each one
+/// makes the proof of its function slower.
 pub fn check_bytes(rt: &impl Abort, got: &[u8], wanted: &[u8], row: &str, at: u64) {
     assert_eq!(rt; got, wanted, "{row}, at {at}");
 }
@@ -19,7 +19,7 @@ pub fn check_number(rt: &impl Abort, got: u64, wanted: u64, row: &str, at: u64) 
     assert_eq!(rt; got, wanted, "{row}, at {at}");
 }
 
-/// The end at a line that is refused.
+/// Returns the end at an invalid line.
 pub const fn refused(line: u64, place: u64, reason: Reason) -> End {
     End::Refused {
         line,
@@ -28,7 +28,7 @@ pub const fn refused(line: u64, place: u64, reason: Reason) -> End {
     }
 }
 
-/// The text, in one.
+/// Returns the parts joined to one text.
 pub fn joined(alloc: Global, parts: &[&[u8]]) -> Result<Vec<u8>, Fail> {
     Ok(parts.concat(alloc)?)
 }
@@ -41,14 +41,14 @@ pub struct Written {
     pub err: Vec<u8>,
 }
 
-/// Compares what the program wrote.
+/// Compares the program's output and status.
 pub fn check_written(rt: &impl Abort, written: &Written, status: u8, out: &[u8], err: &[u8]) {
     check_number(rt, written.status.into(), status.into(), "status", 0);
     check_bytes(rt, &written.out, out, "standard output", 0);
     check_bytes(rt, &written.err, err, "standard error", 0);
 }
 
-/// The program's name and these words.
+/// Returns the program's name and these words.
 fn words(alloc: Global, parts: &[&str]) -> Result<Vec<String>, Fail> {
     let mut words = Vec::new(alloc);
     words.push(String::from_str(alloc, "cityseq")?)?;

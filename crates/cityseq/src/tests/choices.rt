@@ -1,4 +1,4 @@
-//! Rows of a program that is told to ask for trees, and to leave out what is asked for.
+//! Rows of the program with `--tree` and `--exclude`.
 use super::calls::{check_written, commanded, joined};
 use super::devices::SlowReader;
 use super::texts::{FEATURE, HEADER};
@@ -6,7 +6,7 @@ use std::alloc::Global;
 use std::process::Abort;
 use std::test::Fail;
 
-/// The words ask for something of a header and a feature, which has to be answered so.
+/// Runs these words over a header and a feature, and compares the output and the status.
 fn check_choice(
     rt: &impl Abort,
     alloc: Global,
@@ -24,11 +24,11 @@ fn check_choice(
 
 // ---- trees
 
-/// Two buildings, of which the second hangs on nothing.
+/// Two buildings. Nothing lists the second one.
 const APART: &[u8] =
     b"{\"type\":\"CityJSONFeature\",\"id\":\"b\",\"CityObjects\":{\"b\":{\"type\":\"Building\"},\"c\":{\"type\":\"Building\"}},\"vertices\":[]}";
 
-/// Two buildings that hang on each other alone, beside the main one.
+/// Two buildings that list only each other, next to the main city object.
 const CYCLE: &[u8] =
     b"{\"type\":\"CityJSONFeature\",\"id\":\"b\",\"CityObjects\":{\"b\":{\"type\":\"Building\"},\"c\":{\"type\":\"Building\",\"children\":[\"d\"],\"parents\":[\"d\"]},\"d\":{\"type\":\"Building\",\"children\":[\"c\"],\"parents\":[\"c\"]}},\"vertices\":[]}";
 
@@ -36,12 +36,12 @@ const CYCLE: &[u8] =
 const CHAIN: &[u8] =
     b"{\"type\":\"CityJSONFeature\",\"id\":\"b\",\"CityObjects\":{\"q\":{\"type\":\"BuildingPart\",\"parents\":[\"p\"]},\"p\":{\"type\":\"BuildingPart\",\"parents\":[\"b\"],\"children\":[\"q\"]},\"b\":{\"type\":\"Building\",\"children\":[\"p\"]}},\"vertices\":[]}";
 
-/// What is told where a city object of the feature is not reached.
+/// The report of a feature with a city object that is not reached.
 const NOT_REACHED: &[u8] = b"line 2, byte 78: 31 not reached from the main object\n";
 
 const VALID: &[u8] = b"valid lines=2 features=1\n";
 
-/// A feature is valid, and with `--tree` it is not.
+/// Checks that a feature is valid, and is invalid with `--tree`.
 fn check_apart(rt: &impl Abort, alloc: Global, feature: &[u8]) -> Result<(), Fail> {
     check_choice(rt, alloc, &["check"], feature, 0, VALID, b"")?;
     let tree = ["check", "--tree"];

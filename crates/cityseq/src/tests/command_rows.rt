@@ -1,4 +1,4 @@
-//! Rows of the program: what it writes and says where a stream is refused, and where a device fails.
+//! Rows of the program: what it writes if a line is invalid, and if a device fails.
 use super::calls::{Written, check_bytes, check_number, check_written, commanded, joined, refused};
 use super::devices::{SlowReader, SlowWriter};
 use super::texts::{FEATURE, HEADER};
@@ -28,7 +28,7 @@ fn an_empty_input_has_no_header(rt: HostRuntime) -> Result<(), Fail> {
     Ok(())
 }
 
-/// Filters what a reader gives to a writer, and answers the status.
+/// Filters what a reader gives to a writer, and returns the status.
 fn filter_to<W: Write, E: Write>(
     alloc: Global,
     limits: Limits,
@@ -54,7 +54,7 @@ fn filtered(alloc: Global, limits: Limits, reader: &mut SlowReader) -> Written {
     Written { status, out, err }
 }
 
-/// Filters a header and a text, of which the header alone is written, since a line is refused.
+/// Filters a header and a text. Only the header is written, since a line is invalid.
 fn check_refused_line(
     rt: &impl Abort,
     alloc: Global,
@@ -103,7 +103,7 @@ fn a_read_fault(rt: HostRuntime) -> Result<(), Fail> {
     Ok(())
 }
 
-/// Filters a text to a writer that fails, of which so much is written.
+/// Filters a text to a writer that fails, and compares what was written.
 fn check_write_fault(
     rt: &impl Abort,
     alloc: Global,
@@ -132,7 +132,7 @@ fn a_write_fault(rt: HostRuntime) -> Result<(), Fail> {
     check_write_fault(&rt, rt.alloc(), HEADER, out, b"")
 }
 
-/// Filters a text to a writer whose flush fails, of which so much is written.
+/// Filters a text to a writer whose flush fails, and compares what was written.
 fn check_failed_flush_of(
     rt: &impl Abort,
     alloc: Global,
@@ -154,7 +154,7 @@ fn a_failed_flush_is_a_write_fault(rt: HostRuntime) -> Result<(), Fail> {
     check_failed_flush(&rt, rt.alloc(), b"")
 }
 
-/// A read fails after the header, and then the flush: the flush is told.
+/// A read fails after the header, and then the flush fails: the flush is reported.
 #[test]
 fn a_failed_read_before_a_failed_flush(rt: HostRuntime) -> Result<(), Fail> {
     let text = joined(rt.alloc(), &[HEADER, b"\n", FEATURE, b"\n"])?;
@@ -177,7 +177,7 @@ fn a_failed_read_before_a_failed_flush(rt: HostRuntime) -> Result<(), Fail> {
     Ok(())
 }
 
-/// A line is refused, and then the flush fails: the flush is told.
+/// A line is invalid, and then the flush fails: the flush is reported.
 #[test]
 fn a_refused_line_before_a_failed_flush(rt: HostRuntime) -> Result<(), Fail> {
     let text = joined(rt.alloc(), &[HEADER, b"\n[]\n"])?;

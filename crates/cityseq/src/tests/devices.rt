@@ -1,7 +1,7 @@
-//! Readers and writers that are slow or that fail. They tell contracts nothing of their bytes.
+//! Readers and writers that are slow or that fail. No contract knows their bytes.
 use std::io::{Error, ErrorKind, Read, Result, Write};
 
-/// Gives its bytes by at most `step` a read, and fails at the read number `fails_at`, from 1.
+/// Gives at most `step` bytes per read, and fails at the read number `fails_at`, from 1.
 #[derive(Drop)]
 pub struct SlowReader<'a> {
     pub bytes: &'a [u8],
@@ -11,7 +11,7 @@ pub struct SlowReader<'a> {
 }
 
 impl<'a> SlowReader<'a> {
-    /// A reader that never fails.
+    /// Returns a reader that never fails.
     pub fn new(bytes: &'a [u8], step: usize) -> SlowReader<'a> {
         SlowReader {
             bytes,
@@ -36,8 +36,8 @@ impl Read for SlowReader<'_> {
     }
 }
 
-/// Takes at most `step` bytes a write, and fails at the write number `fails_at`, from 1; its flush
-/// fails where `flush_fails`.
+/// Takes at most `step` bytes per write, and fails at the write number `fails_at`, from 1. Its
+/// flush fails if `flush_fails`.
 #[derive(Drop)]
 pub struct SlowWriter {
     pub bytes: Vec<u8>,
@@ -48,7 +48,7 @@ pub struct SlowWriter {
 }
 
 impl SlowWriter {
-    /// A writer that never fails.
+    /// Returns a writer that never fails.
     pub fn new(bytes: Vec<u8>, step: usize) -> SlowWriter {
         SlowWriter {
             bytes,

@@ -1,4 +1,4 @@
-//! Rows of a program that is told to go on after a line that is not valid.
+//! Rows of the program with `--keep-going`.
 use super::calls::{Written, check_bytes, check_number, check_written, commanded, joined};
 use super::devices::{SlowReader, SlowWriter};
 use super::texts::{FEATURE, HEADER};
@@ -13,14 +13,14 @@ use std::test::Fail;
 const BAD: &[u8] =
     b"{\"type\":\"CityJSONFeature\",\"id\":\"b1\",\"CityObjects\":{\"b1\":{\"type\":\"Building\",\"geometry\":[{\"type\":\"MultiSurface\",\"lod\":\"2.2\",\"boundaries\":[[[0,1,2,4]]]}]}},\"vertices\":[[0,0,0],[1000,0,0],[1000,1000,0],[0,1000,0]]}";
 
-/// What is told of it on line 3.
+/// Its report on line 3.
 const BAD_TOLD: &[u8] = b"line 3, byte 144: 25 vertex index out of range\n";
 
-/// A header of a version that is not read.
+/// A header with a version that is not read.
 const OLD_HEADER: &[u8] =
     b"{\"type\":\"CityJSON\",\"version\":\"1.1\",\"transform\":{\"scale\":[0.001,0.001,0.001],\"translate\":[1000.0,2000.0,0.0]},\"CityObjects\":{},\"vertices\":[]}";
 
-/// The words ask for something of an input, which has to be answered so.
+/// Runs these words over an input, and compares the output and the status.
 fn check_going(
     rt: &impl Abort,
     alloc: Global,
@@ -35,7 +35,7 @@ fn check_going(
     Ok(())
 }
 
-/// A header, two good features, and a bad line between them.
+/// Returns a header, two valid features, and an invalid line between them.
 fn with_bad_line(alloc: Global, bad: &[u8]) -> Result<Vec<u8>, Fail> {
     joined(
         alloc,
@@ -43,7 +43,7 @@ fn with_bad_line(alloc: Global, bad: &[u8]) -> Result<Vec<u8>, Fail> {
     )
 }
 
-/// The same without the bad line.
+/// Returns the same without the invalid line.
 fn without_bad_line(alloc: Global) -> Result<Vec<u8>, Fail> {
     joined(alloc, &[HEADER, b"\n", FEATURE, b"\n", FEATURE, b"\n"])
 }
@@ -67,7 +67,7 @@ fn without_the_option_it_is_the_end(rt: HostRuntime) -> Result<(), Fail> {
     check_going(&rt, rt.alloc(), &["check"], &input, 1, b"", BAD_TOLD)
 }
 
-/// Of a line that is a byte too long the rest is no line.
+/// The rest of a line that is one byte too long is not a line.
 #[test]
 fn a_long_line_is_reported_and_left_out(rt: HostRuntime) -> Result<(), Fail> {
     let long = joined(rt.alloc(), &[FEATURE, b" "])?;
@@ -81,7 +81,7 @@ fn a_long_line_is_reported_and_left_out(rt: HostRuntime) -> Result<(), Fail> {
     check_going(&rt, rt.alloc(), &words, &input, 1, counts, told)
 }
 
-/// A first line that is not valid is the end, and it is told as ever.
+/// An invalid first line is the end, and is reported as without the option.
 #[test]
 fn a_bad_header_is_the_end(rt: HostRuntime) -> Result<(), Fail> {
     let input = joined(rt.alloc(), &[OLD_HEADER, b"\n", FEATURE])?;
@@ -104,12 +104,13 @@ fn a_valid_stream_is_no_other(rt: HostRuntime) -> Result<(), Fail> {
     check_going(&rt, rt.alloc(), &words, &input, 0, told, b"")
 }
 
-/// A header, and lines of which the second is no object, the fourth has no members, and the fifth is blank.
+/// Returns a header and later lines. The second is no object, the fourth has no members, and the
+/// fifth is blank.
 fn with_several(alloc: Global) -> Result<Vec<u8>, Fail> {
     joined(alloc, &[HEADER, b"\n[]\n", FEATURE, b"\n{}\n \n", FEATURE])
 }
 
-/// What is told of these.
+/// The reports of these.
 const SEVERAL_TOLD: &[u8] = b"line 2, byte 0: 12 wrong kind\nline 4, byte 0: 10 member missing\n";
 
 #[test]
@@ -133,7 +134,7 @@ fn a_query_is_asked_of_the_good_lines(rt: HostRuntime) -> Result<(), Fail> {
 
 // ---- devices that fail
 
-/// Copies what a reader gives, and goes on after refused lines.
+/// Copies what a reader gives, and goes on after invalid lines.
 fn going_to(
     alloc: Global,
     reader: &mut SlowReader,
@@ -151,7 +152,7 @@ fn going_to(
     )
 }
 
-/// The same of a text, to these devices.
+/// Does the same with a text, to these devices.
 fn going_over(alloc: Global, text: &[u8], mut out: SlowWriter, mut err: SlowWriter) -> Written {
     let status = going_to(alloc, &mut SlowReader::new(text, 100), &mut out, &mut err);
     let out = out.bytes;
@@ -159,14 +160,15 @@ fn going_over(alloc: Global, text: &[u8], mut out: SlowWriter, mut err: SlowWrit
     Written { status, out, err }
 }
 
-/// A device that takes all, and fails at this write, from 1.
+/// Returns a device that takes everything, and fails at this write, from 1.
 fn failing(alloc: Global, fails_at: u64) -> SlowWriter {
     let mut writer = SlowWriter::new(Vec::new(alloc), 1_000);
     writer.fails_at = fails_at;
     writer
 }
 
-/// Copies a text with two refused lines, while standard error fails at this write: it takes so much, and all else is as ever.
+/// Copies a text with two invalid lines, while standard error fails at this write. Compares what it
+/// took. Everything else is as without the failure.
 fn check_failing_error(
     rt: &impl Abort,
     alloc: Global,
@@ -182,7 +184,8 @@ fn check_failing_error(
     Ok(())
 }
 
-/// A line has nine parts, each of which is written by a call. What comes after the one that fails is not written.
+/// A line has nine parts, and each is written by a call. What comes after the one that fails is not
+/// written.
 #[test]
 fn a_standard_error_that_fails_at_a_report(rt: HostRuntime) -> Result<(), Fail> {
     let first = b"line 2, byte 0: 12 wrong kind\n";
@@ -195,7 +198,8 @@ fn a_standard_error_that_fails_at_a_report(rt: HostRuntime) -> Result<(), Fail> 
     check_failing_error(&rt, rt.alloc(), 19, SEVERAL_TOLD)
 }
 
-/// After a report that was not written whole, the end is not told either; its status is.
+/// After a report that was not written whole, the end is not written either. Its status is
+/// returned.
 #[test]
 fn a_standard_error_that_fails_before_the_end(rt: HostRuntime) -> Result<(), Fail> {
     let input = with_several(rt.alloc())?;
@@ -221,7 +225,7 @@ fn a_failed_flush_after_a_report(rt: HostRuntime) -> Result<(), Fail> {
     Ok(())
 }
 
-/// The fifth write is that of the feature behind the refused line.
+/// The fifth write is that of the feature after the invalid line.
 #[test]
 fn a_write_fault_after_a_report(rt: HostRuntime) -> Result<(), Fail> {
     let input = with_bad_line(rt.alloc(), BAD)?;
@@ -249,8 +253,8 @@ fn a_read_fault_after_a_report(rt: HostRuntime) -> Result<(), Fail> {
     Ok(())
 }
 
-/// Checks what a reader gives that fails at its second read, after a refused line or none: nothing is said of how many lines
-/// came before.
+/// Checks input from a reader that fails at its second read, after an invalid line or none. Nothing
+/// is written about the number of lines before.
 fn check_failing_reader(
     rt: &impl Abort,
     alloc: Global,
@@ -278,7 +282,8 @@ fn a_read_fault_leaves_nothing_to_count(rt: HostRuntime) -> Result<(), Fail> {
     check_failing_reader(&rt, rt.alloc(), &words, &input, &told)
 }
 
-/// Checks a text with a refused line, and writes what is said of it to a device that fails at this write, or, at 0, at the flush.
+/// Checks a text with an invalid line, and writes the result to a device that fails at this write,
+/// or at 0 in the flush.
 fn check_failing_text(
     rt: &impl Abort,
     alloc: Global,

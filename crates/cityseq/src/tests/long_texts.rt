@@ -1,4 +1,4 @@
-//! Texts longer than each buffer, long words, and the limits that hold where none is given.
+//! Texts longer than each buffer, long words, and the default limits.
 use super::calls::{check_bytes, check_number, check_written, commanded, joined};
 use super::devices::{SlowReader, SlowWriter};
 use super::texts::{FEATURE, HEADER};
@@ -11,7 +11,7 @@ use std::io::BufWriter;
 use std::process::Abort;
 use std::test::Fail;
 
-/// A header, and this many features.
+/// Returns a header and this number of features.
 fn many_features(alloc: Global, features: usize) -> Result<Vec<u8>, Fail> {
     let mut text = joined(alloc, &[HEADER, b"\n"])?;
     for _i in 0..features {
@@ -21,7 +21,7 @@ fn many_features(alloc: Global, features: usize) -> Result<Vec<u8>, Fail> {
     Ok(text)
 }
 
-/// Filters a text to a buffer over a writer, as the program does, and answers the status.
+/// Filters a text to a buffer over a writer, as the program does, and returns the status.
 fn filter_through(
     alloc: Global,
     text: &[u8],
@@ -40,7 +40,8 @@ fn filter_through(
     ))
 }
 
-/// Filters a text to a writer that takes `step` bytes a write, and fails at this write, or, at 0, at the flush.
+/// Filters a text to a writer that takes `step` bytes per write, and fails at this write, or at 0
+/// in the flush.
 fn check_fault(
     rt: &impl Abort,
     alloc: Global,
@@ -74,7 +75,7 @@ fn a_writer_that_fails_behind_a_buffer(rt: HostRuntime) -> Result<(), Fail> {
     check_fault(&rt, rt.alloc(), HEADER, 1, 140)
 }
 
-/// Filters a text to a writer that takes `step` bytes a write.
+/// Filters a text to a writer that takes `step` bytes per write.
 fn check_whole(rt: &impl Abort, alloc: Global, text: &[u8], step: usize) -> Result<(), Fail> {
     let mut writer = SlowWriter::new(Vec::new(alloc), step);
     let mut err = Vec::new(alloc);
@@ -96,7 +97,7 @@ fn a_writer_that_takes_a_few_bytes_of_a_long_text(rt: HostRuntime) -> Result<(),
 
 // ---- long words
 
-/// This many texts with a comma after each, and a last one.
+/// Returns this number of texts with a comma after each, and a last one.
 fn listed(alloc: Global, text: &str, times: usize, last: &str) -> Result<String, Fail> {
     let mut all = String::new(alloc);
     for _i in 0..times {
@@ -107,7 +108,7 @@ fn listed(alloc: Global, text: &str, times: usize, last: &str) -> Result<String,
     Ok(all)
 }
 
-/// Filters a header and a feature by an option, by which the feature is kept or not.
+/// Filters a header and a feature with an option, and checks whether the feature is kept.
 fn check_kept(
     rt: &impl Abort,
     alloc: Global,
@@ -123,7 +124,7 @@ fn check_kept(
     Ok(())
 }
 
-/// Of very many texts the last is the one that the feature has, or none is.
+/// Checks an option with very many texts: the feature has the last one, or none.
 fn check_last(
     rt: &impl Abort,
     alloc: Global,
@@ -155,7 +156,7 @@ fn a_query_of_many_texts(rt: HostRuntime) -> Result<(), Fail> {
     Ok(())
 }
 
-/// A number with so many digits behind its point is no multiple of 10^-18 where the last is no 0.
+/// A number with this many digits after its point is no multiple of 10^-18 if the last is not 0.
 #[test]
 fn a_query_by_a_long_box(rt: HostRuntime) -> Result<(), Fail> {
     let zeros = listed(rt.alloc(), "", 0, "0,0,1001,2001.")?;
@@ -174,7 +175,7 @@ fn a_query_by_a_long_box(rt: HostRuntime) -> Result<(), Fail> {
 
 // ---- the usual limits
 
-/// Bytes that are alike.
+/// Returns bytes that are all the same.
 fn alike(alloc: Global, byte: u8, count: usize) -> Result<Vec<u8>, Fail> {
     let mut bytes = Vec::new(alloc);
     for _i in 0..count {
@@ -183,7 +184,7 @@ fn alike(alloc: Global, byte: u8, count: usize) -> Result<Vec<u8>, Fail> {
     Ok(bytes)
 }
 
-/// Each command judges a header and a line without limits, and says this.
+/// Checks that each command judges a header and a line under the default limits, and reports this.
 fn check_refused(rt: &impl Abort, alloc: Global, line: &[u8], told: &[u8]) -> Result<(), Fail> {
     let header = joined(alloc, &[HEADER, b"\n"])?;
     let input = joined(alloc, &[&header, line])?;

@@ -11,19 +11,19 @@ use std::alloc::Global;
 use std::process::Abort;
 use std::test::Fail;
 
-/// A feature without geometries, which has no vertices.
+/// A feature without geometries or vertices.
 const BARE: &[u8] =
     b"{\"type\":\"CityJSONFeature\",\"id\":\"b\",\"CityObjects\":{\"b\":{\"type\":\"Building\"}},\"vertices\":[]}";
 
-/// A header whose transform has numbers at the ends of what is read, and zeros below 0.
+/// A header whose transform has numbers at the limits of the range, and a negative zero.
 const ODD_HEADER: &[u8] =
     b"{\"type\":\"CityJSON\",\"version\":\"2.0\",\"transform\":{\"scale\":[-0.0,1.50e3,1e-1000000],\"translate\":[-123456789012345678901234567890123456,0e5,-25]},\"CityObjects\":{},\"vertices\":[]}";
 
-/// A feature with two types, two levels of detail, one of no class, and vertices below 0.
+/// A feature with two types, two levels of detail, one without a class, and negative coordinates.
 const MIXED: &[u8] =
     b"{\"type\":\"CityJSONFeature\",\"id\":\"m\",\"CityObjects\":{\"m\":{\"type\":\"Road\",\"geometry\":[{\"type\":\"MultiPoint\",\"lod\":\"x\",\"boundaries\":[0]},{\"type\":\"MultiPoint\",\"lod\":\"\\u0032.2\",\"boundaries\":[1]},{\"type\":\"MultiPoint\",\"lod\":\"\",\"boundaries\":[1]}]},\"n\":{\"type\":\"Bridge\"}},\"vertices\":[[-5,7,-9],[3,-2,-1]]}";
 
-/// The words ask for something of an input, which has to be answered so.
+/// Runs these words over an input, and compares the output and the status.
 fn check_command(
     rt: &impl Abort,
     alloc: Global,
@@ -38,8 +38,8 @@ fn check_command(
     Ok(())
 }
 
-/// The same, over a header and a feature; where the feature is kept, both are written, and else the
-/// header.
+/// Does the same over a header and a feature. If the feature is kept, both are written, otherwise
+/// the header.
 fn check_kept(
     rt: &impl Abort,
     alloc: Global,
@@ -52,7 +52,7 @@ fn check_kept(
     check_command(rt, alloc, arguments, &input, 0, out, b"")
 }
 
-/// The same, where nothing is written but a line on standard error.
+/// Does the same if only a line on standard error is written.
 fn check_told(
     rt: &impl Abort,
     alloc: Global,
@@ -172,7 +172,7 @@ fn a_query_by_a_box(rt: HostRuntime) -> Result<(), Fail> {
 const SEVERAL: &[u8] =
     b"{\"type\":\"CityJSONFeature\",\"id\":\"b1\",\"CityObjects\":{\"b1\":{\"type\":\"Building\",\"geometry\":[{\"type\":\"MultiPoint\",\"lod\":\"1\",\"boundaries\":[0]},{\"type\":\"MultiPoint\",\"lod\":\"1.2\",\"boundaries\":[1]}]},\"r1\":{\"type\":\"Road\",\"geometry\":[{\"type\":\"MultiPoint\",\"lod\":\"2.2\",\"boundaries\":[0]}]}},\"vertices\":[[0,0,0],[1000,1000,0]]}";
 
-/// The same as for the usual feature.
+/// Does the same as for the usual feature.
 fn check_several(
     rt: &impl Abort,
     alloc: Global,
@@ -243,7 +243,8 @@ fn a_query_that_cannot_be_asked(rt: HostRuntime) -> Result<(), Fail> {
     )
 }
 
-/// Nothing is read or written, the status is 2, and standard error is told so much.
+/// Checks that nothing is read or written, that the status is 2, and that standard error begins
+/// with this.
 fn check_wrong_words(
     rt: &impl Abort,
     alloc: Global,
@@ -340,7 +341,7 @@ fn info_reports_odd_numbers(rt: HostRuntime) -> Result<(), Fail> {
     Ok(())
 }
 
-/// Asks for a text of the program's own, to a writer that fails; of the text a prefix is written.
+/// Asks for a text of the program, to a writer that fails. A prefix of the text is written.
 fn check_failing_text(
     rt: &impl Abort,
     alloc: Global,

@@ -1,11 +1,12 @@
-//! The room that C lends for records of features: the sink that writes to it.
+//! The sink that writes records of features to a slice of the caller.
 ghost use Rattle.std.specs.Prelude.{◌≤◌, length};
 
 use super::cursor::Cursor;
 use super::record_of::FeatureRecord;
 use cj_stream::{Feature, Header, LineSink, WriteFault};
 
-/// Room that is lent for records, and how many are in it. Records that do not fit are left out.
+/// A slice of the caller for records, and the number of records in it. Records that do not fit are
+/// left out.
 #[derive(Drop)]
 pub struct Listed<'a> {
     cursor: Cursor<'a>,
@@ -19,7 +20,7 @@ impl<'a> Listed<'a> {
     ghost use Rattle.cj_stream.specs.Lines.{lines};
     ghost use Rattle.cityseq_c.specs.Features.{listed_place, listed_room, listed_loan, listed_count};
 
-    /// Room with no record in it, for the features of a part.
+    /// Returns a sink for the features of a part. It has written no record.
     pub fn new(part: &'a [u8], records: &'a mut [FeatureRecord]) -> Listed<'a>
         ensures loan { listed_loan result ≡ records.entry.ghost_name }
         ensures room { listed_room result ≡ records.old }

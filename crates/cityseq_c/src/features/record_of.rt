@@ -1,4 +1,4 @@
-//! What is told of a feature: where it stands in a part, and what is in it.
+//! The record of a feature: where it is in a part, and what is in it.
 ghost use Rattle.std.specs.Prelude.{◌≡◌, ◌<◌, ◌≤◌, ℕ, get_or, length, nat_lt};
 ghost use Rattle.std.specs.List.{flat_map};
 ghost use Rattle.cj_feature.specs.View.{feature_header, feature_tree};
@@ -12,33 +12,33 @@ ghost use Rattle.cityseq_c.specs.Features.{IsRecordOf, bits};
 use crate::tally::{Range, range_of};
 use cj_stream::{Feature, LineSink, TallySink, WriteFault};
 
-/// What is told of a feature.
+/// A kept feature, as C has it.
 #[repr(C)]
 #[derive(Clone, Copy, Debug)]
 pub struct FeatureRecord {
     /// The number of its line in the header and the part, from 1.
     pub line: u64,
-    /// Where its line begins in the part.
+    /// Where its line begins in the part, in bytes from 0.
     pub begin: u64,
-    /// The bytes of its line, without LF.
+    /// The number of bytes of its line, without LF.
     pub length: u64,
-    /// Where the string of its id begins in the line.
+    /// Where the string of its id begins in the line, in bytes from 0.
     pub id_begin: u64,
-    /// The bytes of that string, with its quotes.
+    /// The number of bytes of that string, with quotes and escapes.
     pub id_length: u64,
-    /// Its city objects.
+    /// The number of its city objects.
     pub objects: u64,
-    /// Its geometries.
+    /// The number of their geometries.
     pub geometries: u64,
-    /// Bit n is set where a city object has the type of number n.
+    /// Bit n is set if a city object has the type of number n.
     pub types: u64,
-    /// Bit n is set where a geometry has an LoD of class n.
+    /// Bit n is set if a geometry has an LoD of class n: 0 to 4, and 5 for any other.
     pub lods: u64,
-    /// The numbers of its vertices on x, y and z, as they stand there.
+    /// Its vertices on x, y and z, as the feature has them.
     pub ranges: [Range; 3],
 }
 
-/// How many city objects a feature has. At 2^64 - 1 the count stays.
+/// Returns the number of city objects of a feature. The count stops at 2^64 - 1.
 fn count_objects(feature: &Feature) -> u64
     ensures { result ≡ capped (length (objects_of (feature_tree feature.now))) }
 {
@@ -49,7 +49,7 @@ fn count_objects(feature: &Feature) -> u64
     count
 }
 
-/// How many geometries its city objects have. At 2^64 - 1 the count stays.
+/// Returns the number of geometries of a feature. The count stops at 2^64 - 1.
 fn count_geometries(feature: &Feature) -> u64
     ensures { result ≡ capped (length (flat_map object_geometries (objects_of (feature_tree feature.now)))) }
 {
@@ -60,7 +60,7 @@ fn count_geometries(feature: &Feature) -> u64
     count
 }
 
-/// The number whose bit n is set where the count at n is not 0.
+/// Returns the number whose bit n is set if the count at n is not 0.
 fn bits_of(counts: &[u64]) -> u64
     requires { length counts.now ≤ 63 }
     ensures { result ≡ bits (λ n. nat_lt 0 (get_or counts.now n 0)) (length counts.now) }
@@ -76,7 +76,7 @@ fn bits_of(counts: &[u64]) -> u64
     bits
 }
 
-/// The tally of one feature.
+/// Returns the tally of one feature.
 fn tally_of(feature: &Feature, lf: bool) -> TallySink
     ensures { TalliesFeature no_tally (feature_header feature.now) (feature_tree feature.now) result }
 {
@@ -88,7 +88,8 @@ fn tally_of(feature: &Feature, lf: bool) -> TallySink
 }
 
 impl FeatureRecord {
-    /// The record of a feature whose line has this number and begins at this byte of the part.
+    /// Returns the record of a feature. Its line has this number and begins at this byte of the
+    /// part.
     pub fn of(line: u64, begin: u64, feature: &Feature, lf: bool) -> FeatureRecord
         ensures { IsRecordOf (record { line = line; begin = begin; item = feature_item feature.now lf }) result }
     {

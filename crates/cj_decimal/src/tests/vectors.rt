@@ -1,6 +1,8 @@
-//! Written by vectors/make.py, by exact arithmetic outside the program: change that and run it again.
+//! Written by vectors/make.py, with exact arithmetic outside the program. Change that file and run
+//! it again.
 
-/// In each line a spelling, then its coefficient, power, whole value and units of 10^-18, or its fault.
+/// Each line has a spelling. Then come its coefficient, power, whole value and units of 10^-18, or
+/// its fault.
 pub const SPELLINGS: &str = "\
 1.50e3|15|2|1500|1500000000000000000000\n\
 -1.50e3|-15|2|-1500|-1500000000000000000000\n\
@@ -310,7 +312,7 @@ Infinity|NotANumber\n\
 -1\t|NotANumber\n\
 ";
 
-/// In each line a scale, a shift, v and q, and how `v * scale + shift` compares with q.
+/// Each line has a scale, a shift, v and q, and how `v * scale + shift` compares with q.
 pub const COMPARISONS: &str = "\
 1e-3|1000|1000|1001|Equal\n\
 -1e-3|-1000|1000|-1001|Equal\n\

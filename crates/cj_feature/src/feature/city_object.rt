@@ -17,14 +17,14 @@ pub struct CityObject<'a> {
     ghost typed: { type_row (tree node) ≡ Some (row_at object_type) },
 }
 
-/// The city objects that are left, in order.
+/// The remaining city objects, in order.
 #[derive(Clone, Copy)]
 pub struct Objects<'a> {
     pub(crate) members: Members<'a>,
     ghost typed: { list_all is_typed (members_left members) ≡ true },
 }
 
-/// The type of a city object, which is known.
+/// Returns the type of a city object, which is known.
 fn type_of(node: Node) -> ObjectType
     requires { is_row (type_row (tree node)) ≡ true }
     ensures { type_row (tree node.entry) ≡ Some (row_at result) }
@@ -42,7 +42,7 @@ impl<'a> Objects<'a> {
     ghost use Rattle.cj_spans.specs.View.{members_line};
     ghost use Rattle.cj_feature.specs.Walks.{objects_left, objects_line};
 
-    /// A walk over members whose types are known.
+    /// Returns a walk over members whose types are known.
     #[tactic(auto, unfolding(crate::specs::Walks::objects_left, crate::specs::Walks::objects_line))]
     pub(crate) fn over(members: Members<'a>) -> Objects<'a>
         requires { list_all is_typed (members_left members) ≡ true }

@@ -1,4 +1,4 @@
-//! The numbers of a feature's vertices on one axis, in order.
+//! The coordinates of a feature's vertices on one axis, in order.
 ghost use Rattle.std.specs.Prelude.{◌≡◌, ◌<◌, true, map};
 ghost use Rattle.std.specs.List.{list_all};
 ghost use Rattle.cj_spans.specs.View.{tree, items_left};
@@ -7,7 +7,7 @@ ghost use Rattle.cj_feature.specs.Typed.{vertex_of, number_on, is_vertex};
 use crate::feature::vertices::next_whole;
 use cj_spans::{Items, Node};
 
-/// The numbers on one axis of the vertices that are left, in order: whole numbers, as they stand in the line. No
+/// The remaining coordinates on one axis, in order: whole numbers, as they are in the line. No
 /// number on another axis is read.
 #[derive(Clone, Copy)]
 pub struct Coordinates<'a> {
@@ -17,7 +17,7 @@ pub struct Coordinates<'a> {
     ghost on_an_axis: { axis < 3 },
 }
 
-/// The number of a vertex on an axis. The items before it are passed over.
+/// Returns the number of a vertex on an axis. It passes over the items before it.
 fn read_coordinate(node: Node, axis: usize) -> i64
     requires whole { is_vertex (tree node) ≡ true }
     requires on_an_axis { axis < 3 }
@@ -33,7 +33,7 @@ fn read_coordinate(node: Node, axis: usize) -> i64
 impl<'a> Coordinates<'a> {
     ghost use Rattle.cj_feature.specs.Walks.{coordinates_left};
 
-    /// A walk over items that are vertices.
+    /// Returns a walk over items that are vertices.
     #[tactic(auto, unfolding(crate::specs::Walks::coordinates_left))]
     pub(crate) fn over(items: Items<'a>, axis: usize) -> Coordinates<'a>
         requires whole { list_all is_vertex (items_left items) ≡ true }

@@ -9,7 +9,7 @@ ghost use Rattle.cj_feature.specs.Members.{items_if};
 
 use cj_spans::{Items, Members, Node};
 
-/// The geometries that are left, of all city objects, in order.
+/// The remaining geometries of all city objects, in order.
 #[derive(Clone, Copy)]
 pub struct Geometries<'a> {
     pub(crate) items: Option<Items<'a>>,
@@ -17,7 +17,7 @@ pub struct Geometries<'a> {
     ghost same: { IfSome items (λ w. items_line w ≡ members_line objects) } by { Prim.hlevel props },
 }
 
-/// A walk over the geometries of a city object, if it has any.
+/// Returns a walk over the geometries of a city object, if it has any.
 fn geometries_of(object: Node) -> Option<Items>
     ensures left { left_of result ≡ items_if (member_of (chars (codes "geometry")) (tree object.entry)) }
     ensures line { IfSome result (λ w. items_line w ≡ line_of object.entry) }
@@ -32,7 +32,7 @@ impl<'a> Geometries<'a> {
     ghost use Rattle.std.specs.List.{flat_map};
     ghost use Rattle.cj_feature.specs.Walks.{object_geometries, geometries_left, geometries_line};
 
-    /// A walk over the geometries of these city objects.
+    /// Returns a walk over the geometries of these city objects.
     #[tactic(auto, unfolding(crate::specs::Walks::geometries_left, crate::specs::Walks::geometries_line))]
     pub(crate) fn over(objects: Members<'a>) -> Geometries<'a>
         ensures left { geometries_left result ≡ flat_map object_geometries (members_left objects.entry) }

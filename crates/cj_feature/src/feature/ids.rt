@@ -12,7 +12,7 @@ ghost use Rattle.cj_feature.specs.Links.{is_known as is_known_in};
 use cj_geometry::rule::{add, needed};
 use cj_spans::{Kind, Least, Node, Reason};
 
-/// Whether a city object has the text as its name. Names are searched one after another.
+/// Returns whether a city object has the text as its name. It compares the names one after another.
 pub fn is_known(objects: Node, id: Node) -> bool
     ensures { result ≡ is_known_in (members_of (tree objects.entry)) (tree id.entry) }
 {
@@ -24,7 +24,7 @@ pub fn is_known(objects: Node, id: Node) -> bool
     false
 }
 
-/// Where the city objects are an object, the text is the name of one.
+/// Checks that the text is the name of a city object, if the city objects are an object.
 fn check_among(id: Node, objects: Option<Node>, found: &mut Least)
     ensures { found.new ≡ least found.old (id_in (option_map tree objects.entry) (tree id.entry)) }
 {
@@ -41,7 +41,7 @@ fn check_among(id: Node, objects: Option<Node>, found: &mut Least)
     }
 }
 
-/// The value is a text that is the name of a city object.
+/// Checks that the value is a text that is the name of a city object.
 fn check_id(id: Node, objects: Option<Node>, found: &mut Least)
     ensures { found.new ≡ least found.old (of_kind is_text (id_in (option_map tree objects.entry)) (tree id.entry)) }
 {
@@ -51,7 +51,7 @@ fn check_id(id: Node, objects: Option<Node>, found: &mut Least)
     }
 }
 
-/// The feature has an id, which is the name of one of its city objects.
+/// Checks that the feature has an id, and that it is the name of one of its city objects.
 pub fn check_id_member(object: Node, objects: Option<Node>, found: &mut Least)
     requires { option_map tree objects ≡ member_of (chars (codes "CityObjects")) (tree object) }
     ensures { found.new ≡ least found.old (id_rule (tree object.entry)) }

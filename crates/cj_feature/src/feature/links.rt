@@ -1,5 +1,5 @@
-//! Links between city objects: who lists whom as a child, and as a parent (own, after CityJSON 2.0,
-//! section 2).
+//! Links between city objects: the children and the parents that each one lists (own, after
+//! CityJSON 2.0, section 2).
 ghost use Rattle.std.specs.Prelude.{◌≡◌, codes, option_map};
 ghost use Rattle.std.specs.List.{flat_map, list_any};
 ghost use Rattle.std.specs.Str.{chars};
@@ -16,7 +16,7 @@ use cj_geometry::ObjectType;
 use cj_geometry::rule::add;
 use cj_spans::{Kind, Least, Node, Reason};
 
-/// Whether the city object has the text in its member of this name.
+/// Returns whether the city object has the text in its member of this name.
 fn has_item(object: Node, list: &str, id: Node) -> bool
     ensures { result ≡ has_item_of (listed_in (chars list.now) (tree object.entry)) (tree id.entry) }
 {
@@ -31,7 +31,7 @@ fn has_item(object: Node, list: &str, id: Node) -> bool
     false
 }
 
-/// Whether some city object of the name `from` lists `to` in its member of the name `list`.
+/// Returns whether some city object of the name `from` lists `to` in its member of the name `list`.
 fn lists(objects: Node, list: &str, from: Node, to: Node) -> bool
     ensures { result ≡ lists_of (chars list.now) (members_of (tree objects.entry)) (tree from.entry) (tree to.entry) }
 {
@@ -43,7 +43,7 @@ fn lists(objects: Node, list: &str, from: Node, to: Node) -> bool
     false
 }
 
-/// Whether the city object is a group.
+/// Returns whether the city object is a group.
 #[tactic(auto, unfolding(cj_geometry::specs::ObjectTypes::object_types))]
 pub fn is_group(object: Node) -> bool
     ensures { result ≡ is_group_of (tree object.entry) }
@@ -83,7 +83,8 @@ pub fn check_parent(objects: Node, name: Node, item: Node, found: &mut Least)
     }
 }
 
-/// The children of a city object, unless it is a group, which may reach over features.
+/// The children of a city object. Those of a group are not checked, as they may be in other
+/// features.
 fn check_children(objects: Node, name: Node, object: Node, found: &mut Least)
     ensures { found.new
         ≡ least found.old (children (members_of (tree objects.entry)) (trees (name.entry, object.entry))) }
@@ -112,7 +113,7 @@ fn check_parents(objects: Node, name: Node, object: Node, found: &mut Least)
     }
 }
 
-/// Whether an item of the array is an id in the feature.
+/// Returns whether an item of the array is an id in the feature.
 fn has_known_item(objects: Node, array: Node) -> bool
     ensures { result ≡ list_any (is_known_in (members_of (tree objects.entry))) (items_of (tree array.entry)) }
 {
@@ -124,7 +125,8 @@ fn has_known_item(objects: Node, array: Node) -> bool
     false
 }
 
-/// The array of parents of a city object of the second level; None where there is none, and of any other.
+/// Returns the array of parents of a city object of the second level. Returns None if it has none,
+/// and for any other city object.
 pub fn parents_of_part<'a>(object: Node<'a>) -> Option<Node<'a>>
     ensures { option_map tree result ≡ part_parents (tree object.entry) }
 {
@@ -137,7 +139,7 @@ pub fn parents_of_part<'a>(object: Node<'a>) -> Option<Node<'a>>
     }
 }
 
-/// Of the parents of a city object of the second level, one is in the feature.
+/// At least one parent of a city object of the second level is in the feature.
 fn check_part(objects: Node, name: Node, object: Node, found: &mut Least)
     ensures { found.new ≡ least found.old (part (members_of (tree objects.entry)) (trees (name.entry, object.entry))) }
 {
@@ -149,7 +151,7 @@ fn check_part(objects: Node, name: Node, object: Node, found: &mut Least)
     }
 }
 
-/// The links of a city object. Where it lists no parents, nothing can be wrong with them.
+/// The links of a city object. If it lists no parents, nothing can be wrong with them.
 fn check_object_links(objects: Node, name: Node, object: Node, found: &mut Least)
     ensures { found.new
         ≡ least found.old (object_links (members_of (tree objects.entry)) (trees (name.entry, object.entry))) }
@@ -162,13 +164,18 @@ fn check_object_links(objects: Node, name: Node, object: Node, found: &mut Least
     check_part(objects, name, object, found);
 }
 
-/// At most so many city objects and items of their lists are searched one after another.
+/// If there are fewer city objects and items of their lists, they are searched one after another.
 const FEW: usize = 64;
 
-/// At most so many bytes have few of them that matter.
+/// City objects of at most this number of bytes count as few.
 const FEW_BYTES: usize = 1_000;
 
-/// What is left of a count after the items of a city object's list of this name; 0 where they are more.
+/// For city objects of at most this number of bytes, a search uses arrays of middle size. So a
+/// short line uses little of the stack.
+pub const SHORT: usize = 65_536;
+
+/// Subtracts the number of items of a city object's list of this name from a count. Returns 0 if
+/// there are more items.
 fn count_items(object: Node, list: &str, count: usize) -> usize {
     let Some(value) = object.get(list) else {
         return count;
@@ -183,12 +190,9 @@ fn count_items(object: Node, list: &str, count: usize) -> usize {
     left
 }
 
-/// Whether there are more than `FEW` city objects and items of their lists.
-pub fn has_many(objects: Node) -> bool {
-    if objects.bytes().len() <= FEW_BYTES {
-        return false;
-    }
-    let mut left = FEW;
+/// Returns whether there are at least `count` city objects and items of their lists.
+pub fn has_as_many(objects: Node, count: usize) -> bool {
+    let mut left = count;
     for (_, object) in objects.members() {
         if left == 0 {
             return true;
@@ -197,6 +201,12 @@ pub fn has_many(objects: Node) -> bool {
         left = count_items(object, "parents", left);
     }
     left == 0
+}
+
+/// Returns whether there are at least `FEW` city objects and items of their lists, in more than
+/// `FEW_BYTES` bytes.
+pub fn has_many(objects: Node) -> bool {
+    objects.bytes().len() > FEW_BYTES && has_as_many(objects, FEW)
 }
 
 /// The links of few city objects.

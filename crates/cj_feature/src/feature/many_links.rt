@@ -1,6 +1,7 @@
-//! Links between many city objects: the children of all are gone over, and then the parents of all. Whether a text is
-//! an id, and whether its city object lists the one that is gone over, is asked of many at once.
-ghost use Rattle.std.specs.Prelude.{◌≡◌, [], ◌++◌, true, codes};
+//! Links between many city objects. The children of all are checked first, and then the parents of
+//! all. Many questions are answered at once: whether a text is an id, and whether its city object
+//! lists the current one.
+ghost use Rattle.std.specs.Prelude.{◌≡◌, ◌<◌, ◌^◌, [], ◌++◌, true, codes};
 ghost use Rattle.std.specs.List.{flat_map, list_any};
 ghost use Rattle.std.specs.Str.{chars};
 ghost use Rattle.cj_spans.specs.Finding.{least};
@@ -10,18 +11,38 @@ ghost use Rattle.cj_feature.specs.Links.{is_known as is_known_in, listed_in, chi
 ghost use Rattle.cj_feature.specs.Questions.{noted_in, AreAnswered};
 
 use crate::feature::ids::is_known;
-use crate::feature::links::{self, is_group};
+use crate::feature::links::{self, SHORT, has_as_many, is_group};
 use crate::feature::questions::{Ahead, Answer, Noted, Questions};
 use crate::feature::tagged::tag_of;
 use cj_geometry::rule::{add, is_told_before};
 use cj_spans::{Least, Members, Node, Reason};
 
-/// A child is in the feature, and lists the city object that is gone over as a parent.
-fn check_child<'a>(
+/// The number of questions at once for fewer city objects and items of their lists. They use 34 KiB
+/// of the stack.
+const SOME_QUESTIONS: usize = 1_536;
+
+/// The number of first texts that are kept then.
+const SOME_KEPT: usize = 256;
+
+/// The number of questions at once for city objects of at most `SHORT` bytes. They use 86 KiB of
+/// the stack.
+const MORE_QUESTIONS: usize = 4_096;
+
+/// The number of first texts that are kept then.
+const MORE_KEPT: usize = 512;
+
+/// The number of questions at once for longer ones. They use 503 KiB of the stack.
+const MANY_QUESTIONS: usize = 27_000;
+
+/// The number of first texts that are kept then.
+const MANY_KEPT: usize = 1_024;
+
+/// A child is in the feature, and lists the current city object as a parent.
+fn check_child<'a, const ROOM: usize, const KEPT: usize>(
     objects: Node<'a>,
     item: Node<'a>,
     ahead: Ahead<'a>,
-    questions: &mut Questions,
+    questions: &mut Questions<ROOM, KEPT>,
     found: &mut Least,
 )
     requires { AreAnswered (chars (codes "parents")) objects [] questions.old }
@@ -39,13 +60,13 @@ fn check_child<'a>(
     }
 }
 
-/// The children of a city object of the name that has this number in the line, unless it is a group.
-fn check_children<'a>(
+/// The children of a city object, unless it is a group. The number is that of its name in the line.
+fn check_children<'a, const ROOM: usize, const KEPT: usize>(
     objects: Node<'a>,
     number: u32,
     object: Node<'a>,
     later: Members<'a>,
-    questions: &mut Questions,
+    questions: &mut Questions<ROOM, KEPT>,
     found: &mut Least,
 )
     requires { AreAnswered (chars (codes "parents")) objects [] questions.old }
@@ -72,7 +93,11 @@ fn check_children<'a>(
 }
 
 /// The children of all city objects.
-fn check_all_children<'a>(objects: Node<'a>, questions: &mut Questions, found: &mut Least)
+fn check_all_children<'a, const ROOM: usize, const KEPT: usize>(
+    objects: Node<'a>,
+    questions: &mut Questions<ROOM, KEPT>,
+    found: &mut Least,
+)
     requires { AreAnswered (chars (codes "parents")) objects [] questions.old }
     ensures { let all = members_of (tree objects.entry) in found.new ≡ least found.old (flat_map (children all) all) }
 {
@@ -82,13 +107,13 @@ fn check_all_children<'a>(objects: Node<'a>, questions: &mut Questions, found: &
     }
 }
 
-/// A parent that is in the feature lists the city object that is gone over as a child; answers whether it is known to be
-/// an id in the feature.
-fn check_parent<'a>(
+/// A parent that is in the feature lists the current city object as a child. Returns whether the
+/// parent is known to be an id in the feature.
+fn check_parent<'a, const ROOM: usize, const KEPT: usize>(
     objects: Node<'a>,
     item: Node<'a>,
     ahead: Ahead<'a>,
-    questions: &mut Questions,
+    questions: &mut Questions<ROOM, KEPT>,
     found: &mut Least,
 ) -> bool
     requires { AreAnswered (chars (codes "children")) objects [] questions.old }
@@ -111,14 +136,14 @@ fn check_parent<'a>(
     }
 }
 
-/// The parents of a city object of the name that has this number in the line; answers whether one of them is known to be
-/// an id in the feature.
-fn check_parents<'a>(
+/// The parents of a city object. The number is that of its name in the line. Returns whether one of
+/// the parents is known to be an id in the feature.
+fn check_parents<'a, const ROOM: usize, const KEPT: usize>(
     objects: Node<'a>,
     number: u32,
     object: Node<'a>,
     later: Members<'a>,
-    questions: &mut Questions,
+    questions: &mut Questions<ROOM, KEPT>,
     found: &mut Least,
 ) -> bool
     requires { AreAnswered (chars (codes "children")) objects [] questions.old }
@@ -147,12 +172,12 @@ fn check_parents<'a>(
     known
 }
 
-/// Whether a parent of the city object that is gone over is an id in the feature.
-fn is_known_parent<'a>(
+/// Returns whether a parent of the current city object is an id in the feature.
+fn is_known_parent<'a, const ROOM: usize, const KEPT: usize>(
     objects: Node<'a>,
     item: Node<'a>,
     ahead: Ahead<'a>,
-    questions: &mut Questions,
+    questions: &mut Questions<ROOM, KEPT>,
 ) -> bool
     requires { AreAnswered (chars (codes "children")) objects [] questions.old }
     ensures known { result ≡ is_known_in (members_of (tree objects.entry)) (tree item.entry) }
@@ -165,13 +190,13 @@ fn is_known_parent<'a>(
     }
 }
 
-/// Whether an item of the array of parents is an id in the feature.
-fn has_known_item<'a>(
+/// Returns whether an item of the array of parents is an id in the feature.
+fn has_known_item<'a, const ROOM: usize, const KEPT: usize>(
     objects: Node<'a>,
     name: Noted,
     array: Node<'a>,
     later: Members<'a>,
-    questions: &mut Questions,
+    questions: &mut Questions<ROOM, KEPT>,
 ) -> bool
     requires { AreAnswered (chars (codes "children")) objects [] questions.old }
     ensures known { result ≡ list_any (is_known_in (members_of (tree objects.entry))) (items_of (tree array.entry)) }
@@ -187,13 +212,14 @@ fn has_known_item<'a>(
     false
 }
 
-/// Of the parents of a city object of the second level, of the name that has this number, one is in the feature.
-fn check_part<'a>(
+/// At least one parent of a city object of the second level is in the feature. The number is that
+/// of its name in the line.
+fn check_part<'a, const ROOM: usize, const KEPT: usize>(
     objects: Node<'a>,
     number: u32,
     object: Node<'a>,
     later: Members<'a>,
-    questions: &mut Questions,
+    questions: &mut Questions<ROOM, KEPT>,
     found: &mut Least,
 )
     requires { AreAnswered (chars (codes "children")) objects [] questions.old }
@@ -218,7 +244,11 @@ fn check_part<'a>(
 }
 
 /// The parents of all city objects.
-fn check_all_parents<'a>(objects: Node<'a>, questions: &mut Questions, found: &mut Least)
+fn check_all_parents<'a, const ROOM: usize, const KEPT: usize>(
+    objects: Node<'a>,
+    questions: &mut Questions<ROOM, KEPT>,
+    found: &mut Least,
+)
     requires { AreAnswered (chars (codes "children")) objects [] questions.old }
     ensures { let all = members_of (tree objects.entry) in
         found.new ≡ least found.old (flat_map (λ m. parents all m ++ part all m) all) }
@@ -232,15 +262,34 @@ fn check_all_parents<'a>(objects: Node<'a>, questions: &mut Questions, found: &m
     }
 }
 
-/// The links of many city objects. The questions take 507 KiB of the stack.
+/// The links of many city objects, with at most `ROOM` questions at once.
+///
+/// It is never inlined, so that fewer links use none of its stack.
+#[cold]
+#[inline(never)]
+fn check_by<const ROOM: usize, const KEPT: usize>(objects: Node, found: &mut Least)
+    requires { ROOM < 2 ^ 32 × KEPT < 2 ^ 32 }
+    ensures { let all = members_of (tree objects.entry) in
+        found.new ≡ least found.old (flat_map (object_links all) all) }
+{
+    let mut questions: Questions<ROOM, KEPT> = Questions::new();
+    check_all_children(objects, &mut questions, found);
+    questions.clear();
+    check_all_parents(objects, &mut questions, found);
+}
+
+/// The links of many city objects. The capacity for questions is enough for all of them, or large.
 #[cold]
 #[inline(never)]
 pub fn check_many_links(objects: Node, found: &mut Least)
     ensures { let all = members_of (tree objects.entry) in
         found.new ≡ least found.old (flat_map (object_links all) all) }
 {
-    let mut questions = Questions::new();
-    check_all_children(objects, &mut questions, found);
-    questions.clear();
-    check_all_parents(objects, &mut questions, found);
+    if !has_as_many(objects, SOME_QUESTIONS) {
+        check_by::<SOME_QUESTIONS, SOME_KEPT>(objects, found);
+    } else if objects.bytes().len() <= SHORT {
+        check_by::<MORE_QUESTIONS, MORE_KEPT>(objects, found);
+    } else {
+        check_by::<MANY_QUESTIONS, MANY_KEPT>(objects, found);
+    }
 }

@@ -1,31 +1,33 @@
-//! A guide over many city objects: it marks most of those that are reached, one after another, and each only once.
+//! A guide over many city objects. It marks most of those that are reached, one after another, and
+//! each only once.
 //!
-//! Many city objects are at hand at once, in lists of those that one remainder of a number of their names puts
-//! together. A list that has become long is put in the order of its names, so that no names make a search long. What is
-//! found waits to be marked and is done with, so it is found once, however often it is listed; and what it lists is looked
-//! for then. Where all are at hand, and never so many wait that no more could, that is all. Where not, those that have
-//! children come next: what they lead to is all that has to be followed. Then those without are at hand, which lead to
-//! nothing, so that one time over all of them is enough. Nothing hangs on whether all are found: what is marked is reached,
-//! as what lists it is, and what is left out the search behind it finds.
+//! The guide holds many city objects at once, in lists. The remainder of a number of its name
+//! selects the list of a city object. A long list is sorted by name, so that no names make a search
+//! long. A city object that is found is finished, and waits to be marked. So it is found once,
+//! however often it is listed. When it is marked, the guide searches for what it lists.
+//!
+//! If the guide has capacity for all, and for all that wait, that is the whole search. Otherwise
+//! those with children come first, since only they lead to others. Then the guide takes those
+//! without children. They lead to nothing, so one pass over them is enough.
+//!
+//! The result does not depend on whether the guide finds all. It marks a city object only if one
+//! that is reached lists it, or if the id names it. The search after it finds the rest.
 ghost use Rattle.std.specs.Prelude.{◌≡◌, ℕ, ◌<◌, ◌≤◌, Some, length, slice_get};
 
 use cj_budget::Bounded;
 use cj_spans::{Doc, Node, Token, set_mark};
 use std::cmp::Ordering;
 
-/// A list that is longer is put in order.
+/// A list that is longer is sorted.
 const LONG: usize = 32;
 
-/// What is added to the number of a city object that is done with.
+/// This is added to the number of a city object that is finished.
 const DONE: u32 = 2_147_483_648;
 
-/// So many wait to be marked.
-const PENDING: usize = 16_384;
-
-/// So often the city objects are gone over.
+/// The largest number of passes over the city objects, or over the list of one of them.
 const ROUNDS: usize = 64;
 
-/// Which city objects are taken to hand.
+/// The city objects that the guide takes.
 #[derive(Clone, Copy, Drop)]
 pub enum Meant {
     All,
@@ -33,25 +35,24 @@ pub enum Meant {
     Others,
 }
 
-/// City objects at hand, at most `OBJECTS`, and those that wait to be marked, by their numbers; 0 is none. Those at hand
-/// stand list after list, each from where it starts to where it ends.
+/// Holds at most `OBJECTS` city objects, and at most `PENDING` that wait to be marked. It holds
+/// their numbers, and 0 is none. Each list starts where the one before it ends.
 #[derive(Drop)]
-pub struct Near<const OBJECTS: usize, const LISTS: usize> {
+pub struct Near<const OBJECTS: usize, const LISTS: usize, const PENDING: usize> {
     objects: [u32; OBJECTS],
-    starts: [u32; LISTS],
     ends: [u32; LISTS],
     meant: Meant,
     count: usize,
     pending: [u32; PENDING],
     waiting: usize,
-    /// Whether so many waited that no more could, so that some may have been left out.
+    /// Whether `pending` was full at some time, so that some may have been left out.
     full: bool,
     changed: bool,
-    ghost room: { waiting ≤ 16384 },
+    ghost room: { waiting ≤ PENDING },
     ghost lists: { 0 < LISTS },
 }
 
-/// The list of a text, of so many.
+/// Returns the number of the list of a text, less than `LISTS`.
 fn list_of<const LISTS: usize>(text: Node) -> usize
     requires { 0 < LISTS }
     ensures { result < LISTS }
@@ -59,7 +60,7 @@ fn list_of<const LISTS: usize>(text: Node) -> usize
     (text.text_mix() % LISTS as u64) as usize
 }
 
-/// The number at a place.
+/// Returns the number at a place.
 fn number_at(numbers: &[u32], place: usize) -> u32
     requires { place < length numbers.now }
     ensures { slice_get numbers.now place ≡ Some result }
@@ -67,18 +68,18 @@ fn number_at(numbers: &[u32], place: usize) -> u32
     numbers[place]
 }
 
-/// The number of the name of a city object that is at hand.
+/// Returns the number of the name of a city object that the guide holds.
 fn name_number(number: u32) -> u32 {
     (number % DONE).saturating_sub(1)
 }
 
-/// The order of the names of two city objects.
+/// Compares the names of two city objects.
 fn compare_numbers(objects: Node, first: u32, second: u32) -> Ordering {
     let name = objects.at(name_number(first));
     name.compare_text(objects.at(name_number(second)))
 }
 
-/// Whether a city object comes before those of this name that are not done with.
+/// Returns whether a city object comes before those of this name that are not finished.
 fn is_behind(objects: Node, number: u32, text: Node) -> bool {
     match objects.at(name_number(number)).compare_text(text) {
         Ordering::Less => true,
@@ -87,7 +88,7 @@ fn is_behind(objects: Node, number: u32, text: Node) -> bool {
     }
 }
 
-/// Puts numbers between two places in the order of the names of their city objects.
+/// Sorts the numbers between two places by the names of their city objects.
 fn sort(objects: Node, numbers: &mut [u32], start: usize, end: usize)
     requires within { start ≤ end × end ≤ length numbers.old }
     ensures { (k n : ℕ) → slice_get numbers.new k ≡ Some n → (j : ℕ) × (slice_get numbers.old j ≡ Some n) }
@@ -95,7 +96,7 @@ fn sort(objects: Node, numbers: &mut [u32], start: usize, end: usize)
     numbers[start..end].sort_unstable_by(|first, second| compare_numbers(objects, *first, *second));
 }
 
-/// Leaves only lengths of 0.
+/// Sets all lengths to 0.
 fn clear(lengths: &mut [u32]) {
     for one in lengths.iter_mut() {
         *one = 0;
@@ -112,7 +113,7 @@ fn add_up(lengths: &mut [u32]) {
     }
 }
 
-impl<const OBJECTS: usize, const LISTS: usize> Near<OBJECTS, LISTS> {
+impl<const OBJECTS: usize, const LISTS: usize, const PENDING: usize> Near<OBJECTS, LISTS, PENDING> {
     ghost use Rattle.std.specs.Prelude.{IfSome, List, ℕ, ◌-◌, ◌^◌, codes};
     ghost use Rattle.std.specs.List.{Contains};
     ghost use Rattle.std.specs.Str.{chars};
@@ -125,7 +126,7 @@ impl<const OBJECTS: usize, const LISTS: usize> Near<OBJECTS, LISTS> {
     ghost use Rattle.cj_feature.specs.Marking.{AllReached, OnlyMarks, ReachesName, Knows, WaitsFor, AddsNone, IsGuide, IsBeside, spans_by};
     ghost use Rattle.cj_feature.specs.Reached.{IsReachedObject};
 
-    /// None at hand, and none that waits.
+    /// Returns a guide that holds no city object, and where none waits.
     fn new() -> Self
         requires { 0 < LISTS }
         ensures objects { (k n : ℕ) → slice_get result.objects k ≡ Some n → n ≡ 0 }
@@ -133,7 +134,6 @@ impl<const OBJECTS: usize, const LISTS: usize> Near<OBJECTS, LISTS> {
     {
         Near {
             objects: [0; OBJECTS],
-            starts: [0; LISTS],
             ends: [0; LISTS],
             meant: Meant::All,
             count: 0,
@@ -144,7 +144,7 @@ impl<const OBJECTS: usize, const LISTS: usize> Near<OBJECTS, LISTS> {
         }
     }
 
-    /// Whether a city object is one of those that are taken to hand now.
+    /// Returns whether the guide takes this city object now.
     fn is_meant(&self, object: Node) -> bool {
         match self.meant {
             Meant::All => true,
@@ -153,7 +153,8 @@ impl<const OBJECTS: usize, const LISTS: usize> Near<OBJECTS, LISTS> {
         }
     }
 
-    /// Counts for each list the city objects behind the first `skip`, as many as there is room for.
+    /// Counts the city objects for each list. It skips the first `skip`, and counts at most
+    /// `OBJECTS`.
     fn count_lists(&mut self, objects: Node, skip: usize)
         ensures hand { AddsNone self.old self.new }
         ensures waiting { self.new.waiting ≡ self.old.waiting }
@@ -176,28 +177,29 @@ impl<const OBJECTS: usize, const LISTS: usize> Near<OBJECTS, LISTS> {
         }
     }
 
-    /// Puts the lists one after another, each as long as it was counted to be, and none with a city object in it yet.
+    /// Puts the lists one after another, each with the length that was counted. All are empty then.
     fn start_lists(&mut self)
         ensures hand { AddsNone self.old self.new }
         ensures waiting { self.new.waiting ≡ self.old.waiting }
         ensures pending { self.new.pending ≡ self.old.pending }
     {
         add_up(&mut self.ends);
-        let starts = self.ends;
-        self.starts = starts;
     }
 
-    /// Where a list starts and where it ends.
+    /// Returns where a list starts and where it ends. It starts where the list before it ends.
     fn bounds(&self, list: usize) -> (usize, usize)
         requires { list < LISTS }
         ensures { result.0 ≤ result.1 × result.1 ≤ OBJECTS }
     {
         let end = (self.ends[list] as usize).min(OBJECTS);
-        let start = (self.starts[list] as usize).min(end);
+        if list == 0 {
+            return (0, end);
+        }
+        let start = (self.ends[list - 1] as usize).min(end);
         (start, end)
     }
 
-    /// Puts long lists in the order of their names.
+    /// Sorts each long list by name.
     fn sort_lists(&mut self, objects: Node)
         ensures hand { AddsNone self.old self.new }
         ensures waiting { self.new.waiting ≡ self.old.waiting }
@@ -211,7 +213,8 @@ impl<const OBJECTS: usize, const LISTS: usize> Near<OBJECTS, LISTS> {
         }
     }
 
-    /// The place of the first city object of a long list that has this name and is not done with, if there is one.
+    /// Returns the place of the first city object of a long list that has this name and is not
+    /// finished. If there is none, returns where it would be.
     fn first_of(&self, objects: Node, text: Node, start: usize, end: usize) -> usize
         requires { start ≤ end × end ≤ OBJECTS }
     {
@@ -220,7 +223,7 @@ impl<const OBJECTS: usize, const LISTS: usize> Near<OBJECTS, LISTS> {
         start + list.partition_point(|number| is_behind(objects, *number, text))
     }
 
-    /// Takes a city object of this name to those at hand, at the end of its list so far.
+    /// Adds a city object of this name at the end of its list.
     fn take(&mut self, objects: Node, name: Node, object: Node)
         requires known { Knows objects self.old }
         requires held { Contains (members_of (tree objects)) (tree name, tree object) }
@@ -242,7 +245,7 @@ impl<const OBJECTS: usize, const LISTS: usize> Near<OBJECTS, LISTS> {
         }
     }
 
-    /// Takes the city objects behind the first `skip` to their lists, as many as there is room for.
+    /// Adds the city objects after the first `skip` to their lists, as many as were counted.
     fn fill_lists(&mut self, objects: Node, skip: usize)
         requires { Knows objects self.old }
         ensures known { Knows objects.entry self.new }
@@ -264,7 +267,7 @@ impl<const OBJECTS: usize, const LISTS: usize> Near<OBJECTS, LISTS> {
         }
     }
 
-    /// Takes the city objects behind the first `skip` to hand, as many as there is room for.
+    /// Takes the city objects after the first `skip`, at most `OBJECTS`.
     fn gather(&mut self, objects: Node, skip: usize)
         requires { Knows objects self.old }
         ensures known { Knows objects.entry self.new }
@@ -277,9 +280,9 @@ impl<const OBJECTS: usize, const LISTS: usize> Near<OBJECTS, LISTS> {
         self.sort_lists(objects);
     }
 
-    /// Has a city object that is reached wait.
+    /// Makes a city object wait that is reached.
     fn wait(&mut self, number: u32)
-        requires { self.old.waiting < 16384 }
+        requires { self.old.waiting < PENDING }
         ensures hand { AddsNone self.old self.new }
         ensures pending { (feature : Tree) (line : List ℕ) (spans : List Span) → number < length spans
             → IsReachedObject feature (tree_at line spans number)
@@ -290,7 +293,7 @@ impl<const OBJECTS: usize, const LISTS: usize> Near<OBJECTS, LISTS> {
         self.full |= self.waiting == PENDING;
     }
 
-    /// The city object of this number, which is at this place, is done with.
+    /// Finishes the city object of this number, which is at this place.
     fn finish(&mut self, place: usize, number: u32)
         requires place { place < OBJECTS }
         requires number { number < 2147483648 }
@@ -302,10 +305,10 @@ impl<const OBJECTS: usize, const LISTS: usize> Near<OBJECTS, LISTS> {
         self.objects[place] = number + DONE;
     }
 
-    /// Whether the city object of this number, at this place, has this name and was not done with. If so, it is now, and
-    /// waits if it has no mark.
+    /// Finishes the city object of this number, at this place, if it has this name and is not
+    /// finished. Then it waits if it has no mark. Returns whether it was finished here.
     fn note_one(&mut self, objects: Node, place: usize, number: u32, text: Node) -> bool
-        requires room { self.old.waiting < 16384 }
+        requires room { self.old.waiting < PENDING }
         requires place { place < OBJECTS }
         requires positive { 0 < number }
         requires within { number < 2147483648 → number < length (spans_by objects) }
@@ -326,8 +329,8 @@ impl<const OBJECTS: usize, const LISTS: usize> Near<OBJECTS, LISTS> {
         true
     }
 
-    /// Has the city objects at hand wait that have this name and no mark; all that have it are done with then. It ends
-    /// where no more can wait; what it has not come to is not done with.
+    /// Finishes the city objects of this name in the guide. Those without a mark wait. If no more
+    /// can wait, it ends early, and the rest are not finished.
     fn note(&mut self, objects: Node, text: Node)
         requires { Knows objects self.old }
         ensures hand { AddsNone self.old self.new }
@@ -353,8 +356,9 @@ impl<const OBJECTS: usize, const LISTS: usize> Near<OBJECTS, LISTS> {
         }
     }
 
-    /// Has the city objects at hand wait that this one lists as children, but for the first `skip` items. It ends where
-    /// no more can wait. The answer is how many items are gone over.
+    /// Makes the city objects in the guide wait that this one lists as children. It skips the first
+    /// `skip` items, and ends early if no more can wait. Returns how many items are done, with the
+    /// skipped ones.
     fn note_children(&mut self, objects: Node, object: Node, skip: usize) -> usize
         requires { Knows objects self.old }
         ensures hand { AddsNone self.old self.new }
@@ -382,7 +386,7 @@ impl<const OBJECTS: usize, const LISTS: usize> Near<OBJECTS, LISTS> {
         gone
     }
 
-    /// The one that has waited last, if one waits.
+    /// Removes and returns the number that was added last, if one waits.
     fn pop(&mut self) -> Option<u32>
         ensures hand { AddsNone self.old self.new }
         ensures pending { (feature : Tree) (line : List ℕ) (spans : List Span)
@@ -399,7 +403,7 @@ impl<const OBJECTS: usize, const LISTS: usize> Near<OBJECTS, LISTS> {
         Some(number)
     }
 
-    /// Takes those behind the first `skip` to hand, and has those wait that are named by the feature's id.
+    /// Takes the city objects after the first `skip`. Makes those wait that the feature's id names.
     fn begin(&mut self, doc: Doc, skip: usize)
         requires { IsGuide (document_line doc) (tokens_in (document_source doc)) self.old }
         ensures { IsGuide (document_line doc.entry) (tokens_in (document_source doc.entry)) self.new }
@@ -412,8 +416,8 @@ impl<const OBJECTS: usize, const LISTS: usize> Near<OBJECTS, LISTS> {
         self.note(objects, id);
     }
 
-    /// Has those at hand wait that the node of this number lists, if it has a mark, but for the first `skip` items. The
-    /// answer is how many items are gone over.
+    /// Makes those in the guide wait that the node of this number lists, if it has a mark. It skips
+    /// the first `skip` items. Returns how many items are done.
     fn look_behind(&mut self, doc: Doc, number: u32, skip: usize) -> usize
         requires { IsGuide (document_line doc) (tokens_in (document_source doc)) self.old }
         ensures { IsGuide (document_line doc.entry) (tokens_in (document_source doc.entry)) self.new }
@@ -428,7 +432,7 @@ impl<const OBJECTS: usize, const LISTS: usize> Near<OBJECTS, LISTS> {
         skip
     }
 
-    /// Marks one that is reached, and has those at hand wait that it lists.
+    /// Marks one that is reached, and makes those in the guide wait that it lists.
     fn mark(&mut self, line: &[u8], tokens: &mut Bounded<Token>, number: u32)
         requires guide { IsGuide line.now tokens.old.elements self.old }
         requires within { number < length tokens.old.elements }
@@ -445,7 +449,7 @@ impl<const OBJECTS: usize, const LISTS: usize> Near<OBJECTS, LISTS> {
         let _ = self.look_behind(Doc::of(line, tokens.as_slice()), number, 0);
     }
 
-    /// Marks all that wait, and all at hand that these lead to.
+    /// Marks all that wait, and all in the guide that these lead to.
     fn follow(&mut self, line: &[u8], tokens: &mut Bounded<Token>)
         requires { IsGuide line.now tokens.old.elements self.old }
         ensures guide { IsGuide line.now tokens.new.elements self.new }
@@ -459,8 +463,8 @@ impl<const OBJECTS: usize, const LISTS: usize> Near<OBJECTS, LISTS> {
         }
     }
 
-    /// Takes the city objects behind the first `skip` to hand, and marks those of them that are reached from the
-    /// feature's id over others of them.
+    /// Takes the city objects after the first `skip`. Marks those of them that are reached from the
+    /// feature's id through others of them.
     fn mark_from_id(&mut self, line: &[u8], tokens: &mut Bounded<Token>, skip: usize)
         requires { IsGuide line.now tokens.old.elements self.old }
         ensures guide { IsGuide line.now tokens.new.elements self.new }
@@ -470,7 +474,8 @@ impl<const OBJECTS: usize, const LISTS: usize> Near<OBJECTS, LISTS> {
         self.follow(line, tokens);
     }
 
-    /// Marks those at hand that the node of this number lists, if it has a mark, and all at hand that these lead to.
+    /// If the node of this number has a mark, marks those in the guide that it lists. It also marks
+    /// all in the guide that these lead to.
     fn mark_behind(&mut self, line: &[u8], tokens: &mut Bounded<Token>, number: u32)
         requires { IsGuide line.now tokens.old.elements self.old }
         ensures guide { IsGuide line.now tokens.new.elements self.new }
@@ -487,7 +492,7 @@ impl<const OBJECTS: usize, const LISTS: usize> Near<OBJECTS, LISTS> {
         }
     }
 
-    /// Takes the city objects behind the first `skip` to hand, and marks those of them that are reached from the
+    /// Takes the city objects after the first `skip`. Marks those of them that are reached from the
     /// feature's id and from all that have marks.
     fn mark_block(&mut self, line: &[u8], tokens: &mut Bounded<Token>, skip: usize)
         requires { IsGuide line.now tokens.old.elements self.old }
@@ -503,7 +508,7 @@ impl<const OBJECTS: usize, const LISTS: usize> Near<OBJECTS, LISTS> {
         }
     }
 
-    /// Goes over all city objects, as many at once as there is room for.
+    /// Goes over all city objects, at most `OBJECTS` at once.
     fn mark_round(&mut self, line: &[u8], tokens: &mut Bounded<Token>)
         requires { IsGuide line.now tokens.old.elements self.old }
         ensures guide { IsGuide line.now tokens.new.elements self.new }
@@ -517,7 +522,7 @@ impl<const OBJECTS: usize, const LISTS: usize> Near<OBJECTS, LISTS> {
         }
     }
 
-    /// Goes over all city objects that are taken to hand, until that marks none.
+    /// Repeats `mark_round` until it marks none, at most `ROUNDS` times.
     fn mark_rounds(&mut self, line: &[u8], tokens: &mut Bounded<Token>)
         requires { IsGuide line.now tokens.old.elements self.old }
         ensures guide { IsGuide line.now tokens.new.elements self.new }
@@ -532,8 +537,8 @@ impl<const OBJECTS: usize, const LISTS: usize> Near<OBJECTS, LISTS> {
         }
     }
 
-    /// Marks city objects that are reached, where not all are at hand at once: first those that have children, then
-    /// those that have none.
+    /// Marks city objects that are reached, if the guide cannot hold all at once. It takes those
+    /// with children first, and then those without.
     fn mark_apart(&mut self, line: &[u8], tokens: &mut Bounded<Token>)
         requires { IsGuide line.now tokens.old.elements self.old }
         ensures guide { IsGuide line.now tokens.new.elements self.new }
@@ -545,10 +550,15 @@ impl<const OBJECTS: usize, const LISTS: usize> Near<OBJECTS, LISTS> {
         self.mark_round(line, tokens);
     }
 
-    /// Marks city objects that are reached from the feature's id: all, as far as there is room for what leads to them.
+    /// Marks city objects that are reached from the feature's id. It marks all, as far as the
+    /// capacity for what leads to them is enough.
+    ///
+    /// It is never inlined, so that a feature of fewer city objects uses none of its stack.
+    #[inline(never)]
     pub fn mark_all(line: &[u8], tokens: &mut Bounded<Token>)
         requires lists { 0 < LISTS × LISTS < 2 ^ 32 }
         requires objects { OBJECTS < 2 ^ 32 }
+        requires pending { PENDING < 2 ^ 32 }
         requires scanned { AreOf line.now tokens.old.elements }
         requires sound { (feature : Tree) → Json line.now feature → AllReached feature line.now tokens.old.elements }
         ensures sound { (feature : Tree) → Json line.now feature → AllReached feature line.now tokens.new.elements }

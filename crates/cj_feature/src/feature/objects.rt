@@ -16,7 +16,7 @@ use cj_geometry::rule::{add, check_array, check_names, check_object, check_text,
 use cj_geometry::{ObjectType, Templates, check_geometry};
 use cj_spans::{Kind, Least, Node, Reason};
 
-/// Whether the type, if there is one, is of the second level.
+/// Returns whether the type, if there is one, is of the second level.
 fn is_second_level(object_type: Option<ObjectType>) -> bool
     ensures { (t : Tree) → option_map row_at object_type ≡ row_of t → result ≡ is_second_level_of t }
 {
@@ -26,7 +26,7 @@ fn is_second_level(object_type: Option<ObjectType>) -> bool
     }
 }
 
-/// The value is the name of a type; answers whether of the second level.
+/// Checks that the value is the name of a type. Returns whether it is of the second level.
 fn check_type(node: Node, found: &mut Least) -> bool
     ensures second { result ≡ is_second_level_of (tree node.entry) }
     ensures found { found.new ≡ least found.old (object_type (tree node.entry)) }
@@ -43,7 +43,8 @@ fn check_type(node: Node, found: &mut Least) -> bool
     is_second_level(object_type)
 }
 
-/// The city object has a type; answers whether it is of the second level, so that its type is read once.
+/// Checks that the city object has a type. Returns whether it is of the second level, so that the
+/// type is read once.
 fn check_type_member(object: Node, found: &mut Least) -> bool
     ensures second { result ≡ is_part_of (tree object.entry) }
     ensures found { found.new ≡ least found.old (needs (chars (codes "type")) object_type (tree object.entry)) }
@@ -54,7 +55,7 @@ fn check_type_member(object: Node, found: &mut Least) -> bool
     }
 }
 
-/// The value is an array of geometries.
+/// Checks that the value is an array of geometries.
 fn check_geometries(node: Node, vertices: Option<u64>, templates: Templates, found: &mut Least)
     ensures { found.new ≡ least found.old (geometries vertices (given templates.entry) (tree node.entry)) }
 {
@@ -65,7 +66,7 @@ fn check_geometries(node: Node, vertices: Option<u64>, templates: Templates, fou
     }
 }
 
-/// The city object may have geometries.
+/// Checks the geometries of a city object, if it has any.
 fn check_geometry_member(
     object: Node,
     vertices: Option<u64>,
@@ -81,7 +82,7 @@ fn check_geometry_member(
     }
 }
 
-/// The value is an array of texts.
+/// Checks that the value is an array of texts.
 fn check_texts(node: Node, found: &mut Least)
     ensures { found.new ≡ least found.old (texts (tree node.entry)) }
 {
@@ -92,7 +93,8 @@ fn check_texts(node: Node, found: &mut Least)
     }
 }
 
-/// The city object may have a member of this name, which is an array of texts; answers whether it has one.
+/// Checks the member with this name, if the city object has one: it is an array of texts. Returns
+/// whether it has one.
 #[inline(always)]
 fn check_texts_member(object: Node, name: &str, found: &mut Least) -> bool
     ensures none { result ≡ false → member_of (chars name.now) (tree object.entry) ≡ None }
@@ -107,7 +109,7 @@ fn check_texts_member(object: Node, name: &str, found: &mut Least) -> bool
     }
 }
 
-/// Whether the city object is of the second level.
+/// Returns whether the city object is of the second level.
 pub fn is_part(object: Node) -> bool
     ensures { result ≡ is_part_of (tree object.entry) }
 {
@@ -117,7 +119,7 @@ pub fn is_part(object: Node) -> bool
     }
 }
 
-/// A city object has parents, if it is of the second level.
+/// Checks that a city object has parents if it is of the second level.
 fn check_second_level(object: Node, second: bool, found: &mut Least)
     requires { second ≡ is_part_of (tree object) }
     ensures { found.new ≡ least found.old (second_level (tree object.entry)) }
@@ -129,7 +131,8 @@ fn check_second_level(object: Node, second: bool, found: &mut Least)
     }
 }
 
-/// The value is a city object, over so many vertices if that is known; answers whether it may have links.
+/// Checks that the value is a city object. `vertices` is the number of vertices, if it is known.
+/// Returns whether it may have links.
 fn check_city_object(
     node: Node,
     vertices: Option<u64>,
@@ -153,7 +156,7 @@ fn check_city_object(
     }
 }
 
-/// The value is an object of city objects; answers whether they may have links.
+/// Checks that the value is an object of city objects. Returns whether they may have links.
 fn check_city_objects(
     node: Node,
     vertices: Option<u64>,
@@ -175,7 +178,7 @@ fn check_city_objects(
     }
 }
 
-/// The feature has city objects; answers whether they may have links.
+/// Checks that the feature has city objects. Returns whether they may have links.
 pub fn check_city_objects_member(
     object: Node,
     objects: Option<Node>,

@@ -1,19 +1,22 @@
-//! Questions on links: is a text the name of a city object, and does one of that name list another text? Many are
-//! answered in one walk over the city objects.
+//! Questions on links. Is a text the name of a city object, and does one of that name list another
+//! text? One walk over the city objects answers many questions.
 //!
-//! What is asked next is noted as far as there is room, and sorted. What is asked again is taken out, and if that is
-//! most of it, more is noted. Then a walk looks each name up among the questions by halves, and each item of its list
-//! among those that ask for the name. So n links take at most n / 27,000 walks, and each walk a search for each name
-//! and for the items of the lists that are asked about, whatever the texts are and in whatever order they stand.
+//! The next questions are noted until the array is full, and sorted. Repeated ones are removed, and
+//! if most were repeated, more are noted. Then a walk looks up each name among the questions by
+//! binary search. It looks up each item of the name's list among the questions on that name. So n
+//! links take at most n / `ROOM` walks. A walk has one search for each name, and one for each item
+//! of the lists that are asked about. This holds for any texts in any order.
 //!
-//! Texts are ordered by their tags, and only those of one tag by code points: most comparisons are of two numbers. A
-//! long name is looked at seldom, as it may list many: what is asked on one name is told by the number of its node.
+//! Texts are ordered by their tags, and texts of one tag by code points. So most comparisons
+//! compare two numbers. A long name is read seldom, although it may list many. Questions on one
+//! name have the number of one node.
 //!
-//! What is asked next is only guessed by the lists that follow, and no answer hangs on the guess: a mark is set where a
-//! city object lists what a question asks, and no mark is missing where a name is asked for. In the same way `runs` and
-//! `wanted` only spare time.
+//! The next questions are only a guess from the lists that follow, and no answer depends on the
+//! guess. A mark is set only if a city object lists what a question asks. No mark is missing for a
+//! name that is asked about. In the same way `runs` and `wanted` only save time.
 //!
-//! No memory is taken: `Questions` is 510,584 bytes of the stack, and while questions are noted 8,192 more are taken.
+//! `Questions` allocates no memory. It uses 18 bytes of the stack for each question, and 28 for
+//! each kept text.
 ghost use Rattle.std.specs.Prelude.{◌≡◌, ◌+◌, ◌≤◌, ◌<◌, ℕ, List, [], ◌∷◌, Some, IfSome, length, true, false, slice_get, slice_index_or, slice_set};
 ghost use Rattle.std.specs.Ordering.{is_lt};
 ghost use Rattle.std.specs.Str.{chars};
@@ -28,15 +31,6 @@ ghost use Rattle.cj_feature.specs.Questions.{compare_sides, text_side, noted_in,
 use crate::feature::tagged::{Text, tag_of};
 use cj_spans::{Items, Kind, Members, Node};
 use std::cmp::Ordering;
-
-/// How many questions are noted at once.
-const ROOM: usize = 27_000;
-
-/// How many first texts are kept at hand.
-const KEPT: usize = 1_024;
-
-/// By how many marks second texts are known to be asked about.
-const WANTED: usize = 8_192;
 
 /// A text that is noted: its tag, and the number of its node in the line of the city objects.
 #[derive(Clone, Copy)]
@@ -59,18 +53,19 @@ pub struct Pair<'a> {
     to: Text<'a>,
 }
 
-/// Places of questions, of which the first ones are on one first text. Where that is not so, less is found.
+/// A range of places of questions. The first ones are on one first text. If they are not, less is
+/// found.
 #[derive(Clone, Copy)]
 struct Run {
     first: usize,
     end: usize,
 }
 
-/// What is known of a text before it is looked up.
+/// The run of a text that was not looked up.
 const NO_RUN: Run = Run { first: 0, end: 0 };
 
-/// What is asked next: on the items that are left of the list of a city object of this name, and then on those of later
-/// ones.
+/// What is asked next. First come the remaining items of the list of a city object of this name.
+/// The lists of later city objects follow.
 #[derive(Clone, Copy)]
 pub struct Ahead<'a> {
     pub name: Noted,
@@ -89,24 +84,28 @@ pub enum Answer {
     Untold,
 }
 
-/// Questions in order, and what was found: for the first one on each first text that it is a name, and for each that a
-/// city object of that name lists the second text. Beside these are runs that were found before, and which second texts
-/// may be asked about.
+/// At most `ROOM` questions in order, and what was found for them. For the first question on each
+/// first text, `known` says that the text is a name. For each question, `listed` says that a city
+/// object of that name lists the second text.
+///
+/// There are `KEPT` first texts that are kept, and as many runs that were found before. In 32 times
+/// as many bits, `wanted` shows which second texts may be asked about.
 #[derive(Drop)]
-pub struct Questions {
+pub struct Questions<const ROOM: usize, const KEPT: usize> {
     questions: [Question; ROOM],
     count: usize,
     known: [bool; ROOM],
     listed: [bool; ROOM],
+    kept: [Noted; KEPT],
     runs: [Run; KEPT],
-    wanted: [bool; WANTED],
+    wanted: [u32; KEPT],
 }
 
-/// What room holds before a question is noted.
+/// What an array holds before a question is noted.
 pub const NOTHING: Noted = Noted { tag: 0, number: 0 };
 
 impl Noted {
-    /// The text of a node.
+    /// Returns the text of a node.
     pub fn of(node: Node) -> Noted
         ensures tag { result.tag ≡ tag_of_text (text_of (tree node.entry)) }
         ensures node { tree_in (source_of node.entry) result.number ≡ tree node.entry }
@@ -117,14 +116,14 @@ impl Noted {
         }
     }
 
-    /// The node that has the text.
+    /// Returns the node that has the text.
     pub fn node(self, objects: Node) -> Node
         ensures { tree result ≡ noted_in objects.entry self }
     {
         objects.at(self.number)
     }
 
-    /// How two texts are ordered: by their tags, and where these are the same, by code points.
+    /// Compares two texts: by their tags, and if these are the same, by code points.
     pub fn compare(self, other: Noted, objects: Node) -> Ordering
         ensures { result ≡ compare_sides (side_in objects.entry self) (side_in objects.entry other) }
     {
@@ -134,7 +133,7 @@ impl Noted {
         }
     }
 
-    /// How the text is ordered beside one that is looked up.
+    /// Compares the text with one that is looked up.
     pub fn compare_with(self, text: Text, objects: Node) -> Ordering
         ensures { result ≡ compare_sides (side_in objects.entry self) (text_side text.entry) }
     {
@@ -144,7 +143,7 @@ impl Noted {
         }
     }
 
-    /// Whether it is the text that is looked up, and has the same tag.
+    /// Returns whether it is the text that is looked up, and has the same tag.
     fn is(self, text: Text, objects: Node) -> bool
         ensures tag { result ≡ true → self.tag ≡ text.entry.tag }
         ensures text { result ≡ true → same_text (noted_in objects.entry self) (tree text.entry.node) ≡ true }
@@ -154,7 +153,8 @@ impl Noted {
         self.tag == text.tag && self.node(objects).same_text(text.node)
     }
 
-    /// Whether both have the same text. Where they are one node, the text is not looked at, which may be long.
+    /// Returns whether both have the same text. If they are one node, it does not read the text,
+    /// which may be long.
     fn is_same(self, other: Noted, objects: Node) -> bool
         ensures { result ≡ true → same_text (noted_in objects.entry self) (noted_in objects.entry other) ≡ true }
     {
@@ -166,7 +166,7 @@ impl Noted {
     }
 }
 
-/// How the texts of two nodes are ordered, by code points. One node has one text.
+/// Compares the texts of two nodes by code points. One node has one text.
 fn compare_numbered(objects: Node, first: u32, second: u32) -> Ordering
     ensures { result ≡ compare_texts (text_of (tree_in (source_of objects.entry) first))
         (text_of (tree_in (source_of objects.entry) second)) }
@@ -177,7 +177,7 @@ fn compare_numbered(objects: Node, first: u32, second: u32) -> Ordering
     objects.at(first).compare_text(objects.at(second))
 }
 
-/// How two questions are ordered: by their first texts, and then by their second ones.
+/// Compares two questions: by their first texts, and then by their second ones.
 fn compare(objects: Node, first: Question, second: Question) -> Ordering
     ensures { result ≡ compare_keys (key_in objects.entry first) (key_in objects.entry second) }
 {
@@ -187,7 +187,7 @@ fn compare(objects: Node, first: Question, second: Question) -> Ordering
     }
 }
 
-/// Whether a question comes before these texts.
+/// Returns whether a question comes before these texts.
 fn is_before(objects: Node, question: Question, pair: Pair) -> bool
     ensures { result ≡ is_lt (compare_keys (key_in objects.entry question) (pair_key pair.entry)) }
 {
@@ -204,7 +204,7 @@ fn sort(objects: Node, questions: &mut [Question])
     questions.sort_unstable_by(|a, b| compare(objects, *a, *b));
 }
 
-/// How many questions come before these texts.
+/// Returns how many questions come before these texts.
 fn place_of(objects: Node, questions: &[Question], pair: Pair) -> usize
     requires { AreInOrder objects questions.now }
     ensures { IsPlaceOf objects.entry (pair_key pair.entry) questions.now result }
@@ -212,7 +212,7 @@ fn place_of(objects: Node, questions: &[Question], pair: Pair) -> usize
     questions.partition_point(|question| is_before(objects, *question, pair))
 }
 
-/// The question at a place, if there is one.
+/// Returns the question at a place, if there is one.
 fn question_at(questions: &[Question], place: usize) -> Option<Question>
     ensures { slice_get questions.now place ≡ result }
 {
@@ -223,8 +223,8 @@ fn question_at(questions: &[Question], place: usize) -> Option<Question>
     }
 }
 
-/// The place of the first question on a text, if there is one. What is no text comes before all texts, so the city
-/// objects stand for a second text before all others.
+/// Returns the place of the first question on a text, if there is one. A node that is no text comes
+/// before all texts. So the city objects serve as a second text before all others.
 fn first_on(objects: Node, questions: &[Question], from: Text) -> Option<usize>
     requires { AreInOrder objects questions.now }
     ensures first { IfSome result (IsFirstOn objects.entry questions.now (tree from.entry.node)) }
@@ -238,7 +238,7 @@ fn first_on(objects: Node, questions: &[Question], from: Text) -> Option<usize>
     }
 }
 
-/// The run of questions on a text, of which the first one is known.
+/// Returns the run of questions on a text. The first question is at `first`.
 fn run_on(objects: Node, questions: &[Question], from: Text, first: usize) -> Run
     requires { first < length questions.now }
 {
@@ -255,7 +255,7 @@ fn run_on(objects: Node, questions: &[Question], from: Text, first: usize) -> Ru
     }
 }
 
-/// The questions of a run, and how many come before it.
+/// Returns how many questions come before a run, and the questions of the run.
 fn part_of(questions: &[Question], run: Run) -> (usize, &[Question])
     ensures { result.0 + length result.1.now ≤ length questions.now }
 {
@@ -264,13 +264,13 @@ fn part_of(questions: &[Question], run: Run) -> (usize, &[Question])
     (first, &questions[first..end])
 }
 
-/// Whether a mark is set.
+/// Returns whether a mark is set.
 fn is_marked(marks: &[bool], place: usize) -> bool {
     place < marks.len() && marks[place]
 }
 
-/// The place of the question on these texts, if it stands in a run and has no mark yet. So where a pair is listed again
-/// and again, its first text is looked at once.
+/// Returns the place of the question on these texts, if it is in a run and has no mark. So if a
+/// pair is listed many times, its first text is read once.
 fn find_unmarked(
     objects: Node,
     questions: &[Question],
@@ -294,7 +294,8 @@ fn find_unmarked(
     }
 }
 
-/// The place of the question on these texts, of which the second one is noted, if it stands in a run.
+/// Returns the place of the question on these texts, if it is in a run. The second text is a noted
+/// one.
 fn find_noted(
     objects: Node,
     questions: &[Question],
@@ -315,12 +316,12 @@ fn find_noted(
     }
 }
 
-/// Whether two questions are on the same texts.
+/// Returns whether two questions are on the same texts.
 fn are_same(objects: Node, first: Question, second: Question) -> bool {
     compare(objects, first, second).is_eq()
 }
 
-/// Takes questions that come again out of questions in order; answers how many are left, before the others.
+/// Removes repeated questions from sorted ones. Returns how many are kept, before the others.
 fn take_out_repeated(objects: Node, questions: &mut [Question]) -> usize
     ensures few { result ≤ length questions.new }
     ensures length { length questions.new ≡ length questions.old }
@@ -335,7 +336,7 @@ fn take_out_repeated(objects: Node, questions: &mut [Question]) -> usize
     kept
 }
 
-/// Puts questions in order, and takes those that come again out; answers how many are left, before the others.
+/// Sorts questions, and removes repeated ones. Returns how many are kept, before the others.
 fn gather(objects: Node, questions: &mut [Question]) -> usize
     ensures few { result ≤ length questions.new }
     ensures length { length questions.new ≡ length questions.old }
@@ -344,8 +345,8 @@ fn gather(objects: Node, questions: &mut [Question]) -> usize
     take_out_repeated(objects, questions)
 }
 
-/// Makes room where there is none left, if most questions come again; answers how many are noted then. Where there is
-/// less to gain, to put the questions in order anew would cost more than a walk.
+/// Removes repeated questions from a full array, if at least half are repeated. Returns how many
+/// are noted then. With less to gain, another sort would cost more than a walk.
 fn make_room(objects: Node, questions: &mut [Question], count: usize) -> usize
     requires { count ≤ length questions.old }
     ensures few { result ≤ length questions.new }
@@ -362,20 +363,40 @@ fn make_room(objects: Node, questions: &mut [Question], count: usize) -> usize
     }
 }
 
-/// Where a text is kept at hand, by its tag and the bytes in its middle: so most texts that were made to have one tag have
-/// places of their own too. By another spelling a text has another place.
-fn hand_of(node: Node, tag: u32) -> usize
-    ensures { result < 1_024 }
-{
-    let bytes = node.bytes();
-    let middle = bytes[bytes.len() / 2] as usize + 61 * bytes[(bytes.len() - 1) / 2] as usize;
-    (tag as usize + middle) % KEPT
+/// Returns the place for a number, less than `PLACES`, or 0 if there is no place.
+fn place_among<const PLACES: usize>(number: u64) -> usize {
+    if PLACES == 0 {
+        0
+    } else {
+        (number % PLACES as u64) as usize
+    }
 }
 
-/// The text of a node, noted by the node at hand that has it, if there is one: so most equal texts have one number.
-fn noted_at_hand(objects: Node, kept: &mut [Noted; KEPT], node: Node) -> Noted {
+/// Returns the bit for a number, among those at its place.
+fn bit_among<const PLACES: usize>(number: u64) -> u32 {
+    if PLACES == 0 {
+        0
+    } else {
+        1u32 << (number / PLACES as u64 % 32)
+    }
+}
+
+/// Returns where a text is kept, from its tag and the bytes in its middle. So even most texts that
+/// were chosen to have one tag have different places. Another spelling of a text has another place.
+fn hand_of<const KEPT: usize>(node: Node, tag: u32) -> usize {
+    let bytes = node.bytes();
+    let middle = bytes[bytes.len() / 2] as u64 + 61 * bytes[(bytes.len() - 1) / 2] as u64;
+    place_among::<KEPT>(tag as u64 + middle)
+}
+
+/// Notes the text of a node, by the kept node with the same text if there is one. So most equal
+/// texts have one number.
+fn noted_at_hand<const KEPT: usize>(objects: Node, kept: &mut [Noted], node: Node) -> Noted {
     let noted = Noted::of(node);
-    let place = hand_of(node, noted.tag);
+    let place = hand_of::<KEPT>(node, noted.tag);
+    if place >= kept.len() {
+        return noted;
+    }
     let before = kept[place];
     if before.tag == noted.tag && before.node(objects).same_text(node) {
         return before;
@@ -384,7 +405,8 @@ fn noted_at_hand(objects: Node, kept: &mut [Noted; KEPT], node: Node) -> Noted {
     noted
 }
 
-/// Notes a question behind the first `count`, if there is room; answers how many there are then.
+/// Notes a question after the first `count`, if the array is not full. Returns how many there are
+/// then.
 fn note(questions: &mut [Question], count: usize, question: Question) -> usize
     requires { count ≤ length questions.old }
     ensures few { result ≤ length questions.new }
@@ -397,12 +419,13 @@ fn note(questions: &mut [Question], count: usize, question: Question) -> usize
     count + 1
 }
 
-/// Notes the questions on these items of a city object's list, as far as there is room.
-fn note_items(
+/// Notes the questions on these items of a city object's list, until the array is full. Returns how
+/// many there are then.
+fn note_items<const KEPT: usize>(
     objects: Node,
     questions: &mut [Question],
     count: usize,
-    kept: &mut [Noted; KEPT],
+    kept: &mut [Noted],
     items: Items,
     to: Noted,
 ) -> usize
@@ -416,26 +439,27 @@ fn note_items(
         if next == questions.len() {
             return next;
         }
-        let from = noted_at_hand(objects, kept, item);
+        let from = noted_at_hand::<KEPT>(objects, kept, item);
         next = note(questions, next, Question { from, to });
     }
     next
 }
 
-/// Notes a question and those that are asked next, by lists of this name, as far as there is room.
-fn note_ahead(
+/// Notes a question and the next ones, by lists of this name, until the array is full. Returns how
+/// many there are then.
+fn note_ahead<const KEPT: usize>(
     objects: Node,
     questions: &mut [Question],
+    kept: &mut [Noted],
     asked: &str,
     item: Node,
     ahead: Ahead,
 ) -> usize
     ensures { result ≤ length questions.new }
 {
-    let mut kept = [NOTHING; KEPT];
     let (from, to) = (Noted::of(item), ahead.name);
     let first = note(questions, 0, Question { from, to });
-    let mut count = note_items(objects, questions, first, &mut kept, ahead.items, to);
+    let mut count = note_items::<KEPT>(objects, questions, first, kept, ahead.items, to);
     for (name, object) in ahead.later {
         count = make_room(objects, questions, count);
         if count == questions.len() {
@@ -443,7 +467,7 @@ fn note_ahead(
         }
         if let Some(value) = object.get(asked) {
             let name = Noted::of(name);
-            count = note_items(objects, questions, count, &mut kept, value.items(), name);
+            count = note_items::<KEPT>(objects, questions, count, kept, value.items(), name);
         }
     }
     count
@@ -457,7 +481,7 @@ fn mark(marks: &mut [bool], place: usize)
     marks[place] = true;
 }
 
-/// Takes all marks away.
+/// Removes all marks.
 fn clear(marks: &mut [bool])
     ensures { (i : ℕ) → slice_index_or marks.new i false ≡ false }
 {
@@ -466,25 +490,46 @@ fn clear(marks: &mut [bool])
     }
 }
 
-/// Where it is known of a text whether it is asked about as a second one, by the number that it is mixed to: not by its
-/// tag, so that texts of one tag have places of their own.
-fn wanted_at(mix: u64) -> usize
-    ensures { result < 8_192 }
-{
-    (mix % WANTED as u64) as usize
-}
-
-/// Marks the second texts of questions as asked about.
-fn mark_wanted(objects: Node, questions: &[Question], wanted: &mut [bool; WANTED]) {
-    clear(wanted);
+/// Marks the second texts of questions as asked about. The place of a mark depends on the number
+/// that the text is mixed to, not on its tag. So texts of one tag have different bits.
+fn mark_wanted<const KEPT: usize>(objects: Node, questions: &[Question], wanted: &mut [u32]) {
+    for one in wanted.iter_mut() {
+        *one = 0;
+    }
     for question in questions {
-        wanted[wanted_at(question.to.node(objects).text_mix())] = true;
+        let mix = question.to.node(objects).text_mix();
+        let place = place_among::<KEPT>(mix);
+        if place < wanted.len() {
+            wanted[place] |= bit_among::<KEPT>(mix);
+        }
     }
 }
 
-impl Questions {
-    /// No questions.
-    pub fn new() -> Questions
+/// Returns whether a text that is mixed to this number may be asked about as a second one.
+fn is_wanted<const KEPT: usize>(wanted: &[u32], mix: u64) -> bool {
+    let place = place_among::<KEPT>(mix);
+    place < wanted.len() && wanted[place] & bit_among::<KEPT>(mix) != 0
+}
+
+/// Returns the run at a place, or an empty one if there is no such place.
+fn run_at(runs: &[Run], place: usize) -> Run {
+    if place < runs.len() {
+        runs[place]
+    } else {
+        NO_RUN
+    }
+}
+
+/// Keeps a run at a place, if there is such a place.
+fn keep_run(runs: &mut [Run], place: usize, run: Run) {
+    if place < runs.len() {
+        runs[place] = run;
+    }
+}
+
+impl<const ROOM: usize, const KEPT: usize> Questions<ROOM, KEPT> {
+    /// Returns an empty set of questions.
+    pub fn new() -> Self
         ensures { (list : List ℕ) (objects : Node) → AreAnswered list objects [] result }
     {
         Questions {
@@ -495,19 +540,21 @@ impl Questions {
             count: 0,
             known: [false; ROOM],
             listed: [false; ROOM],
+            kept: [NOTHING; KEPT],
             runs: [NO_RUN; KEPT],
-            wanted: [false; WANTED],
+            wanted: [0; KEPT],
         }
     }
 
-    /// Takes all questions away.
+    /// Removes all questions.
     pub fn clear(&mut self)
         ensures { (list : List ℕ) (objects : Node) → AreAnswered list objects [] self.new }
     {
         self.count = 0;
     }
 
-    /// Marks the question in a run on these texts, of which a city object of the one lists the other.
+    /// Marks the question in a run on these texts. A city object of the first text lists the
+    /// second.
     fn answer_item(&mut self, list: &str, objects: Node, pair: Pair, run: Run, later: Members)
         requires answered { AreAnswered (chars list.now) objects (members_left later) self.old }
         requires listed { (from to : Tree) → same_text (tree pair.from.node) from ≡ true
@@ -521,7 +568,8 @@ impl Questions {
         }
     }
 
-    /// Marks the questions in a run on this name that the list of a city object of the name answers.
+    /// Marks the questions in a run on this name that the list of a city object of the name
+    /// answers.
     fn answer_items(
         &mut self,
         list: &str,
@@ -542,7 +590,7 @@ impl Questions {
         };
         for item in value.items() {
             let mix = item.text_mix();
-            if !self.wanted[wanted_at(mix)] {
+            if !is_wanted::<KEPT>(&self.wanted, mix) {
                 continue;
             }
             let pair = Pair {
@@ -553,8 +601,8 @@ impl Questions {
         }
     }
 
-    /// Marks the questions that a city object answers, if one asks for its name; then these are answered by all but the
-    /// later city objects.
+    /// Marks the questions that a city object answers, if one asks about its name. Then only the
+    /// later city objects still have questions to answer.
     fn answer_object(&mut self, list: &str, objects: Node, name: Node, object: Node, later: Members)
         requires answered { AreAnswered (chars list.now) objects (trees (name, object) ∷ members_left later) self.old }
         requires listed { (from to : Tree) → same_text (tree name) from ≡ true
@@ -583,20 +631,28 @@ impl Questions {
         }
     }
 
-    /// Notes a question and those that are asked next, and answers them.
+    /// Notes a question and the next ones, and answers them.
     fn ask(&mut self, list: &str, asked: &str, objects: Node, item: Node, ahead: Ahead)
         ensures { AreAnswered (chars list.now) objects.entry [] self.new }
     {
-        let count = note_ahead(objects, &mut self.questions, asked, item, ahead);
+        let count = note_ahead::<KEPT>(
+            objects,
+            &mut self.questions,
+            &mut self.kept,
+            asked,
+            item,
+            ahead,
+        );
         self.count = gather(objects, &mut self.questions[..count]);
         sort(objects, &mut self.questions[..self.count]);
         clear(&mut self.known);
         clear(&mut self.listed);
-        mark_wanted(objects, &self.questions[..self.count], &mut self.wanted);
+        mark_wanted::<KEPT>(objects, &self.questions[..self.count], &mut self.wanted);
         self.answer_all(list, objects);
     }
 
-    /// Whether a city object of the first text lists the second one, where that is asked in a run.
+    /// Returns whether a city object of the first text lists the second one, if that is asked in a
+    /// run.
     fn is_listed(&self, list: &str, objects: Node, run: Run, from: Text, to: Noted) -> Option<bool>
         requires { AreAnswered (chars list.now) objects [] self.now }
         ensures { result ≡ Some true → lists_of (chars list.now) (members_of (tree objects.entry))
@@ -606,15 +662,15 @@ impl Questions {
         Some(self.listed[place])
     }
 
-    /// What was found for a question; None where it is not noted.
+    /// Returns what was found for a question, or None if it is not noted.
     fn found(&mut self, list: &str, objects: Node, from: Text, to: Noted) -> Option<Answer>
         requires answered { AreAnswered (chars list.now) objects [] self.old }
         ensures answer { IfSome result
             (IsAnswer (chars list.now) objects.entry (tree from.entry.node) (noted_in objects.entry to)) }
         ensures answered { AreAnswered (chars list.now) objects.entry [] self.new }
     {
-        let hand = hand_of(from.node, from.tag);
-        let run = self.runs[hand];
+        let hand = hand_of::<KEPT>(from.node, from.tag);
+        let run = run_at(&self.runs, hand);
         if let Some(true) = self.is_listed(list, objects, run, from, to) {
             return Some(Answer::Listed);
         }
@@ -624,15 +680,16 @@ impl Questions {
             return Some(Answer::Absent);
         }
         let run = run_on(objects, questions, from, first);
-        self.runs[hand] = run;
+        keep_run(&mut self.runs, hand, run);
         match self.is_listed(list, objects, run, from, to)? {
             true => Some(Answer::Listed),
             false => Some(Answer::Untold),
         }
     }
 
-    /// Whether a city object of the name that is an item lists the one that is gone over, in its list of the name
-    /// `list`. Where that is not noted, it is noted and answered with what is asked next, by lists of the name `asked`.
+    /// Returns whether a city object that an item names lists the current one, in its list of the
+    /// name `list`. If the question is not noted, it is noted and answered. The next ones come from
+    /// lists of the name `asked`.
     pub fn answer(
         &mut self,
         list: &str,

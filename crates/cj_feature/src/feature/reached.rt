@@ -1,10 +1,10 @@
-//! City objects that hang on the main one, which the feature's id names: by the children that each lists, one after
-//! another. They are marked at their tokens before the feature is judged.
+//! City objects that are reached from the main one, which the feature's id names. Each one leads to
+//! the children that it lists. They are marked at their tokens before the feature is judged.
 //!
-//! Links go between ids, so what is reached is an id, and with it all city objects of that name, each with its list; a
-//! group is no exception. Where the id is no text, or names none of the city objects, nothing is reached, and the rule
-//! says nothing.
-ghost use Rattle.std.specs.Prelude.{◌≡◌, ◌<◌, IfSome, IfNone, IsTrue, true, Some, List, codes, length, option_map};
+//! Links are between ids. So if an id is reached, all city objects of that name are reached, each
+//! with its list. A group is no exception. If the id is no text, or names no city object, nothing
+//! is reached, and the rule reports nothing.
+ghost use Rattle.std.specs.Prelude.{◌≡◌, ◌<◌, ◌^◌, IfSome, IfNone, IsTrue, true, Some, List, codes, length, option_map};
 ghost use Rattle.std.specs.List.{flat_map};
 ghost use Rattle.std.specs.Str.{chars};
 ghost use Rattle.cj_spans.specs.Finding.{least};
@@ -21,7 +21,7 @@ ghost use Rattle.cj_feature.specs.Reached.{AreMarks, IsReachedObject};
 ghost use Rattle.cj_feature.specs.Unmarked.{AreInNameOrder, NotedHaveMarks, ListNotedMarks};
 
 use crate::feature::ids::is_known;
-use crate::feature::links::has_many;
+use crate::feature::links::{SHORT, has_many};
 use crate::feature::near::Near;
 use crate::feature::questions::{NOTHING, Noted};
 use crate::feature::unmarked::{gather_next, has};
@@ -29,22 +29,79 @@ use cj_budget::Bounded;
 use cj_geometry::rule::add;
 use cj_spans::{Doc, Least, Node, Reason, Token, set_mark};
 
-/// So many city objects a small guide has at hand at once.
+/// The number of city objects that a small guide holds, and that can wait there. It uses 36 KiB of
+/// the stack. It is also the number of names without marks that are looked up at once, in 32 KiB.
 const SOME_OBJECTS: usize = 4_096;
 
-/// So many lists of them it has: a prime.
+/// The number of its lists: a prime.
 const SOME_LISTS: usize = 1_021;
 
-/// So many a large guide has at hand at once: a line of 8 MiB has fewer that list a child.
-const MANY_OBJECTS: usize = 440_000;
+/// The number of city objects that a guide of middle size holds, in 106 KiB of the stack. City
+/// objects of at most `SHORT` bytes are fewer.
+const MORE_OBJECTS: usize = 13_108;
 
-/// So many lists of them it has: a prime.
+/// The number of its lists: a prime.
+const MORE_LISTS: usize = 1_021;
+
+/// The number of names that are looked up at once then, in 64 KiB of the stack.
+const MORE_NAMES: usize = 8_192;
+
+/// The number of city objects that a large guide holds, in 1.9 MB of the stack. A line of 8 MiB has
+/// fewer that list a child.
+const MANY_OBJECTS: usize = 400_000;
+
+/// The number of its lists: a prime.
 const MANY_LISTS: usize = 65_521;
 
-/// So many names of city objects without marks are looked for at once, where there are more than a small guide has at hand.
-const MANY_NAMES: usize = 262_144;
+/// The number of city objects that can wait there.
+const MANY_PENDING: usize = 16_384;
 
-/// The first city object of this name that has no mark, by its number.
+/// The number of names that are looked up at once then, in 1.9 MB of the stack.
+const MANY_NAMES: usize = 240_000;
+
+/// How many city objects there are. For each size, the search uses another amount of the stack.
+#[derive(Clone, Copy, Drop)]
+enum Size {
+    Few,
+    Small,
+    Middle,
+    Large,
+}
+
+/// Returns whether there are at least `count` city objects.
+fn has_more(objects: Node, count: usize) -> bool {
+    let mut left = count;
+    for _ in objects.members() {
+        if left <= 1 {
+            return true;
+        }
+        left -= 1;
+    }
+    false
+}
+
+/// Returns how many city objects there are. Few have no long lists either.
+fn size_of(objects: Node) -> Size {
+    if !has_many(objects) {
+        Size::Few
+    } else if !has_more(objects, SOME_OBJECTS) {
+        Size::Small
+    } else if objects.bytes().len() <= SHORT {
+        Size::Middle
+    } else {
+        Size::Large
+    }
+}
+
+/// Returns how many city objects a feature has.
+fn size_of_feature(doc: Doc) -> Size {
+    match doc.root().get("CityObjects") {
+        Some(objects) => size_of(objects),
+        None => Size::Few,
+    }
+}
+
+/// Returns the number of the first city object of this name that has no mark.
 fn find_unmarked(objects: Node, id: Node) -> Option<u32>
     ensures found { IfSome result (IsUnmarked objects.entry (tree id.entry)) }
     ensures none { IfNone result (HaveMarks objects.entry (members_of (tree objects.entry)) (tree id.entry)) }
@@ -57,7 +114,7 @@ fn find_unmarked(objects: Node, id: Node) -> Option<u32>
     None
 }
 
-/// The first city object that this one lists as a child and that has no mark, by its number.
+/// Returns the number of the first city object without a mark that this one lists as a child.
 fn find_child(objects: Node, object: Node) -> Option<u32>
     ensures found { IfSome result
         (IsListedUnmarked objects.entry (listed_in (chars (codes "children")) (tree object.entry))) }
@@ -75,7 +132,7 @@ fn find_child(objects: Node, object: Node) -> Option<u32>
     None
 }
 
-/// Whether all city objects have marks.
+/// Returns whether all city objects have marks.
 fn are_marked(objects: Node) -> bool
     ensures { result ≡ true → AllMarked objects.entry (members_of (tree objects.entry)) }
 {
@@ -87,7 +144,8 @@ fn are_marked(objects: Node) -> bool
     true
 }
 
-/// The first city object that this one lists as a child by one of these names, and that has no mark, by its number.
+/// Returns the number of the first city object without a mark that this one lists as a child by one
+/// of these names.
 fn find_noted_child(objects: Node, object: Node, names: &[Noted]) -> Option<u32>
     requires { AreInNameOrder objects names.now }
     ensures found { IfSome result
@@ -108,7 +166,8 @@ fn find_noted_child(objects: Node, object: Node, names: &[Noted]) -> Option<u32>
     None
 }
 
-/// The first city object that one with a mark lists as a child by one of these names, and that has none, by its number.
+/// Returns the number of the first city object without a mark that one with a mark lists as a
+/// child. The child has one of these names.
 fn find_noted(objects: Node, names: &[Noted]) -> Option<u32>
     requires { AreInNameOrder objects names.now }
     ensures found { IfSome result (IsNext objects.entry) }
@@ -124,8 +183,8 @@ fn find_noted(objects: Node, names: &[Noted]) -> Option<u32>
     None
 }
 
-/// As `find_listed_of_few`, where the names of city objects without marks are looked for, as many at once as there is room
-/// for.
+/// Does the same as `find_listed_of_few`. It looks up the names of city objects without marks, as
+/// many at once as `names` can hold.
 fn find_by_names(objects: Node, names: &mut [Noted]) -> Option<u32>
     requires { 0 < length names.old }
     ensures found { IfSome result (IsNext objects.entry) }
@@ -143,50 +202,32 @@ fn find_by_names(objects: Node, names: &mut [Noted]) -> Option<u32>
     }
 }
 
-/// The same with room for the names of a small guide's city objects, which is 32 KiB of the stack.
+/// The same for `NAMES` names at once. It is never inlined, so that fewer names use none of its
+/// stack.
 #[inline(never)]
-fn find_by_some(objects: Node) -> Option<u32>
+fn find_by<const NAMES: usize>(objects: Node) -> Option<u32>
+    requires { 0 < NAMES × NAMES < 2 ^ 32 }
     ensures found { IfSome result (IsNext objects.entry) }
     ensures none { IfNone result (ListMarks objects.entry (members_of (tree objects.entry))) }
 {
-    let mut names = [NOTHING; SOME_OBJECTS];
+    let mut names = [NOTHING; NAMES];
     find_by_names(objects, &mut names)
 }
 
-/// The same with room for more names, which is 2 MiB of the stack.
-#[inline(never)]
-fn find_by_many(objects: Node) -> Option<u32>
-    ensures found { IfSome result (IsNext objects.entry) }
-    ensures none { IfNone result (ListMarks objects.entry (members_of (tree objects.entry))) }
-{
-    let mut names = [NOTHING; MANY_NAMES];
-    find_by_names(objects, &mut names)
-}
-
-/// As `find_listed_of_few`, where there are many. It is kept apart, so that few need none of its room on the stack.
-#[inline(never)]
-fn find_listed_of_many(objects: Node) -> Option<u32>
-    ensures found { IfSome result (IsNext objects.entry) }
-    ensures none { IfNone result (ListMarks objects.entry (members_of (tree objects.entry))) }
-{
-    if needs_many(objects) {
-        find_by_many(objects)
-    } else {
-        find_by_some(objects)
-    }
-}
-
-/// The first city object that one with a mark lists as a child and that has none, by its number.
+/// Returns the number of the first city object without a mark that one with a mark lists as a
+/// child.
 fn find_listed(objects: Node) -> Option<u32>
     ensures found { IfSome result (IsNext objects.entry) }
     ensures none { IfNone result (ListMarks objects.entry (members_of (tree objects.entry))) }
 {
     if are_marked(objects) {
-        None
-    } else if has_many(objects) {
-        find_listed_of_many(objects)
-    } else {
-        find_listed_of_few(objects)
+        return None;
+    }
+    match size_of(objects) {
+        Size::Few => find_listed_of_few(objects),
+        Size::Small => find_by::<SOME_OBJECTS>(objects),
+        Size::Middle => find_by::<MORE_NAMES>(objects),
+        Size::Large => find_by::<MANY_NAMES>(objects),
     }
 }
 
@@ -205,8 +246,8 @@ fn find_listed_of_few(objects: Node) -> Option<u32>
     None
 }
 
-/// A city object that is reached if all are that have marks, and that has none, by its number. Where there is none, all
-/// that are reached have marks.
+/// Returns the number of a city object without a mark that is reached, if all with marks are.
+/// Returns None only if all that are reached have marks.
 fn find_next(doc: Doc) -> Option<u32>
     ensures found { IfSome result
         (IsToMark (document doc.entry) (document_line doc.entry) (tokens_in (document_source doc.entry))) }
@@ -223,82 +264,28 @@ fn find_next(doc: Doc) -> Option<u32>
     }
 }
 
-/// Whether a feature has many city objects, or long lists.
-fn is_large(doc: Doc) -> bool {
-    match doc.root().get("CityObjects") {
-        Some(objects) => has_many(objects),
-        None => false,
-    }
-}
-
-/// Whether there are more city objects than a small guide has room for.
-fn needs_many(objects: Node) -> bool {
-    let mut room = SOME_OBJECTS;
-    for _ in objects.members() {
-        if room == 0 {
-            return true;
-        }
-        room -= 1;
-    }
-    false
-}
-
-/// Whether a feature has more city objects than a small guide has room for.
-fn is_huge(doc: Doc) -> bool {
-    match doc.root().get("CityObjects") {
-        Some(objects) => needs_many(objects),
-        None => false,
-    }
-}
-
-/// Marks city objects that are reached from the feature's id, by a small guide.
-///
-/// It is kept apart, so that a feature of few city objects needs none of its room on the stack.
-#[inline(never)]
-fn mark_some(line: &[u8], tokens: &mut Bounded<Token>)
-    requires scanned { AreOf line.now tokens.old.elements }
-    requires sound { (feature : Tree) → Json line.now feature → AllReached feature line.now tokens.old.elements }
-    ensures sound { (feature : Tree) → Json line.now feature → AllReached feature line.now tokens.new.elements }
-    ensures marks { OnlyMarks tokens.old tokens.new }
-{
-    Near::<SOME_OBJECTS, SOME_LISTS>::mark_all(line, tokens);
-}
-
-/// Marks city objects that are reached from the feature's id, by a large guide.
-///
-/// It is kept apart, so that a feature of fewer city objects needs none of its room on the stack.
-#[inline(never)]
-fn mark_many(line: &[u8], tokens: &mut Bounded<Token>)
-    requires scanned { AreOf line.now tokens.old.elements }
-    requires sound { (feature : Tree) → Json line.now feature → AllReached feature line.now tokens.old.elements }
-    ensures sound { (feature : Tree) → Json line.now feature → AllReached feature line.now tokens.new.elements }
-    ensures marks { OnlyMarks tokens.old tokens.new }
-{
-    Near::<MANY_OBJECTS, MANY_LISTS>::mark_all(line, tokens);
-}
-
-/// Marks most of those that are reached, or none where there are few.
+/// Marks most of those that are reached, or none if there are few. It uses the smallest guide that
+/// can hold all.
 fn mark_most(line: &[u8], tokens: &mut Bounded<Token>)
     requires scanned { AreOf line.now tokens.old.elements }
     requires sound { (t : Tree) → Json line.now t → AllReached t line.now tokens.old.elements }
     ensures sound { (t : Tree) → Json line.now t → AllReached t line.now tokens.new.elements }
     ensures marks { OnlyMarks tokens.old tokens.new }
 {
-    if !is_large(Doc::of(line, tokens.as_slice())) {
-        return;
-    }
-    if is_huge(Doc::of(line, tokens.as_slice())) {
-        mark_many(line, tokens);
-    } else {
-        mark_some(line, tokens);
+    match size_of_feature(Doc::of(line, tokens.as_slice())) {
+        Size::Few => {}
+        Size::Small => Near::<SOME_OBJECTS, SOME_LISTS, SOME_OBJECTS>::mark_all(line, tokens),
+        Size::Middle => Near::<MORE_OBJECTS, MORE_LISTS, MORE_OBJECTS>::mark_all(line, tokens),
+        Size::Large => Near::<MANY_OBJECTS, MANY_LISTS, MANY_PENDING>::mark_all(line, tokens),
     }
 }
 
-/// Marks the city objects of a feature that are reached from its id, at their tokens, and nothing else: these are all
-/// city objects of that name, and with each one all that are named as its children. Nothing is marked where there is no
-/// such id, or no city object of its name. What the tokens show stays, and no memory is taken.
+/// Marks the city objects of a feature that are reached from its id, at their tokens, and nothing
+/// else. All city objects of that name are reached. If one is reached, all city objects that it
+/// names as children are reached. Nothing is marked if there is no such id, or no city object of
+/// its name. What the tokens represent stays, and no memory is allocated.
 ///
-/// It is kept apart from its caller, which for most lines has no use for it.
+/// It is never inlined, since its caller does not use it for most lines.
 #[inline(never)]
 pub fn mark_reached(line: &[u8], tokens: &mut Bounded<Token>)
     requires scanned { AreOf line.now tokens.old.elements }
@@ -312,7 +299,7 @@ pub fn mark_reached(line: &[u8], tokens: &mut Bounded<Token>)
     }
 }
 
-/// Each city object has a mark, as those have that are reached from the id.
+/// Each city object has a mark. Those that are reached from the id have one.
 fn check_marks(objects: Node, id: Node, found: &mut Least)
     requires { MarksFit objects (tree id) }
     ensures { let all = members_of (tree objects.entry) in
@@ -325,7 +312,7 @@ fn check_marks(objects: Node, id: Node, found: &mut Least)
     }
 }
 
-/// Where the id is the name of a city object, each city object is reached from it.
+/// If the id is the name of a city object, each city object is reached from it.
 fn check_from(objects: Node, id: Node, found: &mut Least)
     requires { MarksFit objects (tree id) }
     ensures { found.new ≡ least found.old (reach_rule (Some (tree id.entry)) (Some (tree objects.entry))) }
@@ -335,7 +322,7 @@ fn check_from(objects: Node, id: Node, found: &mut Least)
     }
 }
 
-/// Where it is asked for, each city object of the feature is reached from its id.
+/// If `asked` is true, each city object of the feature is reached from its id.
 pub fn check_reached(asked: bool, feature: Node, objects: Option<Node>, found: &mut Least)
     requires objects { option_map tree objects ≡ member_of (chars (codes "CityObjects")) (tree feature) }
     requires source { IfSome objects (λ n. IsBeside feature n) }

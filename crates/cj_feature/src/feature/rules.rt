@@ -1,4 +1,4 @@
-//! The rules on features, one after another, and the verdict by them.
+//! The rules on features, one after another, and the verdict that follows.
 ghost use Rattle.std.specs.Prelude.{◌≡◌, [], Some, MatchResult, IfOk, IfSome, IsTrue, false, codes, length, option_map};
 ghost use Rattle.std.specs.List.{flat_map};
 ghost use Rattle.std.specs.Str.{chars};
@@ -28,8 +28,8 @@ use cj_geometry::Templates;
 use cj_geometry::rule::{add, check_array, check_names, check_object, check_whole, count_wholes};
 use cj_spans::{Doc, Finding, Least, Node, Reason};
 
-/// Each item is a whole number; answers how many there are, so that they are gone over once. Those at the front that are
-/// as they should be are counted first.
+/// Checks that each item is a whole number. Returns how many there are, so that one walk is enough.
+/// It first counts the valid items at the front.
 #[inline(always)]
 fn check_wholes(node: Node, found: &mut Least) -> u64
     ensures count { result ≡ length (items_of (tree node.entry)) }
@@ -44,7 +44,7 @@ fn check_wholes(node: Node, found: &mut Least) -> u64
     count
 }
 
-/// The value is an array of three whole numbers.
+/// Checks that the value is an array of three whole numbers.
 #[inline(always)]
 fn check_vertex(node: Node, found: &mut Least)
     ensures { found.new ≡ least found.old (of_length NotThree 3 whole_number (tree node.entry)) }
@@ -56,7 +56,7 @@ fn check_vertex(node: Node, found: &mut Least)
     }
 }
 
-/// The value is an array of vertices; answers how many, if it is an array.
+/// Checks that the value is an array of vertices. Returns how many there are, if it is an array.
 fn check_vertices(node: Node, found: &mut Least) -> Option<u64>
     ensures count { result ≡ count_if (tree node.entry) }
     ensures found { found.new ≡ least found.old (vertex_list (tree node.entry)) }
@@ -72,7 +72,7 @@ fn check_vertices(node: Node, found: &mut Least) -> Option<u64>
     Some(count)
 }
 
-/// The feature has vertices; answers how many, if they are an array.
+/// Checks that the feature has vertices. Returns how many there are, if they are an array.
 fn check_vertices_member(object: Node, vertices: Option<Node>, found: &mut Least) -> Option<u64>
     requires { option_map tree vertices ≡ member_of (chars (codes "vertices")) (tree object) }
     ensures count { result ≡ count_of (member_of (chars (codes "vertices")) (tree object.entry)) }
@@ -85,7 +85,7 @@ fn check_vertices_member(object: Node, vertices: Option<Node>, found: &mut Least
     }
 }
 
-/// The links of the city objects, which have none where they are not linked.
+/// Checks the links of the city objects. Unless `linked`, they have none.
 #[inline(always)]
 fn check_links_if(linked: bool, objects: Option<Node>, found: &mut Least)
     requires { linked ≡ false → links (option_map tree objects) ≡ [] }
@@ -96,8 +96,9 @@ fn check_links_if(linked: bool, objects: Option<Node>, found: &mut Least)
     }
 }
 
-/// The value is a feature, with these members, beside these templates, and its city objects are connected, if that is
-/// asked for. Vertices come before the city objects, which ask for their number.
+/// Checks that the value is a feature, with these members and templates. If required, it checks
+/// that the city objects are connected. Vertices come before the city objects, which need their
+/// number.
 fn check_root(
     node: Node,
     objects: Option<Node>,
@@ -124,13 +125,13 @@ fn check_root(
     }
 }
 
-/// Judges a line as a feature (CityJSON 2.0, sections 2 and 8, and the CityJSONSeq page of cityjson.org)
-/// beside the header of its text: the least of its findings, if there are any. With `tree` each city object also has
-/// to be reached from the feature's id, as [`crate::mark_reached`] has marked those that are.
+/// Judges a line as a feature, given the header of its stream. The rules are in CityJSON 2.0,
+/// sections 2 and 8, and on the CityJSONSeq page of cityjson.org. With `tree`, each city object
+/// must also be reached from the feature's id, as [`crate::mark_reached`] has marked them.
 ///
 /// # Errors
 ///
-/// The least finding by place and code.
+/// The least finding by byte and code.
 pub fn check_feature<'a>(
     doc: Doc<'a>,
     header: &'a Header<'a>,

@@ -1,4 +1,4 @@
-//! Texts with their tags, by which they are ordered first.
+//! Texts with tags. They are ordered by tag first.
 ghost use Rattle.std.specs.Prelude.{◌≡◌, ◌%◌};
 ghost use Rattle.cj_spans.specs.Mix.{mix_of};
 ghost use Rattle.cj_spans.specs.Parts.{text_of};
@@ -7,7 +7,7 @@ ghost use Rattle.cj_feature.specs.Tag.{tag_of as tag_of_text};
 
 use cj_spans::Node;
 
-/// A prime: a tag is a remainder by it.
+/// A prime. A tag is a remainder of the division by it.
 const TAGS: u64 = 4_294_967_291;
 
 /// A text that is looked up: its tag, and its node, which may be one of another line.
@@ -18,14 +18,15 @@ pub struct Text<'a> {
     ghost tagged: { tag ≡ tag_of_text (text_of (tree node)) },
 }
 
-/// The tag of a text, by the number that it is mixed to: so it hangs on all code points, and tells most texts apart.
+/// Returns the tag of a text, from the number that the text is mixed to. So the tag depends on all
+/// code points, and distinguishes most texts.
 fn tag_by(mix: u64) -> u32
     ensures { result ≡ mix % 4294967291 }
 {
     (mix % TAGS) as u32
 }
 
-/// The tag of a text. That of what is no text is 0.
+/// Returns the tag of a text, or 0 for a value that is no text.
 pub fn tag_of(node: Node) -> u32
     ensures { result ≡ tag_of_text (text_of (tree node.entry)) }
 {
@@ -33,7 +34,7 @@ pub fn tag_of(node: Node) -> u32
 }
 
 impl<'a> Text<'a> {
-    /// The text of a node, of which the number is known that it is mixed to.
+    /// Returns the text of a node. `mix` is the number that the text is mixed to.
     pub fn mixed(node: Node<'a>, mix: u64) -> Text<'a>
         requires { mix ≡ mix_of (text_of (tree node)) }
         ensures { tree result.node ≡ tree node.entry }
@@ -44,7 +45,7 @@ impl<'a> Text<'a> {
         }
     }
 
-    /// The text of a node.
+    /// Returns the text of a node.
     pub fn of(node: Node<'a>) -> Text<'a>
         ensures { tree result.node ≡ tree node.entry }
     {

@@ -1,5 +1,5 @@
-//! Names of city objects that have no marks, in order: so a text is looked up among them by halves, whatever the names
-//! are. As many are noted at once as there is room for.
+//! Names of city objects without marks, sorted, so that a binary search finds a text among them. As
+//! many are noted at once as fit into the list.
 ghost use Rattle.std.specs.Prelude.{◌≡◌, ◌<◌, ◌≤◌, ◌+◌, [], false, length, slice_set, take};
 ghost use Rattle.std.specs.List.Sorted.{IsPermutation};
 ghost use Rattle.cj_spans.specs.View.{tree, line_of, source_of, members_left, members_line, members_source};
@@ -25,7 +25,7 @@ fn sort(objects: Node, names: &mut [Noted])
     names.sort_unstable_by(|first, second| first.compare(*second, objects));
 }
 
-/// Notes the names of the next city objects that have no mark, as far as there is room; answers how many.
+/// Notes the names of the next city objects without a mark, as many as fit. Returns how many.
 fn note_next<'a>(objects: Node<'a>, names: &mut [Noted], later: &mut Members<'a>) -> usize
     requires line { members_line later.old ≡ line_of objects }
     requires source { members_source later.old ≡ source_of objects }
@@ -50,7 +50,7 @@ fn note_next<'a>(objects: Node<'a>, names: &mut [Noted], later: &mut Members<'a>
     count
 }
 
-/// Notes the names of the next city objects that have no mark, as far as there is room, and puts them in order; answers
+/// Notes the names of the next city objects without a mark, as many as fit, and sorts them. Returns
 /// how many.
 pub fn gather_next<'a>(objects: Node<'a>, names: &mut [Noted], later: &mut Members<'a>) -> usize
     requires line { members_line later.old ≡ line_of objects }
@@ -69,7 +69,7 @@ pub fn gather_next<'a>(objects: Node<'a>, names: &mut [Noted], later: &mut Membe
     count
 }
 
-/// Whether a text is one of the names.
+/// Returns whether a text is one of the names.
 pub fn has(objects: Node, names: &[Noted], text: Node) -> bool
     requires { AreInNameOrder objects names.now }
     ensures { result ≡ false → IsNoted objects.entry names.now (tree text.entry) → ⊥ }

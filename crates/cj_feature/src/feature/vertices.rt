@@ -8,14 +8,14 @@ ghost use Rattle.cj_feature.specs.Typed.{vertex_of, is_vertex, begins_whole};
 use cj_geometry::rule::read_whole;
 use cj_spans::{Items, Node};
 
-/// The vertices that are left, in order: three whole numbers each, as they stand in the line.
+/// The remaining vertices, in order: three whole numbers each, as they are in the line.
 #[derive(Clone, Copy)]
 pub struct Vertices<'a> {
     pub(crate) items: Items<'a>,
     ghost whole: { list_all is_vertex (items_left items) ≡ true },
 }
 
-/// The next of some whole numbers.
+/// Returns the next of some whole numbers.
 #[inline(always)]
 pub fn next_whole(items: &mut Items) -> i64
     requires { begins_whole (map whole_of (items_left items.old)) ≡ true }
@@ -30,7 +30,7 @@ pub fn next_whole(items: &mut Items) -> i64
     }
 }
 
-/// The whole numbers of a vertex.
+/// Returns the whole numbers of a vertex.
 #[inline(always)]
 fn read_vertex(node: Node) -> [i64; 3]
     requires { is_vertex (tree node) ≡ true }
@@ -47,7 +47,7 @@ impl<'a> Vertices<'a> {
     ghost use Rattle.cj_spans.specs.Parts.{items_of};
     ghost use Rattle.cj_feature.specs.Walks.{vertices_left};
 
-    /// A walk over items that are vertices.
+    /// Returns a walk over items that are vertices.
     #[tactic(auto, unfolding(crate::specs::Walks::vertices_left))]
     pub(crate) fn over(items: Items<'a>) -> Vertices<'a>
         requires { list_all is_vertex (items_left items) ≡ true }

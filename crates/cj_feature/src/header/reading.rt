@@ -1,4 +1,4 @@
-//! What a valid header says, read once.
+//! What a valid header contains, read once.
 ghost use Rattle.std.specs.Prelude.{◌≡◌, ◌<◌, ◌∷◌, [], Some, MatchOption, is_some, map, true, length};
 ghost use Rattle.std.specs.List.{flat_map};
 ghost use Rattle.std.specs.Option.{ForSome};
@@ -20,8 +20,8 @@ use cj_decimal::{Affine, Decimal};
 use cj_geometry::Steps;
 use cj_spans::{Items, Kind, Node};
 
-/// What is read of a header once and for all. It borrows nothing, so that it can be kept beside a copy
-/// of the line and its tokens.
+/// What is read of a header once. It borrows nothing, so it can be kept with a copy of the line and
+/// its tokens.
 #[derive(Clone, Copy, Debug)]
 pub struct HeaderParts {
     pub(crate) scale: [Decimal; 3],
@@ -31,7 +31,7 @@ pub struct HeaderParts {
     pub(crate) templates: Option<Steps>,
 }
 
-/// The value of a number in range.
+/// Returns the value of a number in range.
 fn read_number(node: Node) -> Decimal
     requires { number (tree node) ≡ [] }
     ensures { value_of (tree node.entry) ≡ Some result }
@@ -42,7 +42,7 @@ fn read_number(node: Node) -> Decimal
     }
 }
 
-/// The value of the next of some numbers in range.
+/// Returns the value of the next of some numbers in range.
 fn next_number(items: &mut Items) -> Decimal
     requires some { 0 < length (items_left items.old) }
     requires numbers { flat_map number (items_left items.old) ≡ [] }
@@ -54,7 +54,7 @@ fn next_number(items: &mut Items) -> Decimal
     }
 }
 
-/// The values of three numbers in range.
+/// Returns the values of three numbers in range.
 fn read_three(node: Node) -> [Decimal; 3]
     requires { of_length NotThree 3 number (tree node) ≡ [] }
     ensures { map value_of (items_of (tree node.entry)) ≡ map Some result }
@@ -66,7 +66,7 @@ fn read_three(node: Node) -> [Decimal; 3]
     [x, y, z]
 }
 
-/// The values of a member of the transform.
+/// Returns the values of a member of the transform.
 fn read_three_member(transform: Node, name: &str) -> [Decimal; 3]
     requires { needs (chars name.now) (of_length NotThree 3 number) (tree transform) ≡ [] }
     ensures { map value_of (items_if (member_of (chars name.now) (tree transform.entry))) ≡ map Some result }
@@ -77,7 +77,7 @@ fn read_three_member(transform: Node, name: &str) -> [Decimal; 3]
     }
 }
 
-/// The map of an axis whose scale and translation are fixed.
+/// Returns the map of an axis with a fixed scale and translation.
 fn map_axis(scale: Decimal, shift: Decimal) -> Affine
     requires scale { is_fixed scale ≡ true }
     requires shift { is_fixed shift ≡ true }
@@ -92,7 +92,7 @@ fn map_axis(scale: Decimal, shift: Decimal) -> Affine
     Affine::new(scale, shift)
 }
 
-/// The maps of the first two axes.
+/// Returns the maps of the first two axes.
 fn map_axes(scale: [Decimal; 3], translate: [Decimal; 3]) -> [Affine; 2]
     requires scale { are_fixed scale ≡ true }
     requires translate { are_fixed translate ≡ true }
@@ -104,7 +104,7 @@ fn map_axes(scale: [Decimal; 3], translate: [Decimal; 3]) -> [Affine; 2]
     ]
 }
 
-/// The list of templates of a header, if it has one.
+/// Returns the list of templates of a header, if it has one.
 pub fn template_list(root: Node) -> Option<Node>
     ensures { MatchOption result (templates_of (tree root.entry) ≡ empty)
         (λ list. (templates_of (tree root.entry) ≡ listed (tree list)) × (kind_of (tree list) ≡ Array)) }
@@ -121,7 +121,7 @@ pub fn template_list(root: Node) -> Option<Node>
     }
 }
 
-/// The steps of the list of templates of a header, if it has one. It is gone over.
+/// Returns the steps of the list of templates of a header, if it has one, by a walk over it.
 fn template_steps(root: Node) -> Option<Steps>
     ensures listed { is_some result ≡ is_some (list_of (templates_of (tree root.entry))) }
     ensures steps { ForSome result (AreStepsOf (parts_of (list_of (templates_of (tree root.entry))))) }
@@ -132,7 +132,7 @@ fn template_steps(root: Node) -> Option<Steps>
     }
 }
 
-/// The parts of a header, for a box or for none.
+/// Returns the parts of a header, with or without a box.
 #[tactic(auto, unfolding(crate::specs::Shown::parts_box))]
 pub fn read_parts(root: Node, with_box: bool) -> HeaderParts
     requires { header with_box (tree root) ≡ [] }

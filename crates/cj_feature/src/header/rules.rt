@@ -1,4 +1,4 @@
-//! The rules on headers, one after another, and the verdict by them.
+//! The rules on headers, one after another, and the verdict that follows.
 ghost use Rattle.std.specs.Prelude.{◌≡◌, [], Some, MatchResult, IfOk, cond, codes};
 ghost use Rattle.std.specs.Str.{chars};
 ghost use Rattle.cj_spans.specs.declared.reason.Reason.TheVariants.{NotThree, TransformNotFixed};
@@ -20,7 +20,7 @@ use cj_geometry::rule::{
 use cj_geometry::{Templates, check_geometry};
 use cj_spans::{Doc, Finding, Kind, Least, Node, Reason};
 
-/// The value is an array of three numbers.
+/// Checks that the value is an array of three numbers.
 fn check_three_numbers(node: Node, found: &mut Least)
     ensures { found.new ≡ least found.old (of_length NotThree 3 number (tree node.entry)) }
 {
@@ -30,7 +30,7 @@ fn check_three_numbers(node: Node, found: &mut Least)
     }
 }
 
-/// The value is a number out of range, or a multiple of 10^-18 below 10^18 in size.
+/// Checks that a number in range is a multiple of 10^-18, below 10^18 in size.
 fn check_fixed(node: Node, found: &mut Least)
     ensures { found.new ≡ least found.old (fixed (tree node.entry)) }
 {
@@ -39,7 +39,8 @@ fn check_fixed(node: Node, found: &mut Least)
     }
 }
 
-/// Whether the value is a number in range that is no multiple of 10^-18, or 10^18 or more in size.
+/// Returns whether the value is a number in range that is no multiple of 10^-18, or 10^18 or more
+/// in size.
 fn is_unfixed(node: Node) -> bool
     ensures { fixed (tree node.entry) ≡ cond result (one TransformNotFixed (tree node.entry)) [] }
 {
@@ -52,7 +53,7 @@ fn is_unfixed(node: Node) -> bool
     }
 }
 
-/// The first two of the values are fixed.
+/// Checks that the first two of the values are fixed.
 fn check_first_two(node: Node, found: &mut Least)
     ensures { found.new ≡ least found.old (first_two fixed (items_of (tree node.entry))) }
 {
@@ -65,7 +66,7 @@ fn check_first_two(node: Node, found: &mut Least)
     }
 }
 
-/// The value is an array of three numbers, of which with a box the first two are fixed.
+/// Checks that the value is an array of three numbers. With a box, the first two must be fixed.
 fn check_axes(node: Node, with_box: bool, found: &mut Least)
     ensures { found.new ≡ least found.old (three_numbers with_box (tree node.entry)) }
 {
@@ -75,7 +76,7 @@ fn check_axes(node: Node, with_box: bool, found: &mut Least)
     }
 }
 
-/// The object has a member of this name, which is an array of three numbers.
+/// Checks that the object has a member with this name, which is an array of three numbers.
 fn check_axes_member(object: Node, name: &str, with_box: bool, found: &mut Least)
     ensures { found.new ≡ least found.old (needs (chars name.now) (three_numbers with_box) (tree object.entry)) }
 {
@@ -84,7 +85,7 @@ fn check_axes_member(object: Node, name: &str, with_box: bool, found: &mut Least
     }
 }
 
-/// The value is an object of a scale and a translation.
+/// Checks that the value is an object with a scale and a translation.
 fn check_transform(node: Node, with_box: bool, found: &mut Least)
     ensures { found.new ≡ least found.old (transform with_box (tree node.entry)) }
 {
@@ -95,7 +96,7 @@ fn check_transform(node: Node, with_box: bool, found: &mut Least)
     }
 }
 
-/// The header has a transform.
+/// Checks that the header has a transform.
 fn check_transform_member(object: Node, with_box: bool, found: &mut Least)
     ensures { found.new ≡ least found.old (needs (chars (codes "transform")) (transform with_box) (tree object.entry)) }
 {
@@ -104,7 +105,7 @@ fn check_transform_member(object: Node, with_box: bool, found: &mut Least)
     }
 }
 
-/// The object has no members.
+/// Checks that the object has no members.
 fn check_no_members(object: Node, found: &mut Least)
     ensures { found.new ≡ least found.old (no_members (tree object.entry)) }
 {
@@ -114,7 +115,8 @@ fn check_no_members(object: Node, found: &mut Least)
     }
 }
 
-/// The value is an object of no members, whose names are looked at as those of any other.
+/// Checks that the value is an object without members. Its names are checked as those of any other
+/// object.
 fn check_no_objects(node: Node, found: &mut Least)
     ensures { found.new ≡ least found.old (empty_object (tree node.entry)) }
 {
@@ -124,7 +126,7 @@ fn check_no_objects(node: Node, found: &mut Least)
     }
 }
 
-/// The header has no city objects.
+/// Checks that the header has no city objects.
 fn check_no_objects_member(object: Node, found: &mut Least)
     ensures { found.new ≡ least found.old (needs (chars (codes "CityObjects")) empty_object (tree object.entry)) }
 {
@@ -133,7 +135,7 @@ fn check_no_objects_member(object: Node, found: &mut Least)
     }
 }
 
-/// The header has no vertices.
+/// Checks that the header has no vertices.
 fn check_no_vertices_member(object: Node, found: &mut Least)
     ensures { found.new ≡ least found.old (needs (chars (codes "vertices")) empty_array (tree object.entry)) }
 {
@@ -142,7 +144,7 @@ fn check_no_vertices_member(object: Node, found: &mut Least)
     }
 }
 
-/// The value is an array of vertices, each of three numbers.
+/// Checks that the value is an array of vertices, each of three numbers.
 fn check_template_vertices(node: Node, found: &mut Least)
     ensures { found.new ≡ least found.old (template_vertices (tree node.entry)) }
 {
@@ -153,7 +155,7 @@ fn check_template_vertices(node: Node, found: &mut Least)
     }
 }
 
-/// The templates have vertices.
+/// Checks that the templates have vertices.
 fn check_template_vertices_member(object: Node, found: &mut Least)
     ensures { found.new
         ≡ least found.old (needs (chars (codes "vertices-templates")) template_vertices (tree object.entry)) }
@@ -163,7 +165,8 @@ fn check_template_vertices_member(object: Node, found: &mut Least)
     }
 }
 
-/// The value is an array of templates, with so many vertices if that is known.
+/// Checks that the value is an array of templates. `vertices` is the number of their vertices, if
+/// it is known.
 fn check_template_list(node: Node, vertices: Option<u64>, found: &mut Least)
     ensures { found.new ≡ least found.old (template_list vertices (tree node.entry)) }
 {
@@ -174,7 +177,7 @@ fn check_template_list(node: Node, vertices: Option<u64>, found: &mut Least)
     }
 }
 
-/// The templates are geometries, over the vertices beside them.
+/// Checks that the templates are geometries, with the vertices of the same object.
 fn check_template_list_member(object: Node, found: &mut Least)
     ensures { found.new
         ≡ least found.old
@@ -188,7 +191,7 @@ fn check_template_list_member(object: Node, found: &mut Least)
     }
 }
 
-/// The value is an object of templates and their vertices.
+/// Checks that the value is an object of templates and their vertices.
 fn check_templates(node: Node, found: &mut Least)
     ensures { found.new ≡ least found.old (geometry_templates (tree node.entry)) }
 {
@@ -199,7 +202,7 @@ fn check_templates(node: Node, found: &mut Least)
     }
 }
 
-/// The header may have templates.
+/// Checks the templates of the header, if it has any.
 fn check_templates_member(object: Node, found: &mut Least)
     ensures { found.new
         ≡ least found.old (may_have (chars (codes "geometry-templates")) geometry_templates (tree object.entry)) }
@@ -209,7 +212,7 @@ fn check_templates_member(object: Node, found: &mut Least)
     }
 }
 
-/// The value is a header, for a box or for none.
+/// Checks that the value is a header, with or without a box.
 fn check_root(node: Node, with_box: bool, found: &mut Least)
     ensures { found.new ≡ least found.old (header with_box (tree node.entry)) }
 {
@@ -224,13 +227,13 @@ fn check_root(node: Node, with_box: bool, found: &mut Least)
     }
 }
 
-/// Judges a line as a header (CityJSON 2.0, section 1, and the CityJSONSeq page of cityjson.org): the
-/// least of its findings, if there are any. With a box the scale and the translation of the x and y axes
-/// have to be numbers that a box can be compared with.
+/// Judges a line as a header. The rules are in CityJSON 2.0, section 1, and on the CityJSONSeq page
+/// of cityjson.org. With a box, the scale and the translation of the x and y axes must be numbers
+/// that a box can be compared with.
 ///
 /// # Errors
 ///
-/// The least finding by place and code.
+/// The least finding by byte and code.
 pub fn check_header<'a>(doc: Doc<'a>, with_box: bool) -> Result<Header<'a>, Finding>
     ensures verdict { MatchResult result (λ h. header with_box (document doc.entry) ≡ [])
         (λ f. IsLeast (header with_box (document doc.entry)) (Some f)) }

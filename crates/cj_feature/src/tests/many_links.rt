@@ -1,5 +1,5 @@
-//! Links between many city objects, more of them than are asked about at once. What is wrong with a line is told from
-//! how it is made.
+//! Links between many city objects, more than one set of questions can hold, with each capacity.
+//! The expected result follows from how a line is built.
 use super::{HEADER, features_meet};
 use std::alloc::{AllocError, Global};
 use std::process::Abort;
@@ -10,6 +10,9 @@ const MANY: u32 = 4500;
 
 /// How many items a long list has: more than are asked about at once.
 const LONG: u32 = 30_000;
+
+/// How many items a list has that is long for a feature of less than 64 KiB.
+const SHORT: u32 = 6_000;
 
 /// A line of these city objects, whose first is `p0`, has the finding that is wanted.
 fn objects_meet(
@@ -28,21 +31,22 @@ fn objects_meet(
     )
 }
 
-/// What stands before the i-th of some things in a row.
+/// Returns what comes before the i-th of some things in a row.
 fn comma(i: u32) -> &'static str {
     if i == 0 { "" } else { "," }
 }
 
-/// A city object of a ring: its child is the one after it, and its parent the one before it. That of the number
-/// `broken` has itself for a parent, so the child before it has the mark.
-fn ring_member(alloc: Global, i: u32, broken: u32) -> Result<String, AllocError> {
-    let child = if i < MANY - 1 { i as u64 + 1 } else { 0 };
+/// A city object of a ring. Its child is the one after it, and its parent the one before it. The
+/// one of the number `broken` has itself as a parent, so the child before it has the mark.
+fn ring_member(alloc: Global, count: u32, i: u32, broken: u32) -> Result<String, AllocError> {
+    let next = i as u64 + 1;
+    let child = if next < count as u64 { next } else { 0 };
     let before = if i == 0 {
-        MANY as u64 - 1
+        count.saturating_sub(1)
     } else {
-        i as u64 - 1
+        i - 1
     };
-    let parent = if i == broken { i as u64 } else { before };
+    let parent = if i == broken { i } else { before };
     let mark = if child == broken as u64 { "^" } else { "" };
     let comma = comma(i);
     format!(in alloc;
@@ -50,27 +54,34 @@ fn ring_member(alloc: Global, i: u32, broken: u32) -> Result<String, AllocError>
     )
 }
 
-/// A ring of city objects.
-fn ring(alloc: Global, broken: u32) -> Result<String, AllocError> {
+/// A ring of `count` city objects.
+fn ring(alloc: Global, count: u32, broken: u32) -> Result<String, AllocError> {
     let mut objects = String::new(alloc);
-    for i in 0..MANY {
-        objects.push_str(&ring_member(alloc, i, broken)?)?;
+    for i in 0..count {
+        objects.push_str(&ring_member(alloc, count, i, broken)?)?;
     }
     Ok(objects)
 }
 
+/// Rings of `count` city objects are valid. If one link is broken, they are not.
+fn rings_meet(rt: &impl Abort, alloc: Global, count: u32) -> Result<(), AllocError> {
+    let whole = ring(alloc, count, count)?;
+    objects_meet(rt, alloc, &whole, "none")?;
+    let broken = ring(alloc, count, count / 3 * 2)?;
+    objects_meet(rt, alloc, &broken, "22 link not mutual")?;
+    let last = ring(alloc, count, count.saturating_sub(1))?;
+    objects_meet(rt, alloc, &last, "22 link not mutual")
+}
+
 #[test]
 fn rings(rt: HostRuntime) -> Result<(), Fail> {
-    let whole = ring(rt.alloc(), MANY)?;
-    objects_meet(&rt, rt.alloc(), &whole, "none")?;
-    let broken = ring(rt.alloc(), 3000)?;
-    objects_meet(&rt, rt.alloc(), &broken, "22 link not mutual")?;
-    let last = ring(rt.alloc(), MANY - 1)?;
-    objects_meet(&rt, rt.alloc(), &last, "22 link not mutual")?;
+    rings_meet(&rt, rt.alloc(), 256)?;
+    rings_meet(&rt, rt.alloc(), 1_000)?;
+    rings_meet(&rt, rt.alloc(), MANY)?;
     Ok(())
 }
 
-/// Children of `p0`, the last first; the one of the number `marked` has the mark.
+/// Children of `p0`, the last first. The one of the number `marked` has the mark.
 fn backwards(alloc: Global, marked: u32) -> Result<String, AllocError> {
     let mut children = String::new(alloc);
     for i in 0..MANY {
@@ -82,8 +93,8 @@ fn backwards(alloc: Global, marked: u32) -> Result<String, AllocError> {
     Ok(children)
 }
 
-/// Parts of `p0`, but that of the number `alone`, which has another text for a parent. The first letter of their names
-/// is spelled so.
+/// Parts of `p0`. The one of the number `alone` has another text as a parent. The first letter of
+/// their names is spelled as `letter`.
 fn parts(alloc: Global, letter: &str, alone: u32, other: &str) -> Result<String, AllocError> {
     let mut parts = String::new(alloc);
     for i in 0..MANY {
@@ -149,7 +160,7 @@ fn a_part_whose_parent_is_not_there(rt: HostRuntime) -> Result<(), Fail> {
     Ok(())
 }
 
-/// These city objects before many buildings without links, and behind them.
+/// Checks these city objects before many buildings without links, and after them.
 fn meet_among_many(
     rt: &impl Abort,
     alloc: Global,
@@ -181,7 +192,7 @@ fn a_part_of_what_is_no_city_object(rt: HostRuntime) -> Result<(), Fail> {
     Ok(())
 }
 
-/// An item listed so many times.
+/// An item that is listed `count` times.
 fn again(alloc: Global, item: &str, count: u32) -> Result<String, AllocError> {
     let mut items = String::from_str(alloc, item)?;
     for _ in 1..count {
@@ -191,10 +202,11 @@ fn again(alloc: Global, item: &str, count: u32) -> Result<String, AllocError> {
     Ok(items)
 }
 
-/// A ring behind a group that lists a text so often that what is asked next ends amid the ring.
+/// A ring after a group. The group lists a text so often that the next questions end within the
+/// ring.
 fn ring_behind_a_group(alloc: Global, broken: u32) -> Result<String, AllocError> {
     let texts = again(alloc, r#""q""#, 27_000)?;
-    let ring = ring(alloc, broken)?;
+    let ring = ring(alloc, MANY, broken)?;
     format!(in alloc;
         r#""g":{{"type":"CityObjectGroup","children":[{texts}],"parents":[{texts}]}},{ring}"#
     )
@@ -236,10 +248,10 @@ fn a_pair_listed_again_by_one_alone(rt: HostRuntime) -> Result<(), Fail> {
     Ok(())
 }
 
-/// Texts `q0`, `q1` and so on.
-fn absent(alloc: Global) -> Result<String, AllocError> {
+/// The texts `q0`, `q1` and so on, `count` of them.
+fn absent(alloc: Global, count: u32) -> Result<String, AllocError> {
     let mut texts = String::new(alloc);
-    for i in 0..LONG {
+    for i in 0..count {
         let comma = comma(i);
         texts.push_str(&format!(in alloc; r#"{comma}"q{i}""#)?)?;
     }
@@ -249,7 +261,7 @@ fn absent(alloc: Global) -> Result<String, AllocError> {
 /// Buildings without links, and one with parents that are not there and another.
 fn with_absent(alloc: Global, another: &str) -> Result<String, AllocError> {
     let others = buildings(alloc)?;
-    let parents = absent(alloc)?;
+    let parents = absent(alloc, LONG)?;
     format!(in alloc; r#"{others},"p":{{"type":"Building","parents":[{parents}{another}]}}"#)
 }
 
@@ -267,15 +279,22 @@ fn a_parent_among_those_that_are_not_there(rt: HostRuntime) -> Result<(), Fail> 
     Ok(())
 }
 
+/// A part lists its parent after `count` others that are not there.
+fn last_meets(rt: &impl Abort, alloc: Global, count: u32) -> Result<(), AllocError> {
+    let others = absent(alloc, count)?;
+    let parents = format!(in alloc; r#"{others},"p0""#)?;
+    let listed = two_parts(alloc, r#""p","q""#, &parents)?;
+    objects_meet(rt, alloc, &listed, "none")?;
+    let unlisted = format!(in alloc; r#"{others},^"p0""#)?;
+    let not_listed = two_parts(alloc, r#""q""#, &unlisted)?;
+    objects_meet(rt, alloc, &not_listed, "22 link not mutual")
+}
+
 #[test]
 fn the_last_of_many_parents_is_there(rt: HostRuntime) -> Result<(), Fail> {
-    let alloc = rt.alloc();
-    let parents = format!(in alloc; r#"{},"p0""#, absent(alloc)?.as_str())?;
-    let listed = two_parts(alloc, r#""p","q""#, &parents)?;
-    objects_meet(&rt, alloc, &listed, "none")?;
-    let unlisted = format!(in alloc; r#"{},^"p0""#, absent(alloc)?.as_str())?;
-    let not_listed = two_parts(alloc, r#""q""#, &unlisted)?;
-    objects_meet(&rt, alloc, &not_listed, "22 link not mutual")?;
+    last_meets(&rt, rt.alloc(), 900)?;
+    last_meets(&rt, rt.alloc(), SHORT)?;
+    last_meets(&rt, rt.alloc(), LONG)?;
     Ok(())
 }
 
@@ -289,7 +308,7 @@ fn parents_that_are_no_texts(rt: HostRuntime) -> Result<(), Fail> {
 
 #[test]
 fn children_of_a_group(rt: HostRuntime) -> Result<(), Fail> {
-    let children = absent(rt.alloc())?;
+    let children = absent(rt.alloc(), LONG)?;
     let group = format!(in rt.alloc();
         r#""g":{{"type":"CityObjectGroup","children":[{children}]}}"#
     )?;
@@ -299,7 +318,8 @@ fn children_of_a_group(rt: HostRuntime) -> Result<(), Fail> {
     Ok(())
 }
 
-/// A building `p0` whose child has this mark, and many buildings of the child's name, of which the second has that one.
+/// A building `p0` whose child has the mark `mark`, and many buildings of the child's name. The
+/// second of them has the mark `second`.
 fn of_one_name(alloc: Global, mark: &str, second: &str) -> Result<String, AllocError> {
     let mut objects = format!(in alloc;
         r#""p0":{{"type":"Building","children":[{mark}"q"]}},"q":{{"type":"Building"}},{second}"q":{{"type":"Building"}}"#

@@ -1,4 +1,4 @@
-//! Features, rule by rule, but for links.
+//! Features, rule by rule, except for links.
 use super::{HEADER, features_meet};
 use std::test::Fail;
 

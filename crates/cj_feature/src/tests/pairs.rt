@@ -1,5 +1,4 @@
-//! Two rules broken at once: the least finding by place is told, in whatever order the rules are
-//! looked at.
+//! Two rules broken at once. The least finding by byte is reported, in any order of the checks.
 use super::{HEADER, features_meet, headers_meet};
 use std::test::Fail;
 

@@ -1,4 +1,4 @@
-//! City objects that hang on the main one: what is marked, and what is found by the marks.
+//! City objects that are reached from the main one: the marks, and what is found by them.
 ghost use Rattle.cj_spans.specs.Marks.{AreUnmarked};
 ghost use Rattle.cj_spans.specs.Sound.{AreOf};
 
@@ -10,7 +10,7 @@ use std::alloc::{AllocError, Global};
 use std::process::Abort;
 use std::test::Fail;
 
-/// The finding of a line that is judged as a feature whose city objects hang together.
+/// Returns the finding of a line as a feature whose city objects must all be reached.
 fn tree_finding(rt: &impl Abort, alloc: Global, line: &[u8]) -> Option<Finding> {
     let header_tokens = tokens_of(rt, alloc, HEADER.as_bytes());
     let mut tokens = tokens_of(rt, alloc, line);
@@ -24,7 +24,8 @@ fn tree_finding(rt: &impl Abort, alloc: Global, line: &[u8]) -> Option<Finding> 
     }
 }
 
-/// Each row of the table, as a feature whose city objects hang together, has the finding that it wants.
+/// Each row of the table has the finding that it wants, as a feature whose city objects must all be
+/// reached.
 fn trees_meet(rt: &impl Abort, alloc: Global, pattern: &str, rows: &str) -> Result<(), AllocError> {
     for row in rows.trim().lines() {
         let (line, want) = line_of(rt, alloc, pattern, row)?;
@@ -35,7 +36,7 @@ fn trees_meet(rt: &impl Abort, alloc: Global, pattern: &str, rows: &str) -> Resu
     Ok(())
 }
 
-/// The places of the nodes that have marks, in order.
+/// Returns the places of the nodes that have marks, in order.
 fn marked_places(alloc: Global, line: &[u8], tokens: &Bounded<Token>) -> Result<String, AllocError>
     requires { AreOf line.now tokens.now.elements }
 {
@@ -51,7 +52,7 @@ fn marked_places(alloc: Global, line: &[u8], tokens: &Bounded<Token>) -> Result<
     Ok(places)
 }
 
-/// How many nodes have marks.
+/// Returns how many nodes have marks.
 fn count_marks(line: &[u8], tokens: &Bounded<Token>) -> usize
     requires { AreOf line.now tokens.now.elements }
 {
@@ -212,8 +213,8 @@ fn the_rule_where_it_does_not_apply(rt: HostRuntime) -> Result<(), Fail> {
     Ok(())
 }
 
-/// A feature of so many groups, of which each lists the one before it, but the one at `cut` lists none; its id is that of
-/// the last.
+/// A feature of `count` groups. Each lists the one before it, but the one at `cut` lists none. The
+/// feature's id is that of the last.
 fn chain(alloc: Global, count: u32, cut: u32) -> Result<String, AllocError> {
     let mut objects = String::new(alloc);
     for number in 0..count {
@@ -233,7 +234,7 @@ fn chain(alloc: Global, count: u32, cut: u32) -> Result<String, AllocError> {
     )
 }
 
-/// The line has so many marks, and is judged so.
+/// The line has this number of marks and this finding.
 fn line_meets(
     rt: &impl Abort,
     alloc: Global,
@@ -249,7 +250,7 @@ fn line_meets(
     Ok(())
 }
 
-/// The chain has so many marks, and is judged so.
+/// The chain has this number of marks and this finding.
 fn chain_meets(
     rt: &impl Abort,
     alloc: Global,
@@ -262,7 +263,7 @@ fn chain_meets(
     line_meets(rt, alloc, line.as_bytes(), marks, want)
 }
 
-/// The first city object of a chain whose last number has three digits stands at 58.
+/// The first city object of a chain whose last number has three digits is at byte 58.
 #[test]
 fn chains_from_the_end(rt: HostRuntime) -> Result<(), Fail> {
     let apart = "not reached from the main object";
@@ -273,7 +274,33 @@ fn chains_from_the_end(rt: HostRuntime) -> Result<(), Fail> {
     Ok(())
 }
 
-/// A city object apart, and behind it so many groups of the name of the main one, each of which lists that name.
+/// Chains for the large guide.
+#[test]
+fn long_chains_from_the_end(rt: HostRuntime) -> Result<(), Fail> {
+    let want = "59 31 not reached from the main object";
+    chain_meets(&rt, rt.alloc(), 5_000, 0, 5_000, "none")?;
+    chain_meets(&rt, rt.alloc(), 5_000, 400, 4_600, want)?;
+    Ok(())
+}
+
+/// A group of 5,000 short city objects of one name, and one that is not reached. They need the
+/// guide of middle size.
+#[test]
+fn many_short_ones(rt: HostRuntime) -> Result<(), Fail> {
+    let mut objects = String::new(rt.alloc());
+    for _ in 0..5_000 {
+        objects.push_str(r#","c":0"#)?;
+    }
+    let group = r#""b":{"type":"CityObjectGroup","children":["c"]}"#;
+    let line = format!(in rt.alloc();
+        "{{\"type\":\"CityJSONFeature\",\"id\":\"b\",\"CityObjects\":{{{group}{objects},\"d\":0}},\"vertices\":[]}}"
+    )?;
+    line_meets(&rt, rt.alloc(), line.as_bytes(), 5_001, "102 12 wrong kind")?;
+    Ok(())
+}
+
+/// A city object that is not reached. After it come `count` groups of the name of the main one, and
+/// each lists that name.
 fn namesakes(alloc: Global, count: u32) -> Result<String, AllocError> {
     let mut objects = String::new(alloc);
     for _ in 0..count {

@@ -1,4 +1,4 @@
-//! What valid headers and features show: places of values, counted in the lines, and numbers.
+//! What valid headers and features show: bytes of values, counted in the lines, and numbers.
 ghost use Rattle.std.specs.Prelude.{◌≡◌, ◌<◌};
 ghost use Rattle.cj_spans.specs.View.{document};
 ghost use Rattle.cj_feature.specs.HeaderView.{header_tree};
@@ -13,15 +13,15 @@ use std::alloc::{AllocError, Global};
 use std::process::Abort;
 use std::test::Fail;
 
-/// A building of one surface.
+/// A building with one surface.
 const BUILDING: &str =
     r#"{"type":"CityJSONFeature","id":"b1","CityObjects":{"b1":{"type":"Building","geometry":[{"type":"MultiSurface","lod":"2.2","boundaries":[[[0,1,2,3]]]}]}},"vertices":[[0,0,0],[1000,0,0],[1000,1000,0],[0,1000,0]]}"#;
 
-/// A tree that names the first template, beside a part of a building and its parent.
+/// A plant that names the first template, next to a part of a building and its parent.
 const TREE: &str =
     r#"{"type":"CityJSONFeature","id":"t","CityObjects":{"t":{"type":"SolitaryVegetationObject","geometry":[{"type":"GeometryInstance","template":0,"boundaries":[0],"transformationMatrix":[1,0,0,0,0,1,0,0,0,0,1,0,0,0,0,1]}]},"p":{"type":"BuildingPart","parents":["b"]},"b":{"type":"Building","children":["p"]}},"vertices":[[-1,2e1,3.0]]}"#;
 
-/// Three numbers as coefficient and power.
+/// Returns three numbers as coefficient and power.
 fn three_text(alloc: Global, numbers: [Decimal; 3]) -> Result<String, AllocError> {
     let [x, y, z] = numbers;
     format!(in alloc;
@@ -35,7 +35,7 @@ fn three_text(alloc: Global, numbers: [Decimal; 3]) -> Result<String, AllocError
     )
 }
 
-/// What a header shows.
+/// Returns what a header shows.
 fn header_text(alloc: Global, header: &Header) -> Result<String, AllocError> {
     let scale = three_text(alloc, header.scale())?;
     let translate = three_text(alloc, header.translate())?;
@@ -46,14 +46,14 @@ fn header_text(alloc: Global, header: &Header) -> Result<String, AllocError> {
     )
 }
 
-/// The header again, of its parts.
+/// Returns the header again, from its parts.
 fn again<'a>(doc: Doc<'a>, header: &Header<'a>) -> Header<'a>
     requires { header_tree header.now ≡ document doc }
 {
     Header::of(doc, header.parts())
 }
 
-/// What a line shows as a header, and as the header that is made of its parts.
+/// Returns what a line shows as a header, and as the header made from its parts.
 fn header_texts(
     rt: &impl Abort,
     alloc: Global,
@@ -79,7 +79,7 @@ fn a_header_of_its_parts_shows_the_same(rt: HostRuntime) -> Result<(), Fail> {
     Ok(())
 }
 
-/// How the maps of a header take a whole number on each axis, beside a number.
+/// Returns how the maps of a header compare a whole number on each axis with a number.
 fn compared(
     rt: &impl Abort,
     alloc: Global,
@@ -95,7 +95,7 @@ fn compared(
     format!(in alloc; "{east:?} {north:?}")
 }
 
-/// A number that a box may have.
+/// Returns a number that a box may have.
 fn fixed(rt: &impl Abort, spelling: &str) -> Fixed18 {
     match Decimal::read(spelling.as_bytes()) {
         Ok(number) => number.fixed18().expect(rt, "a fixed number"),
@@ -103,7 +103,7 @@ fn fixed(rt: &impl Abort, spelling: &str) -> Fixed18 {
     }
 }
 
-/// How the maps of the usual header take a vertex, beside a point.
+/// Returns how the maps of the usual header compare a vertex with a point.
 fn vertex_text(
     rt: &impl Abort,
     alloc: Global,
@@ -131,7 +131,7 @@ fn a_header_for_a_box_maps_vertices(rt: HostRuntime) -> Result<(), Fail> {
     Ok(())
 }
 
-/// The places of id, type and object of each city object.
+/// Returns the bytes of id and object, and the type, of each city object.
 fn objects_text(alloc: Global, feature: &Feature) -> Result<String, AllocError> {
     let mut text = String::new(alloc);
     for object in feature.objects() {
@@ -146,7 +146,7 @@ fn objects_text(alloc: Global, feature: &Feature) -> Result<String, AllocError> 
     Ok(text)
 }
 
-/// The places of geometries, and of their levels of detail.
+/// Returns the bytes of geometries, and of their levels of detail.
 fn geometries_text(alloc: Global, feature: &Feature) -> Result<String, AllocError> {
     let mut text = String::new(alloc);
     for geometry in feature.geometries() {
@@ -160,7 +160,7 @@ fn geometries_text(alloc: Global, feature: &Feature) -> Result<String, AllocErro
     Ok(text)
 }
 
-/// The numbers of vertices.
+/// Returns the numbers of vertices.
 fn vertices_text(alloc: Global, feature: &Feature) -> Result<String, AllocError> {
     let mut text = String::new(alloc);
     for [x, y, z] in feature.vertices() {
@@ -170,7 +170,7 @@ fn vertices_text(alloc: Global, feature: &Feature) -> Result<String, AllocError>
     Ok(text)
 }
 
-/// The numbers of vertices on an axis.
+/// Returns the numbers of vertices on an axis.
 fn coordinates_text(alloc: Global, feature: &Feature, axis: usize) -> Result<String, AllocError>
     requires { axis < 3 }
 {
@@ -182,7 +182,7 @@ fn coordinates_text(alloc: Global, feature: &Feature, axis: usize) -> Result<Str
     Ok(text)
 }
 
-/// What a feature shows.
+/// Returns what a feature shows.
 fn feature_text(alloc: Global, feature: &Feature) -> Result<String, AllocError> {
     let objects = objects_text(alloc, feature)?;
     let geometries = geometries_text(alloc, feature)?;
@@ -197,7 +197,7 @@ fn feature_text(alloc: Global, feature: &Feature) -> Result<String, AllocError> 
     )
 }
 
-/// What a line shows as a feature beside a header.
+/// Returns what a line shows as a feature with a header.
 fn line_text(
     rt: &impl Abort,
     alloc: Global,

@@ -9,7 +9,7 @@ ghost use Rattle.cj_geometry.specs.Rule.{of_kind, has_length};
 use crate::rule::{add, check_array};
 use cj_spans::{Least, Node, Reason};
 
-/// How many items an array has; 0 of any other value. It goes over them.
+/// Returns how many items an array has, by a walk over them. 0 for any other value.
 pub fn count_items(node: Node) -> u64
     ensures { result ≡ length (items_of (tree node.entry)) }
 {
@@ -20,7 +20,8 @@ pub fn count_items(node: Node) -> u64
     count
 }
 
-/// The value is an array of just so many items: of another length it has `reason`.
+/// Checks that the value is an array of exactly `count` items. An array of another length has
+/// `reason`.
 pub fn check_length(node: Node, count: u64, reason: Reason, found: &mut Least)
     ensures { found.new ≡ least found.old (of_kind is_array (has_length reason count) (tree node.entry)) }
 {

@@ -10,7 +10,8 @@ ghost use Rattle.cj_geometry.specs.Rule.{of_kind, nothing, missing, needs};
 use crate::rule::{add, check_text};
 use cj_spans::{Least, Node, Reason};
 
-/// The object has a member of this name: the value of the first, or None where it is missing.
+/// Returns the value of the first member with this name. If there is none, adds `MissingMember` at
+/// the object and returns None.
 #[inline(always)]
 pub fn needed<'a>(object: Node<'a>, name: &str, found: &mut Least) -> Option<Node<'a>>
     ensures value { option_map tree result ≡ member_of (chars name.now) (tree object.entry) }
@@ -24,7 +25,7 @@ pub fn needed<'a>(object: Node<'a>, name: &str, found: &mut Least) -> Option<Nod
     value
 }
 
-/// The object has a member of this name, which is a string.
+/// Checks that the object has a member with this name, and that it is a string.
 #[inline(always)]
 pub fn check_text_member(object: Node, name: &str, found: &mut Least)
     ensures { found.new ≡ least found.old (needs (chars name.now) (of_kind is_text nothing) (tree object.entry)) }

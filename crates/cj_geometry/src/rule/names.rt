@@ -1,15 +1,16 @@
 //! Repeated names of an object.
 //!
-//! Few names are compared each with each. Many are gone over in order, by text and then by place: a name that is repeated
-//! stands right behind the one before it of its text. There is room of a fixed size for entries of names ([`Entry`]), so an
-//! object of more names is walked over more than once. Each walk gathers the least names above those that the walks
-//! before have dealt with: where the room is full, the least of what it holds are kept, and the next one is the walk's
-//! ceiling. What is kept is copied to a second array and back, since contracts say nothing of what a selection leaves
-//! behind.
+//! Few names are compared each with each. Many are sorted by text and then by place. A repeated
+//! name comes directly after an earlier one of its text. An array of fixed size holds entries of
+//! names ([`Entry`]), so more names need more than one walk. Each walk gathers the least names
+//! above those that the earlier walks have dealt with. If the array is full, it keeps the least
+//! names. The next one is the ceiling of the walk. The kept ones are copied to a second array and
+//! back, since contracts say nothing of the rest after a selection.
 //!
-//! So n names take about n / 16,000 walks and n * log n comparisons, in whatever order they come and whatever their texts
-//! are, and no memory is asked for. The room takes 12 KiB of the stack for up to 1,000 names, and 512 KiB for more.
-ghost use Rattle.std.specs.Prelude.{◌≡◌, ◌<◌, ◌≤◌, [], length, take, Some, IsSome, IfSome, All};
+//! So n names take about n / `KEPT` walks and n * log n comparisons, for any texts in any order. No
+//! memory is allocated. The arrays use 12 KiB of the stack for up to 1,000 names. They use 72 KiB
+//! for an object of up to 64 KiB, and 512 KiB for a longer one.
+ghost use Rattle.std.specs.Prelude.{◌≡◌, ◌<◌, ◌≤◌, ◌^◌, [], length, take, Some, IsSome, IfSome, All};
 ghost use Rattle.std.specs.List.Sorted.{IsPermutation};
 ghost use Rattle.cj_spans.specs.Finding.{least};
 ghost use Rattle.cj_spans.specs.Parts.{members_of, AreInOrder};
@@ -25,22 +26,31 @@ use crate::rule::add;
 use crate::rule::order::{Entry, NO_NAME, is_before, sort, take_least};
 use cj_spans::{Least, Members, Node, Reason};
 
-/// At most so many names are compared each with each.
+/// At most this number of names are compared each with each.
 const FEW: usize = 48;
 
-/// An object of more names than `FEW` is more values and names than this: itself, and two for each member.
+/// An object of more names than `FEW` has more values and names than this: itself, and two for each
+/// member.
 const FEW_SIZE: u32 = 97;
 
-/// At most so many names are put in order in a small room.
+/// At most this number of names are sorted in the small array.
 const SOME: usize = 1_000;
 
-/// How many names the small room has place for: more than it is asked to hold, so one walk gathers all.
+/// The size of the small array. It is larger than `SOME`, so one walk gathers all names.
 const SMALL_ROOM: usize = 1_024;
 
-/// How many names the room has place for, and how many are kept where it is full.
-const ROOM: usize = 29_120;
+/// An object of more names and of at most this number of bytes uses the array of middle size.
+const SHORT: usize = 65_536;
 
-const KEPT: usize = 14_560;
+/// The size of that array, and the number of names that it keeps when it is full.
+const MIDDLE_ROOM: usize = 4_096;
+
+const MIDDLE_KEPT: usize = 2_048;
+
+/// The same for the large array.
+const LARGE_ROOM: usize = 29_120;
+
+const LARGE_KEPT: usize = 14_560;
 
 /// No later name has the text of this one.
 fn check_later(name: Node, rest: Members, found: &mut Least)
@@ -53,7 +63,7 @@ fn check_later(name: Node, rest: Members, found: &mut Least)
     }
 }
 
-/// The names of an object are distinct: each is compared with each later one.
+/// The names of an object are distinct. Each is compared with each later one.
 #[inline(always)]
 fn check_few(object: Node, found: &mut Least)
     ensures { found.new ≡ least found.old (distinct (tree object.entry)) }
@@ -64,14 +74,15 @@ fn check_few(object: Node, found: &mut Least)
     }
 }
 
-/// What a walk has gathered: how many names the room holds, and the least name that had no place there.
+/// What a walk has gathered: the number of names in the array, and the least name that had no place
+/// there.
 #[derive(Clone, Copy)]
 struct Held {
     count: usize,
     ceiling: Option<Entry>,
 }
 
-/// Whether a name comes after the floor: one of those that are not dealt with yet.
+/// Returns whether a name comes after the floor: one of those that are not dealt with yet.
 #[inline(always)]
 fn is_left(object: Node, name: Entry, floor: Option<Entry>) -> bool
     requires name { IsWorded (source_of object) name }
@@ -84,7 +95,7 @@ fn is_left(object: Node, name: Entry, floor: Option<Entry>) -> bool
     }
 }
 
-/// Whether a name comes before the ceiling: there may be place for it.
+/// Returns whether a name comes before the ceiling, so that it may have a place.
 #[inline(always)]
 fn has_place(object: Node, name: Entry, ceiling: Option<Entry>) -> bool
     requires name { IsWorded (source_of object) name }
@@ -97,7 +108,7 @@ fn has_place(object: Node, name: Entry, ceiling: Option<Entry>) -> bool
     }
 }
 
-/// Copies entries to the front of the room.
+/// Copies entries to the start of the array.
 fn put_back(room: &mut [Entry], kept: &[Entry])
     requires { length kept.now ≤ length room.old }
     ensures room { length room.new ≡ length room.old }
@@ -106,7 +117,7 @@ fn put_back(room: &mut [Entry], kept: &[Entry])
     room[..kept.len()].copy_from_slice(kept);
 }
 
-/// Takes a name into the room. Where that is full then, the least names are kept.
+/// Adds a name to the array. If the array is full then, it keeps the least names.
 fn put(object: Node, name: Entry, held: Held, room: &mut [Entry], kept: &mut [Entry]) -> Held
     requires some { 0 < length kept.old }
     requires fewer { length kept.old < length room.old }
@@ -133,7 +144,7 @@ fn put(object: Node, name: Entry, held: Held, room: &mut [Entry], kept: &mut [En
     }
 }
 
-/// Gathers the least names of an object above the floor, as many as there is room for.
+/// Gathers the least names of an object above the floor, as many as the array can hold.
 fn gather(object: Node, floor: Option<Entry>, room: &mut [Entry], kept: &mut [Entry]) -> Held
     requires some { 0 < length kept.old }
     requires fewer { length kept.old < length room.old }
@@ -187,7 +198,8 @@ fn check_neighbour(object: Node, before: Option<Entry>, name: Entry, found: &mut
     }
 }
 
-/// Names in order, none of which repeats the one before it; before the first of them stands the floor. Answers the last.
+/// No name repeats the one before it, and the floor comes before the first of them. Returns the
+/// last name.
 fn check_neighbours(
     object: Node,
     floor: Option<Entry>,
@@ -210,7 +222,8 @@ fn check_neighbours(
     before
 }
 
-/// Deals with the names that a walk has gathered. Answers the last of them, above which those are that are left.
+/// Deals with the names that a walk has gathered. Returns the last of them. The remaining names are
+/// above it.
 fn deal(object: Node, floor: Option<Entry>, names: &mut [Entry], found: &mut Least) -> Option<Entry>
     requires names { All (IsWorded (source_of object)) names.old }
     requires floor { IfSome floor (IsWorded (source_of object)) }
@@ -226,7 +239,8 @@ fn deal(object: Node, floor: Option<Entry>, names: &mut [Entry], found: &mut Lea
     check_neighbours(object, floor, names, found)
 }
 
-/// The names of an object are distinct: a repeated one stands behind the one before it in the order of names.
+/// The names of an object are distinct. A repeated one comes directly after another of its text in
+/// the order of names.
 fn check_in_order(object: Node, room: &mut [Entry], kept: &mut [Entry], found: &mut Least)
     requires kept { 0 < length kept.old }
     requires room { length kept.old < length room.old }
@@ -242,21 +256,14 @@ fn check_in_order(object: Node, room: &mut [Entry], kept: &mut [Entry], found: &
     }
 }
 
-/// The names of an object are distinct, of which there are some. The room takes 12 KiB of the stack.
+/// The names of an object with more than `FEW` names are distinct. The array has `ROOM` places.
+///
+/// It is never inlined, so that an object of fewer names uses none of its stack.
 #[cold]
 #[inline(never)]
-fn check_some(object: Node, found: &mut Least)
-    ensures { found.new ≡ least found.old (distinct (tree object.entry)) }
-{
-    let mut room = [NO_NAME; SMALL_ROOM];
-    let mut kept = [NO_NAME; 1];
-    check_in_order(object, &mut room, &mut kept, found);
-}
-
-/// The names of an object are distinct, of which there are many. The room takes 512 KiB of the stack.
-#[cold]
-#[inline(never)]
-fn check_many(object: Node, found: &mut Least)
+fn check_by<const ROOM: usize, const KEPT: usize>(object: Node, found: &mut Least)
+    requires kept { 0 < KEPT }
+    requires room { KEPT < ROOM × ROOM < 2 ^ 32 }
     ensures { found.new ≡ least found.old (distinct (tree object.entry)) }
 {
     let mut room = [NO_NAME; ROOM];
@@ -264,7 +271,7 @@ fn check_many(object: Node, found: &mut Least)
     check_in_order(object, &mut room, &mut kept, found);
 }
 
-/// Whether an object has more names than this, told by a walk over them.
+/// Returns whether an object has more names than this. It walks over them.
 #[inline(never)]
 fn has_more(object: Node, count: usize) -> bool {
     let mut left = object.members();
@@ -276,16 +283,18 @@ fn has_more(object: Node, count: usize) -> bool {
     left.next().is_some()
 }
 
-/// The names of an object are distinct: each that has the text of an earlier one has a finding.
+/// The names of an object are distinct. Each that has the text of an earlier one has a finding.
 #[inline(always)]
 pub fn check_names(object: Node, found: &mut Least)
     ensures { found.new ≡ least found.old (distinct (tree object.entry)) }
 {
     if object.size() <= FEW_SIZE || !has_more(object, FEW) {
         check_few(object, found);
-    } else if has_more(object, SOME) {
-        check_many(object, found);
+    } else if !has_more(object, SOME) {
+        check_by::<SMALL_ROOM, 1>(object, found);
+    } else if object.bytes().len() <= SHORT {
+        check_by::<MIDDLE_ROOM, MIDDLE_KEPT>(object, found);
     } else {
-        check_some(object, found);
+        check_by::<LARGE_ROOM, LARGE_KEPT>(object, found);
     }
 }

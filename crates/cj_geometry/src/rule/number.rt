@@ -12,7 +12,7 @@ use crate::rule::add;
 use cj_decimal::{Decimal, DecimalFault};
 use cj_spans::{Kind, Least, Node, Reason};
 
-/// What is wrong with a number of this fault. What is no number at all is of the wrong kind.
+/// Returns the reason for a fault of a number. A value that is no number has the wrong kind.
 fn reason_of(fault: DecimalFault) -> Reason
     ensures { result ≡ fault_reason fault }
 {
@@ -22,7 +22,7 @@ fn reason_of(fault: DecimalFault) -> Reason
     }
 }
 
-/// The value is a number in range.
+/// Checks that the value is a number in range.
 pub fn check_number(node: Node, found: &mut Least)
     ensures { found.new ≡ least found.old (number (tree node.entry)) }
 {
@@ -35,7 +35,8 @@ pub fn check_number(node: Node, found: &mut Least)
     }
 }
 
-/// Whether a whole number is below 0, or not below a count that is known.
+/// Returns whether a whole number is below 0, or not below a count. Without a count the result is
+/// false.
 fn is_outside(count: Option<u64>, whole: i64) -> bool
     ensures { result ≡ is_outside_of count whole }
 {
@@ -45,9 +46,10 @@ fn is_outside(count: Option<u64>, whole: i64) -> bool
     }
 }
 
-/// The value of a number of few digits, by its bytes alone: for what is no such number of at most eight digits.
+/// Returns the value of a number of few digits, from its bytes alone, if [`read_word`] cannot read
+/// it.
 ///
-/// Once its first byte is known to be a digit, the question for its kind costs nothing.
+/// After its first byte is known to be a digit, the test of its kind costs nothing.
 #[inline(never)]
 fn read_more(node: Node) -> Option<u64>
     ensures { IfSome result (λ n. (n < 10 ^ 18) × (whole_of (tree node.entry) ≡ Some (pos n))) }
@@ -62,8 +64,8 @@ fn read_more(node: Node) -> Option<u64>
     }
 }
 
-/// The value of a number of at most eight digits, read where it stands in the line, with no question for its kind. None
-/// of any other value, and near the front of the line.
+/// Returns the value of a number of at most eight digits. It reads the line there and does not test
+/// the kind. None for any other value, and near the start of the line.
 #[inline(always)]
 fn read_word(node: Node) -> Option<u64>
     ensures { IfSome result (λ n. (n < 10 ^ 18) × (whole_of (tree node.entry) ≡ Some (pos n))) }
@@ -72,7 +74,8 @@ fn read_word(node: Node) -> Option<u64>
     Decimal::read_few_in(node.line(), start, stop)
 }
 
-/// The value of a number of few digits: what nearly all indices are. None of any other value.
+/// Returns the value of a number of few digits, as nearly all indices are. None for any other
+/// value.
 #[inline(always)]
 fn read_few(node: Node) -> Option<u64>
     ensures { IfSome result (λ n. (n < 10 ^ 18) × (whole_of (tree node.entry) ≡ Some (pos n))) }
@@ -83,7 +86,7 @@ fn read_few(node: Node) -> Option<u64>
     }
 }
 
-/// The value of a number of few digits, perhaps behind a minus, as [`read_more`] reads it.
+/// Returns the value of a number of few digits, perhaps with a minus, as [`read_more`] reads it.
 #[inline(never)]
 fn read_more_signed(node: Node) -> Option<i64>
     ensures { IfSome result (λ w. whole_of (tree node.entry) ≡ Some w) }
@@ -98,7 +101,8 @@ fn read_more_signed(node: Node) -> Option<i64>
     }
 }
 
-/// The value of a number of at most eight digits, perhaps behind a minus, as [`read_word`] reads it.
+/// Returns the value of a number of at most eight digits, perhaps with a minus, as [`read_word`]
+/// reads it.
 #[inline(always)]
 fn read_word_signed(node: Node) -> Option<i64>
     ensures { IfSome result (λ w. whole_of (tree node.entry) ≡ Some w) }
@@ -107,8 +111,8 @@ fn read_word_signed(node: Node) -> Option<i64>
     Decimal::read_few_signed_in(node.line(), start, stop)
 }
 
-/// The value of a number of few digits, perhaps behind a minus: what nearly all coordinates are. None of any
-/// other value.
+/// Returns the value of a number of few digits, perhaps with a minus, as nearly all coordinates
+/// are. None for any other value.
 #[inline(always)]
 fn read_few_signed(node: Node) -> Option<i64>
     ensures { IfSome result (λ w. whole_of (tree node.entry) ≡ Some w) }
@@ -119,7 +123,7 @@ fn read_few_signed(node: Node) -> Option<i64>
     }
 }
 
-/// The value of any number that is in range and whole.
+/// Returns the value of any number that is in range and whole.
 #[inline(never)]
 fn read_any_whole(node: Node) -> Option<i64>
     ensures { result ≡ whole_of (tree node.entry) }
@@ -133,7 +137,7 @@ fn read_any_whole(node: Node) -> Option<i64>
     }
 }
 
-/// The value of a number that is in range and whole; None of any other number and of any other value.
+/// Returns the value of a number that is in range and whole. None for any other value.
 #[inline(always)]
 pub fn read_whole(node: Node) -> Option<i64>
     ensures { result ≡ whole_of (tree node.entry) }
@@ -144,7 +148,8 @@ pub fn read_whole(node: Node) -> Option<i64>
     }
 }
 
-/// From what number on a number of few digits is outside: from the count on, if that is known.
+/// Returns the least number of few digits that is outside: the count if it is known, otherwise more
+/// than any such number.
 #[inline(always)]
 fn bound_of(count: Option<u64>) -> u64
     ensures { (n : ℕ) → n < 10 ^ 18 → is_outside_of count (pos n) ≡ not (nat_lt n result) }
@@ -155,7 +160,7 @@ fn bound_of(count: Option<u64>) -> u64
     }
 }
 
-/// The index of any value, as [`check_index`] has it.
+/// Checks the index of any value, as [`check_index`] does.
 #[inline(never)]
 fn check_any_index(node: Node, outside: Reason, count: Option<u64>, found: &mut Least)
     ensures { found.new ≡ least found.old (index outside count (tree node.entry)) }
@@ -174,8 +179,8 @@ fn check_any_index(node: Node, outside: Reason, count: Option<u64>, found: &mut 
     }
 }
 
-/// The value is a number in range and whole, and names one of `count` things, counted from 0, if that is
-/// known: where it names none it has `outside`.
+/// Checks that the value is a number in range and whole. It must also be the index of one of
+/// `count` things, from 0, if `count` is known. An index that is not has the reason `outside`.
 #[inline(always)]
 pub fn check_index(node: Node, outside: Reason, count: Option<u64>, found: &mut Least)
     ensures { found.new ≡ least found.old (index outside count (tree node.entry)) }
@@ -190,7 +195,7 @@ pub fn check_index(node: Node, outside: Reason, count: Option<u64>, found: &mut 
     }
 }
 
-/// The value is a number in range and whole, of any sign and size.
+/// Checks that the value is a number in range and whole, of any sign and size.
 #[inline(always)]
 pub fn check_whole(node: Node, found: &mut Least)
     ensures { found.new ≡ least found.old (whole_number (tree node.entry)) }
@@ -200,8 +205,11 @@ pub fn check_whole(node: Node, found: &mut Least)
     }
 }
 
-/// How many items at the front of an array are indices below a count, if that is known, read by words alone: they are
-/// gone over by their numbers, with no look at where each ends. The array has no finding at any of them.
+/// Returns how many items at the front of an array are indices below a count, if that is known.
+/// None of them has a finding.
+///
+/// It reads only numbers of at most eight digits, one item after another, and does not look where
+/// each ends.
 #[inline(always)]
 pub fn count_indices(node: Node, count: Option<u64>) -> u32
     ensures lone { AreLone result (items_of (tree node.entry)) }
@@ -226,7 +234,7 @@ pub fn count_indices(node: Node, count: Option<u64>) -> u32
     front
 }
 
-/// How many items at the front of an array are whole numbers, gone over in the same way.
+/// Returns how many items at the front of an array are whole numbers, read in the same way.
 #[inline(always)]
 pub fn count_wholes(node: Node) -> u32
     ensures lone { AreLone result (items_of (tree node.entry)) }

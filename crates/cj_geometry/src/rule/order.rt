@@ -1,7 +1,8 @@
-//! Names of an object in order: by their texts, and of one text by where they start. So names of one text are neighbours.
+//! Names of an object in order: by their texts, and for equal texts by where they start. So equal
+//! names are neighbours.
 //!
-//! A name is kept as an entry of 12 bytes: the word of its text, which tells most texts apart, and its number in the line.
-//! Only where two words are the same, the line is looked at.
+//! A name is kept as an entry of 12 bytes: the word of its text, and its number in the line. The
+//! word distinguishes most texts. Only if two words are the same, the line is read.
 ghost use Rattle.std.specs.Prelude.{◌≡◌, ◌<◌, length, All};
 ghost use Rattle.std.specs.List.Sorted.{IsPermutation};
 ghost use Rattle.cj_spans.specs.View.{tree, source_of};
@@ -11,7 +12,8 @@ ghost use Rattle.cj_geometry.specs.Entries.{IsWorded, word_in, name_in, names_in
 use cj_spans::Node;
 use std::cmp::Ordering;
 
-/// A name of a line: the two halves of its text's word, so that an entry takes 12 bytes, and its number.
+/// A name of a line: the two halves of its text's word, and its number. With halves an entry takes
+/// 12 bytes.
 #[derive(Clone, Copy)]
 pub(super) struct Entry {
     upper: u32,
@@ -19,17 +21,17 @@ pub(super) struct Entry {
     number: u32,
 }
 
-/// What room holds before there is a name in it.
+/// The entry in a place that has no name yet.
 pub(super) const NO_NAME: Entry = Entry {
     upper: 0,
     lower: 0,
     number: 0,
 };
 
-/// What the upper half of a word counts.
+/// The value of one in the upper half of a word.
 const HALF: u64 = 1 << 32;
 
-/// How two names are ordered.
+/// Compares two names.
 fn compare_nodes(first: Node, second: Node) -> Ordering
     ensures { result ≡ compare_names (tree first.entry) (tree second.entry) }
 {
@@ -40,7 +42,7 @@ fn compare_nodes(first: Node, second: Node) -> Ordering
 }
 
 impl Entry {
-    /// The entry of a name.
+    /// Returns the entry of a name.
     #[inline(always)]
     pub(super) fn of(name: Node) -> Entry
         ensures name { name_in (source_of name.entry) result ≡ tree name.entry }
@@ -54,7 +56,7 @@ impl Entry {
         }
     }
 
-    /// The word of its text.
+    /// Returns the word of its text.
     #[inline(always)]
     pub(super) fn word(self) -> u64
         ensures { result ≡ word_in self }
@@ -62,7 +64,7 @@ impl Entry {
         self.upper as u64 * HALF + self.lower as u64
     }
 
-    /// The name of the entry, in the line of an object.
+    /// Returns the name of the entry, in the line of an object.
     pub(super) fn name(self, object: Node) -> Node
         ensures { tree result ≡ name_in (source_of object.entry) self }
     {
@@ -70,7 +72,7 @@ impl Entry {
     }
 }
 
-/// How two entries of an object's line are ordered: by their words, and where these are the same, by their names.
+/// Compares two entries of an object's line: by their words, and for equal words by their names.
 #[inline(always)]
 fn compare(object: Node, first: Entry, second: Entry) -> Ordering
     ensures { result ≡ compare_entries (source_of object.entry) first second }
@@ -81,7 +83,7 @@ fn compare(object: Node, first: Entry, second: Entry) -> Ordering
     }
 }
 
-/// Whether the first of two names comes before the second.
+/// Returns whether the first of two names comes before the second.
 #[inline(always)]
 pub(super) fn is_before(object: Node, first: Entry, second: Entry) -> bool
     requires first { IsWorded (source_of object) first }
@@ -91,7 +93,7 @@ pub(super) fn is_before(object: Node, first: Entry, second: Entry) -> bool
     compare(object, first, second).is_lt()
 }
 
-/// Puts entries of names in order.
+/// Sorts entries of names.
 pub(super) fn sort(object: Node, entries: &mut [Entry])
     requires { All (IsWorded (source_of object)) entries.old }
     ensures permutation { IsPermutation entries.old entries.new }
@@ -100,8 +102,8 @@ pub(super) fn sort(object: Node, entries: &mut [Entry])
     entries.sort_unstable_by(|first, second| compare(object, *first, *second));
 }
 
-/// Copies the least of these entries, as many as there is room for, and answers the next one. The order of the entries
-/// themselves is not kept.
+/// Copies the least of these entries into `least`, as many as fit, and returns the next one. The
+/// entries themselves change their order.
 pub(super) fn take_least(object: Node, entries: &mut [Entry], least: &mut [Entry]) -> Entry
     requires { length least.old < length entries.old }
     ensures room { length entries.new ≡ length entries.old }

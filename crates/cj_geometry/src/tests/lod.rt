@@ -1,5 +1,5 @@
-//! The level of detail of a geometry: a row wants the place and the spelling of the value that is
-//! answered.
+//! The level of detail of a geometry. A row expects the byte and the spelling of the value that is
+//! returned.
 ghost use Rattle.cj_spans.specs.Parts.{items_of};
 ghost use Rattle.cj_spans.specs.View.{tree};
 ghost use Rattle.cj_geometry.specs.ListSteps.{AreStepsOf};
@@ -11,7 +11,7 @@ use std::alloc::{AllocError, Global};
 use std::process::Abort;
 use std::test::Fail;
 
-/// A value as a row tells it.
+/// Returns a value as a row has it.
 fn spelled(rt: &impl Abort, alloc: Global, value: Option<Node>) -> Result<String, AllocError> {
     match value {
         Some(node) => {
@@ -22,7 +22,7 @@ fn spelled(rt: &impl Abort, alloc: Global, value: Option<Node>) -> Result<String
     }
 }
 
-/// The level of detail of a line that is a geometry.
+/// Returns the level of detail of a line that is a geometry.
 fn lod_in(rt: &impl Abort, alloc: Global, line: &[u8], given: Given) -> Result<String, AllocError> {
     let list_line = list_line(given);
     let list_tokens = tokens_of(rt, alloc, list_line);
@@ -33,7 +33,7 @@ fn lod_in(rt: &impl Abort, alloc: Global, line: &[u8], given: Given) -> Result<S
     spelled(rt, alloc, lod_of(node, templates))
 }
 
-/// Each row of the table has the level of detail that it wants.
+/// Checks that each row of the table has the level of detail that it expects.
 fn answers(
     rt: &impl Abort,
     alloc: Global,
@@ -137,7 +137,7 @@ fn instances_of_no_template_have_none(rt: HostRuntime) -> Result<(), Fail> {
     Ok(())
 }
 
-/// A list of so many templates, each with its number as its level of detail.
+/// Returns a list of this number of templates, each with its number as its level of detail.
 fn numbered(alloc: Global, count: u32) -> Result<String, AllocError> {
     let mut list = String::from_str(alloc, "[0")?;
     for number in 0..count {
@@ -148,7 +148,7 @@ fn numbered(alloc: Global, count: u32) -> Result<String, AllocError> {
     Ok(list)
 }
 
-/// The templates of a list, counted now and by its steps.
+/// Returns the templates of a list, counted now and by its steps.
 fn both_ways<'a>(
     rt: &impl Abort,
     list: Node<'a>,
@@ -162,7 +162,7 @@ fn both_ways<'a>(
     }
 }
 
-/// The level of detail of each of these geometries, asked one after another.
+/// Returns the levels of detail of these geometries, looked up one after another.
 fn looked_up_in_turn(
     rt: &impl Abort,
     alloc: Global,
@@ -206,10 +206,11 @@ fn instances_of_a_long_list_find_their_templates(rt: HostRuntime) -> Result<(), 
     Ok(())
 }
 
-/// How far apart the templates are that instances name in turn.
+/// The distance between the templates that consecutive instances name.
 const APART: usize = 17;
 
-/// Instances of templates `APART` each, from this one down, and the levels of detail that `numbered` gives those.
+/// Returns instances of every `APART`th template, from this one down, and the levels of detail that
+/// `numbered` gives them.
 fn falling(alloc: Global, greatest: u32) -> Result<(String, String), AllocError> {
     let mut line = String::from_str(alloc, "[0")?;
     let mut want = String::from_str(alloc, "none ")?;

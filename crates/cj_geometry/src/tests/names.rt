@@ -1,10 +1,10 @@
-//! Names of the objects that rules read are distinct.
+//! The names in the objects that rules read are distinct.
 use super::{Around, Given, meets, with_vertices};
 use std::alloc::{AllocError, Global};
 use std::process::Abort;
 use std::test::Fail;
 
-/// So many members, whose names are numbers, and a comma behind each.
+/// Returns this number of members, with numbers as names, and a comma after each.
 fn members(alloc: Global, count: u32) -> Result<String, AllocError> {
     let mut text = String::new(alloc);
     for number in 0..count {
@@ -14,7 +14,8 @@ fn members(alloc: Global, count: u32) -> Result<String, AllocError> {
     Ok(text)
 }
 
-/// A geometry of so many names more has the finding that the row wants, whose cell stands behind them.
+/// Checks that a geometry with this number of further names has the finding that the row expects.
+/// The cell of the row comes after the names.
 fn meets_behind(rt: &impl Abort, alloc: Global, count: u32, row: &str) -> Result<(), AllocError> {
     let members = members(alloc, count)?;
     let front = r#"{"type":"MultiPoint","lod":"1","boundaries":[0],"#;

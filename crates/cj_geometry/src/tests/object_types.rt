@@ -1,4 +1,4 @@
-//! The types of city objects. A row of a table has a value, and what is wanted of it: number, level and
+//! The types of city objects. A row has a value, and what is expected of it: number, level and
 //! name, or `none`.
 use super::tokens_of;
 use crate::ObjectType;
@@ -7,7 +7,7 @@ use std::alloc::{AllocError, Global};
 use std::process::Abort;
 use std::test::Fail;
 
-/// A type as a row tells it.
+/// Returns a type as a row has it.
 fn shown(alloc: Global, found: Option<ObjectType>) -> Result<String, AllocError> {
     match found {
         Some(object_type) => {
@@ -22,7 +22,7 @@ fn shown(alloc: Global, found: Option<ObjectType>) -> Result<String, AllocError>
     }
 }
 
-/// Each row of the table has the type that it wants.
+/// Checks that each row of the table has the type that it expects.
 fn meets(rt: &impl Abort, alloc: Global, rows: &str) -> Result<(), AllocError> {
     for row in rows.trim().lines() {
         let (value, want) = row.split_once('|').expect(rt, "two cells");

@@ -1,5 +1,5 @@
-//! Two rules broken at once: the least finding by place is told, and at one place that of the lower
-//! code, in whatever order the rules are looked at.
+//! Two rules broken at once. The least finding by byte is reported, and at one byte the one with
+//! the lesser code. The order of the checks does not matter.
 use super::{Around, Given, least_of, meets, shown, with_vertices};
 use cj_spans::{Finding, Reason};
 use std::test::Fail;

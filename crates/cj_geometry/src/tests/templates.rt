@@ -1,5 +1,5 @@
-//! How many templates there are to name: a row wants whether there is none, and the numbers below 4 that
-//! name one.
+//! How many templates can be named. A row expects whether there is none, and the numbers below 4
+//! that name one.
 ghost use Rattle.cj_spans.specs.Parts.{items_of};
 ghost use Rattle.cj_spans.specs.View.{tree};
 ghost use Rattle.cj_geometry.specs.ListSteps.{AreStepsOf};
@@ -11,7 +11,7 @@ use std::alloc::{AllocError, Global};
 use std::process::Abort;
 use std::test::Fail;
 
-/// The templates of a list, by its steps.
+/// Returns the templates of a list, by its steps.
 fn stepped<'a>(rt: &impl Abort, list: Node<'a>, steps: &'a Steps) -> Templates<'a>
     requires { AreStepsOf (items_of (tree list)) steps.now }
 {
@@ -21,7 +21,7 @@ fn stepped<'a>(rt: &impl Abort, list: Node<'a>, steps: &'a Steps) -> Templates<'
     }
 }
 
-/// Whether an instance may name the template of this number.
+/// Returns whether an instance may name the template with this number.
 fn is_named(
     rt: &impl Abort,
     alloc: Global,
@@ -38,7 +38,7 @@ fn is_named(
     Ok(found.get().is_none())
 }
 
-/// Templates as a row tells them.
+/// Returns templates as a row has them.
 fn shown(rt: &impl Abort, alloc: Global, templates: Templates) -> Result<String, AllocError> {
     let mut text = String::from_str(alloc, if templates.is_empty() { "none" } else { "some" })?;
     for number in 0..4 {

@@ -1,4 +1,4 @@
-//! Semantic values beside the boundaries.
+//! Semantic values for the boundaries.
 use super::{meets, with_vertices};
 use std::test::Fail;
 

@@ -1,4 +1,4 @@
-//! Whole numbers: a row wants the finding of a line that is one value.
+//! Whole numbers. A row expects the finding of a line that is one value.
 use super::{line_of, shown, tokens_of};
 use crate::rule::check_whole;
 use cj_spans::{Doc, Finding, Least};
@@ -6,7 +6,7 @@ use std::alloc::Global;
 use std::process::Abort;
 use std::test::Fail;
 
-/// What is wrong with a line's value as a whole number.
+/// Returns what is wrong with a line's value as a whole number.
 fn finding_of(rt: &impl Abort, alloc: Global, line: &[u8]) -> Option<Finding> {
     let tokens = tokens_of(rt, alloc, line);
     let mut least = Least::new();

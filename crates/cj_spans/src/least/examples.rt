@@ -3,7 +3,8 @@ ghost use Rattle.std.specs.Prelude.{◌≡◌, ◌∷◌, [], Some, None};
 ghost use Rattle.cj_spans.specs.declared.reason.Reason.TheVariants.{WrongKind, MissingMember, VertexIndex};
 ghost use Rattle.cj_spans.specs.Finding.{least, found_at};
 
-/// A finding at an earlier place is kept, and at one place that of the lesser code.
+/// Of two findings the one at the earlier byte is kept, and at one byte the one with the lesser
+/// code.
 pub fn least_of_three()
     ensures earlier { least (Some (found_at 5 WrongKind)) (found_at 47 VertexIndex ∷ []) ≡ Some (found_at 5 WrongKind) }
     ensures code { least None (found_at 5 WrongKind ∷ found_at 47 VertexIndex ∷ found_at 5 MissingMember ∷ [])

@@ -1,4 +1,4 @@
-//! Rows of findings and the least of them.
+//! Rows of findings, each with its least one.
 use crate::{Finding, Least, Reason};
 use std::process::Abort;
 use std::test::Fail;
@@ -7,7 +7,7 @@ fn finding(place: u64, reason: Reason) -> Finding {
     Finding { place, reason }
 }
 
-/// The least of what was added, in this order.
+/// Returns the least of these findings, added in this order.
 fn least_of(findings: &[Finding]) -> Option<Finding> {
     let mut least = Least::new();
     for found in findings {

@@ -1,5 +1,5 @@
-//! Rules as the layers above write them: what is kept of a walk is the least of the findings of a
-//! definition over the tree.
+//! Rules as the layers above write them. What a walk keeps is the least finding of a definition
+//! over the tree.
 ghost use Rattle.std.specs.Prelude.{◌≡◌};
 ghost use Rattle.std.specs.Str.{chars};
 ghost use Rattle.cj_spans.specs.Finding.{least};
@@ -8,7 +8,7 @@ ghost use Rattle.cj_spans.specs.Examples.{not_number, not_numbers, not_lists_of_
 
 use crate::{Finding, Kind, Least, Node, Reason};
 
-/// The value is a number, else a finding at it.
+/// Checks that the value is a number. Otherwise the finding is at the value.
 fn is_number(node: Node, found: &mut Least)
     ensures { found.new ≡ least found.old (not_number (tree node.entry)) }
 {
@@ -21,7 +21,7 @@ fn is_number(node: Node, found: &mut Least)
     }
 }
 
-/// Each item is a number, else a finding at the item.
+/// Checks that each item is a number. Otherwise the finding is at the item.
 fn are_numbers(node: Node, found: &mut Least)
     ensures { found.new ≡ least found.old (not_numbers (tree node.entry)) }
 {
@@ -30,7 +30,7 @@ fn are_numbers(node: Node, found: &mut Least)
     }
 }
 
-/// The same one level down.
+/// Does the same one level deeper.
 fn are_lists_of_numbers(node: Node, found: &mut Least)
     ensures { found.new ≡ least found.old (not_lists_of_numbers (tree node.entry)) }
 {
@@ -39,7 +39,8 @@ fn are_lists_of_numbers(node: Node, found: &mut Least)
     }
 }
 
-/// The member of this name is a number, else a finding at it, or at the object where there is none.
+/// Checks that the member with this name is a number. Otherwise the finding is at the value, or at
+/// the object if there is no such member.
 fn has_number(node: Node, name: &str, found: &mut Least)
     ensures { found.new ≡ least found.old (member_no_number (chars name.now) (tree node.entry)) }
 {

@@ -1,4 +1,4 @@
-//! What is asked of worked trees: each contract is a theorem on one tree.
+//! Views of worked trees: each contract is a theorem about one tree.
 ghost use Rattle.std.specs.Prelude.{◌≡◌, ◌∷◌, [], codes, Some, None, true, false};
 ghost use Rattle.cj_spans.specs.declared.token.Kind.TheVariants.{Text, Number, Object};
 ghost use Rattle.cj_spans.specs.Tree.{scalar, array, object, item, no_items, member, no_members};
@@ -8,7 +8,7 @@ ghost use Rattle.cj_spans.specs.Preorder.{span_at, preorder};
 ghost use Rattle.cj_spans.specs.Parts.{kind_of, items_of, members_of, member_of, has_text, first_code_of, spelling_of};
 ghost use Rattle.cj_spans.specs.Examples.{line, seven, named_line, named};
 
-/// The member of a name is the first one whose name has that text, however it is spelled.
+/// The member of a name is the first one whose name has that text, in any spelling.
 pub fn first_of_a_name()
     ensures first { member_of (codes "b") named ≡ Some (scalar Number (atom_at named_line 10 11)) }
     ensures spelled { member_of (codes "\\u0062") named ≡ None }

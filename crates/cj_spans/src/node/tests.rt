@@ -1,4 +1,4 @@
-//! Rows of views. Expected values are read off the lines by hand.
+//! Rows of views. Expected values are read from the lines by hand.
 use crate::{Doc, Items, Kind, Node, Token, scan};
 use cj_budget::{Bounded, Stack};
 use std::alloc::Global;
@@ -18,7 +18,7 @@ struct Row {
     first_code: Option<u32>,
 }
 
-/// Scans a line, which is a text, and views it.
+/// Scans a line, which is a text, and returns a view of it.
 fn view<'a>(
     rt: &impl Abort,
     alloc: Global,
@@ -53,7 +53,7 @@ fn all_meet(rt: &impl Abort, alloc: Global, rows: &[Row]) {
     }
 }
 
-/// A value without parts, whose line has these bytes of it from this place on.
+/// Returns the row of a value without parts. The line has these bytes of it from this place on.
 fn scalar(line: &'static [u8], kind: Kind, start: u64, bytes: &'static [u8]) -> Row {
     Row {
         line,
@@ -66,7 +66,7 @@ fn scalar(line: &'static [u8], kind: Kind, start: u64, bytes: &'static [u8]) -> 
     }
 }
 
-/// A line that is a string, and the first code point of its text.
+/// Returns the row of a line that is a string, with the first code point of its text.
 fn text(line: &'static [u8], first_code: Option<u32>) -> Row {
     Row {
         first_code,
@@ -183,7 +183,7 @@ fn members_come_in_order(rt: HostRuntime) -> Result<(), Fail> {
     Ok(())
 }
 
-/// The bytes of the member of a name.
+/// Returns the bytes of the member with this name.
 fn got<'a>(node: Node<'a>, name: &str) -> Option<&'a [u8]> {
     match node.get(name) {
         Some(value) => Some(value.bytes()),
@@ -258,7 +258,8 @@ fn texts_are_compared_by_code_points(rt: HostRuntime) -> Result<(), Fail> {
     Ok(())
 }
 
-/// Whether an item is ordered beside others as its rank is beside theirs, where those of one rank are equal.
+/// Returns whether an item compares with the others as its rank compares with theirs. Items of one
+/// rank are equal.
 fn is_ordered(item: Node, rank: u8, items: Items, ranks: &[u8]) -> bool {
     let mut all = true;
     for (other, other_rank) in items.zip(ranks.iter()) {
@@ -350,7 +351,7 @@ fn numbers_are_mixed_of_all_code_points(rt: HostRuntime) -> Result<(), Fail> {
     Ok(())
 }
 
-/// How the items of a line are ordered beside a text.
+/// Returns whether the items of a line compare with a text as wanted.
 fn are_ordered_beside(items: Items, text: &str, wanted: &[Ordering]) -> bool {
     let mut all = true;
     for (item, order) in items.zip(wanted.iter()) {
@@ -409,7 +410,8 @@ fn a_copy_is_viewed_as_the_line_was(rt: HostRuntime) -> Result<(), Fail> {
     Ok(())
 }
 
-/// What `[10,[20,{"a":30}],"b",[]]` has, item by item: sizes, and what a walk behind so many values and names begins at.
+/// The sizes of the items of `[10,[20,{"a":30}],"b",[]]`, and the item after each number of values
+/// and names.
 #[test]
 fn items_are_found_behind_others(rt: HostRuntime) -> Result<(), Fail> {
     let line = b"[10,[20,{\"a\":30}],\"b\",[]]";

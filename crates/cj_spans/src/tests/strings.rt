@@ -1,5 +1,5 @@
-//! Each byte below 128 at a place of a string: after a backslash, where a hexadecimal digit is wanted, and between
-//! the quotes. Which are taken is told from RFC 8259, section 7, and not by the program.
+//! Each byte below 128 at a place of a string: after a backslash, where a hexadecimal digit must
+//! be, and between the quotes. RFC 8259, section 7, gives the expected results, not the program.
 use crate::{ScanFault, Token, scan};
 use cj_budget::{Bounded, Stack};
 use std::alloc::{AllocError, Global};
@@ -15,7 +15,7 @@ const AFTER_BACKSLASH: &[u8] = b"\"\\/bfnrtu";
 /// White space.
 const WHITE_SPACE: &[u8] = b" \t\n\r";
 
-/// What a scan answers of a prefix, a byte and a back.
+/// Returns the result of a scan of `front`, the byte and `back`.
 fn answer(
     rt: &impl Abort,
     alloc: Global,
@@ -33,7 +33,8 @@ fn answer(
     Ok(scan(&line, &mut tokens, &mut stack))
 }
 
-/// Between this front and back each of these bytes is taken, and any other is refused where it stands.
+/// Checks that each of these bytes is accepted between `front` and `back`, and that any other is
+/// rejected at its place.
 fn takes_only(
     rt: &impl Abort,
     alloc: Global,
@@ -53,8 +54,8 @@ fn takes_only(
     Ok(())
 }
 
-/// In a string between this front and back a control character is refused where it stands, and any other byte is
-/// taken; but a quote and a backslash are not tried.
+/// Checks all bytes in a string between `front` and `back`, but not the quote and the backslash. A
+/// control character is rejected at its place, and any other byte is accepted.
 fn takes_plain_bytes(
     rt: &impl Abort,
     alloc: Global,

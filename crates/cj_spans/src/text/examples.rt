@@ -1,9 +1,9 @@
-//! The texts of worked spellings: each contract is a theorem on one spelling.
+//! The texts of worked spellings: each contract is a theorem about one spelling.
 ghost use Rattle.std.specs.Prelude.{◌≡◌, ◌∷◌, [], codes, None, Some};
 ghost use Rattle.cj_spans.specs.Order.{word_of};
 ghost use Rattle.cj_spans.specs.Text.{text};
 
-/// Two quotes alone.
+/// The empty string.
 pub fn empty_text()
     ensures { text (codes "\"\"") ≡ [] }
 {}
@@ -18,32 +18,32 @@ pub fn short_escapes()
     ensures { text (codes "\"\\\"\\\\\\/\\b\\f\\n\\r\\t\"") ≡ 34 ∷ 92 ∷ 47 ∷ 8 ∷ 12 ∷ 10 ∷ 13 ∷ 9 ∷ [] }
 {}
 
-/// Two escaped surrogates that are a pair are one code point, in digits of either case.
+/// An escaped pair of surrogates is one code point, with digits in either case.
 pub fn escaped_pair()
     ensures { text (codes "\"\\ud83d\\uDE00\"") ≡ 128512 ∷ [] }
 {}
 
-/// A surrogate alone stands for itself.
+/// A surrogate alone is a code point of its own.
 pub fn lone_surrogate()
     ensures { text (codes "\"\\ud83d\"") ≡ 55357 ∷ [] }
 {}
 
-/// Two surrogates in the other order are no pair.
+/// Two surrogates in the reverse order are no pair.
 pub fn turned_pair()
     ensures { text (codes "\"\\ude00\\ud83d\"") ≡ 56832 ∷ 55357 ∷ [] }
 {}
 
-/// The first of a pair is the one that the second follows at once.
+/// Only a first surrogate directly before a second one makes a pair.
 pub fn pair_after_lone()
     ensures { text (codes "\"\\ud83d\\ud83d\\ude00\"") ≡ 55357 ∷ 128512 ∷ [] }
 {}
 
-/// A letter between two surrogates keeps them apart.
+/// A letter between two surrogates separates them.
 pub fn parted_pair()
     ensures { text (codes "\"\\ud83dx\\ude00\"") ≡ 55357 ∷ 120 ∷ 56832 ∷ [] }
 {}
 
-/// A backslash that is escaped begins no escape.
+/// An escaped backslash begins no escape.
 pub fn escaped_backslash()
     ensures { text (codes "\"\\\\u0062\"") ≡ codes "\\u0062" }
 {}
@@ -53,7 +53,8 @@ pub fn longer_characters()
     ensures { text (34 ∷ 195 ∷ 169 ∷ 226 ∷ 130 ∷ 172 ∷ 240 ∷ 159 ∷ 152 ∷ 128 ∷ 34 ∷ []) ≡ 233 ∷ 8364 ∷ 128512 ∷ [] }
 {}
 
-/// The first eight code points as a number: fewer count from the front too, one from 255 on ends them.
+/// The first eight code points as a number. The first one has the same weight in a shorter text. A
+/// code point from 255 on ends the number.
 pub fn words_of_texts()
     ensures none { word_of None ≡ 0 }
     ensures short { word_of (Some (codes "ab")) ≡ 0x6162_0000_0000_0000 }

@@ -1,4 +1,5 @@
-//! Texts that stand in no line, such as what a query asks for: their order and their numbers are those that nodes have.
+//! Texts that are in no line, like those of a query. Their order and numbers are the same as for
+//! nodes.
 ghost use Rattle.std.specs.Prelude.{◌≡◌, Some};
 ghost use Rattle.std.specs.Str.{chars};
 ghost use Rattle.cj_spans.specs.Tail.{tail_of};
@@ -7,7 +8,7 @@ ghost use Rattle.cj_spans.specs.Order.{compare};
 use crate::text::{Characters, tail_with};
 use std::cmp::Ordering;
 
-/// How two texts are ordered, as [`crate::Node::compare_text`] orders those of nodes.
+/// Compares two texts as [`crate::Node::compare_text`] compares those of nodes.
 pub fn compare_strings(first: &str, second: &str) -> Ordering
     ensures { result ≡ compare (chars first.now) (chars second.now) }
 {
@@ -29,7 +30,8 @@ pub fn compare_strings(first: &str, second: &str) -> Ordering
     }
 }
 
-/// The last eight code points of a text as one number, which is [`crate::Node::text_tail`] of a node that has it.
+/// Returns the last eight code points of a text as one number: [`crate::Node::text_tail`] of a node
+/// with this text.
 pub fn tail_of_string(text: &str) -> u64
     ensures { result ≡ tail_of (Some (chars text.now)) }
 {

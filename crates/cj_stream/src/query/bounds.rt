@@ -16,7 +16,7 @@ pub struct Bounds {
     pub max_y: Fixed18,
 }
 
-/// The fields of a text, where it has four.
+/// Returns the fields of a text if there are four.
 fn four_fields(text: &str) -> Option<(&str, &str, &str, &str)>
     ensures { MatchOption result
         (length (fields text.now) ≢ 4)
@@ -33,7 +33,7 @@ fn four_fields(text: &str) -> Option<(&str, &str, &str, &str)>
     }
 }
 
-/// The number of a field, where it can be an edge.
+/// Returns the number of a field if it can be an edge.
 fn read_edge(field: &str) -> Result<Option<Fixed18>, QueryFault>
     ensures { result
         ≡ (if is_number field.now then Ok (if is_edge field.now then Some (edge field.now) else None) else Err BadBox) }
@@ -45,7 +45,7 @@ fn read_edge(field: &str) -> Result<Option<Fixed18>, QueryFault>
     }
 }
 
-/// Whether an edge is below another.
+/// Returns whether an edge is below another.
 fn is_below(edge: Fixed18, other: Fixed18) -> bool
     ensures { result ≡ int_lt edge other }
 {
@@ -53,8 +53,11 @@ fn is_below(edge: Fixed18, other: Fixed18) -> bool
 }
 
 impl Bounds {
-    /// Reads a box, `minx,miny,maxx,maxy`. Its faults come in this order: `BadBox`, `BoxRange`,
-    /// `EmptyBox`.
+    /// Reads a box, `minx,miny,maxx,maxy`.
+    ///
+    /// # Errors
+    ///
+    /// The first that applies of `BadBox`, `BoxRange` and `EmptyBox`.
     pub fn read(text: &str) -> Result<Bounds, QueryFault>
         ensures { MatchResult result
             (λ bounds. box_text text.now ≡ Ok (box_of bounds))

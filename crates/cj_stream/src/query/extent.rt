@@ -1,4 +1,4 @@
-//! Whether a feature lies in a box.
+//! Whether a feature is in a box.
 ghost use Rattle.std.specs.Prelude.{◌≡◌, ◌<◌, ◌||◌, ◌∷◌, [], true, int_le, List, ℤ, Some};
 ghost use Rattle.cj_decimal.specs.Affine.{image};
 ghost use Rattle.cj_feature.specs.HeaderView.{header_tree, has_box};
@@ -21,7 +21,7 @@ struct Range {
 }
 
 impl Range {
-    /// The range of a number alone.
+    /// Returns the range of one number.
     fn alone(number: i64) -> Range
         ensures { result ≡ alone number }
     {
@@ -31,7 +31,7 @@ impl Range {
         }
     }
 
-    /// The range with a number more.
+    /// Returns the range with one number more.
     fn widened(self, number: i64) -> Range
         ensures { result ≡ widened self (number ∷ []) }
     {
@@ -41,7 +41,7 @@ impl Range {
         }
     }
 
-    /// The range with the numbers of a walk more.
+    /// Returns the range with the rest of the numbers of a walk.
     fn widened_by(self, numbers: Coordinates) -> Range
         ensures { result ≡ widened self (coordinates_left numbers.entry) }
     {
@@ -52,7 +52,7 @@ impl Range {
         range
     }
 
-    /// Whether the map brings one of the two to at most this end.
+    /// Returns whether the map brings one of the two to at most this end.
     fn is_at_most(self, map: &Affine, end: Fixed18) -> bool
         requires { IsSmall self }
         ensures { result ≡ (int_le (image map.now self.least) end || int_le (image map.now self.greatest) end) }
@@ -60,7 +60,7 @@ impl Range {
         map.compare(self.least, end).is_le() || map.compare(self.greatest, end).is_le()
     }
 
-    /// Whether the map brings one of the two to at least this end.
+    /// Returns whether the map brings one of the two to at least this end.
     fn is_at_least(self, map: &Affine, end: Fixed18) -> bool
         requires { IsSmall self }
         ensures { result ≡ (int_le end (image map.now self.least) || int_le end (image map.now self.greatest)) }
@@ -68,8 +68,8 @@ impl Range {
         map.compare(self.least, end).is_ge() || map.compare(self.greatest, end).is_ge()
     }
 
-    /// Whether the map brings some number of those of this range to at most `high`, and some to at least
-    /// `low`. The least and the greatest tell it, since a map keeps the order of numbers or turns it.
+    /// Returns whether the map brings some number to at most `high`, and some to at least `low`.
+    /// The least and the greatest decide it, since a map keeps the order of numbers or reverses it.
     fn meets(self, map: &Affine, low: Fixed18, high: Fixed18) -> bool
         requires { IsSmall self }
         ensures { (ns : List ℤ) → range_of ns ≡ Some self → result ≡ meets map.now low high ns }
@@ -78,8 +78,9 @@ impl Range {
     }
 }
 
-/// Whether a map brings the numbers of some vertices on an axis to at most `high`, and those of some to at least
-/// `low`. Where the first vertex lies between both, no other is read: so it is with most features in a box.
+/// Returns whether a map brings some vertex to at most `high` on an axis, and some to at least
+/// `low`. If the first vertex is between both, it reads no other one. Most features in a box end
+/// here.
 fn meets_on(feature: &Feature, axis: usize, map: &Affine, low: Fixed18, high: Fixed18) -> bool
     requires { axis < 3 }
     ensures { result ≡ meets map.now low high (numbers_on axis (feature_tree feature.now)) }
@@ -92,8 +93,10 @@ fn meets_on(feature: &Feature, axis: usize, map: &Affine, low: Fixed18, high: Fi
     first.meets(map, low, high) || first.widened_by(numbers).meets(map, low, high)
 }
 
-/// Whether a feature lies in the box, beside a header that was judged for one. On an axis the first number is
-/// multiplied, and the least and the greatest where that does not tell it. y is looked at where x meets the box.
+/// Returns whether a feature is in the box. The header was judged for a box.
+///
+/// It maps the first number on an axis, and the least and greatest only if the first does not
+/// decide. It reads y only if x meets the box.
 pub fn is_in(bounds: &Bounds, feature: &Feature, header: &Header) -> bool
     requires { has_box header.now ≡ true }
     ensures { result ≡ in_box (box_of bounds.now) (header_tree header.now) (feature_tree feature.now) }

@@ -1,10 +1,10 @@
-//! Why something cannot be asked.
+//! Why a part of a query cannot be set.
 use thiserror::Error;
 
 /// Why a part of a query was not set.
 #[derive(Clone, Copy, Debug, PartialEq, Eq, Error)]
 pub enum QueryFault {
-    /// No memory was granted.
+    /// An allocation failed.
     #[error("out of memory")]
     Memory,
     /// No type of city objects has this name.

@@ -10,7 +10,7 @@ use cj_feature::{Feature, Header};
 use cj_geometry::{Lods, lod_of};
 use cj_spans::Node;
 
-/// Whether a node is one of these texts.
+/// Returns whether the text of a node is one of these.
 fn is_one_of(texts: &[String], node: Node) -> bool
     ensures { result ≡ is_one (map string_bytes texts.now) (tree node.entry) }
 {
@@ -22,14 +22,14 @@ fn is_one_of(texts: &[String], node: Node) -> bool
     false
 }
 
-/// Whether the id of a feature is one of these.
+/// Returns whether the id of a feature is one of these.
 pub fn has_id(ids: &Ids, feature: &Feature) -> bool
     ensures { result ≡ id_holds ids.now (feature_tree feature.now) }
 {
     ids.has(feature.id())
 }
 
-/// Whether the type of some city object is one of these.
+/// Returns whether the type of some city object is one of these.
 pub fn has_type(types: &[bool; 33], feature: &Feature) -> bool
     ensures { result ≡ type_holds types.now (feature_tree feature.now) }
 {
@@ -41,7 +41,7 @@ pub fn has_type(types: &[bool; 33], feature: &Feature) -> bool
     false
 }
 
-/// Whether there is an LoD, and it is one of these.
+/// Returns whether there is an LoD, and it is one of these.
 fn is_one_lod(lods: &[String], lod: Option<Node>) -> bool
     ensures { result ≡ there_is (is_one (map string_bytes lods.now)) (option_map tree lod.entry) }
 {
@@ -51,7 +51,7 @@ fn is_one_lod(lods: &[String], lod: Option<Node>) -> bool
     }
 }
 
-/// Whether the LoD of some geometry is one of these, each looked up alone.
+/// Returns whether the LoD of some geometry is one of these. It looks up each LoD on its own.
 fn has_lod_alone(lods: &[String], feature: &Feature, header: &Header) -> bool
     ensures { result ≡ lod_holds (map string_bytes lods.now) (header_tree header.now) (feature_tree feature.now) }
 {
@@ -64,7 +64,8 @@ fn has_lod_alone(lods: &[String], feature: &Feature, header: &Header) -> bool
     false
 }
 
-/// The same, with what is kept of earlier look-ups. It takes some 8 KiB of the stack, and some time for that.
+/// Does the same, and keeps the results of earlier look-ups. They take some 8 KiB of the stack,
+/// which takes time to fill.
 #[inline(never)]
 fn has_lod_together(lods: &[String], feature: &Feature, header: &Header) -> bool
     ensures { result ≡ lod_holds (map string_bytes lods.now) (header_tree header.now) (feature_tree feature.now) }
@@ -78,7 +79,8 @@ fn has_lod_together(lods: &[String], feature: &Feature, header: &Header) -> bool
     false
 }
 
-/// Whether the LoD of some geometry is one of these. An instance has that of its template.
+/// Returns whether the LoD of some geometry is one of these. An instance has the LoD of its
+/// template.
 pub fn has_lod(lods: &[String], feature: &Feature, header: &Header) -> bool
     ensures { result ≡ lod_holds (map string_bytes lods.now) (header_tree header.now) (feature_tree feature.now) }
 {

@@ -1,19 +1,24 @@
-//! The ids of a query, kept so that one is found among many.
+//! The ids of a query, kept so that one id is found among many.
 //!
-//! They stand in one text, one after another as they were added. Beside it stand their entries, in runs of which each is in order.
-//! A new entry is a run of its own, to which those before it are joined that are at most [`STEP`] times as long as what stands
-//! behind them, and what is joined is sorted. So each run is more than so many times as long as the next one: there are few, one is
-//! looked up in each by a binary search, and to add an id takes some sorts of short runs, and a sort of long ones seldom.
+//! All ids are in one text, in the order in which they were added. For each id there is an entry.
+//! The entries are in runs, and each run is sorted. A new entry is a run of its own. It joins the
+//! runs before it that are at most [`STEP`] times as long as all entries after them, and the joined
+//! run is sorted. So each run is more than [`STEP`] times as long as the next one. There are few
+//! runs, and a binary search looks an id up in each. To add an id, some short runs are sorted, and
+//! seldom a long one.
 //!
-//! Entries are ordered by the ends of their texts, eight code points as a number, and by the texts where these are the same.
-//! Numbers stand side by side, so that a text is gone to for about one id of all, also where ids begin alike, and an entry tells
-//! where it is, so that memory is waited for once. Where ids end alike too each step of a search compares texts, and there are no
-//! more steps.
+//! The number of an entry is made of the last eight code points of its id. Entries are ordered by
+//! number, and by text if the numbers are equal. The numbers are side by side in memory. So a
+//! search reads the text of about one id, even if ids begin alike. The entry says where that text
+//! is, so the search waits for memory once. If ids also end alike, each step compares texts. The
+//! number of steps stays the same.
 //!
-//! A long run has heads once all entries were put in it: the number of each [`PART`]th one. They pick some entries that stand side
-//! by side, which are gone over one after another: that waits for memory about once, and a search by halves of the run some
-//! times. Heads are a hint. What they pick is taken where its first and its last entry show that no other one has the number, and
-//! else the run is searched as a whole; so nothing has to be known of them.
+//! After [`Ids::sort`] there is one run, and if it is long it has heads: the number of every
+//! [`PART`]th entry. The heads pick some neighbouring entries, which are compared one after
+//! another. That waits for memory about once, and a binary search of the run several times. Heads
+//! are a hint. The picked entries are used only if the first and the last of them show that no
+//! other entry has the number. Otherwise the whole run is searched. So the proof needs no fact
+//! about heads.
 ghost use Rattle.std.specs.Prelude.{◌≡◌, ◌+◌, ◌-◌, ◌<◌, ◌≤◌, ◌^◌, [], ◌∷◌, ◌++◌, length, take, drop, sum, vec_items, vec_len, vec_capacity, string_bytes, string_len, string_capacity, OnOk, OnErr, IfSome};
 ghost use Rattle.std.specs.List.{list_any};
 ghost use Rattle.std.specs.List.Sorted.{IsNonDecreasingBy, IsPermutation};
@@ -31,16 +36,16 @@ use std::alloc::Global;
 use std::cmp::Ordering;
 use std::marker::Model;
 
-/// How many times as long as what stands behind it a run has to be, so that it stays a run.
+/// A run stays a run only if it is more than this many times as long as all entries after it.
 const STEP: usize = 16;
 
-/// How far apart the entries are whose numbers are heads.
+/// The distance between entries whose numbers are heads.
 const PART: usize = 32;
 
-/// How many entries a run has, at least, so that it has heads.
+/// The least number of entries in a run that has heads.
 const LONG: usize = 64;
 
-/// The end of an id as a number, and where the id stands in the text.
+/// The end of an id as a number, and where the id is in the text.
 #[derive(Clone, Copy)]
 struct Entry {
     number: u64,
@@ -48,7 +53,7 @@ struct Entry {
     end: usize,
 }
 
-/// Ids in the order in which they were added: one text of them all, and the length of each.
+/// Ids in the order in which they were added: one text of all, and the length of each.
 #[derive(Drop)]
 pub struct Ids {
     text: String,
@@ -70,7 +75,7 @@ impl Model for Ids {
     ghost invariant = { λ a. AreIndexed (string_bytes a.text) (vec_items a.lengths) (vec_items a.entries) (vec_items a.runs) };
 }
 
-/// The id of an entry; the empty one where the text may not be cut there.
+/// Returns the id of an entry, or the empty text if the text may not be cut there.
 fn text_at(text: &str, entry: Entry) -> &str
     ensures { result.now ≡ piece text.now entry.start entry.end }
 {
@@ -82,7 +87,7 @@ fn text_at(text: &str, entry: Entry) -> &str
     }
 }
 
-/// How two entries are ordered.
+/// Compares two entries.
 fn compare_entries(text: &str, first: Entry, second: Entry) -> Ordering
     ensures { result ≡ compare_keys (key_at text.now first) (key_at text.now second) }
 {
@@ -92,7 +97,7 @@ fn compare_entries(text: &str, first: Entry, second: Entry) -> Ordering
     }
 }
 
-/// How an entry is ordered beside a node, whose text has this number.
+/// Compares an entry with a node. `number` is that of the node's text.
 fn compare_with_node(text: &str, entry: Entry, number: u64, node: Node) -> Ordering
     ensures { result
         ≡ compare_keys (key_at text.now entry) (record { number = number; text = text_of (tree node.entry) }) }
@@ -103,7 +108,7 @@ fn compare_with_node(text: &str, entry: Entry, number: u64, node: Node) -> Order
     }
 }
 
-/// Whether a node, whose text has this number, has the text of an entry.
+/// Returns whether a node has the text of an entry. `number` is that of the node's text.
 fn is_of(text: &str, entry: Entry, number: u64, node: Node) -> bool
     ensures { result
         ≡ is_eq (compare_keys (key_at text.now entry) (record { number = number; text = text_of (tree node.entry) })) }
@@ -111,7 +116,7 @@ fn is_of(text: &str, entry: Entry, number: u64, node: Node) -> bool
     entry.number == number && node.text_is(text_at(text, entry))
 }
 
-/// Sorts the entries from a place on.
+/// Sorts the entries from index `start` on.
 fn sort_from(text: &str, entries: &mut [Entry], start: usize)
     requires { start ≤ length entries.old }
     ensures kept { take start entries.new ≡ take start entries.old }
@@ -121,7 +126,7 @@ fn sort_from(text: &str, entries: &mut [Entry], start: usize)
     entries[start..].sort_unstable_by(|first, second| compare_entries(text, *first, *second));
 }
 
-/// Puts a value at the end of a list that has room for it.
+/// Adds a value at the end of a list that has capacity for it.
 fn put<T: Drop>(list: &mut Vec<T>, value: T)
     requires { vec_len list.old < vec_capacity list.old }
     ensures { vec_items list.new ≡ vec_items list.old ++ value ∷ [] }
@@ -129,7 +134,7 @@ fn put<T: Drop>(list: &mut Vec<T>, value: T)
     let _ = list.push(value);
 }
 
-/// Takes off the runs to which one entry more is joined, and answers how many entries that are with it.
+/// Removes the runs that one more entry joins. Returns how many entries the joined run has with it.
 fn join_last(runs: &mut Vec<usize>) -> usize
     requires { sum (vec_items runs.old) < 2 ^ 63 }
     ensures front { vec_items runs.new ≡ take (length (vec_items runs.new)) (vec_items runs.old) }
@@ -149,7 +154,7 @@ fn join_last(runs: &mut Vec<usize>) -> usize
     count
 }
 
-/// How many heads a run of so many entries has.
+/// Returns how many heads a run of this many entries has.
 fn head_count(entries: usize) -> usize {
     if entries < LONG {
         0
@@ -158,7 +163,7 @@ fn head_count(entries: usize) -> usize {
     }
 }
 
-/// Makes room for so many bytes more of the text, and for their length. A refusal changes neither.
+/// Reserves memory for `more` bytes of text, and for their length. A refusal changes neither.
 fn make_text_room(
     text: &mut String,
     lengths: &mut Vec<usize>,
@@ -175,7 +180,7 @@ fn make_text_room(
     refusals.note(lengths.reserve(1))
 }
 
-/// Makes room for one entry more. A refusal changes no list.
+/// Reserves memory for one entry more. A refusal changes no list.
 fn make_entry_room(
     entries: &mut Vec<Entry>,
     runs: &mut Vec<usize>,
@@ -193,7 +198,7 @@ fn make_entry_room(
     refusals.note(heads.reserve(head_count(entries.len())))
 }
 
-/// Adds an id at the end, where there is room for it, and puts its entry in order.
+/// Adds an id at the end, where its memory is reserved, and puts its entry in order.
 fn add_entry(
     text: &mut String,
     lengths: &mut Vec<usize>,
@@ -237,8 +242,9 @@ fn join_all(text: &str, lengths: &[usize], entries: &mut [Entry], runs: &mut Vec
     put(runs, entries.len());
 }
 
-/// Takes the heads of a run, as far as there is room for them. They are a hint: where they are others, or fewer, ids are looked
-/// for longer, and the same ones are found.
+/// Takes the heads of a run, as many as there is capacity for.
+///
+/// Heads are a hint. If they are different or fewer, a search takes longer and finds the same ids.
 fn take_heads(run: &[Entry], heads: &mut Vec<u64>) {
     heads.clear();
     for place in 0..head_count(run.len()) {
@@ -250,8 +256,10 @@ fn take_heads(run: &[Entry], heads: &mut Vec<u64>) {
     }
 }
 
-/// The entries of a run from one place to another, where no other entry has this number: the first of them has a lesser one, or
-/// begins the run, and the last has a greater one, or ends it.
+/// Returns the entries from `start` to `end` of a run, if no other entry has this number.
+///
+/// The first of them must have a lesser number or begin the run. The last must have a greater one
+/// or end the run.
 fn part_between(run: &[Entry], start: usize, end: usize, number: u64) -> Option<&[Entry]>
     requires { IsNonDecreasingBy (λ (entry : Entry). entry.number) run.now }
     ensures { IfSome result (λ part. HasAllOf number part.now run.now) }
@@ -266,8 +274,10 @@ fn part_between(run: &[Entry], start: usize, end: usize, number: u64) -> Option<
     Some(&run[start..end])
 }
 
-/// How many heads are less than a number, if they do not fall. What is left of them is quartered, by as many steps whatever they
-/// are and with no test that decides what is done next, so that the machine has nothing to guess.
+/// Returns how many heads are less than a number, if the heads never decrease.
+///
+/// Each step reduces the rest to about a quarter. The number of steps depends only on the length,
+/// and no step has a branch, so the processor has nothing to predict.
 fn heads_before(heads: &[u64], number: u64) -> usize {
     let mut before = 0usize;
     let mut rest = heads;
@@ -287,7 +297,8 @@ fn heads_before(heads: &[u64], number: u64) -> usize {
     before.wrapping_add(rest.iter().filter(|head| **head < number).count())
 }
 
-/// The entries of a run among which those of this number are, as its heads tell; None where they do not.
+/// Returns the entries of a run that include all with this number, as its heads show. None if the
+/// heads do not show it.
 fn part_of<'a>(heads: &[u64], run: &'a [Entry], number: u64) -> Option<&'a [Entry]>
     requires { IsNonDecreasingBy (λ (entry : Entry). entry.number) run.now }
     ensures { IfSome result (λ part. HasAllOf number part.now run.now) }
@@ -301,7 +312,7 @@ fn part_of<'a>(heads: &[u64], run: &'a [Entry], number: u64) -> Option<&'a [Entr
     part_between(run, start, end, number)
 }
 
-/// Whether a node has the text of one of these entries.
+/// Returns whether a node has the text of one of these entries.
 fn is_among(text: &str, entries: &[Entry], number: u64, node: Node) -> bool
     ensures { result ≡ list_any
         (λ key. is_eq (compare_keys key (record { number = number; text = text_of (tree node.entry) })))
@@ -315,7 +326,7 @@ fn is_among(text: &str, entries: &[Entry], number: u64, node: Node) -> bool
     false
 }
 
-/// Whether a node has the text of an entry of a run.
+/// Returns whether a node has the text of an entry of a run.
 fn is_in_run(text: &str, run: &[Entry], number: u64, node: Node) -> bool
     requires { Ascend (keys_at text.now run.now) }
     ensures { result ≡ list_any
@@ -326,7 +337,7 @@ fn is_in_run(text: &str, run: &[Entry], number: u64, node: Node) -> bool
         .is_ok()
 }
 
-/// Whether a node has the text of an entry of a run that may have heads.
+/// Returns whether a node has the text of an entry of a run that may have heads.
 fn is_in_run_of(text: &str, heads: &[u64], run: &[Entry], number: u64, node: Node) -> bool
     requires { Ascend (keys_at text.now run.now) }
     ensures { result ≡ list_any
@@ -339,7 +350,7 @@ fn is_in_run_of(text: &str, heads: &[u64], run: &[Entry], number: u64, node: Nod
     }
 }
 
-/// Whether a node has the text of an entry of some run, of which the first may have heads.
+/// Returns whether a node has the text of an entry of some run. Only the first run may have heads.
 fn is_in_runs(text: &str, heads: &[u64], entries: &[Entry], runs: &[usize], node: Node) -> bool
     requires { AreRuns (keys_at text.now entries.now) runs.now }
     ensures { result ≡ list_any (λ key. is_eq (compare_keys key (key_of (text_of (tree node.entry)))))
@@ -360,7 +371,7 @@ fn is_in_runs(text: &str, heads: &[u64], entries: &[Entry], runs: &[usize], node
 }
 
 impl Ids {
-    /// No id. It takes no memory.
+    /// Returns an empty list of ids. It allocates nothing.
     pub fn new(alloc: Global) -> Ids
         ensures { result ≡ [] }
     {
@@ -392,8 +403,8 @@ impl Ids {
         Ok(())
     }
 
-    /// Puts them all in one order, in which one is found in about half of the steps that it takes in some runs, and in fewer where
-    /// they are many.
+    /// Puts all entries in one sorted run. An id is then found in about half of the steps that
+    /// several runs need, and in fewer if there are many ids.
     pub fn sort(&mut self)
         ensures { self.new ≡ self.old }
     {
@@ -406,7 +417,7 @@ impl Ids {
         take_heads(self.entries.as_slice(), &mut self.heads);
     }
 
-    /// Whether a node has the text of one of them.
+    /// Returns whether a node has the text of one of the ids.
     pub fn has(&self, node: Node) -> bool
         ensures { result ≡ is_one self.now (tree node.entry) }
     {
@@ -420,7 +431,8 @@ impl Ids {
     }
 }
 
-/// Adds an id at the end of a part, which is empty before where it was not set. A refusal changes nothing of it.
+/// Adds an id at the end of a part. A part that was not set begins empty. A refusal leaves the part
+/// unchanged.
 pub fn add_id(
     alloc: Global,
     part: &mut Option<Ids>,

@@ -7,7 +7,7 @@ ghost use Rattle.cj_stream.specs.Sink.{HasRisen, counted};
 use cj_budget::{NoMemory, Refusals};
 use std::alloc::Global;
 
-/// A text of one's own.
+/// Returns an owned copy of a text. Counts a refused allocation.
 pub fn own_text(alloc: Global, text: &str, refusals: &mut Refusals) -> Result<String, NoMemory>
     ensures ok { IfOk result (λ own. string_bytes own ≡ text.now) }
     ensures cause { OnErr result (HasRisen refusals.old refusals.new) }
@@ -29,7 +29,7 @@ fn push_text(texts: &mut Vec<String>, text: String, refusals: &mut Refusals) -> 
     refusals.note(texts.push(text))
 }
 
-/// Adds a text at the end of a part, which is empty before where it was not set. A refusal changes
+/// Adds a text at the end of a part. A part that was not set begins empty. A refusal changes
 /// nothing.
 pub fn add_text(
     alloc: Global,

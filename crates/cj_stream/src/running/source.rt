@@ -1,8 +1,9 @@
 //! A reader that is read until a read fails.
 //!
-//! The reader stands in a `Source`, which is not read once a read has failed. What a read answered is read by a small function
-//! with an exact clause, as no clause of its caller can see the answer; the note of it is private, since it is worth something
-//! only while nobody else can make it.
+//! A `Source` holds the reader, and does not read it again after a failed read. A small function
+//! with an exact clause interprets the result of a read, as no clause of its caller can see that
+//! result. The note of a failure is private: a proof can rely on it only if no other code can set
+//! it.
 ghost use Rattle.std.specs.Prelude.{◌≡◌, ◌+◌, ◌<◌, ◌^◌, false, is_err};
 ghost use Rattle.std.specs.Io.{ReadsAtMost};
 ghost use Rattle.std.specs.Io.KnownBytes.{ReadConsumes};
@@ -15,8 +16,8 @@ use std::io::Read;
 #[derive(Clone, Copy, Debug, PartialEq, Eq)]
 pub struct ReadFault;
 
-/// What a read says by its answer: how many bytes it gave, or that it failed. Each error is a failure,
-/// also `Interrupted`.
+/// Returns how many bytes a read gave, or that it failed. Every error is a failure, also
+/// `Interrupted`.
 fn bytes_given(answer: io::Result<usize>) -> Result<usize, ReadFault>
     ensures { result ≡ given_by answer }
 {
@@ -26,8 +27,9 @@ fn bytes_given(answer: io::Result<usize>) -> Result<usize, ReadFault>
     }
 }
 
-/// A reader that is lent, how often it was read, and whether a read of it has failed. Nothing else reads
-/// it meanwhile, so a failure that was answered cannot be passed over: there is no read after it.
+/// A borrowed reader, how often it was read, and whether a read has failed.
+///
+/// Nothing else reads it meanwhile. So a failure cannot be passed over: there is no read after it.
 #[derive(Drop)]
 pub struct Source<'r, R: Read> {
     reader: &'r mut R,
@@ -38,7 +40,7 @@ pub struct Source<'r, R: Read> {
 impl<'r, R: Read> Source<'r, R> {
     ghost use Rattle.cj_stream.specs.Source.{source_reader, source_name, reads_of, has_failed};
 
-    /// A source that was not read.
+    /// Returns a source that was not read.
     pub fn new(reader: &'r mut R) -> Self
         ensures same_reference { source_name result ≡ reader.entry.ghost_name }
         ensures reader { source_reader result ≡ reader.old }
@@ -52,7 +54,7 @@ impl<'r, R: Read> Source<'r, R> {
         }
     }
 
-    /// Reads once, counts it, and notes whether the read has failed.
+    /// Reads once, counts the read, and notes whether it failed.
     pub fn read(&mut self, buffer: &mut [u8]) -> Result<usize, ReadFault>
         requires unfailed { has_failed self.old ≡ false }
         requires few { reads_of self.old < 2 ^ 60 }

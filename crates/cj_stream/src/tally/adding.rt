@@ -10,15 +10,15 @@ use cj_feature::Feature;
 use cj_geometry::{Lods, lod_of};
 use cj_spans::Node;
 
-/// The class of an LoD that does not begin with `0` to `4`, and of none.
+/// The class of an LoD that does not begin with `0` to `4`, and of a missing LoD.
 const OTHER: usize = 5;
 
-/// The first characters of the other classes, from `0` to `4`.
+/// The code points of `0` and `4`, the first characters of the other classes.
 const FIRST: u32 = 48;
 
 const LAST: u32 = 52;
 
-/// The class of an LoD, if there is one.
+/// Returns the class of an LoD, if there is one.
 fn class_of(lod: Option<Node>) -> usize
     ensures class { result ≡ lod_class (option_map tree lod.entry) }
     ensures below { result < CLASSES }
@@ -42,7 +42,7 @@ pub fn count_types(counts: &mut [u64; 33], feature: &Feature)
     }
 }
 
-/// Counts the geometries of a feature by the classes of their LoDs, each looked up alone.
+/// Counts the geometries of a feature by LoD class. It looks up each LoD on its own.
 fn count_alone(counts: &mut [u64; CLASSES], feature: &Feature)
     ensures { RisesBy CLASSES counts.old (lod_classes (feature_header feature.now) (feature_tree feature.now)) counts.new }
 {
@@ -53,7 +53,8 @@ fn count_alone(counts: &mut [u64; CLASSES], feature: &Feature)
     }
 }
 
-/// The same, with what is kept of earlier look-ups. It takes some 8 KiB of the stack, and some time for that.
+/// Does the same, and keeps the results of earlier look-ups. They take some 8 KiB of the stack,
+/// which takes time to fill.
 #[inline(never)]
 fn count_together(counts: &mut [u64; CLASSES], feature: &Feature)
     ensures { RisesBy CLASSES counts.old (lod_classes (feature_header feature.now) (feature_tree feature.now)) counts.new }
@@ -65,7 +66,7 @@ fn count_together(counts: &mut [u64; CLASSES], feature: &Feature)
     }
 }
 
-/// Counts the geometries of a feature by the classes of their LoDs.
+/// Counts the geometries of a feature by LoD class.
 pub fn count_lods(counts: &mut [u64; CLASSES], feature: &Feature)
     ensures { RisesBy CLASSES counts.old (lod_classes (feature_header feature.now) (feature_tree feature.now)) counts.new }
 {
@@ -76,7 +77,7 @@ pub fn count_lods(counts: &mut [u64; CLASSES], feature: &Feature)
     }
 }
 
-/// The range of some numbers and one more.
+/// Returns the range with one number more.
 fn widened(range: Option<(i64, i64)>, number: i64) -> Option<(i64, i64)>
     ensures { Widens range (number ∷ []) result }
 {
@@ -86,7 +87,7 @@ fn widened(range: Option<(i64, i64)>, number: i64) -> Option<(i64, i64)>
     }
 }
 
-/// The ranges of the numbers on each axis, with those of the vertices of a feature.
+/// Returns the ranges on the axes, widened by the vertices of a feature.
 pub fn widen_all(ranges: [Option<(i64, i64)>; 3], feature: &Feature) -> [Option<(i64, i64)>; 3]
     ensures { (axis : ℕ) → axis < 3
         → Widens (get_or ranges axis None) (numbers_on axis (feature_tree feature.now)) (get_or result axis None) }

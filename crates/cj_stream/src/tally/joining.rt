@@ -1,9 +1,9 @@
-//! What two tallies are together.
+//! Two tallies, joined into one.
 ghost use Rattle.std.specs.Prelude.{◌≡◌, ◌+◌, ◌<◌, ℕ, None, get_or, length};
 ghost use Rattle.cj_stream.specs.Parts.{wider as wider_range};
 ghost use Rattle.cj_stream.specs.Tallied.{capped};
 
-/// Adds each of some counts to the one at its place.
+/// Adds each of the other counts to the count at its place. A count stops at 2^64 - 1.
 pub fn add_counts(counts: &mut [u64], others: &[u64])
     requires { length others.now ≡ length counts.old }
     ensures { (n : ℕ) → n < length counts.old
@@ -14,7 +14,7 @@ pub fn add_counts(counts: &mut [u64], others: &[u64])
     }
 }
 
-/// The range of some numbers and others, by those of each.
+/// Returns the range of the numbers of both ranges.
 fn wider(first: Option<(i64, i64)>, second: Option<(i64, i64)>) -> Option<(i64, i64)>
     ensures { result ≡ wider_range first second }
 {
@@ -25,7 +25,7 @@ fn wider(first: Option<(i64, i64)>, second: Option<(i64, i64)>) -> Option<(i64, 
     }
 }
 
-/// The same of each axis.
+/// Returns such a range for each axis.
 pub fn join_ranges(
     first: [Option<(i64, i64)>; 3],
     second: [Option<(i64, i64)>; 3],

@@ -1,5 +1,5 @@
-//! Blank lines, and lines that only look blank. A line is blank by spaces, tabs and CR alone, and
-//! any other is refused at the first byte that no JSON text has there, or at its end.
+//! Blank lines, and lines that only look blank. A blank line has only spaces, tabs and CR. Any
+//! other line is invalid at the first byte that no JSON text has there, or at its end.
 use super::calls::{held, joined, outcome, refused};
 use super::rows::{FEATURE, FIRST, STREAM, Wanted, check_place, check_run};
 use cj_budget::Limits;

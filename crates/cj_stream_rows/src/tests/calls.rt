@@ -1,5 +1,5 @@
-//! What the tests share: comparisons, and the calls that are tested without what their contracts
-//! say. A test compares values when it runs, and its proof grows with each fact that a call leaves.
+//! What the tests share: comparisons, and calls of the tested functions without their contracts. A
+//! test compares values when it runs. Its proof would grow with each fact that a call adds.
 use super::devices::{SlowReader, SlowWriter};
 use cj_budget::{Limits, Peaks};
 use cj_spans::Reason;
@@ -13,8 +13,8 @@ use std::io::Read;
 use std::process::Abort;
 use std::test::Fail;
 
-/// Compares bytes, at a place of a row. The asserts stand in functions of their own, since each one
-/// makes the proof of its function dearer.
+/// Compares bytes, at a place of a row. The asserts have functions of their own, since each one
+/// makes the proof of its function slower.
 pub fn check_bytes(rt: &impl Abort, got: &[u8], wanted: &[u8], row: &str, at: u64) {
     assert_eq!(rt; got, wanted, "{row}, at {at}");
 }
@@ -34,7 +34,7 @@ pub fn check_outcome(rt: &impl Abort, got: Outcome, wanted: Outcome, row: &str, 
     assert_eq!(rt; got, wanted, "{row}, at {at}");
 }
 
-/// What was held at most.
+/// Returns what was held at most.
 pub const fn held(bytes: u64, tokens: u64, depth: u64) -> Peaks {
     Peaks {
         bytes,
@@ -43,7 +43,7 @@ pub const fn held(bytes: u64, tokens: u64, depth: u64) -> Peaks {
     }
 }
 
-/// The end at a line that is refused.
+/// Returns the end at an invalid line.
 pub const fn refused(line: u64, place: u64, reason: Reason) -> End {
     End::Refused {
         line,
@@ -52,7 +52,7 @@ pub const fn refused(line: u64, place: u64, reason: Reason) -> End {
     }
 }
 
-/// How a run went.
+/// Returns how a run went.
 pub const fn outcome(lines: u64, kept: u64, peaks: Peaks, ended: End) -> Outcome {
     Outcome {
         lines,
@@ -63,12 +63,12 @@ pub const fn outcome(lines: u64, kept: u64, peaks: Peaks, ended: End) -> Outcome
     }
 }
 
-/// The text, in one.
+/// Returns the parts joined to one text.
 pub fn joined(alloc: Global, parts: &[&[u8]]) -> Result<Vec<u8>, Fail> {
     Ok(parts.concat(alloc)?)
 }
 
-/// Compares bytes with those that have these parts.
+/// Compares bytes with the joined parts.
 pub fn check_joined(
     rt: &impl Abort,
     alloc: Global,
@@ -90,7 +90,7 @@ pub struct Reading<'q> {
 }
 
 impl<'q> Reading<'q> {
-    /// Without options.
+    /// Returns the way to read without options.
     pub fn usual(limits: Limits, query: &'q Query) -> Reading<'q> {
         Reading {
             limits,
@@ -100,7 +100,7 @@ impl<'q> Reading<'q> {
     }
 }
 
-/// Runs. A test that runs itself has all that the contract says to carry.
+/// Runs. The proof of a test that calls `run` itself would get all that its contract says.
 pub fn ran<R: Read, S: LineSink, N: ReportSink>(
     alloc: Global,
     reader: &mut R,
@@ -119,20 +119,20 @@ pub fn ran<R: Read, S: LineSink, N: ReportSink>(
     )
 }
 
-/// Runs over what a reader gives: the outcome, and what was written.
+/// Runs over what a reader gives. Returns the outcome, and what was written.
 pub fn written_by<R: Read>(alloc: Global, reader: &mut R, reading: &Reading) -> (Outcome, Vec<u8>) {
     let mut sink = WriteSink::new(Vec::new(alloc));
     let outcome = ran(alloc, reader, &mut sink, &mut NoReports, reading);
     (outcome, sink.into_inner())
 }
 
-/// The same by a query that asks for nothing.
+/// Does the same with a query that selects every feature.
 pub fn copied(alloc: Global, reader: &mut SlowReader, limits: Limits) -> (Outcome, Vec<u8>) {
     let query = Query::all(alloc);
     written_by(alloc, reader, &Reading::usual(limits, &query))
 }
 
-/// Runs from a reader to a writer that is lent.
+/// Runs from a reader to a borrowed writer.
 pub fn copied_to(
     alloc: Global,
     reader: &mut SlowReader,
@@ -153,7 +153,7 @@ pub fn ran_to<S: LineSink>(alloc: Global, text: &[u8], step: usize, sink: &mut S
     ran(alloc, &mut reader, sink, &mut NoReports, &reading)
 }
 
-/// What an engine tells of a stream that has ended so.
+/// Returns what an engine counted of a stream that ended like this.
 fn told(engine: &Engine, peaks: Peaks, ended: End) -> Outcome {
     Outcome {
         lines: engine.lines(),
@@ -182,7 +182,8 @@ pub fn given<N: ReportSink>(
     Ok(told(&engine, copied.peaks, copied.ended))
 }
 
-/// An engine within these limits. A test that opens one itself has all that its contract says to carry.
+/// Returns an engine within these limits. The proof of a test that opens one itself would get all
+/// that the contract says.
 pub fn opened<'q>(
     alloc: Global,
     line: u64,
@@ -194,7 +195,8 @@ pub fn opened<'q>(
     Ok(Engine::open(alloc, limits, query, options)?)
 }
 
-/// Gives a piece to an engine, which has to answer so. What it reports goes to a sink of reports.
+/// Gives a piece to an engine, and compares the result. What the engine reports goes to a sink of
+/// reports.
 pub fn check_feed<S: LineSink, N: ReportSink>(
     rt: &impl Abort,
     engine: &mut Engine,
@@ -208,7 +210,7 @@ pub fn check_feed<S: LineSink, N: ReportSink>(
     assert_eq!(rt; engine.feed(piece, sink, reports), wanted);
 }
 
-/// Ends the stream of an engine, which has to answer so.
+/// Ends the stream of an engine, and compares the result.
 pub fn check_finish<S: LineSink, N: ReportSink>(
     rt: &impl Abort,
     engine: &mut Engine,
@@ -226,13 +228,13 @@ pub fn check_counts(rt: &impl Abort, engine: &Engine, taken: u64, lines: u64, ke
     check_number(rt, engine.kept(), kept, "kept", taken);
 }
 
-/// Compares what an engine holds, and has held at most.
+/// Compares what an engine holds, and what it held at most.
 pub fn check_held(rt: &impl Abort, engine: &Engine, held: Peaks, peaks: Peaks) {
     assert_eq!(rt; engine.held(), held);
     assert_eq!(rt; engine.peaks(), peaks);
 }
 
-/// What was held at most of a text is within what its first line and the limits allow.
+/// Checks that the peaks of a text are within the bound that its first line and the limits give.
 pub fn check_bound(rt: &impl Abort, text: &[u8], limits: Limits, peaks: Peaks) {
     let (line, depth) = (limits.line(), limits.depth());
     let first = memchr(b'\n', text).unwrap_or(text.len());

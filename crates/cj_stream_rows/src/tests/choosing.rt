@@ -1,7 +1,7 @@
-//! What is refused where the city objects of a feature have to hang together, and what is kept where the features that satisfy
-//! the query are left out.
+//! What is invalid if each city object must be reached, and what is kept if selected features are
+//! left out.
 //!
-//! The rows with a whole outcome are tried whole, by single bytes, and cut in two at every place.
+//! The rows with a whole outcome are run whole, by single bytes, and cut in two at every place.
 use super::calls::{
     Reading, check_bytes, check_ended, check_number, check_outcome, given, held, joined, outcome,
     ran, refused,
@@ -18,7 +18,8 @@ use std::alloc::Global;
 use std::process::Abort;
 use std::test::Fail;
 
-/// A stream, how it is read, and what has to come of it. The stream and what has to be written of it are given in parts.
+/// A stream, how it is read, and the expected result. The stream and its expected output are given
+/// in parts.
 #[derive(Clone, Copy)]
 struct Row<'a> {
     name: &'a str,
@@ -29,7 +30,7 @@ struct Row<'a> {
     outcome: Outcome,
 }
 
-/// What came of a stream: how it went, what was written, and what was reported.
+/// The result of a stream: the outcome, what was written, and what was reported.
 #[derive(Drop)]
 pub struct Came {
     pub outcome: Outcome,
@@ -37,7 +38,7 @@ pub struct Came {
     pub reports: NoteReports,
 }
 
-/// Runs over a reader that gives `step` bytes a read.
+/// Runs over a reader that gives `step` bytes per read.
 pub fn came_of(
     alloc: Global,
     text: &[u8],
@@ -87,14 +88,14 @@ fn came_of_cut(
     })
 }
 
-/// Compares what came of a stream, of which this has to be written.
+/// Compares the result of a stream with the row and the expected output.
 fn check_came(rt: &impl Abort, row: &Row, came: &Came, written: &[u8], at: u64) {
     check_notes(rt, &came.reports, row.reports, row.name, at);
     check_outcome(rt, came.outcome, row.outcome, row.name, at);
     check_bytes(rt, &came.written, written, row.name, at);
 }
 
-/// A stream whole and by single bytes.
+/// Checks a stream whole and by single bytes.
 fn check_runs(
     rt: &impl Abort,
     alloc: Global,
@@ -110,7 +111,7 @@ fn check_runs(
     Ok(())
 }
 
-/// A stream in every way.
+/// Checks a stream in every way.
 fn check(rt: &impl Abort, alloc: Global, row: &Row, query: &Query) -> Result<(), Fail> {
     let text = joined(alloc, row.text)?;
     let written = joined(alloc, row.written)?;
@@ -124,14 +125,14 @@ fn check(rt: &impl Abort, alloc: Global, row: &Row, query: &Query) -> Result<(),
 
 // ---- options
 
-/// Compares what is told of options.
+/// Compares what options return.
 fn check_options(rt: &impl Abort, options: Options, going: bool, trees: bool, excludes: bool) {
     assert_eq!(rt; options.keeps_going(), going);
     assert_eq!(rt; options.asks_for_trees(), trees);
     assert_eq!(rt; options.excludes(), excludes);
 }
 
-/// An option that is set leaves the others as they are, and can be set back.
+/// A method that sets an option leaves the others as they are, and can reset it.
 #[test]
 fn each_option_is_set_by_its_name(rt: HostRuntime) {
     let usual = Options::new();
@@ -148,26 +149,28 @@ fn each_option_is_set_by_its_name(rt: HostRuntime) {
 
 // ---- trees
 
-/// What stands before the city objects of a feature whose id is `b`, and what stands behind them. The first city object begins
-/// at byte 50.
+/// The text before the city objects of a feature with the id `b`, and the text after them. The
+/// first city object begins at byte 50.
 const FRONT: &[u8] = b"{\"type\":\"CityJSONFeature\",\"id\":\"b\",\"CityObjects\":{";
 
 const BACK: &[u8] = b"},\"vertices\":[]}";
 
-/// Its main city object, and one apart: 113 bytes, with 17 values and names, nested 3 deep. The one apart stands at byte 78.
+/// Its main city object, and one that is not reached: 113 bytes, with 17 values and names, and
+/// depth 3. The one that is not reached is at byte 78.
 pub const APART: &[u8] =
     b"{\"type\":\"CityJSONFeature\",\"id\":\"b\",\"CityObjects\":{\"b\":{\"type\":\"Building\"},\"c\":{\"type\":\"Building\"}},\"vertices\":[]}";
 
-/// A chain that begins at its last city object: 211 bytes, with 33 values and names, nested 4 deep.
+/// A chain that begins at its last city object: 211 bytes, with 33 values and names, and depth 4.
 const CHAIN: &[u8] =
     b"{\"type\":\"CityJSONFeature\",\"id\":\"b\",\"CityObjects\":{\"q\":{\"type\":\"BuildingPart\",\"parents\":[\"p\"]},\"p\":{\"type\":\"BuildingPart\",\"parents\":[\"b\"],\"children\":[\"q\"]},\"b\":{\"type\":\"Building\",\"children\":[\"p\"]}},\"vertices\":[]}";
 
-/// The options by which each city object has to be reached.
+/// Returns the options that require each city object to be reached.
 fn trees() -> Options {
     Options::new().tree(true)
 }
 
-/// A header, the feature with one apart, and one that is good, read by these options.
+/// Checks a header, the feature with one city object that is not reached, and a valid feature,
+/// under these options.
 fn check_apart(
     rt: &impl Abort,
     alloc: Global,
@@ -211,7 +214,7 @@ fn one_apart_is_reported(rt: HostRuntime) -> Result<(), Fail> {
     check_apart(&rt, rt.alloc(), options, &written, "2 78 31\n", good)
 }
 
-/// What is left out is judged as what is kept is.
+/// A feature that is left out is judged like one that is kept.
 #[test]
 fn one_apart_is_reported_where_all_is_left_out(rt: HostRuntime) -> Result<(), Fail> {
     let options = trees().keep_going(true).exclude(true);
@@ -222,7 +225,7 @@ fn one_apart_is_reported_where_all_is_left_out(rt: HostRuntime) -> Result<(), Fa
     check_apart(&rt, rt.alloc(), options, &[FIRST], "", none)
 }
 
-/// Nothing is remembered of one line in the next: each is judged by its own marks.
+/// Nothing of one line is remembered in the next: each is judged by its own marks.
 #[test]
 fn a_chain_between_two_apart(rt: HostRuntime) -> Result<(), Fail> {
     let row = Row {
@@ -243,8 +246,8 @@ pub fn check_went(rt: &impl Abort, came: &Came, kept: u64, ended: End, written: 
     check_bytes(rt, &came.written, written, row, 2);
 }
 
-/// A feature with these city objects, which is valid, and refused at this place where each has to be reached, also where all
-/// features are left out.
+/// Checks a feature with these city objects. It is valid, and invalid at this place if each must be
+/// reached. That is also true if all features are left out.
 fn check_refused(rt: &impl Abort, alloc: Global, objects: &str, place: u64) -> Result<(), Fail> {
     let text = joined(alloc, &[FIRST, FRONT, objects.as_bytes(), BACK, b"\n"])?;
     let query = Query::all(alloc);
@@ -258,7 +261,8 @@ fn check_refused(rt: &impl Abort, alloc: Global, objects: &str, place: u64) -> R
     Ok(())
 }
 
-/// Rows of what is reached: a group reaches what it lists, and is reached itself by no other way; and `parents` reach nothing.
+/// Rows of what is reached. A group reaches what it lists. It is not reached because it lists a
+/// city object that is. `parents` reach nothing.
 #[test]
 fn features_with_one_that_is_not_reached(rt: HostRuntime) -> Result<(), Fail> {
     for (objects, place) in [
@@ -298,7 +302,7 @@ fn features_with_one_that_is_not_reached(rt: HostRuntime) -> Result<(), Fail> {
     Ok(())
 }
 
-/// A feature with these city objects, which is kept in either way, and left out where all are.
+/// Checks that a feature with these city objects is kept in either way, and left out if all are.
 fn check_kept(rt: &impl Abort, alloc: Global, objects: &str) -> Result<(), Fail> {
     let text = joined(alloc, &[FIRST, FRONT, objects.as_bytes(), BACK, b"\n"])?;
     let query = Query::all(alloc);
@@ -327,7 +331,8 @@ fn features_of_which_all_is_reached(rt: HostRuntime) -> Result<(), Fail> {
     Ok(())
 }
 
-/// A feature with these city objects, which is refused at this place for this reason where each has to be reached.
+/// Checks that a feature with these city objects is invalid at this place, for this reason, if each
+/// must be reached.
 fn check_fault(
     rt: &impl Abort,
     alloc: Global,
@@ -341,7 +346,8 @@ fn check_fault(
     Ok(())
 }
 
-/// A line that is invalid for more than one cause has the fault that stands first, and at one place not reached comes second.
+/// Of several faults the first one in the line is reported. At one place, another fault comes
+/// before a city object that is not reached.
 #[test]
 fn not_reached_beside_other_faults(rt: HostRuntime) -> Result<(), Fail> {
     for (objects, place, reason) in [
@@ -362,16 +368,19 @@ fn not_reached_beside_other_faults(rt: HostRuntime) -> Result<(), Fail> {
     Ok(())
 }
 
-// ---- what is left out
+// ---- exclusion
 
-/// A road whose only vertex is that of 1005, 2005, of LoD 1: fewer bytes, values and names than the usual feature has.
+/// A road of LoD 1 with only the vertex 1005, 2005. It has fewer bytes, values and names than the
+/// usual feature.
 pub const ROAD: &[u8] =
     b"{\"type\":\"CityJSONFeature\",\"id\":\"r1\",\"CityObjects\":{\"r1\":{\"type\":\"Road\",\"geometry\":[{\"type\":\"MultiPoint\",\"lod\":\"1\",\"boundaries\":[0]}]}},\"vertices\":[[5000,5000,0]]}";
 
-/// The usual feature, a road away from it, the small one without vertices, and one of several city objects.
+/// The usual feature, a road away from it, the small one without vertices, and one of several city
+/// objects.
 const FEATURES: [&[u8]; 4] = [FEATURE, ROAD, SMALL, SEVERAL];
 
-/// Adds those of the features for which this is told, each with its LF: how many these are.
+/// Adds the features whose entry in `holds` is `side`, each with its LF. Returns how many there
+/// are.
 fn add_side(
     text: &mut Vec<u8>,
     features: &[&[u8]],
@@ -389,14 +398,15 @@ fn add_side(
     Ok(count)
 }
 
-/// The header, and those of the features for which this is told; and how many these are.
+/// Returns the header with the features whose entry in `holds` is `side`, and how many there are.
 fn side_of(alloc: Global, holds: [bool; 4], side: bool) -> Result<(Vec<u8>, u64), Fail> {
     let mut text = FIRST.to_vec(alloc)?;
     let count = add_side(&mut text, &FEATURES, &holds, side)?;
     Ok((text, count))
 }
 
-/// Runs over all features by a query that these satisfy: they are kept, or the others.
+/// Runs over all features with a query. `holds` says which ones it selects. Either these are kept,
+/// or the others.
 fn check_sides(
     rt: &impl Abort,
     alloc: Global,
@@ -483,7 +493,7 @@ fn left_out_by_lod(rt: HostRuntime) -> Result<(), Fail> {
     Ok(())
 }
 
-/// A feature without vertices is in no box, so it is kept where those of a box are left out.
+/// A feature without vertices is in no box, so it is kept if those of a box are left out.
 #[test]
 fn left_out_by_box(rt: HostRuntime) -> Result<(), Fail> {
     for (bounds, holds) in [
@@ -501,7 +511,7 @@ fn left_out_by_box(rt: HostRuntime) -> Result<(), Fail> {
     Ok(())
 }
 
-/// What satisfies one part and not the other is kept, as what satisfies none is.
+/// A feature that satisfies only one of two parts is kept, as is one that satisfies none.
 #[test]
 fn left_out_by_two_parts(rt: HostRuntime) -> Result<(), Fail> {
     let parts = Parts {
@@ -522,7 +532,7 @@ fn left_out_by_two_parts(rt: HostRuntime) -> Result<(), Fail> {
     check_sides(&rt, rt.alloc(), &parts, [false; 4], "a type and a box")
 }
 
-/// With a query that asks for nothing, the header alone is kept.
+/// With a query that selects every feature, only the header is kept.
 #[test]
 fn all_is_left_out(rt: HostRuntime) -> Result<(), Fail> {
     check_sides(&rt, rt.alloc(), &ALL, [true; 4], "nothing asked")?;
@@ -551,7 +561,7 @@ fn a_header_alone_is_not_left_out(rt: HostRuntime) -> Result<(), Fail> {
     check(&rt, rt.alloc(), &row, &Query::all(rt.alloc()))
 }
 
-/// Lines of which two are refused, where features with this id are left out.
+/// Checks some lines while features with this id are left out. Two of the lines are invalid.
 fn check_faulty(
     rt: &impl Abort,
     alloc: Global,
@@ -571,7 +581,7 @@ fn check_faulty(
     check(rt, alloc, &row, &query_of(alloc, &by_ids(&["b1"]))?)
 }
 
-/// A refused line is no feature that is not asked for: it is not kept in either way.
+/// An invalid line is kept in neither way: it is not a feature that the query does not select.
 #[test]
 fn left_out_among_refused_lines(rt: HostRuntime) -> Result<(), Fail> {
     let reports = "3 0 10\n5 0 12\n";

@@ -1,7 +1,7 @@
-//! Readers and writers that are slow or that fail. They tell contracts nothing of their bytes.
+//! Readers and writers that are slow or that fail. No contract knows their bytes.
 use std::io::{Error, ErrorKind, Read, Result, Write};
 
-/// Gives its bytes by at most `step` a read, and fails at the read number `fails_at`, from 1.
+/// Gives at most `step` bytes per read, and fails at the read number `fails_at`, from 1.
 #[derive(Drop)]
 pub struct SlowReader<'a> {
     pub bytes: &'a [u8],
@@ -12,7 +12,7 @@ pub struct SlowReader<'a> {
 }
 
 impl<'a> SlowReader<'a> {
-    /// A reader that never fails.
+    /// Returns a reader that never fails.
     pub fn new(bytes: &'a [u8], step: usize) -> SlowReader<'a> {
         SlowReader {
             bytes,
@@ -38,7 +38,7 @@ impl Read for SlowReader<'_> {
     }
 }
 
-/// Gives a byte a read: those of the front, and then spaces without end.
+/// Gives one byte per read: those of the front, and then spaces without end.
 #[derive(Drop)]
 pub struct EndlessReader<'a> {
     pub front: &'a [u8],
@@ -60,7 +60,7 @@ impl Read for EndlessReader<'_> {
     }
 }
 
-/// Gives the bytes before a cut by one read, if there is room, and those behind it by the next.
+/// Gives the bytes before a cut with one read, if they fit, and those after it with the next.
 #[derive(Drop)]
 pub struct CutReader<'a> {
     pub front: &'a [u8],
@@ -81,7 +81,8 @@ impl Read for CutReader<'_> {
     }
 }
 
-/// Takes at most `step` bytes a write, none by the write number `stops_at`, and fails at that number `fails_at`, from 1.
+/// Takes at most `step` bytes per write. The write number `stops_at` takes none, and the write
+/// number `fails_at` fails, from 1.
 #[derive(Drop)]
 pub struct SlowWriter {
     pub bytes: Vec<u8>,
@@ -93,7 +94,7 @@ pub struct SlowWriter {
 }
 
 impl SlowWriter {
-    /// A writer that never stops or fails.
+    /// Returns a writer that never stops or fails.
     pub fn new(bytes: Vec<u8>, step: usize) -> SlowWriter {
         SlowWriter {
             bytes,

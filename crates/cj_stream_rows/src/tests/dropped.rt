@@ -1,5 +1,5 @@
-//! Lines that are too long, step by step: what is held and told while their bytes come, and when they are reported. The line limit
-//! is 210 throughout.
+//! Lines that are too long, step by step: what is held and returned while their bytes come, and
+//! when they are reported. The line limit is always 210.
 use super::calls::{check_bytes, check_joined, held, joined};
 use super::reports::going;
 use super::rows::{FEATURE, FIRST, HEADER, STREAM, THIRD_REFUSED};
@@ -9,7 +9,8 @@ use std::alloc::Global;
 use std::process::Abort;
 use std::test::Fail;
 
-/// What is held of bytes beside the header's tokens, and was at most, before a second line is dealt with.
+/// Returns what is held with the header's tokens, and what was held at most, before a second line
+/// is dealt with.
 const fn beside_header<'a>(bytes: u64, most: u64) -> Step<'a> {
     Step::Held(held(bytes, 21, 0), held(most, 21, 3))
 }
@@ -24,8 +25,8 @@ const fn reported<'a>() -> Step<'a> {
     Step::Reported(1, "2 210 2\n")
 }
 
-/// The header, and then a line of 210 bytes and five more: it is held until a byte comes that does not fit, and nothing of it
-/// after that.
+/// Returns the steps of the header, and of a line of 210 bytes and five more. The line is held
+/// until a byte comes that does not fit. After that nothing of it is held.
 fn long_line() -> [Step<'static>; 15] {
     [
         Step::Feed(HEADER, Ok(())),
@@ -46,7 +47,7 @@ fn long_line() -> [Step<'static>; 15] {
     ]
 }
 
-/// Gives the line that is too long, and takes these steps behind it: what is written.
+/// Gives the line that is too long, and takes these steps after it. Returns what is written.
 fn behind_long_line(rt: &impl Abort, alloc: Global, more: &[Step]) -> Result<Vec<u8>, Fail> {
     let mut steps = Vec::new(alloc);
     for step in long_line().iter().chain(more) {
@@ -55,7 +56,7 @@ fn behind_long_line(rt: &impl Abort, alloc: Global, more: &[Step]) -> Result<Vec
     written_within(rt, alloc, 64, &steps)
 }
 
-/// Takes steps of an engine that goes on, within this depth: what is written.
+/// Takes steps of an engine that goes on, within this depth. Returns what is written.
 fn written_within(
     rt: &impl Abort,
     alloc: Global,
@@ -86,7 +87,7 @@ fn a_line_too_long_by_steps(rt: HostRuntime) -> Result<(), Fail> {
     Ok(())
 }
 
-/// Its end is that of the stream: it is reported by then.
+/// The end of the line is that of the stream, and it is reported then.
 #[test]
 fn a_last_line_too_long_by_steps(rt: HostRuntime) -> Result<(), Fail> {
     let steps = [
@@ -122,14 +123,16 @@ fn check_cut_line<'a>(
     Ok(())
 }
 
-/// What fits of a line is stored first, also where the part that is too long comes after a part that fits.
+/// The bytes of a line that fit are stored first, also if the part that is too long comes after one
+/// that fits.
 #[test]
 fn what_fits_counts_whatever_the_cut(rt: HostRuntime) -> Result<(), Fail> {
     let long = joined(rt.alloc(), &[FEATURE, FEATURE])?;
     check_cut_line(&rt, rt.alloc(), &STREAM[..241], &long)
 }
 
-/// Gives the LF of the line that was dropped with the first 200 bytes of the next one, and its rest: what is written.
+/// Gives the LF of the dropped line with the first 200 bytes of the next one, and then its rest.
+/// Returns what is written.
 fn after_long_line<'a>(
     rt: &impl Abort,
     alloc: Global,
@@ -163,7 +166,7 @@ fn the_line_after_one_that_is_dropped(rt: HostRuntime) -> Result<(), Fail> {
     )
 }
 
-/// Gives a header with a line that is nested too deep, and a line that is refused for its last vertex index.
+/// Gives a header with a line that is too deep, and a line whose last vertex index is invalid.
 fn check_refused_lines<'a>(
     rt: &impl Abort,
     alloc: Global,
@@ -181,7 +184,7 @@ fn check_refused_lines<'a>(
     Ok(())
 }
 
-/// The lists of a line that is refused are emptied, as those of any other: also what was open in it.
+/// The lists of an invalid line are emptied like those of any other, with its open containers.
 #[test]
 fn a_refused_line_is_held_no_longer(rt: HostRuntime) -> Result<(), Fail> {
     let deep = joined(rt.alloc(), &[FIRST, b"[[[[[[[[[\n"])?;

@@ -8,7 +8,7 @@ use std::alloc::Global;
 use std::process::Abort;
 use std::test::Fail;
 
-/// Takes a stream whose third line is refused so, and then what comes after an end.
+/// Takes a stream whose third line is invalid in this way, and then what comes after an end.
 fn check_end(
     rt: &impl Abort,
     alloc: Global,
@@ -48,7 +48,8 @@ fn an_end_by_a_finding_stays_the_end(rt: HostRuntime) -> Result<(), Fail> {
     check_end(&rt, rt.alloc(), 8_388_608, THIRD_REFUSED, end, STREAM)
 }
 
-/// A stream by single bytes, of which the one at `last` brings the end, and each later one it again.
+/// Returns the steps of a stream by single bytes. The byte at `last` is the end, and each later one
+/// returns it again.
 fn single_bytes(alloc: Global, text: &[u8], last: usize, end: End) -> Result<Vec<Step<'_>>, Fail> {
     let mut steps = Vec::new(alloc);
     for (at, byte) in text.chunks(1).enumerate() {

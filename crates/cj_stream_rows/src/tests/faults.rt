@@ -1,4 +1,4 @@
-//! Devices that fail: what is written is a prefix of the output, and the end says why.
+//! Devices that fail: a prefix of the output is written, and the end says why.
 use super::calls::{
     Reading, check_bytes, check_ended, check_number, copied, copied_to, joined, ran, ran_to,
     refused,
@@ -34,7 +34,7 @@ fn a_writer_that_takes_five_bytes_and_fails(rt: HostRuntime) -> Result<(), Fail>
     Ok(())
 }
 
-/// Copies to a writer that takes a byte a write, up to the write that fails.
+/// Copies to a writer that takes one byte per write, up to the write that fails.
 fn check_failing_write(
     rt: &impl Abort,
     alloc: Global,
@@ -69,7 +69,7 @@ fn a_writer_that_fails_at_each_call(rt: HostRuntime) {
     }
 }
 
-/// Copies to a writer that takes `step` bytes a write, and is not asked again after it took none.
+/// Copies to a writer that takes `step` bytes per write. It is not called again after it took none.
 fn check_step(rt: &impl Abort, alloc: Global, text: &[u8], step: usize, ended: End, wanted: &[u8]) {
     let mut writer = SlowWriter::new(Vec::new(alloc), step);
     let mut reader = SlowReader::new(text, 1_000);
@@ -86,7 +86,7 @@ fn a_writer_that_takes_one_byte_and_one_that_takes_none(rt: HostRuntime) {
     check_step(&rt, rt.alloc(), STREAM, 0, End::WriteFault, b"");
 }
 
-/// Runs over a reader that gives a byte a read, up to the read that fails.
+/// Runs over a reader that gives one byte per read, up to the read that fails.
 fn check_failing_read(
     rt: &impl Abort,
     alloc: Global,
@@ -152,7 +152,7 @@ fn check_fault_of(rt: &impl Abort, alloc: Global, writer: &mut SlowWriter) -> Re
     )
 }
 
-/// The engine asks the sink once; another run asks it again.
+/// The engine calls the sink once. Another run calls it again.
 #[test]
 fn a_write_fault_stays_the_end(rt: HostRuntime) -> Result<(), Fail> {
     let mut writer = SlowWriter::new(Vec::new(rt.alloc()), 0);
@@ -164,8 +164,9 @@ fn a_write_fault_stays_the_end(rt: HostRuntime) -> Result<(), Fail> {
     Ok(())
 }
 
-/// Feeds a stream, whose header has 141 bytes with its LF, to an engine whose writer takes a byte a write before the one that
-/// fails, or that takes none: the end is told again, nothing changes, and the writer is not asked again.
+/// Feeds a stream to an engine whose writer takes one byte per write before the one that fails, or
+/// takes none. The header has 141 bytes with its LF. The end is returned again, nothing changes,
+/// and the writer is not called again.
 fn check_fault_told_again(
     rt: &impl Abort,
     alloc: Global,
@@ -207,14 +208,15 @@ fn an_engine_tells_each_write_fault_again(rt: HostRuntime) -> Result<(), Fail> {
     Ok(())
 }
 
-/// Runs over a stream to a sink whose writer fails in it, and once more. How often a sink's writer failed
-/// is seen by contracts alone; what can be seen here is that a failure does not stay.
+/// Runs over a stream to a sink whose writer fails in it, and then once more. Only contracts can
+/// see how often a sink's writer failed. The test sees that a failure does not stay.
 fn check_one_failure<S: LineSink>(rt: &impl Abort, alloc: Global, text: &[u8], sink: &mut S) {
     check_ended(rt, run_to(alloc, text, sink), End::WriteFault, "first", 0);
     check_ended(rt, run_to(alloc, text, sink), End::Complete, "second", 0);
 }
 
-/// A writer that fails at this write, to which `front` was written before, and then the whole stream.
+/// Checks sinks with a writer that fails at this write. `front` was written before, and then the
+/// whole stream is.
 fn check_sinks(
     rt: &impl Abort,
     alloc: Global,
@@ -243,7 +245,7 @@ fn a_sink_takes_lines_after_a_failure(rt: HostRuntime) -> Result<(), Fail> {
     check_sinks(&rt, rt.alloc(), text, 3, FIRST)
 }
 
-/// A line that is refused for what it says is not put to the sink: its writer fails at the next write.
+/// An invalid feature is not put to the sink: its writer fails at the next write.
 #[test]
 fn a_refused_line_is_not_put(rt: HostRuntime) -> Result<(), Fail> {
     let text = joined(rt.alloc(), &[FIRST, BEYOND, b"\n"])?;

@@ -1,5 +1,5 @@
-//! Streams whose refused lines reading goes on after: each whole, by single bytes, and cut in two at every place, given to a run,
-//! to an engine and to a reader of lines.
+//! Streams with invalid lines that reading goes on after. Each is run whole, by single bytes, and
+//! cut in two at every place. A run, an engine and a reader of lines read it.
 use super::calls::{
     Reading, check_bytes, check_joined, check_outcome, given, held, joined, outcome, ran, refused,
 };
@@ -14,7 +14,8 @@ use std::alloc::Global;
 use std::process::Abort;
 use std::test::Fail;
 
-/// A stream, and what has to come of it where reading goes on. The stream and what has to be written of it are given in parts.
+/// A stream, and the expected result if reading goes on. The stream and its expected output are
+/// given in parts.
 #[derive(Clone, Copy)]
 struct Row<'a> {
     name: &'a str,
@@ -25,7 +26,7 @@ struct Row<'a> {
     outcome: Outcome,
 }
 
-/// How a complete run went.
+/// Returns how a complete run went.
 pub const fn complete(lines: u64, kept: u64, refused: u64, peaks: Peaks) -> Outcome {
     Outcome {
         lines,
@@ -36,13 +37,13 @@ pub const fn complete(lines: u64, kept: u64, refused: u64, peaks: Peaks) -> Outc
     }
 }
 
-/// Compares what was told of a stream that was cut here.
+/// Compares the outcome and the reports of a stream that was cut here.
 fn check_told(rt: &impl Abort, row: &Row, got: Outcome, reports: &NoteReports, at: u64) {
     check_notes(rt, reports, row.reports, row.name, at);
     check_outcome(rt, got, row.outcome, row.name, at);
 }
 
-/// Going on after a refused line.
+/// Returns the way to read that goes on after invalid lines.
 fn going_within(limits: Limits, query: &Query) -> Reading<'_> {
     Reading {
         limits,
@@ -51,7 +52,7 @@ fn going_within(limits: Limits, query: &Query) -> Reading<'_> {
     }
 }
 
-/// Runs over a reader that gives `step` bytes a read.
+/// Runs over a reader that gives `step` bytes per read.
 fn check_run(
     rt: &impl Abort,
     alloc: Global,
@@ -90,7 +91,7 @@ fn check_cut(
     Ok(())
 }
 
-/// A stream in every way.
+/// Checks a stream in every way.
 fn check(rt: &impl Abort, alloc: Global, row: &Row) -> Result<(), Fail> {
     let text = joined(alloc, row.text)?;
     let written = joined(alloc, row.written)?;
@@ -143,7 +144,7 @@ fn a_first_line_of_an_older_version(rt: HostRuntime) -> Result<(), Fail> {
     check(&rt, rt.alloc(), &row)
 }
 
-/// A stream of which the header alone is kept, in every way.
+/// Checks a stream in every way, if only its header is kept.
 fn check_refused(
     rt: &impl Abort,
     alloc: Global,
@@ -163,19 +164,20 @@ fn check_refused(
     check(rt, alloc, &row)
 }
 
-/// Five bytes more than the line limit of 210, all of them blank; and as many that no JSON text begins with.
+/// Five bytes more than the line limit of 210: all blank, and all a letter that begins no JSON
+/// text.
 const SPACES: [u8; 215] = [b' '; 215];
 
 const LETTERS: [u8; 215] = [b'x'; 215];
 
-/// What is held at most of a header, and of a line without tokens that has 210 bytes or more.
+/// The peaks of a header and of a line without tokens that has at least 210 bytes.
 const FULL: Peaks = Peaks {
     bytes: 350,
     tokens: 21,
     depth: 3,
 };
 
-/// What fits of the line is held at most beside the header.
+/// The bytes of the line that fit are held at most, in addition to the header.
 #[test]
 fn a_line_five_bytes_too_long(rt: HostRuntime) -> Result<(), Fail> {
     let report = "2 210 2\n";
@@ -210,7 +212,8 @@ fn two_lines_too_long_in_a_row(rt: HostRuntime) -> Result<(), Fail> {
     check_refused(&rt, rt.alloc(), &text, reports, (6, 3), held(350, 22, 3))
 }
 
-/// The rest of a line that is too long is none of its own, also where it is one that would be valid, or is refused.
+/// The rest of a line that is too long is no line of its own. That is also true if it would be a
+/// valid or an invalid line.
 #[test]
 fn the_rest_of_a_line_too_long(rt: HostRuntime) -> Result<(), Fail> {
     let report = "2 210 2\n";
@@ -220,8 +223,8 @@ fn the_rest_of_a_line_too_long(rt: HostRuntime) -> Result<(), Fail> {
     check_refused(&rt, rt.alloc(), &text, report, (2, 1), FULL)
 }
 
-/// A line that is no UTF-8 has no tokens, though as bytes it is a JSON text with more of them than the header; and neither
-/// has one that is too long.
+/// A line that is not UTF-8 has no tokens, even if it would be a JSON text with more of them than
+/// the header. A line that is too long has none either.
 #[test]
 fn lines_that_are_not_looked_at(rt: HostRuntime) -> Result<(), Fail> {
     let end = b"3]]]}]}},\"a\":\"\xff\",\"vertices\":[[0,0,0]]}\n";
@@ -240,7 +243,7 @@ fn blank_lines_are_not_reported(rt: HostRuntime) -> Result<(), Fail> {
     check_refused(&rt, rt.alloc(), &text, reports, (8, 2), held(143, 22, 3))
 }
 
-/// A header as a later line is one more that is refused, and has the most tokens of these.
+/// A header as a later line is invalid too, and has the most tokens of these lines.
 #[test]
 fn every_second_line_is_refused(rt: HostRuntime) -> Result<(), Fail> {
     let row = Row {
@@ -254,7 +257,8 @@ fn every_second_line_is_refused(rt: HostRuntime) -> Result<(), Fail> {
     check(&rt, rt.alloc(), &row)
 }
 
-/// What no JSON text is may have added tokens and open containers before that was seen, but fewer than the feature has.
+/// A line that is no JSON text may have added tokens and open containers before that was seen. They
+/// are fewer than the feature has.
 #[test]
 fn lines_that_are_no_json(rt: HostRuntime) -> Result<(), Fail> {
     let row = Row {
@@ -274,9 +278,9 @@ fn lines_that_are_no_json(rt: HostRuntime) -> Result<(), Fail> {
     check(&rt, rt.alloc(), &row)
 }
 
-// ---- whatever is asked for
+// ---- any query
 
-/// Runs over a stream, asking for the small feature.
+/// Runs over a stream, with a query for the small feature.
 fn check_asked(rt: &impl Abort, alloc: Global, row: &Row) -> Result<(), Fail> {
     let text = joined(alloc, row.text)?;
     let mut query = Query::all(alloc);
@@ -290,7 +294,7 @@ fn check_asked(rt: &impl Abort, alloc: Global, row: &Row) -> Result<(), Fail> {
     check_joined(rt, alloc, &sink.into_inner(), row.written, row.name, 50)
 }
 
-/// A line that is refused is reported, whatever the query asks for, and a feature that is not asked for is not.
+/// An invalid line is reported for any query. A feature that the query does not select is not.
 #[test]
 fn refused_lines_of_any_query(rt: HostRuntime) -> Result<(), Fail> {
     let row = Row {
@@ -304,9 +308,9 @@ fn refused_lines_of_any_query(rt: HostRuntime) -> Result<(), Fail> {
     check_asked(&rt, rt.alloc(), &row)
 }
 
-// ---- behind a header
+// ---- after a header
 
-/// Gives what comes behind the header to a reader of lines, cut in two at this place.
+/// Gives what comes after the header to a reader of lines, cut in two at this place.
 fn check_lines_cut(
     rt: &impl Abort,
     alloc: Global,

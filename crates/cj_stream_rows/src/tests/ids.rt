@@ -1,4 +1,4 @@
-//! Queries of many ids: each that was added is found, and no other.
+//! Queries of many ids: each id that was added is found, and no other.
 use super::calls::{Reading, check_ended, check_number, joined, ran};
 use super::devices::SlowReader;
 use super::rows::FIRST;
@@ -8,16 +8,16 @@ use std::alloc::Global;
 use std::process::Abort;
 use std::test::Fail;
 
-/// In which order ids are added.
+/// The order in which ids are added.
 #[derive(Clone, Copy)]
 enum Order {
     Rising,
     Falling,
-    /// By steps of 7,919, a prime, around.
+    /// In steps of 7,919, a prime, modulo their count.
     Mixed,
 }
 
-/// The number that is added at a place, of so many.
+/// Returns the number that is added at a place, of `count` numbers.
 fn number_at(place: u64, count: u64, order: Order) -> u64 {
     let last = count.saturating_sub(1);
     match order {
@@ -27,12 +27,12 @@ fn number_at(place: u64, count: u64, order: Order) -> u64 {
     }
 }
 
-/// The id of a number. All ids begin alike.
+/// Returns the id of a number. All ids begin alike.
 fn id_of(alloc: Global, number: u64) -> Result<String, Fail> {
     Ok(format!(in alloc; "NL.IMBAG.Pand.{number}")?)
 }
 
-/// A query by the ids of the odd numbers: so many of them, each this often.
+/// Returns a query for the ids of the first `count` odd numbers. Each is added `times` times.
 fn query_of(alloc: Global, count: u64, order: Order, times: u64) -> Result<Query, Fail> {
     let mut query = Query::all(alloc);
     query.start_ids();
@@ -46,7 +46,7 @@ fn query_of(alloc: Global, count: u64, order: Order, times: u64) -> Result<Query
     Ok(query)
 }
 
-/// A feature with this id, as it is spelled, and an LF.
+/// Returns a feature with this id, as it is spelled, and an LF.
 fn named(alloc: Global, id: &[u8]) -> Result<Vec<u8>, Fail> {
     joined(
         alloc,
@@ -60,7 +60,7 @@ fn named(alloc: Global, id: &[u8]) -> Result<Vec<u8>, Fail> {
     )
 }
 
-/// A header, and a feature for each number below this.
+/// Returns a header, and a feature for each number below this.
 fn stream_of(alloc: Global, numbers: u64) -> Result<Vec<u8>, Fail> {
     let mut text = FIRST.to_vec(alloc)?;
     for number in 0..numbers {
@@ -70,7 +70,7 @@ fn stream_of(alloc: Global, numbers: u64) -> Result<Vec<u8>, Fail> {
     Ok(text)
 }
 
-/// Runs over a stream: how many features were kept.
+/// Runs over a stream, and compares how many features were kept.
 fn check_kept(
     rt: &impl Abort,
     alloc: Global,
@@ -91,7 +91,7 @@ fn check_kept(
     Ok(())
 }
 
-/// Asks for so many ids, of a stream that has each of them and one beside each.
+/// Selects `count` ids of a stream that has each of them, and one other for each.
 fn check_many(
     rt: &impl Abort,
     alloc: Global,
@@ -127,7 +127,7 @@ fn ids_that_are_added_again(rt: HostRuntime) -> Result<(), Fail> {
     Ok(())
 }
 
-/// Asks for so many ids, sorted, and for one that is added behind them.
+/// Selects `count` ids, sorted, and one that is added after them.
 fn check_one_more(rt: &impl Abort, alloc: Global, count: u64) -> Result<(), Fail> {
     let mut query = query_of(alloc, count, Order::Falling, 1)?;
     query.sort_ids();
@@ -154,12 +154,12 @@ fn ids_that_are_added_behind_sorted_ones(rt: HostRuntime) -> Result<(), Fail> {
     check_kept(&rt, rt.alloc(), &text, &none, 80, "no part on ids")
 }
 
-/// The id of a number among those that end alike.
+/// Returns the id of a number among those that end alike.
 fn alike(alloc: Global, number: u64) -> Result<String, Fail> {
     Ok(format!(in alloc; "{number}.with.one.end")?)
 }
 
-/// Adds the ids of the odd numbers that end alike, so many of them.
+/// Adds the ids that end alike of the first `count` odd numbers.
 fn add_alike(alloc: Global, query: &mut Query, count: u64) -> Result<(), Fail> {
     for place in 0..count {
         let id = alike(alloc, place.wrapping_mul(2).wrapping_add(1))?;
@@ -168,7 +168,7 @@ fn add_alike(alloc: Global, query: &mut Query, count: u64) -> Result<(), Fail> {
     Ok(())
 }
 
-/// Adds a feature for each number below this, whose ids end alike.
+/// Adds a feature for each number below this. Their ids end alike.
 fn extend_alike(alloc: Global, text: &mut Vec<u8>, numbers: u64) -> Result<(), Fail> {
     for number in 0..numbers {
         let line = named(alloc, alike(alloc, number)?.as_bytes())?;
@@ -177,7 +177,7 @@ fn extend_alike(alloc: Global, text: &mut Vec<u8>, numbers: u64) -> Result<(), F
     Ok(())
 }
 
-/// Asks for so many ids that end alike, sorted, beside so many others.
+/// Selects `count` ids that end alike, sorted, together with other ids.
 fn check_alike(rt: &impl Abort, alloc: Global, count: u64, others: u64) -> Result<(), Fail> {
     let mut query = query_of(alloc, others, Order::Mixed, 1)?;
     add_alike(alloc, &mut query, count)?;
@@ -196,7 +196,7 @@ fn ids_that_end_alike(rt: HostRuntime) -> Result<(), Fail> {
     Ok(())
 }
 
-/// Asks for these ids, of one feature.
+/// Selects these ids, of one feature.
 fn check_one(
     rt: &impl Abort,
     alloc: Global,
@@ -214,7 +214,7 @@ fn check_one(
     check_kept(rt, alloc, &text, &query, keeps.into(), row)
 }
 
-/// Ids of one, two, three and four bytes a letter, fronts of others, and the empty one.
+/// Ids with letters of one, two, three and four bytes, prefixes of others, and the empty one.
 const IDS: [&str; 12] = [
     "a",
     "",

@@ -1,4 +1,4 @@
-//! Lists filled far, and queries of many and of long texts.
+//! Large lists, and queries of many and of long texts.
 use super::calls::{
     Reading, check_bytes, check_ended, check_number, check_outcome, copied, held, joined, outcome,
     refused, written_by,
@@ -12,7 +12,7 @@ use std::alloc::Global;
 use std::process::Abort;
 use std::test::Fail;
 
-/// This many zeros, each with a comma after it.
+/// Returns this number of zeros, each with a comma after it.
 fn zeros(alloc: Global, count: usize) -> Result<Vec<u8>, Fail> {
     let mut zeros = Vec::new(alloc);
     for _i in 0..count {
@@ -22,7 +22,7 @@ fn zeros(alloc: Global, count: usize) -> Result<Vec<u8>, Fail> {
     Ok(zeros)
 }
 
-/// Runs over a stream, by whole reads: what was written, and how it ended.
+/// Runs over a stream, by whole reads, and compares what was written and how it ended.
 fn check_large(
     rt: &impl Abort,
     alloc: Global,
@@ -49,8 +49,8 @@ fn zeros_without_brackets(rt: HostRuntime) -> Result<(), Fail> {
     Ok(())
 }
 
-/// The feature with an attribute, a list of this many zeros and one more: 23 bytes more, and two for each
-/// zero but the last.
+/// Returns the feature with an attribute, a list of these zeros and one more. It has 23 bytes more,
+/// and two for each zero but the last.
 fn listed(alloc: Global, zeros: &[u8]) -> Result<Vec<u8>, Fail> {
     let (front, back) = (&FEATURE[..150], &FEATURE[150..]);
     joined(
@@ -59,7 +59,8 @@ fn listed(alloc: Global, zeros: &[u8]) -> Result<Vec<u8>, Fail> {
     )
 }
 
-/// A line of 8,388,607 bytes: beside what the feature has, two names, an object, a list and 4,194,188 zeros.
+/// A line of 8,388,607 bytes. In addition to the feature it has two names, an object, a list and
+/// 4,194,188 zeros.
 #[test]
 fn zeros_in_a_list(rt: HostRuntime) -> Result<(), Fail> {
     let line = listed(rt.alloc(), &zeros(rt.alloc(), 4_194_187)?)?;
@@ -71,7 +72,7 @@ fn zeros_in_a_list(rt: HostRuntime) -> Result<(), Fail> {
     Ok(())
 }
 
-/// Runs over a header and a feature, which has to be kept or not.
+/// Runs over a header and a feature, and checks whether the feature is kept.
 fn check_keeps(
     rt: &impl Abort,
     alloc: Global,
@@ -103,7 +104,7 @@ fn add_lods(query: &mut Query, lod: &str, times: usize) -> Result<(), Fail> {
     Ok(())
 }
 
-/// The last of very many is the one that the feature has.
+/// The feature has the last of very many ids.
 #[test]
 fn by_one_of_many_ids(rt: HostRuntime) -> Result<(), Fail> {
     let mut query = Query::all(rt.alloc());
@@ -126,7 +127,7 @@ fn by_one_of_many_lods(rt: HostRuntime) -> Result<(), Fail> {
     check_keeps(&rt, rt.alloc(), FEATURE, &query, true, "others after it")
 }
 
-/// A text of this many letters `a`, and what stands at its end.
+/// Returns a text of this number of letters `a`, with `end` after them.
 fn letters(alloc: Global, count: usize, end: &str) -> Result<String, Fail> {
     let mut text = String::new(alloc);
     for _i in 0..count {
@@ -136,7 +137,7 @@ fn letters(alloc: Global, count: usize, end: &str) -> Result<String, Fail> {
     Ok(text)
 }
 
-/// A feature with this id, and an LoD of the same text.
+/// Returns a feature with this id, and an LoD of the same text.
 fn named(alloc: Global, name: &str) -> Result<Vec<u8>, Fail> {
     joined(
         alloc,
@@ -152,7 +153,7 @@ fn named(alloc: Global, name: &str) -> Result<Vec<u8>, Fail> {
     )
 }
 
-/// Asks for a text as an id, and then as an LoD, of a feature that has one of 100,000 letters as both.
+/// Selects a text as an id, and then as an LoD. The feature has a text of 100,000 letters as both.
 fn check_long(
     rt: &impl Abort,
     alloc: Global,

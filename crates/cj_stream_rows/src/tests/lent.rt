@@ -1,4 +1,4 @@
-//! What a sink is lent: the header, and each feature by itself, with what their lines hold.
+//! What a sink borrows: the header, and each feature by itself, with the contents of their lines.
 use super::calls::{check_bytes, check_outcome, held, joined, outcome, ran_to};
 use super::rows::{FEATURE, STREAM};
 use cj_feature::{Feature, Header};
@@ -7,11 +7,12 @@ use std::alloc::{AllocError, Global};
 use std::process::Abort;
 use std::test::Fail;
 
-/// A feature of a part and its parent, of which the part alone has geometries, and of three vertices.
+/// A feature of three vertices, with a part and its parent. Only the part has geometries.
 const PARTS: &[u8] =
     b"{\"type\":\"CityJSONFeature\",\"id\":\"\\u0070\",\"CityObjects\":{\"q\":{\"type\":\"Building\",\"children\":[\"p\"]},\"p\":{\"type\":\"BuildingPart\",\"parents\":[\"q\"],\"geometry\":[{\"type\":\"MultiPoint\",\"lod\":\"0\",\"boundaries\":[2]},{\"type\":\"MultiSurface\",\"lod\":\"1\",\"boundaries\":[[[0,1,2]]]}]}},\"vertices\":[[-1,2,3],[4e0,5.0,6],[7,8,9]]}";
 
-/// Notes what it is lent. It never fails: where memory is refused, it notes that it has lost something.
+/// Notes what it borrows. It never fails: if memory is refused, it notes that it has lost
+/// something.
 #[derive(Drop)]
 struct NoteSink {
     alloc: Global,
@@ -29,7 +30,7 @@ impl NoteSink {
     }
 }
 
-/// The header's scale and translation, each number by its coefficient and power of ten.
+/// Returns the header's scale and translation, each number by its coefficient and power of ten.
 fn header_note(alloc: Global, header: &Header, lf: bool) -> Result<String, AllocError> {
     let mut note = String::from_str(alloc, "header")?;
     for number in header.scale() {
@@ -45,7 +46,7 @@ fn header_note(alloc: Global, header: &Header, lf: bool) -> Result<String, Alloc
     Ok(note)
 }
 
-/// The types of the city objects.
+/// Returns the types of the city objects.
 fn objects_note(alloc: Global, feature: &Feature) -> Result<String, AllocError> {
     let mut note = String::new(alloc);
     let mut count = 0u64;
@@ -57,7 +58,7 @@ fn objects_note(alloc: Global, feature: &Feature) -> Result<String, AllocError> 
     format!(in alloc; " objects {count}{note}")
 }
 
-/// How many geometries there are.
+/// Returns how many geometries there are.
 fn geometries_note(alloc: Global, feature: &Feature) -> Result<String, AllocError> {
     let mut count = 0u64;
     for _geometry in feature.geometries() {
@@ -75,7 +76,7 @@ fn vertices_note(alloc: Global, feature: &Feature) -> Result<String, AllocError>
     Ok(note)
 }
 
-/// The feature's id as it is spelled, its city objects, geometries and vertices.
+/// Returns the feature's id as it is spelled, its city objects, geometries and vertices.
 fn feature_note(alloc: Global, feature: &Feature, lf: bool) -> Result<String, AllocError> {
     let id = String::from_utf8_lossy(alloc, feature.id().bytes())?;
     let objects = objects_note(alloc, feature)?;
@@ -121,13 +122,13 @@ fn check_notes(rt: &impl Abort, alloc: Global, text: &[u8], step: usize, wanted:
     );
 }
 
-/// What is lent of the header and both features.
+/// What the sink borrows of the header and both features.
 const NOTES: &str = r#"header 1e-3 1e-3 1e-3 1e3 2e3 0e0 lf true
 feature "b1" objects 1 Building geometries 1 vertices 0,0,0 1000,0,0 1000,1000,0 0,1000,0 lf true
 feature "\u0070" objects 2 Building BuildingPart geometries 2 vertices -1,2,3 4,5,6 7,8,9 lf false
 "#;
 
-/// What is lent of the second feature is of its own line, and not of the first one's.
+/// What the sink borrows of the second feature is of its own line, not of the first one's.
 #[test]
 fn a_sink_is_lent_the_header_and_each_feature(rt: HostRuntime) -> Result<(), Fail> {
     let text = joined(rt.alloc(), &[STREAM, PARTS])?;

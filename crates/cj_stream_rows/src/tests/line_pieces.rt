@@ -1,4 +1,4 @@
-//! What comes behind a header, in pieces given to its reader of lines.
+//! What comes after a header, in pieces given to its reader of lines.
 use super::calls::{Reading, check_bytes, check_outcome, held, outcome, refused};
 use super::rows::{HEADER, STREAM, THIRD_REFUSED};
 use super::states::{check_progress, feed_header, header_opened};
@@ -12,14 +12,14 @@ use std::alloc::Global;
 use std::process::Abort;
 use std::test::Fail;
 
-/// What has to come of the pieces behind a header.
+/// The expected result of the pieces after a header.
 #[derive(Clone, Copy)]
 struct Behind<'a> {
     written: &'a [u8],
     outcome: Outcome,
 }
 
-/// What a reader of lines tells of a stream that has ended so.
+/// Returns what a reader of lines counted of a stream that ended like this.
 fn told(lines: &LineReader, peaks: Peaks, ended: End) -> Outcome {
     Outcome {
         lines: lines.lines(),
@@ -30,7 +30,7 @@ fn told(lines: &LineReader, peaks: Peaks, ended: End) -> Outcome {
     }
 }
 
-/// Gives what comes behind an accepted header to its reader of lines, cut in two at this place.
+/// Gives what comes after an accepted header to its reader of lines, cut in two at this place.
 fn given_lines<N: ReportSink>(
     rt: &impl Abort,
     header: HeaderReader,
@@ -48,7 +48,8 @@ fn given_lines<N: ReportSink>(
     told(&lines, copied.peaks, End::from(copied.ended))
 }
 
-/// Gives a header and its LF to its reader, and what comes behind it, cut in two at this place, to the reader of its lines.
+/// Gives a header and its LF to its reader. Then gives what comes after it to the reader of its
+/// lines, cut in two at this place.
 pub fn given_behind<N: ReportSink>(
     rt: &impl Abort,
     alloc: Global,
@@ -64,7 +65,7 @@ pub fn given_behind<N: ReportSink>(
     Ok(given_lines(rt, header, rest, at, sink, reports))
 }
 
-/// Copies what comes behind the header, cut in two at this place.
+/// Copies what comes after the header, cut in two at this place.
 fn check_cut(
     rt: &impl Abort,
     alloc: Global,

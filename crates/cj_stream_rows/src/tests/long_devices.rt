@@ -1,4 +1,4 @@
-//! Devices that are slow or that fail, over streams longer than each buffer there is.
+//! Devices that are slow or that fail, with streams longer than each buffer.
 use super::calls::{check_bytes, check_ended, check_number, copied, copied_to};
 use super::devices::{SlowReader, SlowWriter};
 use super::long_lines::{long_text, many_features};
@@ -8,8 +8,8 @@ use std::alloc::Global;
 use std::process::Abort;
 use std::test::Fail;
 
-/// Copies a stream to a writer that takes at most `step` bytes a write, up to the write that fails: of the stream a
-/// front is written.
+/// Copies a stream to a writer that takes at most `step` bytes per write, up to the write that
+/// fails. A prefix of the stream is written.
 fn check_front(
     rt: &impl Abort,
     alloc: Global,
@@ -30,7 +30,7 @@ fn check_front(
     Ok(written.len() as u64)
 }
 
-/// A writer that takes a byte a write has taken one less than it was asked for.
+/// A writer that takes one byte per write has taken one byte less than it had calls.
 fn check_bytewise(rt: &impl Abort, alloc: Global, text: &[u8], fails_at: u64) -> Result<(), Fail> {
     let written = check_front(rt, alloc, text, 1, fails_at)?;
     check_number(
@@ -65,7 +65,7 @@ fn a_writer_that_fails_far_in_one_line(rt: HostRuntime) -> Result<(), Fail> {
     Ok(())
 }
 
-/// Copies a stream to a writer that takes at most `step` bytes a write, and does not fail.
+/// Copies a stream to a writer that takes at most `step` bytes per write, and does not fail.
 fn check_whole(rt: &impl Abort, alloc: Global, text: &[u8], step: usize) -> Result<(), Fail> {
     let mut writer = SlowWriter::new(Vec::new(alloc), step);
     let mut reader = SlowReader::new(text, 10_000);
@@ -87,7 +87,8 @@ fn a_writer_that_takes_a_few_bytes_of_a_long_text(rt: HostRuntime) -> Result<(),
     Ok(())
 }
 
-/// Runs over a reader that gives 100 bytes a read, up to the read that fails: what is written are whole lines.
+/// Runs over a reader that gives 100 bytes per read, up to the read that fails. Whole lines are
+/// written.
 fn check_failing_read(
     rt: &impl Abort,
     alloc: Global,
@@ -106,8 +107,8 @@ fn check_failing_read(
     Ok(())
 }
 
-/// After 1,000 reads of 100 bytes each there are a header of 141 and 473 features of 211; after 2,111 reads of
-/// 100 there are all but the last 41 bytes.
+/// After 1,000 reads of 100 bytes there are a header of 141 bytes and 473 features of 211. After
+/// 2,111 reads of 100 bytes only the last 41 bytes are missing.
 #[test]
 fn a_reader_that_fails_far_in_many_lines(rt: HostRuntime) -> Result<(), Fail> {
     let text = many_features(rt.alloc(), 1_000)?;

@@ -8,7 +8,7 @@ use std::alloc::Global;
 use std::process::Abort;
 use std::test::Fail;
 
-/// This many digits, 1 to 9 in turn.
+/// Returns this number of digits, 1 to 9 again and again.
 fn digits(alloc: Global, count: usize) -> Result<Vec<u8>, Fail> {
     let mut digits = Vec::new(alloc);
     for i in 0..count {
@@ -17,14 +17,15 @@ fn digits(alloc: Global, count: usize) -> Result<Vec<u8>, Fail> {
     Ok(digits)
 }
 
-/// A header, and a feature of this many bytes, of which 232 are no digits of its attribute.
+/// Returns a header, and a feature of this number of bytes. 232 of them are not digits of its
+/// attribute.
 pub fn long_text(alloc: Global, length: usize) -> Result<Vec<u8>, Fail> {
     let digits = digits(alloc, length.saturating_sub(232))?;
     let [front, name, value, end, back] = attributed(&digits);
     joined(alloc, &[FIRST, front, name, value, end, back, b"\n"])
 }
 
-/// Gives a stream by pieces of `step` bytes, and its end, which has to come to this.
+/// Gives a stream in pieces of `step` bytes, and its end, and compares the outcome.
 fn by_pieces<'a>(
     rt: &impl Abort,
     alloc: Global,
@@ -48,7 +49,7 @@ fn by_pieces<'a>(
     Ok(steps)
 }
 
-/// Gives a stream to an engine by pieces of `step` bytes.
+/// Gives a stream to an engine in pieces of `step` bytes.
 fn check_pieces(
     rt: &impl Abort,
     alloc: Global,
@@ -62,8 +63,8 @@ fn check_pieces(
     Ok(())
 }
 
-/// Runs over a header and a feature of this many bytes, by whole reads and by shorter ones. Feeds them
-/// in one piece, in one whose LF comes after it, and in pieces of 50 bytes.
+/// Runs over a header and a feature of this number of bytes, by whole reads and by shorter ones.
+/// Feeds them in one piece, in one piece with the LF after it, and in pieces of 50 bytes.
 fn check_long_line(rt: &impl Abort, alloc: Global, length: usize) -> Result<(), Fail> {
     let text = long_text(alloc, length)?;
     let bytes = (length as u64).saturating_add(140);
@@ -89,13 +90,13 @@ fn a_line_of_a_hundred_thousand_bytes(rt: HostRuntime) -> Result<(), Fail> {
     check_long_line(&rt, rt.alloc(), 100_000)
 }
 
-/// By pieces of 50 bytes these are 20,003.
+/// With pieces of 50 bytes there are 20,003.
 #[test]
 fn a_line_of_a_million_bytes(rt: HostRuntime) -> Result<(), Fail> {
     check_long_line(&rt, rt.alloc(), 1_000_000)
 }
 
-/// A header, and this many features.
+/// Returns a header and this number of features.
 pub fn many_features(alloc: Global, features: usize) -> Result<Vec<u8>, Fail> {
     let mut text = FIRST.to_vec(alloc)?;
     for _i in 0..features {

@@ -1,4 +1,4 @@
-//! Of several faults of one line, the one that is told.
+//! Which of several broken rules of one line is reported.
 use super::calls::{check_ended, copied, joined, refused};
 use super::devices::SlowReader;
 use super::rows::FIRST;
@@ -8,7 +8,7 @@ use std::alloc::Global;
 use std::process::Abort;
 use std::test::Fail;
 
-/// Runs over a header and a line that is refused so, by single bytes.
+/// Runs over a header and a line that is invalid in this way, by single bytes.
 fn check_fault(
     rt: &impl Abort,
     alloc: Global,
@@ -27,7 +27,7 @@ fn check_fault(
 /// One byte more than the header has, none of them UTF-8.
 const NO_TEXT: [u8; 141] = [0xff; 141];
 
-/// As many spaces.
+/// The same number of spaces.
 const SPACES: [u8; 141] = [b' '; 141];
 
 #[test]
@@ -45,7 +45,7 @@ fn bytes_come_before_the_text(rt: HostRuntime) -> Result<(), Fail> {
     check_fault(&rt, rt.alloc(), b" \xff", limits, 1, Reason::NotUtf8)
 }
 
-/// The type, a number, stands before both faults of the text.
+/// The type, a number, is before both faults of the text.
 #[test]
 fn the_text_comes_before_what_it_says(rt: HostRuntime) -> Result<(), Fail> {
     let limits = Limits::new(8_388_608, 3)?;

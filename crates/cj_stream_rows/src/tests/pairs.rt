@@ -1,6 +1,6 @@
-//! Every two options, and all three, beside every two parts of a query.
+//! Every two options, and all three, with every two parts of a query.
 //!
-//! Which features satisfy two parts follows from the rows on one part each, in `choosing`.
+//! Which features satisfy two parts follows from the rows for one part each, in `choosing`.
 use super::calls::{check_number, joined, refused};
 use super::choosing::{APART, Came, ROAD, came_of, check_went};
 use super::queries::{Parts, SEVERAL, by_ids, by_lods, by_types, query_of};
@@ -12,30 +12,31 @@ use std::alloc::Global;
 use std::process::Abort;
 use std::test::Fail;
 
-/// The usual feature, one with a city object apart, a road, one with two city objects apart, and a small one.
+/// The usual feature, one that does not reach a city object, a road, one that does not reach two,
+/// and a small one.
 const FEATURES: [&[u8]; 5] = [FEATURE, APART, ROAD, SEVERAL, SMALL];
 
-/// Those of which every city object is reached.
+/// The features with all city objects reached.
 const TREES: [bool; 5] = [true, false, true, false, true];
 
-/// Some options, and what comes of the features by them.
+/// Some options, and the result of the features with them.
 #[derive(Clone, Copy)]
 struct Case<'a> {
     options: Options,
-    /// Which features are valid, and stand before the end.
+    /// Which features are valid, and come before the end.
     valid: [bool; 5],
-    /// Whether those of them are kept that satisfy the query, or the others.
+    /// Whether the features that satisfy the query are kept, or the others.
     side: bool,
     reports: &'a str,
     lines: u64,
     ended: End,
 }
 
-/// What is reported where reading goes on, and each city object has to be reached: the second feature has one at byte 78 that
-/// is not, the line after the third is no feature, and the fourth has one at byte 194.
+/// The reports if reading goes on, and each city object must be reached. The second feature has one
+/// at byte 78 that is not. The line after the third is no feature. The fourth has one at byte 194.
 const APART_REPORTS: &str = "3 78 31\n5 0 10\n6 194 31\n";
 
-/// All pairs of options, and all three.
+/// Returns all pairs of options, and all three.
 fn cases() -> [Case<'static>; 4] {
     [
         Case {
@@ -73,7 +74,8 @@ fn cases() -> [Case<'static>; 4] {
     ]
 }
 
-/// Adds those of the features that are valid and on the case's side, each with its LF: how many these are.
+/// Adds the features that are valid and on the case's side, each with its LF. Returns how many
+/// there are.
 fn add_kept(
     text: &mut Vec<u8>,
     features: &[&[u8]],
@@ -92,14 +94,14 @@ fn add_kept(
     Ok(count)
 }
 
-/// What is written where these features satisfy the query, and how many features that are.
+/// Returns what is written if these features satisfy the query, and how many features that are.
 fn kept_of(alloc: Global, holds: [bool; 5], case: &Case) -> Result<(Vec<u8>, u64), Fail> {
     let mut text = FIRST.to_vec(alloc)?;
     let count = add_kept(&mut text, &FEATURES, &holds, case)?;
     Ok((text, count))
 }
 
-/// Compares what came by some options.
+/// Compares the result with some options.
 fn check_case(
     rt: &impl Abort,
     alloc: Global,
@@ -115,7 +117,8 @@ fn check_case(
     Ok(())
 }
 
-/// The features and a line that is none, by a query of two parts that these satisfy, and all pairs of options.
+/// Checks the features and a line that is none, with a query of two parts and all pairs of options.
+/// `holds` says which features satisfy the query.
 fn check_pair(
     rt: &impl Abort,
     alloc: Global,

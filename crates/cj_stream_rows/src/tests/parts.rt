@@ -1,5 +1,5 @@
-//! Streams that are read in parts: how runs over a header with some of the lines behind it went together, and what is reported
-//! of them.
+//! Streams that are read in parts. Runs over a header with some of the later lines give one joint
+//! outcome, and reports.
 use super::calls::{Reading, check_outcome, held, joined, outcome, ran, refused};
 use super::devices::SlowReader;
 use super::going::complete;
@@ -12,7 +12,7 @@ use std::alloc::Global;
 use std::process::Abort;
 use std::test::Fail;
 
-/// A header, and what is behind it in two parts, each by its texts.
+/// A header, and what comes after it in two parts, each by its texts.
 #[derive(Clone, Copy)]
 struct Parts<'a> {
     name: &'a str,
@@ -22,7 +22,7 @@ struct Parts<'a> {
     options: Options,
 }
 
-/// Runs over a header and these bytes, of which this has to be reported.
+/// Runs over a header and these bytes, and compares the reports.
 fn over(
     rt: &impl Abort,
     alloc: Global,
@@ -44,7 +44,8 @@ fn over(
     Ok(outcome)
 }
 
-/// Both parts together, and the stream that they make, have to come to this, with these reports of the parts and of the stream.
+/// Compares the outcome of both parts together, and of the whole stream. Also compares the reports
+/// of the parts and of the stream.
 fn check(
     rt: &impl Abort,
     alloc: Global,
@@ -64,7 +65,8 @@ fn check(
     Ok(())
 }
 
-/// A feature and a blank line, and then three lines of which the second one is refused, under these options.
+/// Checks a feature and a blank line, and then three lines, under these options. The second of the
+/// three is invalid.
 fn check_lines(
     rt: &impl Abort,
     alloc: Global,
@@ -95,7 +97,7 @@ fn two_features_in_two_parts(rt: HostRuntime) -> Result<(), Fail> {
     check(&rt, rt.alloc(), &parts, [""; 3], wanted)
 }
 
-/// The part that has the most of all may come first.
+/// The part with the greater peaks may come first.
 #[test]
 fn the_longer_part_first(rt: HostRuntime) -> Result<(), Fail> {
     let parts = Parts {

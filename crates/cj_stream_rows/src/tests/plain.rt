@@ -1,5 +1,7 @@
-//! A plain, slow program over whole texts, beside which streams of many lines run: it cuts a text into its lines, looks each up
-//! in a table of lines whose verdicts are known by hand, and tells what is written, reported, counted and held.
+//! A plain, slow program over whole texts. Streams of many lines are compared with it.
+//!
+//! It cuts a text into its lines, and looks each up in a table of lines with verdicts found by
+//! hand. It returns what is written, reported, counted and held.
 use super::calls::{held, refused};
 use super::reports::note;
 use cj_budget::Peaks;
@@ -17,12 +19,13 @@ pub enum Verdict<'a> {
     Feature(&'a str),
     Blank,
     Refused(u64, Reason),
-    /// As that, but it is no JSON text nested less deep than the limit, so that it may have added tokens before that was seen.
+    /// The same, but the line is no JSON text within the depth limit. So it may have added tokens
+    /// before that was seen.
     Illegible(u64, Reason),
 }
 
-/// A line of which all is known: what it is as the first line and as a later one, its values and names, and how deep these are
-/// nested.
+/// A line with everything known of it: what it is as the first line and as a later one, its values
+/// and names, and its depth.
 #[derive(Clone, Copy)]
 pub struct Known<'a> {
     pub content: &'a [u8],
@@ -32,23 +35,23 @@ pub struct Known<'a> {
     pub depth: u64,
 }
 
-/// How a stream is read, by a depth limit of 8.
+/// How a stream is read, with a depth limit of 8.
 #[derive(Clone, Copy)]
 pub struct Way<'a> {
     pub line_limit: usize,
     pub keeps_going: bool,
-    /// The id that is asked for, if one is.
+    /// The id that is selected, if there is one.
     pub id: Option<&'a str>,
 }
 
-/// What comes of a text.
+/// The result of a text.
 #[derive(Drop)]
 pub struct Plain {
     pub written: Vec<u8>,
     pub reports: String,
-    /// How it went. What was held at most is that of all lines, where the stream is complete.
+    /// How it went. The peaks are those of all lines, if the stream is complete.
     pub outcome: Outcome,
-    /// The bytes of the first line that are held, and the greatest values of later ones.
+    /// The bytes of the first line that are held, and the greatest values of later lines.
     first: Peaks,
     later: Peaks,
     /// Whether all later lines are blank or spell a tree.
@@ -62,7 +65,7 @@ struct Line<'a> {
     lf: bool,
 }
 
-/// What is known of a content.
+/// Returns what is known of a content.
 fn known_of<'a>(rt: &impl Abort, table: &[Known<'a>], content: &[u8]) -> Known<'a> {
     for known in table {
         if known.content == content {
@@ -72,7 +75,7 @@ fn known_of<'a>(rt: &impl Abort, table: &[Known<'a>], content: &[u8]) -> Known<'
     panic!(rt; "a line that is not in the table");
 }
 
-/// The verdict on a line with this number.
+/// Returns the verdict on a line with this number.
 fn verdict_on<'a>(known: &Known<'a>, number: u64, way: &Way) -> Verdict<'a> {
     if known.content.len() > way.line_limit {
         return Verdict::Illegible(way.line_limit as u64, Reason::LineTooLong);
@@ -85,7 +88,7 @@ fn verdict_on<'a>(known: &Known<'a>, number: u64, way: &Way) -> Verdict<'a> {
 }
 
 impl Plain {
-    /// Of a text without a line.
+    /// Returns the result of a text without a line.
     fn new(alloc: Global) -> Plain {
         Plain {
             written: Vec::new(alloc),
@@ -124,7 +127,7 @@ impl Plain {
         Ok(())
     }
 
-    /// Deals with a line that is refused: whether the next one is read.
+    /// Deals with an invalid line. Returns whether the next one is read.
     fn refuse(
         &mut self,
         alloc: Global,
@@ -150,7 +153,7 @@ impl Plain {
         Ok(true)
     }
 
-    /// Deals with a line: whether the next one is read.
+    /// Deals with a line. Returns whether the next one is read.
     fn take(&mut self, alloc: Global, line: &Line, way: &Way) -> Result<bool, Fail> {
         match verdict_on(&line.known, self.outcome.lines.saturating_add(1), way) {
             Verdict::Header => self.write(line)?,
@@ -165,7 +168,7 @@ impl Plain {
         Ok(true)
     }
 
-    /// Counts what a line holds at most, of which there are so many before it.
+    /// Counts what a line holds at most.
     fn hold(&mut self, line: &Line, way: &Way) {
         let bytes = line.known.content.len().min(way.line_limit) as u64;
         let is_text = line.known.content.len() <= way.line_limit;
@@ -183,7 +186,7 @@ impl Plain {
         }
     }
 
-    /// The end of a text of which every line was read.
+    /// Ends a text after every line was read.
     fn complete(&mut self) {
         let (first, later) = (self.first, self.later);
         self.outcome.peaks = held(
@@ -197,7 +200,8 @@ impl Plain {
     }
 }
 
-/// The lines of a text: each that LF ends, and what comes after the last LF, if that is not empty.
+/// Returns the lines of a text: each that LF ends, and what comes after the last LF, if that is not
+/// empty.
 fn lines_of<'a>(
     rt: &impl Abort,
     alloc: Global,
@@ -222,7 +226,7 @@ fn lines_of<'a>(
     Ok(lines)
 }
 
-/// What comes of a text whose lines are all in the table.
+/// Returns the result of a text whose lines are all in the table.
 pub fn plainly(
     rt: &impl Abort,
     alloc: Global,

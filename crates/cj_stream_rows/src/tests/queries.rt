@@ -1,4 +1,4 @@
-//! Rows of queries: which features are kept of a stream.
+//! Rows of queries: which features of a stream are kept.
 use super::calls::{Reading, check_ended, check_joined, check_number, joined, refused, written_by};
 use super::devices::SlowReader;
 use super::rows::{FEATURE, HEADER, STREAM};
@@ -26,7 +26,7 @@ pub const ALL: Parts = Parts {
     bounds: None,
 };
 
-/// A query by ids, by types, by LoDs and by a box.
+/// Returns a query by ids, by types, by LoDs and by a box.
 pub const fn by_ids<'a>(ids: &'a [&'a str]) -> Parts<'a> {
     Parts {
         ids: Some(ids),
@@ -79,7 +79,7 @@ fn set_lods(query: &mut Query, lods: &[&str]) -> Result<(), QueryFault> {
     Ok(())
 }
 
-/// The query of these parts.
+/// Returns the query of these parts.
 pub fn query_of(alloc: Global, parts: &Parts) -> Result<Query, QueryFault> {
     let mut query = Query::all(alloc);
     if let Some(ids) = parts.ids {
@@ -97,13 +97,13 @@ pub fn query_of(alloc: Global, parts: &Parts) -> Result<Query, QueryFault> {
     Ok(query)
 }
 
-/// Runs over a text: the outcome, and what was written.
+/// Runs over a text. Returns the outcome, and what was written.
 fn kept_of(alloc: Global, text: &[u8], limits: Limits, query: &Query) -> (Outcome, Vec<u8>) {
     let mut reader = SlowReader::new(text, 8_192);
     written_by(alloc, &mut reader, &Reading::usual(limits, query))
 }
 
-/// A header and a feature beside it.
+/// A header and a feature.
 #[derive(Clone, Copy)]
 struct Pair<'a> {
     header: &'a [u8],
@@ -115,8 +115,8 @@ const USUAL: Pair = Pair {
     feature: FEATURE,
 };
 
-/// A feature of a building with geometries of two LoDs, a road with one of a third, and a lake with none. Its
-/// vertices reach as far as those of the usual feature.
+/// A feature of a building with geometries of two LoDs, a road with one of a third, and a lake with
+/// none. It has the extent of the usual feature.
 pub const SEVERAL: &[u8] =
     b"{\"type\":\"CityJSONFeature\",\"id\":\"b1\",\"CityObjects\":{\"b1\":{\"type\":\"Building\",\"geometry\":[{\"type\":\"MultiPoint\",\"lod\":\"1\",\"boundaries\":[0]},{\"type\":\"MultiPoint\",\"lod\":\"1.2\",\"boundaries\":[1]}]},\"r1\":{\"type\":\"Road\",\"geometry\":[{\"type\":\"MultiPoint\",\"lod\":\"2.2\",\"boundaries\":[2]}]},\"w1\":{\"type\":\"WaterBody\"}},\"vertices\":[[0,0,0],[1000,500,0],[500,1000,0]]}";
 
@@ -125,7 +125,7 @@ const MIXED: Pair = Pair {
     feature: SEVERAL,
 };
 
-/// Runs over a header and a feature, of which the feature has to be kept or not.
+/// Runs over a header and a feature, and checks whether the feature is kept.
 fn check_keeps(
     rt: &impl Abort,
     alloc: Global,
@@ -145,7 +145,7 @@ fn check_keeps(
     check_joined(rt, alloc, &written, &lines[..kept], row, 3)
 }
 
-/// Runs over a header and a feature, of which one is refused.
+/// Runs over a header and a feature. One of them is invalid.
 fn check_refused(
     rt: &impl Abort,
     alloc: Global,
@@ -243,7 +243,7 @@ fn by_box_of_the_usual_feature(rt: HostRuntime) -> Result<(), Fail> {
     Ok(())
 }
 
-/// The first scale is below 0, so x runs from 999 to 1000; and then it is 0, so x is 1000 throughout.
+/// The first scale is negative, so x runs from 999 to 1000. Then it is 0, so x is always 1000.
 #[test]
 fn by_box_under_other_scales(rt: HostRuntime) -> Result<(), Fail> {
     let turned = Pair {
@@ -266,7 +266,7 @@ fn by_box_under_other_scales(rt: HostRuntime) -> Result<(), Fail> {
     Ok(())
 }
 
-/// The greatest scale and the greatest numbers of vertices: the coordinates have 36 digits.
+/// The greatest scale and the greatest coordinates: the numbers have 36 digits.
 #[test]
 fn by_box_of_great_numbers(rt: HostRuntime) -> Result<(), Fail> {
     let header =
@@ -284,7 +284,7 @@ fn by_box_of_great_numbers(rt: HostRuntime) -> Result<(), Fail> {
     check_keeps(&rt, rt.alloc(), wide, &parts, true, "wide")
 }
 
-/// A translation that is no multiple of 10^-18 is refused with a box alone.
+/// A translation that is no multiple of 10^-18 is invalid only with a box.
 #[test]
 fn a_box_needs_fixed_numbers(rt: HostRuntime) -> Result<(), Fail> {
     let fine = Pair {
@@ -309,7 +309,7 @@ fn by_box_without_vertices(rt: HostRuntime) -> Result<(), Fail> {
     check_keeps(&rt, rt.alloc(), bare, &by_ids(&["b"]), true, "its id")
 }
 
-/// Texts are compared with their escapes undone, and a comma in one is a letter as others are.
+/// Texts are compared with their escapes undone, and a comma in one is a letter like any other.
 #[test]
 fn by_texts_with_escapes(rt: HostRuntime) -> Result<(), Fail> {
     let escaped = Pair {
@@ -333,7 +333,7 @@ fn by_texts_with_escapes(rt: HostRuntime) -> Result<(), Fail> {
 const TEMPLATES: &[u8] =
     b"{\"type\":\"CityJSON\",\"version\":\"2.0\",\"transform\":{\"scale\":[0.001,0.001,0.001],\"translate\":[1000.0,2000.0,0.0]},\"CityObjects\":{},\"vertices\":[],\"geometry-templates\":{\"templates\":[{\"type\":\"MultiSurface\",\"lod\":\"1\",\"boundaries\":[[[0,1,2]]]}],\"vertices-templates\":[[0.0,0.0,0.0],[1.0,0.0,0.0],[0.0,1.0,0.0]]}}";
 
-/// A tree that is an instance of the first template, and one of the second.
+/// A plant that is an instance of the first template, and one of the second.
 const TREE: &[u8] =
     b"{\"type\":\"CityJSONFeature\",\"id\":\"b\",\"CityObjects\":{\"b\":{\"type\":\"SolitaryVegetationObject\",\"geometry\":[{\"type\":\"GeometryInstance\",\"template\":0,\"boundaries\":[0],\"transformationMatrix\":[1,0,0,0,0,1,0,0,0,0,1,0,0,0,0,1]}]}},\"vertices\":[[0,0,0]]}";
 
@@ -362,7 +362,7 @@ fn by_the_lod_of_a_template(rt: HostRuntime) -> Result<(), Fail> {
     check_refused(&rt, rt.alloc(), lost, &by_lods(&["1"]), end)
 }
 
-/// A building with a geometry of LoD 3, and a tree that is an instance of the first template.
+/// A building with a geometry of LoD 3, and a plant that is an instance of the first template.
 const SECOND_OBJECT: &[u8] =
     b"{\"type\":\"CityJSONFeature\",\"id\":\"b\",\"CityObjects\":{\"b\":{\"type\":\"Building\",\"geometry\":[{\"type\":\"MultiPoint\",\"lod\":\"3\",\"boundaries\":[0]}]},\"t\":{\"type\":\"SolitaryVegetationObject\",\"geometry\":[{\"type\":\"GeometryInstance\",\"template\":0,\"boundaries\":[0],\"transformationMatrix\":[1,0,0,0,0,1,0,0,0,0,1,0,0,0,0,1]}]}},\"vertices\":[[0,0,0]]}";
 
@@ -387,7 +387,8 @@ fn by_the_lod_of_a_template_among_several(rt: HostRuntime) -> Result<(), Fail> {
     Ok(())
 }
 
-/// What a part may be: not set, empty, one that the usual feature has, or one that it has not.
+/// Returns a state of a part: not set, empty, a text that the usual feature has, or one that it
+/// lacks.
 fn texts<'a>(state: u32, has: &'a [&'a str], lacks: &'a [&'a str]) -> Option<&'a [&'a str]> {
     match state {
         0 => None,
@@ -406,12 +407,12 @@ fn bounds(state: u32) -> Option<&'static str> {
     }
 }
 
-/// The feature satisfies each part, or the part is not set.
+/// Returns whether the feature satisfies the part, or the part is not set.
 fn is_kept(state: u32) -> bool {
     state == 0 || state == 2
 }
 
-/// Each part in each state, beside each state of each other part.
+/// Checks each part in each state, with each state of each other part.
 fn check_each_part<'a>(
     rt: &impl Abort,
     alloc: Global,
@@ -439,7 +440,7 @@ fn each_part_has_to_hold(rt: HostRuntime) -> Result<(), Fail> {
     check_each_part(&rt, rt.alloc(), MIXED, &["Bridge", "WaterBody"])
 }
 
-/// Compares what a setter answered.
+/// Compares what a setter returned.
 fn check_fault(
     rt: &impl Abort,
     got: Result<(), QueryFault>,
@@ -449,13 +450,13 @@ fn check_fault(
     assert_eq!(rt; got, wanted, "{row}");
 }
 
-/// Runs over the usual header and feature, which has to be kept or not.
+/// Runs over the usual header and feature, and checks whether the feature is kept.
 fn check_query(rt: &impl Abort, alloc: Global, query: &Query, keeps: bool, row: &str) {
     let (outcome, _) = kept_of(alloc, STREAM, Limits::usual(), query);
     check_number(rt, outcome.kept, keeps.into(), row, 0);
 }
 
-/// A type that is not known is refused, and changes nothing.
+/// An unknown type is an error, and changes nothing.
 #[test]
 fn an_unknown_type(rt: HostRuntime) {
     let mut query = Query::all(rt.alloc());
@@ -468,7 +469,7 @@ fn an_unknown_type(rt: HostRuntime) {
     check_query(&rt, rt.alloc(), &query, false, "no type");
 }
 
-/// A box that is refused leaves the one before it.
+/// Checks that an invalid box leaves the one before it.
 fn check_box(rt: &impl Abort, alloc: Global, query: &mut Query, text: &str, fault: QueryFault) {
     check_fault(rt, query.bbox(text), Err(fault), text);
     assert!(rt; query.wants_box());
@@ -496,7 +497,8 @@ fn boxes_that_are_refused(rt: HostRuntime) {
     }
 }
 
-/// A part that is set anew begins empty; a text that is added to a part that is not set is its first.
+/// A part that is started again begins empty. A text that is added to a part that is not set is its
+/// first.
 #[test]
 fn parts_are_set_anew(rt: HostRuntime) {
     let mut query = Query::all(rt.alloc());

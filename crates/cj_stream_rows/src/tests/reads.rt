@@ -1,4 +1,5 @@
-//! Runs within a number of reads: how often the reader is read, what is written, and how they end.
+//! Runs with a limit on the number of reads: how often the reader is read, what is written, and how
+//! they end.
 use super::calls::{Reading, check_bytes, check_ended, check_number, ran, refused};
 use super::devices::{EndlessReader, SlowReader, SlowWriter};
 use super::rows::{FIRST, HEADER, STREAM, THIRD_REFUSED};
@@ -10,7 +11,7 @@ use std::io::Read;
 use std::process::Abort;
 use std::test::Fail;
 
-/// Runs within so many reads: the outcome, and what was written.
+/// Runs within this number of reads. Returns the outcome, and what was written.
 fn run_by<R: Read>(
     rt: &impl Abort,
     alloc: Global,
@@ -33,7 +34,7 @@ fn run_by<R: Read>(
     (outcome, sink.into_inner())
 }
 
-/// How a run within a number of reads has to go.
+/// How a run within a number of reads is expected to go.
 #[derive(Clone, Copy)]
 struct Wanted {
     ended: End,
@@ -42,7 +43,8 @@ struct Wanted {
     reads: u64,
 }
 
-/// Compares a run by so many reads: its end, its counts, what was written, and how often its reader was read.
+/// Compares a run with a number of reads: its end, its counts, what was written, and how often its
+/// reader was read.
 fn check_went(
     rt: &impl Abort,
     went: &(Outcome, Vec<u8>),
@@ -59,7 +61,7 @@ fn check_went(
     check_bytes(rt, bytes, written, "bytes", reads);
 }
 
-/// Runs by so many reads over a reader that gives a byte a read.
+/// Runs with this number of reads over a reader that gives one byte per read.
 fn check_reads(
     rt: &impl Abort,
     alloc: Global,
@@ -73,7 +75,7 @@ fn check_reads(
     check_went(rt, &went, reader.reads, wanted, written, reads);
 }
 
-/// Does the same with this line limit, and a stream of which nothing is written.
+/// Does the same with this line limit, and a stream without output.
 fn check_reads_under(
     rt: &impl Abort,
     alloc: Global,
@@ -89,7 +91,7 @@ fn check_reads_under(
     Ok(())
 }
 
-/// Too few reads for the stream of 352 bytes: what is written are its whole lines.
+/// Checks too few reads for the stream of 352 bytes: its whole lines are written.
 fn check_too_few(rt: &impl Abort, alloc: Global, text: &[u8], reads: u64) {
     let (lines, kept, front) = match reads {
         0..=140 => (0, 0, 0),
@@ -106,7 +108,7 @@ fn check_too_few(rt: &impl Abort, alloc: Global, text: &[u8], reads: u64) {
     check_reads(rt, alloc, text, reads, &wanted, &text[..front]);
 }
 
-/// A read for each byte is too few, as none is left to find the end.
+/// One read for each byte is too few, as none remains to find the end.
 #[test]
 fn each_number_of_reads_that_is_too_few(rt: HostRuntime) {
     for reads in 0..=352u64 {
@@ -127,7 +129,7 @@ fn one_read_more_than_there_are_bytes(rt: HostRuntime) {
     check_reads(&rt, rt.alloc(), STREAM, 1_000, &wanted, STREAM);
 }
 
-/// The end that the last read gives is told, and not that it was the last one.
+/// An end that the last read gives is reported, and not that it was the last read.
 #[test]
 fn a_line_that_the_last_read_refuses(rt: HostRuntime) {
     let wanted = Wanted {
@@ -145,8 +147,8 @@ fn a_line_that_the_last_read_refuses(rt: HostRuntime) {
     check_reads(&rt, rt.alloc(), b"{x\n", 2, &wanted, b"");
 }
 
-/// The byte past the line limit makes a line too long. Where the last read gives it, that is the end, and where a read
-/// more fails or none is left, too.
+/// The byte past the line limit makes a line too long. If the last read gives it, that is the end.
+/// The same is true if one more read fails, or none remains.
 #[test]
 fn a_line_that_the_last_read_makes_too_long(rt: HostRuntime) -> Result<(), Fail> {
     let wanted = Wanted {
@@ -165,7 +167,7 @@ fn a_line_that_the_last_read_makes_too_long(rt: HostRuntime) -> Result<(), Fail>
     check_reads_under(&rt, rt.alloc(), 2, b"xxx", 2, &wanted)
 }
 
-/// After a line that is the end the reader is not read again, though it has more.
+/// After a line that is the end, the reader is not read again, though it has more.
 #[test]
 fn no_read_after_a_refused_line(rt: HostRuntime) -> Result<(), Fail> {
     let wanted = Wanted {
@@ -182,7 +184,8 @@ fn no_read_after_a_refused_line(rt: HostRuntime) -> Result<(), Fail> {
     check_reads_under(&rt, rt.alloc(), 2, b"xxxx\nmore of it\n", 1_000, &wanted)
 }
 
-/// Runs over four lines, by single bytes, to a writer that fails at this write: how often the reader was read.
+/// Runs over four lines, by single bytes, to a writer that fails at this write. Compares how often
+/// the reader was read.
 fn check_reads_to(rt: &impl Abort, alloc: Global, fails_at: u64, reads: u64) {
     let mut reader = SlowReader::new(THIRD_REFUSED, 1);
     let mut writer = SlowWriter::new(Vec::new(alloc), 1_000);
@@ -195,7 +198,8 @@ fn check_reads_to(rt: &impl Abort, alloc: Global, fails_at: u64, reads: u64) {
     check_number(rt, reader.reads, reads, "reads", fails_at);
 }
 
-/// Nor is it after a write that failed: of the header, whose LF is byte 141, and of the feature, whose LF is byte 352.
+/// The reader is not read after a failed write. The LF of the header is byte 141, and that of the
+/// feature is byte 352.
 #[test]
 fn no_read_after_a_write_fault(rt: HostRuntime) {
     check_reads_to(&rt, rt.alloc(), 1, 141);
@@ -222,7 +226,7 @@ fn an_empty_input_by_no_read_and_by_one(rt: HostRuntime) {
     check_reads(&rt, rt.alloc(), b"", 1, &wanted, b"");
 }
 
-/// Runs by so many reads over a reader whose third read fails.
+/// Runs with this number of reads over a reader whose third read fails.
 fn check_failing_read(rt: &impl Abort, alloc: Global, reads: u64, wanted: &Wanted) {
     let mut reader = SlowReader::new(HEADER, 1);
     reader.fails_at = 3;
@@ -230,7 +234,7 @@ fn check_failing_read(rt: &impl Abort, alloc: Global, reads: u64, wanted: &Wante
     check_went(rt, &went, reader.reads, wanted, b"", reads);
 }
 
-/// The failure that the last read gives is told, and not that it was the last one.
+/// A failure that the last read gives is reported, and not that it was the last read.
 #[test]
 fn a_last_read_that_fails(rt: HostRuntime) {
     let wanted = Wanted {

@@ -1,5 +1,5 @@
-//! What is reported of refused lines, where reading goes on after them: a sink of the tests that notes each report, the sink that
-//! counts, and when nothing is reported.
+//! What is reported of invalid lines if reading goes on after them. It has a sink that notes each
+//! report, the sink that counts, and cases without any report.
 use super::calls::{
     Reading, check_bytes, check_ended, check_number, joined, ran, refused, written_by,
 };
@@ -15,8 +15,8 @@ use std::alloc::{AllocError, Global};
 use std::process::Abort;
 use std::test::Fail;
 
-/// Notes each report on a line: the line's number, the byte, and the code of the reason. Where memory is refused, it notes that
-/// it has lost something.
+/// Notes each report on a line: the line's number, the byte, and the code of the reason. If memory
+/// is refused, it notes that it has lost something.
 #[derive(Drop)]
 pub struct NoteReports {
     alloc: Global,
@@ -25,7 +25,7 @@ pub struct NoteReports {
 }
 
 impl NoteReports {
-    /// A sink that has taken nothing.
+    /// Returns a sink that has taken nothing.
     pub fn new(alloc: Global) -> NoteReports {
         NoteReports {
             alloc,
@@ -35,7 +35,7 @@ impl NoteReports {
     }
 }
 
-/// A report, as it is noted.
+/// Returns a report as it is noted.
 pub fn note(alloc: Global, report: Report) -> Result<String, AllocError> {
     let code = report.reason.code();
     format!(in alloc; "{} {} {code}\n", report.line, report.place)
@@ -61,14 +61,14 @@ pub fn check_notes(rt: &impl Abort, reports: &NoteReports, wanted: &str, row: &s
     check_bytes(rt, reports.notes.as_bytes(), wanted.as_bytes(), row, at);
 }
 
-/// How reading goes on after a refused line.
+/// Returns the options to go on after an invalid line.
 pub fn going() -> Options {
     Options::new().keep_going(true)
 }
 
 // ---- counts
 
-/// Runs over a text, going on: how many reports were counted, from this number on.
+/// Runs over a text, going on. Returns how many reports were counted, from this number on.
 fn counted(alloc: Global, text: &[u8], from: u64) -> Result<(Outcome, u64), Fail> {
     let mut reports = CountReports { reports: from };
     let mut sink = WriteSink::new(Vec::new(alloc));
@@ -82,7 +82,7 @@ fn counted(alloc: Global, text: &[u8], from: u64) -> Result<(Outcome, u64), Fail
     Ok((outcome, reports.reports))
 }
 
-/// Counts the reports of a stream with two refused lines.
+/// Counts the reports of a stream with two invalid lines.
 fn check_counted(rt: &impl Abort, alloc: Global, from: u64, wanted: u64) -> Result<(), Fail> {
     let text = joined(alloc, &[FIRST, b"{}\n", FEATURE, b"\n3"])?;
     let (outcome, reports) = counted(alloc, &text, from)?;
@@ -92,7 +92,7 @@ fn check_counted(rt: &impl Abort, alloc: Global, from: u64, wanted: u64) -> Resu
     Ok(())
 }
 
-/// At the greatest number the count stays.
+/// The count stops at the greatest number.
 #[test]
 fn a_sink_counts_reports(rt: HostRuntime) -> Result<(), Fail> {
     check_counted(&rt, rt.alloc(), 0, 2)?;
@@ -110,7 +110,8 @@ fn options_are_set_by_name(rt: HostRuntime) {
 
 // ---- a read fails, or there are no reads left
 
-/// A stream whose third line has begun, and is refused already for its length or would be for what it says.
+/// Returns a stream whose third line has begun. It is too long already, or would be invalid at its
+/// end.
 fn begun(alloc: Global, line: &[u8]) -> Result<Vec<u8>, Fail> {
     joined(alloc, &[FIRST, b"{}\n", line])
 }
@@ -129,7 +130,7 @@ fn check_unreported(
     check_notes(rt, reports, "2 0 10\n", row, 3);
 }
 
-/// Runs over a text, all of which one read gives, and the read after it fails.
+/// Runs over a text that one read gives whole. The read after it fails.
 fn check_read_fault(rt: &impl Abort, alloc: Global, line: &[u8]) -> Result<(), Fail> {
     let text = begun(alloc, line)?;
     let mut reader = SlowReader::new(&text, 1_000);
@@ -146,7 +147,7 @@ fn check_read_fault(rt: &impl Abort, alloc: Global, line: &[u8]) -> Result<(), F
     Ok(())
 }
 
-/// Runs over a text by one read, which is all that there is.
+/// Runs over a text with one read, which is the last.
 fn check_read_limit(rt: &impl Abort, alloc: Global, line: &[u8]) -> Result<(), Fail> {
     let text = begun(alloc, line)?;
     let mut reader = SlowReader::new(&text, 1_000);
@@ -180,7 +181,7 @@ fn a_begun_line_is_not_reported(rt: HostRuntime) -> Result<(), Fail> {
 
 // ---- after an end
 
-/// Going on, within a line limit of 1,000.
+/// Returns an opening that goes on, within a line limit of 1,000.
 fn opening() -> Opening {
     Opening {
         line: 1_000,
@@ -189,7 +190,7 @@ fn opening() -> Opening {
     }
 }
 
-/// Gives a text whose second line is refused, and its third at the end.
+/// Gives a text whose second line is invalid, and its third at the end.
 #[test]
 fn nothing_is_reported_after_a_complete_stream(rt: HostRuntime) -> Result<(), Fail> {
     let text = joined(rt.alloc(), &[FIRST, b"{}\n3"])?;
@@ -207,7 +208,8 @@ fn nothing_is_reported_after_a_complete_stream(rt: HostRuntime) -> Result<(), Fa
     Ok(())
 }
 
-/// Gives a text whose second line is refused, and whose third cannot be written, to an engine that goes on.
+/// Gives a text to an engine that goes on. Its second line is invalid, and its third cannot be
+/// written.
 fn check_write_fault(
     rt: &impl Abort,
     alloc: Global,
@@ -225,7 +227,7 @@ fn check_write_fault(
     check_steps(rt, alloc, &opening(), &steps, &mut Output::new(writer))
 }
 
-/// What was reported before a write fails stays, and nothing is reported after it.
+/// What was reported before a failed write stays, and nothing is reported after it.
 #[test]
 fn a_write_fault_after_reports(rt: HostRuntime) -> Result<(), Fail> {
     let text = joined(rt.alloc(), &[FIRST, BEYOND, b"\n\n", FEATURE, b"\n{}\n"])?;
@@ -238,7 +240,7 @@ fn a_write_fault_after_reports(rt: HostRuntime) -> Result<(), Fail> {
 
 // ---- the first line
 
-/// Gives a text whose first line is refused to an engine that goes on.
+/// Gives a text with an invalid first line to an engine that goes on.
 fn check_first(
     rt: &impl Abort,
     alloc: Global,
@@ -287,7 +289,7 @@ fn a_stream_without_a_line_is_not_reported(rt: HostRuntime) -> Result<(), Fail> 
     Ok(())
 }
 
-/// Told nothing, the engine ends at the first refused line, and reports nothing.
+/// Without options, the engine ends at the first invalid line, and reports nothing.
 #[test]
 fn the_first_refused_line_is_the_usual_end(rt: HostRuntime) -> Result<(), Fail> {
     let text = joined(rt.alloc(), &[FIRST, b"{}\n3\n"])?;
@@ -304,7 +306,7 @@ fn the_first_refused_line_is_the_usual_end(rt: HostRuntime) -> Result<(), Fail> 
     Ok(())
 }
 
-/// Runs over a text with two refused lines, and takes no notice of reports: what is written.
+/// Runs over a text with two invalid lines, and ignores reports. Returns what is written.
 fn written_unread(rt: &impl Abort, alloc: Global, text: &[u8]) -> Result<Vec<u8>, Fail> {
     let reading = Reading {
         limits: Limits::new(1_000, 64)?,
@@ -317,7 +319,7 @@ fn written_unread(rt: &impl Abort, alloc: Global, text: &[u8]) -> Result<Vec<u8>
     Ok(written)
 }
 
-/// A sink that takes no notice of reports changes nothing else.
+/// A sink that ignores reports changes nothing else.
 #[test]
 fn reports_that_no_one_reads(rt: HostRuntime) -> Result<(), Fail> {
     let text = joined(rt.alloc(), &[FIRST, b"{}\n3\n"])?;

@@ -1,4 +1,4 @@
-//! Worked rows: inputs, what is written of them, and how they end.
+//! Worked examples: inputs, what is written of them, and how they end.
 use super::calls::{
     Reading, check_bytes, check_ended, check_number, check_outcome, copied, given, held, joined,
     outcome, refused,
@@ -11,11 +11,11 @@ use std::alloc::Global;
 use std::process::Abort;
 use std::test::Fail;
 
-/// A header of 140 bytes, with 21 values and names, nested 3 deep.
+/// A header of 140 bytes, with 21 values and names, and depth 3.
 pub const HEADER: &[u8] =
     b"{\"type\":\"CityJSON\",\"version\":\"2.0\",\"transform\":{\"scale\":[0.001,0.001,0.001],\"translate\":[1000.0,2000.0,0.0]},\"CityObjects\":{},\"vertices\":[]}";
 
-/// A feature of 210 bytes, with 44 values and names, nested 8 deep.
+/// A feature of 210 bytes, with 44 values and names, and depth 8.
 pub const FEATURE: &[u8] =
     b"{\"type\":\"CityJSONFeature\",\"id\":\"b1\",\"CityObjects\":{\"b1\":{\"type\":\"Building\",\"geometry\":[{\"type\":\"MultiSurface\",\"lod\":\"2.2\",\"boundaries\":[[[0,1,2,3]]]}]}},\"vertices\":[[0,0,0],[1000,0,0],[1000,1000,0],[0,1000,0]]}";
 
@@ -23,11 +23,11 @@ pub const FEATURE: &[u8] =
 const SPACED: &[u8] =
     b"{ \"type\":\"CityJSONFeature\",\"id\":\"b1\",\"CityObjects\":{\"b1\":{\"type\":\"Building\",\"geometry\":[{\"type\":\"MultiSurface\",\"lod\":\"2.2\",\"boundaries\":[[[0,1,2,3]]]}]}},\"vertices\":[[0,0,0],[1000,0,0],[1000,1000,0],[0,1000,0]]}";
 
-/// A feature of 89 bytes, with 13 values and names, nested 3 deep.
+/// A feature of 89 bytes, with 13 values and names, and depth 3.
 pub const SMALL: &[u8] =
     b"{\"type\":\"CityJSONFeature\",\"id\":\"b\",\"CityObjects\":{\"b\":{\"type\":\"Building\"}},\"vertices\":[]}";
 
-/// The same feature, with its last index, which stands at byte 144, past its four vertices.
+/// The same feature, with its last index, at byte 144, past its four vertices.
 pub const BEYOND: &[u8] =
     b"{\"type\":\"CityJSONFeature\",\"id\":\"b1\",\"CityObjects\":{\"b1\":{\"type\":\"Building\",\"geometry\":[{\"type\":\"MultiSurface\",\"lod\":\"2.2\",\"boundaries\":[[[0,1,2,4]]]}]}},\"vertices\":[[0,0,0],[1000,0,0],[1000,1000,0],[0,1000,0]]}";
 
@@ -39,11 +39,12 @@ pub const FIRST: &[u8] =
 pub const STREAM: &[u8] =
     b"{\"type\":\"CityJSON\",\"version\":\"2.0\",\"transform\":{\"scale\":[0.001,0.001,0.001],\"translate\":[1000.0,2000.0,0.0]},\"CityObjects\":{},\"vertices\":[]}\n{\"type\":\"CityJSONFeature\",\"id\":\"b1\",\"CityObjects\":{\"b1\":{\"type\":\"Building\",\"geometry\":[{\"type\":\"MultiSurface\",\"lod\":\"2.2\",\"boundaries\":[[[0,1,2,3]]]}]}},\"vertices\":[[0,0,0],[1000,0,0],[1000,1000,0],[0,1000,0]]}\n";
 
-/// A header, a feature, one whose last index is past its vertices, and the feature again: what ends it is the LF at byte 562.
+/// A header, a feature, one with its last index past its vertices, and the feature again. The LF at
+/// byte 562 ends the run.
 pub const THIRD_REFUSED: &[u8] =
     b"{\"type\":\"CityJSON\",\"version\":\"2.0\",\"transform\":{\"scale\":[0.001,0.001,0.001],\"translate\":[1000.0,2000.0,0.0]},\"CityObjects\":{},\"vertices\":[]}\n{\"type\":\"CityJSONFeature\",\"id\":\"b1\",\"CityObjects\":{\"b1\":{\"type\":\"Building\",\"geometry\":[{\"type\":\"MultiSurface\",\"lod\":\"2.2\",\"boundaries\":[[[0,1,2,3]]]}]}},\"vertices\":[[0,0,0],[1000,0,0],[1000,1000,0],[0,1000,0]]}\n{\"type\":\"CityJSONFeature\",\"id\":\"b1\",\"CityObjects\":{\"b1\":{\"type\":\"Building\",\"geometry\":[{\"type\":\"MultiSurface\",\"lod\":\"2.2\",\"boundaries\":[[[0,1,2,4]]]}]}},\"vertices\":[[0,0,0],[1000,0,0],[1000,1000,0],[0,1000,0]]}\n{\"type\":\"CityJSONFeature\",\"id\":\"b1\",\"CityObjects\":{\"b1\":{\"type\":\"Building\",\"geometry\":[{\"type\":\"MultiSurface\",\"lod\":\"2.2\",\"boundaries\":[[[0,1,2,3]]]}]}},\"vertices\":[[0,0,0],[1000,0,0],[1000,1000,0],[0,1000,0]]}\n";
 
-/// What a run has to make of a stream.
+/// The expected result of a run over a stream.
 #[derive(Clone, Copy)]
 pub struct Wanted<'a> {
     pub name: &'a str,
@@ -51,7 +52,7 @@ pub struct Wanted<'a> {
     pub outcome: Outcome,
 }
 
-/// Runs over a reader that gives `step` bytes a read.
+/// Runs over a reader that gives `step` bytes per read.
 pub fn check_run(
     rt: &impl Abort,
     alloc: Global,
@@ -66,7 +67,7 @@ pub fn check_run(
     check_bytes(rt, &written, wanted.written, wanted.name, step as u64);
 }
 
-/// Copies the stream cut in two at this place.
+/// Copies the stream, cut in two at this place.
 fn check_cut(
     rt: &impl Abort,
     alloc: Global,
@@ -87,7 +88,7 @@ fn check_cut(
     Ok(())
 }
 
-/// Copies the stream cut in two at each place.
+/// Copies the stream, cut in two at each place.
 fn check_cuts(
     rt: &impl Abort,
     alloc: Global,
@@ -123,7 +124,7 @@ struct Row<'a> {
     outcome: Outcome,
 }
 
-/// A row in every way.
+/// Checks a row in every way.
 fn check_row(rt: &impl Abort, alloc: Global, row: &Row) -> Result<(), Fail> {
     let text = joined(alloc, row.text)?;
     let written = joined(alloc, row.written)?;
@@ -249,7 +250,7 @@ fn a_header_alone_without_lf(rt: HostRuntime) -> Result<(), Fail> {
     check_every_cut(&rt, rt.alloc(), HEADER, Limits::usual(), &wanted)
 }
 
-/// How a line after the header is refused, and what was held at most of both.
+/// Where and why a line after the header is invalid, and the peaks of both lines.
 #[derive(Clone, Copy)]
 struct Refusal {
     place: u64,
@@ -257,7 +258,7 @@ struct Refusal {
     peaks: Peaks,
 }
 
-/// Runs over a header and a line that is refused.
+/// Runs over a header and an invalid line.
 fn check_refused(
     rt: &impl Abort,
     alloc: Global,
@@ -292,7 +293,7 @@ fn a_comma_before_a_brace(rt: HostRuntime) -> Result<(), Fail> {
     check_refused(&rt, rt.alloc(), line, Limits::usual(), refusal)
 }
 
-/// Cut within the value of the geometry's type: 15 values and names stand before it.
+/// The line is cut within the value of the geometry's type. 15 values and names come before it.
 #[test]
 fn a_feature_cut_short(rt: HostRuntime) -> Result<(), Fail> {
     let refusal = Refusal {
@@ -314,7 +315,7 @@ fn bytes_before_syntax(rt: HostRuntime) -> Result<(), Fail> {
     check_refused(&rt, rt.alloc(), b"}\xff", Limits::usual(), refusal)
 }
 
-/// Runs over a header and a line that is no JSON text from a place on, by single bytes.
+/// Runs by single bytes over a header and a line that is no JSON text from a place on.
 pub fn check_place(rt: &impl Abort, alloc: Global, line: &[u8], place: u64) -> Result<(), Fail> {
     let text = joined(alloc, &[FIRST, line])?;
     let mut reader = SlowReader::new(&text, 1);
@@ -393,7 +394,8 @@ fn brackets_past_the_usual_depth_limit(rt: HostRuntime) -> Result<(), Fail> {
     check_refused(&rt, rt.alloc(), &BRACKETS, Limits::usual(), refusal)
 }
 
-/// The feature with an attribute of this text, which begins at byte 170: 22 bytes more and the text, in parts.
+/// Returns the feature with an attribute of this text, in parts. The text begins at byte 170, and
+/// there are 22 further bytes.
 pub fn attributed(text: &[u8]) -> [&[u8]; 5] {
     let (front, back) = (&FEATURE[..150], &FEATURE[150..]);
     [front, b",\"attributes\":{\"a\":\"", text, b"\"}", back]
@@ -449,7 +451,7 @@ fn nothing_is_judged_after_a_refused_line(rt: HostRuntime) -> Result<(), Fail> {
     check_every_cut(&rt, rt.alloc(), THIRD_REFUSED, Limits::usual(), &wanted)
 }
 
-/// A line that is refused for what it says is none of the output, also where it has no LF.
+/// Checks that an invalid first line is not in the output, also without its LF.
 fn check_refused_first(
     rt: &impl Abort,
     alloc: Global,

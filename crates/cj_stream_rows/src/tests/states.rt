@@ -1,4 +1,4 @@
-//! Rows through the two states, by every cut, and what both tell where one turns into the other.
+//! Rows through the two states, with every cut, and what both return where one becomes the other.
 use super::calls::{
     Reading, check_bytes, check_ended, check_number, check_outcome, held, joined, outcome, refused,
 };
@@ -14,13 +14,14 @@ use std::alloc::Global;
 use std::process::Abort;
 use std::test::Fail;
 
-/// The reader of a header. A test that opens one itself has all that its contract says to carry.
+/// Returns the reader of a header. The proof of a test that opens one itself would get all that the
+/// contract says.
 pub fn header_opened<'q>(alloc: Global, reading: &Reading<'q>) -> Result<HeaderReader<'q>, Fail> {
     let (limits, query, options) = (reading.limits, reading.query, reading.options);
     Ok(HeaderReader::open(alloc, limits, query, options)?)
 }
 
-/// One within the usual limits, without options.
+/// Returns one within the default limits, without options.
 pub fn usual_header(alloc: Global, query: &Query) -> Result<HeaderReader<'_>, Fail> {
     header_opened(alloc, &Reading::usual(Limits::usual(), query))
 }
@@ -58,13 +59,14 @@ pub fn finish_header<S: LineSink>(
     header.finish(sink)
 }
 
-/// The reader of the lines behind an accepted header, which tells what that told.
+/// Returns the reader of the lines after an accepted header. It reports what that reader did.
 pub fn turned<'q>(rt: &impl Abort, header: HeaderReader<'q>) -> LineReader<'q> {
     assert!(rt; header.accepted());
     header.into_lines()
 }
 
-/// Gives pieces to the reader of a header until it accepts: how many it has used before, and the bytes used of the next.
+/// Gives pieces to the reader of a header until it accepts. Returns how many it has used before,
+/// and the bytes used of the next.
 pub fn until_accepted<S: LineSink>(
     rt: &impl Abort,
     header: &mut HeaderReader,
@@ -95,7 +97,7 @@ fn to_the_end<S: LineSink>(
     lines.finish(sink, &mut NoReports)
 }
 
-/// Gives what is left of the pieces behind a header to the reader of lines, and the end.
+/// Gives the rest of the pieces after a header to the reader of lines, and the end.
 pub fn behind_header<S: LineSink>(
     rt: &impl Abort,
     lines: &mut LineReader,
@@ -246,7 +248,7 @@ fn a_line_too_long_by_states(rt: HostRuntime) -> Result<(), Fail> {
     Ok(())
 }
 
-/// Compares what a piece has come to.
+/// Compares the progress with a piece.
 pub fn check_progress(
     rt: &impl Abort,
     got: Result<Progress, HeaderEnd>,
@@ -280,7 +282,8 @@ fn a_piece_that_begins_with_lf(rt: HostRuntime) -> Result<(), Fail> {
     Ok(())
 }
 
-/// Gives a header with a line that is refused to the reader of a header, which uses 141 bytes, and to that of lines what is left.
+/// Gives a header and an invalid line to the reader of a header, which uses 141 bytes. The rest
+/// goes to the reader of lines.
 fn check_rest_by_states(
     rt: &impl Abort,
     alloc: Global,

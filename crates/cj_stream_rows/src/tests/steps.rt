@@ -1,5 +1,6 @@
-//! Engines that are called step by step: a row is a list of calls, each with what it has to answer, and of what the engine has to
-//! tell between them. One function opens all of these engines, since to have one is what makes the proof of a function dear.
+//! Engines that are called step by step. A row is a list of calls, each with its expected result
+//! and the engine's expected counts. One function opens all of these engines, since the proof of a
+//! function that owns one is slow.
 use super::calls::{check_counts, check_feed, check_finish, check_held, check_number, opened};
 use super::reports::{NoteReports, check_notes};
 use cj_budget::Peaks;
@@ -8,14 +9,15 @@ use std::alloc::Global;
 use std::process::Abort;
 use std::test::Fail;
 
-/// A call of an engine, or what it has to tell before the next one.
+/// A call of an engine, or what it is expected to report before the next call.
 #[derive(Clone, Copy)]
 pub enum Step<'a> {
-    /// A piece is given, which has to be answered so.
+    /// A piece is given, with this result.
     Feed(&'a [u8], Result<(), End>),
-    /// The stream ends, which has to be answered so.
+    /// The stream ends, with this result.
     Finish(End),
-    /// After an end: a piece is given, and the stream ends again. Both have to be answered by that end, and what is held stays.
+    /// After an end, a piece is given, and the stream ends again. Both return that end, and what is
+    /// held stays.
     Again(&'a [u8], End),
     /// What is held, and what was held at most.
     Held(Peaks, Peaks),
@@ -23,7 +25,7 @@ pub enum Step<'a> {
     PeakOfBytes(u64),
     /// The bytes that were taken, the lines that were dealt with, and the features that were kept.
     Counts(u64, u64, u64),
-    /// The lines that were refused, and all that was reported.
+    /// The number of invalid lines, and all that was reported.
     Reported(u64, &'a str),
 }
 
@@ -43,7 +45,7 @@ fn check_again<S: LineSink>(
     check_held(rt, engine, held, peaks);
 }
 
-/// Compares what was refused and reported.
+/// Compares the number of invalid lines and the reports.
 fn check_reported(
     rt: &impl Abort,
     engine: &Engine,
@@ -87,7 +89,7 @@ fn check_each<S: LineSink>(
     }
 }
 
-/// What an engine is opened for, beside a query that asks for nothing.
+/// How an engine is opened, with a query that selects every feature.
 #[derive(Clone, Copy)]
 pub struct Opening {
     pub line: u64,
@@ -96,7 +98,7 @@ pub struct Opening {
 }
 
 impl Opening {
-    /// Within the usual limits, without options.
+    /// Returns the default limits, without options.
     pub fn usual() -> Opening {
         Opening {
             line: 8_388_608,
@@ -121,7 +123,7 @@ pub fn check_steps<S: LineSink>(
     Ok(())
 }
 
-/// The same with a sink that writes: what is written.
+/// Does the same with a sink that writes. Returns what is written.
 pub fn written_by_steps(
     rt: &impl Abort,
     alloc: Global,

@@ -1,5 +1,6 @@
-//! Streams of many lines that look random, each beside the plain program: with and without going on after refused lines, by single
-//! bytes, by reads of lengths that look random, and cut in two.
+//! Streams of many lines that look random, each compared with the plain program. They run with and
+//! without going on after invalid lines. They are cut into single bytes, into reads of varying
+//! lengths, and in two.
 use super::calls::{Reading, check_bound, check_bytes, check_outcome, ran};
 use super::devices::{CutReader, SlowReader};
 use super::plain::{Known, Plain, Verdict, Way, plainly};
@@ -15,7 +16,7 @@ use std::test::Fail;
 
 // ---- the lines
 
-/// A line that is refused at its start, whatever its number.
+/// Returns a line that is invalid at its start, with any number.
 const fn refused_at_first(content: &[u8], reason: Reason, tokens: u64, depth: u64) -> Known<'_> {
     Known {
         content,
@@ -26,7 +27,7 @@ const fn refused_at_first(content: &[u8], reason: Reason, tokens: u64, depth: u6
     }
 }
 
-/// A line that is no JSON text, whatever its number.
+/// Returns a line that is no JSON text, with any number.
 const fn illegible(content: &[u8], place: u64, reason: Reason) -> Known<'_> {
     Known {
         content,
@@ -37,7 +38,7 @@ const fn illegible(content: &[u8], place: u64, reason: Reason) -> Known<'_> {
     }
 }
 
-/// A line that is blank, if it is not the first.
+/// Returns a line that is blank if it is not the first.
 const fn blank(content: &[u8]) -> Known<'_> {
     Known {
         content,
@@ -48,7 +49,7 @@ const fn blank(content: &[u8]) -> Known<'_> {
     }
 }
 
-/// A line that is no header, since it has no version.
+/// Returns a line that is no header, since it has no version.
 const fn no_header<'a>(
     content: &'a [u8],
     later: Verdict<'a>,
@@ -68,18 +69,19 @@ const fn no_header<'a>(
 const TRAILED: &[u8] =
     b"{\"type\":\"CityJSONFeature\",\"id\":\"b1\",\"CityObjects\":{\"b1\":{\"type\":\"Building\",\"geometry\":[{\"type\":\"MultiSurface\",\"lod\":\"2.2\",\"boundaries\":[[[0,1,2,3]]]}]}},\"vertices\":[[0,0,0],[1000,0,0],[1000,1000,0],[0,1000,0]]}  ";
 
-/// The small feature, whose id is that of none of its city objects.
+/// The small feature with an id of none of its city objects.
 const STRANGE: &[u8] =
     b"{\"type\":\"CityJSONFeature\",\"id\":\"b\",\"CityObjects\":{\"c\":{\"type\":\"Building\"}},\"vertices\":[]}";
 
-/// The small feature with an attribute that is no UTF-8, at byte 92.
+/// The small feature with an attribute that is not UTF-8, at byte 92.
 const NO_TEXT: &[u8] =
     b"{\"type\":\"CityJSONFeature\",\"id\":\"b\",\"CityObjects\":{\"b\":{\"type\":\"Building\",\"attributes\":{\"a\":\"\xff\"}}},\"vertices\":[]}";
 
 /// More spaces than the feature has bytes.
 const SPACES: [u8; 215] = [b' '; 215];
 
-/// The line with this number of the table. The first is the header, and behind the last there are features alone.
+/// Returns the line with this number in the table. The first is the header, and after the last
+/// there are only features.
 fn line_at(number: u64) -> Known<'static> {
     match number {
         0 => no_second(HEADER),
@@ -105,7 +107,7 @@ fn line_at(number: u64) -> Known<'static> {
 /// How many lines the table has.
 const LINES: u64 = 17;
 
-/// The header, which as a later line has no `CityObjects` with the id of a feature.
+/// Returns the header. As a later line it has no `CityObjects` with the id of a feature.
 fn no_second(content: &'static [u8]) -> Known<'static> {
     Known {
         content,
@@ -126,14 +128,14 @@ fn table(alloc: Global) -> Result<Vec<Known<'static>>, Fail> {
 
 // ---- numbers that look random
 
-/// Numbers that look random, each made of the one before it.
+/// Numbers that look random, each made from the one before it.
 #[derive(Clone, Copy)]
 struct Numbers {
     state: u64,
 }
 
 impl Numbers {
-    /// The next one, below this.
+    /// Returns the next one, below this.
     fn next(&mut self, below: u64) -> u64 {
         let product = self.state.wrapping_mul(6_364_136_223_846_793_005);
         self.state = product.wrapping_add(1_442_695_040_888_963_407);
@@ -170,7 +172,7 @@ fn add_line(numbers: &mut Numbers, at: u64, text: &mut Vec<u8>) -> Result<(), Fa
     Ok(())
 }
 
-/// A text of up to so many lines. The last one's LF is left out of one text of three.
+/// Returns a text of up to this number of lines. One text in three lacks the last LF.
 fn text_of(alloc: Global, numbers: &mut Numbers, most: u64) -> Result<Vec<u8>, Fail> {
     let mut text = Vec::new(alloc);
     for at in 0..numbers.next(most.saturating_add(1)) {
@@ -182,7 +184,8 @@ fn text_of(alloc: Global, numbers: &mut Numbers, most: u64) -> Result<Vec<u8>, F
     Ok(text)
 }
 
-/// A line limit at one of the edges: under the header's length, at it, at the feature's and beside it, and above all.
+/// Returns a line limit at one of the edges. They are below the header's length and at it, at the
+/// feature's length and next to it, and above all.
 fn limit_of(numbers: &mut Numbers) -> usize {
     match numbers.next(12) {
         0 => 139,
@@ -196,7 +199,7 @@ fn limit_of(numbers: &mut Numbers) -> usize {
     }
 }
 
-/// A way to read that does not go on.
+/// Returns a way to read that does not go on.
 fn way_of(numbers: &mut Numbers) -> Way<'static> {
     Way {
         line_limit: limit_of(numbers),
@@ -209,9 +212,9 @@ fn way_of(numbers: &mut Numbers) -> Way<'static> {
     }
 }
 
-// ---- beside the plain program
+// ---- compared with the plain program
 
-/// A text, how it is read, and what has to come of it.
+/// A text, how it is read, and its expected result.
 #[derive(Clone, Copy)]
 struct Case<'a> {
     text: &'a [u8],
@@ -220,8 +223,9 @@ struct Case<'a> {
     stream: u64,
 }
 
-/// What has to be held at most, where so much is: exactly that of a complete stream; but a line that is no JSON text may have added
-/// tokens and open containers before that was seen. Of another stream this is not told.
+/// Returns the expected peaks. Those of a complete stream are exact. But a line that is no JSON
+/// text may have added tokens and open containers before that was seen. The peaks of another stream
+/// are not compared.
 fn peaks_of(plain: &Plain, got: Peaks) -> Peaks {
     let least = plain.outcome.peaks;
     match plain.outcome.ended {
@@ -243,7 +247,7 @@ fn query_of(alloc: Global, way: &Way) -> Result<Query, Fail> {
     Ok(query)
 }
 
-/// Runs over what a reader gives of a text.
+/// Runs over a text that a reader gives.
 fn check_read<R: Read>(
     rt: &impl Abort,
     alloc: Global,
@@ -266,7 +270,7 @@ fn check_read<R: Read>(
     Ok(())
 }
 
-/// Compares what came of a text with what has to.
+/// Compares the result of a text with the expected one.
 fn check_came(
     rt: &impl Abort,
     case: &Case,
@@ -315,7 +319,7 @@ fn check_cuts(rt: &impl Abort, alloc: Global, case: &Case) -> Result<(), Fail> {
     Ok(())
 }
 
-/// A text that is read in one way.
+/// Checks a text that is read in one way.
 fn check_way(
     rt: &impl Abort,
     alloc: Global,
@@ -337,7 +341,7 @@ fn check_way(
     check_reads(rt, alloc, &case)
 }
 
-/// A stream of up to so many lines, without going on and with it.
+/// Checks a stream of up to this number of lines, without going on and with it.
 fn check_stream(
     rt: &impl Abort,
     alloc: Global,

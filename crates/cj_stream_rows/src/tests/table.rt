@@ -1,10 +1,21 @@
-//! The vectors of the folder `vectors/`, by section, but for its two families. Written by vectors/make.py: change vectors/rows.py
-//! and run it again.
+//! The vectors of the folder `vectors/`, by section, without its two families. Written by
+//! vectors/make.py: change vectors/rows.py and run it again.
 //!
-//! A row has cells with bars between them: its name, the line limit, the depth limit, what is asked for, or `-`, the stream, and what is
-//! written of it, or `all`; and then what is told: the answer, how many lines come before the refused one, or all, how many
-//! features are written, and what is held at most of a complete stream, or `-`. In a stream `&H;` is the usual header, `&F;` the
-//! usual feature, `&lf;` an LF, and `&255;` the byte of this number.
+//! A row has cells with bars between them:
+//!
+//! - its name
+//! - the line limit
+//! - the depth limit
+//! - the query, or `-`
+//! - the stream
+//! - what is written of it, or `all`
+//! - the end
+//! - how many lines come before the invalid one, or all
+//! - how many features are written
+//! - the peaks of a complete stream, or `-`
+//!
+//! In a stream `&H;` is the usual header, `&F;` the usual feature, `&lf;` an LF, and `&255;` the
+//! byte with this number.
 use super::vectors::check_rows;
 use std::test::Fail;
 

@@ -16,7 +16,7 @@ const TEMPLATES: &str =
 const TREE: &str =
     r#"{"type":"CityJSONFeature","id":"t","CityObjects":{"t":{"type":"SolitaryVegetationObject","geometry":[{"type":"GeometryInstance","template":0,"boundaries":[0],"transformationMatrix":[1,0,0,0,0,1,0,0,0,0,1,0,0,0,0,1]},{"type":"MultiPoint","lod":"\u0034.2","boundaries":[0]},{"type":"MultiPoint","lod":"5","boundaries":[0]},{"type":"MultiPoint","lod":"","boundaries":[0]}]},"p":{"type":"BuildingPart","parents":["b"]},"b":{"type":"Building","children":["p"]}},"vertices":[[-1,2e1,3.0],[0,0,-7]]}"#;
 
-/// What is tallied of this header, the feature of the rows, and that one.
+/// The tally of this header, the feature of the rows, and that one.
 const TALLY: &str = "features 2
 lods 0 0 1 1 1 2
 -1 to 1000
@@ -30,13 +30,13 @@ lods 0 0 1 1 1 2
 0e0
 ";
 
-/// How many city objects there were of the type of each one, after its feature.
+/// After each feature, the counts so far of the types of its city objects.
 const TYPES: &str = " 1 1 1 2";
 
-/// What is tallied of nothing.
+/// The tally of nothing.
 const NOTHING: &str = "features 0\nlods 0 0 0 0 0 0\n";
 
-/// The counts by class, on a line.
+/// Adds the counts by class, on one line.
 fn add_lods(alloc: Global, tally: &TallySink, text: &mut String) -> Result<(), AllocError> {
     text.push_str("lods")?;
     for class in 0u8..6 {
@@ -46,7 +46,7 @@ fn add_lods(alloc: Global, tally: &TallySink, text: &mut String) -> Result<(), A
     text.push_str("\n")
 }
 
-/// The range of each axis that has one, on a line.
+/// Adds the range of each axis that has one, on one line.
 fn add_ranges(alloc: Global, tally: &TallySink, text: &mut String) -> Result<(), AllocError> {
     for axis in 0usize..3 {
         if let Some((least, greatest)) = tally.range(axis) {
@@ -57,7 +57,7 @@ fn add_ranges(alloc: Global, tally: &TallySink, text: &mut String) -> Result<(),
     Ok(())
 }
 
-/// The numbers of the transform, if there is one.
+/// Adds the numbers of the transform, if there is one.
 fn add_transform(alloc: Global, tally: &TallySink, text: &mut String) -> Result<(), AllocError> {
     if let Some(numbers) = tally.scale() {
         for number in numbers {
@@ -74,7 +74,7 @@ fn add_transform(alloc: Global, tally: &TallySink, text: &mut String) -> Result<
     Ok(())
 }
 
-/// A tally as a text.
+/// Returns a tally as a text.
 fn report(alloc: Global, tally: &TallySink) -> Result<String, AllocError> {
     let mut text = format!(in alloc; "features {}\n", tally.features())?;
     add_lods(alloc, tally, &mut text)?;
@@ -83,7 +83,7 @@ fn report(alloc: Global, tally: &TallySink) -> Result<String, AllocError> {
     Ok(text)
 }
 
-/// The header, the feature of the rows, and the one with an instance.
+/// Returns the header, the feature of the rows, and the one with an instance.
 fn sample(alloc: Global) -> Result<Vec<u8>, Fail> {
     joined(
         alloc,
@@ -98,8 +98,8 @@ fn sample(alloc: Global) -> Result<Vec<u8>, Fail> {
     )
 }
 
-/// Tallies, and notes after each feature how many city objects there are of the type of each of its own. It
-/// never fails: where memory is refused, it notes that it has lost something.
+/// Tallies, and notes after each feature the counts of the types of its city objects. It never
+/// fails: if memory is refused, it notes that it has lost something.
 #[derive(Drop)]
 struct TypesSink {
     alloc: Global,
@@ -141,7 +141,7 @@ impl LineSink for TypesSink {
     }
 }
 
-/// The tally of a stream cut in two at this place.
+/// Returns the tally of a stream cut in two at this place.
 fn tally_of_cut(rt: &impl Abort, alloc: Global, text: &[u8], at: usize) -> Result<TallySink, Fail> {
     assert!(rt; at <= text.len());
     assert!(rt; text.len() <= 10_000);
@@ -171,7 +171,7 @@ fn a_stream_is_tallied(rt: HostRuntime) -> Result<(), Fail> {
     Ok(())
 }
 
-/// The tally of the header of the sample and of one feature.
+/// Returns the tally of the header of the sample and of one feature.
 fn tally_of(alloc: Global, feature: &[u8]) -> Result<TallySink, Fail> {
     let text = joined(alloc, &[TEMPLATES.as_bytes(), b"\n", feature, b"\n"])?;
     let mut tally = TallySink::new();

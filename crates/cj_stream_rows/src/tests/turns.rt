@@ -1,4 +1,4 @@
-//! What both states tell, call by call: where one turns into the other, and behind an end.
+//! What both states return, call by call: where one becomes the other, and after an end.
 use super::calls::{check_bytes, check_number, held, joined};
 use super::rows::{FEATURE, FIRST, HEADER, STREAM, THIRD_REFUSED};
 use super::states::{
@@ -22,7 +22,7 @@ const THIRD: LineEnd = LineEnd::Refused {
     reason: Reason::VertexIndex,
 };
 
-/// Gives a piece to the reader of a header, which has to end, or to have ended, so.
+/// Gives a piece to the reader of a header, which ends with it or has ended, and compares the end.
 fn check_header_end<S: LineSink>(
     rt: &impl Abort,
     header: &mut HeaderReader,
@@ -33,7 +33,7 @@ fn check_header_end<S: LineSink>(
     assert_eq!(rt; feed_header(rt, header, piece, sink), Err(end));
 }
 
-/// Ends the stream of the reader of a header, which has to answer so.
+/// Ends the stream of the reader of a header, and compares the result.
 fn check_header_finish<S: LineSink>(
     rt: &impl Abort,
     header: &mut HeaderReader,
@@ -43,7 +43,7 @@ fn check_header_finish<S: LineSink>(
     assert_eq!(rt; finish_header(rt, header, sink), end);
 }
 
-/// Gives a piece to the reader of lines, which has to answer so.
+/// Gives a piece to the reader of lines, and compares the result.
 fn check_lines<S: LineSink>(
     rt: &impl Abort,
     lines: &mut LineReader,
@@ -54,7 +54,7 @@ fn check_lines<S: LineSink>(
     assert_eq!(rt; feed_lines(rt, lines, piece, sink), wanted);
 }
 
-/// Ends the stream of the reader of lines, which has to answer so.
+/// Ends the stream of the reader of lines, and compares the result.
 fn check_lines_finish<S: LineSink>(
     rt: &impl Abort,
     lines: &mut LineReader,
@@ -92,7 +92,7 @@ fn check_lines_held(rt: &impl Abort, lines: &LineReader, held: Peaks, peaks: Pea
     assert_eq!(rt; lines.peaks(), peaks);
 }
 
-/// Gives the header with its LF, which is accepted, between pieces of no bytes.
+/// Gives the header with its LF between empty pieces. The header is accepted.
 fn take_header<S: LineSink>(rt: &impl Abort, header: &mut HeaderReader, sink: &mut S) {
     check_progress(rt, feed_header(rt, header, b"", sink), 0, false);
     check_header_held(rt, header, held(0, 0, 0), held(0, 0, 0));
@@ -179,7 +179,7 @@ fn a_header_without_lf_stays_the_end(rt: HostRuntime) -> Result<(), Fail> {
     Ok(())
 }
 
-/// Takes a first line that is refused so, and then what comes after an end.
+/// Takes an invalid first line, and then what comes after an end.
 fn take_refused_first<S: LineSink>(
     rt: &impl Abort,
     header: &mut HeaderReader,
@@ -213,7 +213,7 @@ fn an_end_of_a_header_stays_the_end(rt: HostRuntime) -> Result<(), Fail> {
     Ok(())
 }
 
-/// Takes lines whose third is refused, and then what comes after an end.
+/// Takes lines whose third is invalid, and then what comes after an end.
 fn take_refused_third<S: LineSink>(
     rt: &impl Abort,
     lines: &mut LineReader,
@@ -247,7 +247,7 @@ fn an_end_of_lines_stays_the_end(rt: HostRuntime) -> Result<(), Fail> {
     Ok(())
 }
 
-/// Gives the header by single bytes, of which the LF alone has it accepted.
+/// Gives the header by single bytes. It is accepted only with the LF.
 fn take_header_by_bytes<S: LineSink>(rt: &impl Abort, header: &mut HeaderReader, sink: &mut S) {
     for byte in HEADER.chunks(1) {
         check_progress(rt, feed_header(rt, header, byte, sink), 1, false);
@@ -255,7 +255,7 @@ fn take_header_by_bytes<S: LineSink>(rt: &impl Abort, header: &mut HeaderReader,
     check_progress(rt, feed_header(rt, header, b"\n", sink), 1, true);
 }
 
-/// Gives lines by single bytes, of which the one at `last` brings the end, and each later one it again.
+/// Gives lines by single bytes. The byte at `last` is the end, and each later one returns it again.
 fn take_lines_by_bytes<S: LineSink>(
     rt: &impl Abort,
     lines: &mut LineReader,
@@ -286,7 +286,7 @@ fn an_end_of_lines_stays_by_single_bytes(rt: HostRuntime) -> Result<(), Fail> {
     Ok(())
 }
 
-/// The bytes of a stream, cut in two, that both states have taken.
+/// Returns the bytes of a stream, cut in two, that both states have taken.
 fn taken_by_states(rt: &impl Abort, alloc: Global, pieces: &[&[u8]]) -> Result<u64, Fail> {
     let query = Query::all(alloc);
     let mut sink = CountSink {
@@ -304,7 +304,7 @@ fn taken_by_states(rt: &impl Abort, alloc: Global, pieces: &[&[u8]]) -> Result<u
     }
 }
 
-/// The bytes of a stream, cut in two at this place, that an engine has taken.
+/// Returns the bytes of a stream, cut in two at this place, that an engine has taken.
 fn taken_by_engine(rt: &impl Abort, alloc: Global, text: &[u8], at: usize) -> Result<u64, Fail> {
     assert!(rt; at <= text.len());
     assert!(rt; text.len() <= 1_000);
@@ -319,9 +319,9 @@ fn taken_by_engine(rt: &impl Abort, alloc: Global, text: &[u8], at: usize) -> Re
     Ok(engine.taken())
 }
 
-/// Compares what is taken of a stream whose header is 140 bytes, cut in two at this place. Up to the byte that brings
-/// the end all is taken by calls that answered Ok. Of the piece that has it the engine takes nothing, and the states
-/// take the header.
+/// Compares what is taken of a stream with a header of 140 bytes, cut in two at this place. Calls
+/// that return `Ok` take all bytes up to the one that is the end. Of the piece with that byte the
+/// engine takes nothing, and the states take the header.
 fn check_taken(
     rt: &impl Abort,
     alloc: Global,

@@ -1,5 +1,8 @@
-//! The vectors of the folder `vectors/`, each whole, by single bytes, and cut in two at every place: two families, a feature cut
-//! short and one with a byte that is no UTF-8, at each place, and all others, which `table` has.
+//! The vectors of the folder `vectors/`, each run whole, by single bytes, and cut in two at every
+//! place.
+//!
+//! There are two families. One is a feature that is cut short at each place. The other is a feature
+//! with a byte that is not UTF-8 at each place. All other vectors are in `table`.
 use super::calls::{
     Reading, check_bound, check_bytes, check_ended, check_outcome, ran, written_by,
 };
@@ -12,22 +15,22 @@ use std::io::Read;
 use std::process::Abort;
 use std::test::Fail;
 
-/// A stream, and what has to come of it.
+/// A stream, and its expected result.
 #[derive(Drop)]
 struct Vector<'a> {
     name: &'a str,
     text: &'a [u8],
     reading: Reading<'a>,
     written: &'a [u8],
-    /// What is told of the outcome.
+    /// The expected outcome, as a text.
     told: &'a str,
 }
 
-/// Where a stream comes by single bytes, in place of where it is cut.
+/// Used in place of a cut if a stream comes by single bytes.
 const SINGLE_BYTES: u64 = 1_000_000;
 
-/// What is told of an outcome: the answer, how many lines there are before the refused one, or in all, how many features are
-/// kept, and what was held at most of a complete stream.
+/// Returns an outcome as a text. It has the end, the number of lines before the invalid one or in
+/// all, and the number of kept features. For a complete stream it has the peaks too.
 fn told(alloc: Global, outcome: Outcome) -> Result<String, AllocError> {
     let (lines, kept, held) = (outcome.lines, outcome.kept, outcome.peaks);
     match outcome.ended {
@@ -48,7 +51,7 @@ fn told(alloc: Global, outcome: Outcome) -> Result<String, AllocError> {
     }
 }
 
-/// Runs over what a reader gives of a vector, which is cut at this place.
+/// Runs over a vector that a reader gives, cut at this place.
 fn run_over<R: Read>(
     rt: &impl Abort,
     alloc: Global,
@@ -62,8 +65,8 @@ fn run_over<R: Read>(
     outcome
 }
 
-/// Cuts a vector in two; it is whole where the cut is at an end. All comes out as it did by single bytes, but for what a stream
-/// that is not complete has held at most.
+/// Cuts a vector in two. It is whole if the cut is at an end. The result is the same as by single
+/// bytes, except for the peaks of a stream that is not complete.
 fn check_cut(rt: &impl Abort, alloc: Global, vector: &Vector, at: usize, first: Outcome) {
     assert!(rt; at <= vector.text.len());
     let mut reader = CutReader {
@@ -95,8 +98,8 @@ impl ReportSink for FirstReport {
     }
 }
 
-/// How a stream ends where reading goes on, and its first report, by its end where reading does not: that is the report, unless
-/// it is of the first line.
+/// Returns how a stream ends if reading goes on, and its first report. `ended` is its end if
+/// reading does not go on: that is the report, unless it is about the first line.
 fn going_on(ended: End) -> (End, Option<Report>) {
     match ended {
         End::Refused {
@@ -115,7 +118,7 @@ fn going_on(ended: End) -> (End, Option<Report>) {
     }
 }
 
-/// A vector whose refused lines reading goes on after.
+/// Checks a vector while reading goes on after invalid lines.
 fn check_going(rt: &impl Abort, alloc: Global, vector: &Vector, ended: End) {
     let (wanted, report) = going_on(ended);
     let mut reader = SlowReader::new(vector.text, 7);
@@ -130,7 +133,7 @@ fn check_going(rt: &impl Abort, alloc: Global, vector: &Vector, ended: End) {
     assert_eq!(rt; reports.report, report, "{}", vector.name);
 }
 
-/// A vector in every way.
+/// Checks a vector in every way.
 fn check(rt: &impl Abort, alloc: Global, vector: &Vector) -> Result<(), Fail> {
     let mut reader = SlowReader::new(vector.text, 1);
     let first = run_over(rt, alloc, vector, &mut reader, SINGLE_BYTES);
@@ -145,7 +148,7 @@ fn check(rt: &impl Abort, alloc: Global, vector: &Vector) -> Result<(), Fail> {
 
 // ---- the two families
 
-/// A header and a line that is refused at this place, for this reason, in every way.
+/// Checks in every way a header and a line that is invalid at this place, for this reason.
 fn check_second(
     rt: &impl Abort,
     alloc: Global,
@@ -167,7 +170,7 @@ fn check_second(
     check(rt, alloc, &vector)
 }
 
-/// Its first bytes alone are no JSON text, at the end of the line.
+/// The first bytes of a feature are no JSON text, at the end of the line.
 #[test]
 fn a_feature_cut_short_at_each_place(rt: HostRuntime) -> Result<(), Fail> {
     for count in 1..FEATURE.len() {
@@ -190,7 +193,7 @@ fn a_feature_with_one_byte_that_is_no_text(rt: HostRuntime) -> Result<(), Fail> 
 
 // ---- the rows of the table
 
-/// Adds what stands behind a `&`: a name, `;`, and bytes.
+/// Adds what comes after a `&`: a name, `;`, and bytes.
 fn push_part(rt: &impl Abort, text: &mut Vec<u8>, part: &str) -> Result<(), Fail> {
     let (name, rest) = part.split_once(';').expect(rt, "the end of a name");
     match name {
@@ -203,7 +206,7 @@ fn push_part(rt: &impl Abort, text: &mut Vec<u8>, part: &str) -> Result<(), Fail
     Ok(())
 }
 
-/// The bytes that a cell spells.
+/// Returns the bytes that a cell spells.
 fn bytes_of(rt: &impl Abort, alloc: Global, cell: &str) -> Result<Vec<u8>, Fail> {
     let mut text = Vec::new(alloc);
     for (at, part) in cell.split('&').enumerate() {
@@ -215,7 +218,7 @@ fn bytes_of(rt: &impl Abort, alloc: Global, cell: &str) -> Result<Vec<u8>, Fail>
     Ok(text)
 }
 
-/// Asks a query for what a word says.
+/// Adds what a word says to a query.
 fn ask(rt: &impl Abort, query: &mut Query, word: &str) -> Result<(), Fail> {
     let (option, value) = word.split_once('=').expect(rt, "an option with its value");
     if option == "bbox" {
@@ -233,10 +236,10 @@ fn ask(rt: &impl Abort, query: &mut Query, word: &str) -> Result<(), Fail> {
     Ok(())
 }
 
-/// The word of a cell that asks for city objects that hang together.
+/// The word of a cell for the option that each city object must be reached.
 const TREE: &str = "tree";
 
-/// The query that a cell asks.
+/// Returns the query of a cell.
 fn query_of(rt: &impl Abort, alloc: Global, cell: &str) -> Result<Query, Fail> {
     let mut query = Query::all(alloc);
     if cell != "-" {
@@ -249,7 +252,7 @@ fn query_of(rt: &impl Abort, alloc: Global, cell: &str) -> Result<Query, Fail> {
     Ok(query)
 }
 
-/// The options that a cell sets.
+/// Returns the options that a cell sets.
 fn options_of(cell: &str) -> Options {
     let mut options = Options::new();
     for word in cell.split(' ') {
@@ -260,17 +263,17 @@ fn options_of(cell: &str) -> Options {
     options
 }
 
-/// The first cell of a row, and the others.
+/// Returns the first cell of a row, and the others.
 fn cell<'a>(rt: &impl Abort, row: &'a str) -> (&'a str, &'a str) {
     row.split_once('|').expect(rt, "a cell, and others")
 }
 
-/// The limits that two cells say.
+/// Returns the limits in two cells.
 fn limits_of(line: &str, depth: &str) -> Result<Limits, Fail> {
     Ok(Limits::new(line.parse()?, depth.parse()?)?)
 }
 
-/// The vector of a row, in every way.
+/// Checks the vector of a row in every way.
 fn check_row(rt: &impl Abort, alloc: Global, row: &str) -> Result<(), Fail> {
     let (name, row) = cell(rt, row);
     let (line, row) = cell(rt, row);
@@ -295,7 +298,7 @@ fn check_row(rt: &impl Abort, alloc: Global, row: &str) -> Result<(), Fail> {
     check(rt, alloc, &vector)
 }
 
-/// The vector of each row, in every way.
+/// Checks the vector of each row in every way.
 pub fn check_rows(rt: &impl Abort, alloc: Global, rows: &str) -> Result<(), Fail> {
     for row in rows.trim().lines() {
         check_row(rt, alloc, row)?;

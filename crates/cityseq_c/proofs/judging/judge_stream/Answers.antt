@@ -16,7 +16,7 @@ returns g c =
           c.in_default.not-Memory e.puts (λ free. rw (c.lines.ensures, c.kept.ensures, c.refused.ensures, e.fed.peaks) (e.counts free)) e.fed.exact e.fed.bounded
           (rw (c.lines.ensures, c.kept.ensures, c.refused.ensures) e.fed.counts) (rw c.lines.ensures e.sink) (rw c.lines.ensures e.reports)
           (λ r n all. c.good_lines_are_kept.ensures.reported rules r n all)
-          c.new-noted.ensures.count c.new-noted.ensures.room (λ loan. c.reports-1.given.1.1 (sym c.new-noted.ensures.loan ∙ sym loan));
+          (c.new-noted.ensures.text ∙ c.new.ensures) c.new-noted.ensures.count c.new-noted.ensures.room (λ loan. c.reports-1.given.1.1 (sym c.new-noted.ensures.loan ∙ sym loan));
       cause = e.cause;
       memory = tt;
       unread = tt;

@@ -1,5 +1,6 @@
-//! Repeated names that are found in order. In rooms of few places a few names take many walks. What is wanted is told from
-//! the rule: the mark `^` of a row stands before the first name that has the text of an earlier one, and is no part of it.
+//! Repeated names that are found in order. In small arrays, a few names take many walks. The
+//! expected result follows from the rule. The mark `^` of a row is before the first name that has
+//! the text of an earlier one. The mark is no part of the line.
 ghost use Rattle.cj_spans.specs.Sound.{AreOf};
 
 use super::{check_in_order, check_names};
@@ -27,7 +28,7 @@ fn tokens_of(rt: &impl Abort, alloc: Global, line: &[u8]) -> Bounded<Token>
     tokens
 }
 
-/// What is found in an object with this room.
+/// Returns what is found in an object with this array.
 fn found_in(
     rt: &impl Abort,
     object: Node,
@@ -40,7 +41,7 @@ fn found_in(
     found.get()
 }
 
-/// Whether an object has this finding in each room of so many places.
+/// Returns whether an object has this finding in each array of `places` places.
 fn is_found_in(rt: &impl Abort, object: Node, places: usize, want: Option<Finding>) -> bool {
     assert!(rt; places <= 8);
     let mut room = [NO_NAME; 8];
@@ -52,7 +53,7 @@ fn is_found_in(rt: &impl Abort, object: Node, places: usize, want: Option<Findin
     all
 }
 
-/// A line without its mark, and the finding that stands there.
+/// Returns a line without its mark, and the finding at the mark.
 fn unmarked(alloc: Global, row: &str) -> Result<(String, Option<Finding>), AllocError> {
     match row.split_once('^') {
         Some((front, back)) => {
@@ -66,7 +67,7 @@ fn unmarked(alloc: Global, row: &str) -> Result<(String, Option<Finding>), Alloc
     }
 }
 
-/// An object has the finding of its mark, in whatever room.
+/// An object has the finding of its mark, in an array of any size.
 fn meets_row(rt: &impl Abort, alloc: Global, row: &str) -> Result<(), AllocError> {
     let (line, want) = unmarked(alloc, row)?;
     let tokens = tokens_of(rt, alloc, line.as_bytes());
@@ -133,7 +134,7 @@ fn names_of_one_word(rt: HostRuntime) -> Result<(), Fail> {
     Ok(())
 }
 
-/// So many members, whose names are numbers that rise or fall, and a comma behind each.
+/// Returns `count` members, each with a comma after it. Their names are numbers that rise or fall.
 fn members(alloc: Global, count: u32, rise: bool) -> Result<String, AllocError> {
     let mut text = String::new(alloc);
     for number in 0..count {
@@ -144,7 +145,8 @@ fn members(alloc: Global, count: u32, rise: bool) -> Result<String, AllocError> 
     Ok(text)
 }
 
-/// What is found in an object of so many names, behind which one more stands; with the place of that one.
+/// Returns what is found in an object of `count` names and one more at the end, and the place of
+/// that one.
 fn found_behind(
     rt: &impl Abort,
     alloc: Global,
@@ -163,7 +165,8 @@ fn found_behind(
     Ok((found.get(), 1u64.wrapping_add(members.len() as u64)))
 }
 
-/// A name behind so many others is found, or is another one.
+/// A name after some thousands of others is reported if it repeats one of them. The arrays are that
+/// of middle size and the large one.
 fn meets_behind(
     rt: &impl Abort,
     alloc: Global,
@@ -171,21 +174,23 @@ fn meets_behind(
     name: &str,
     is_repeated: bool,
 ) -> Result<(), AllocError> {
-    let (found, place) = found_behind(rt, alloc, 30_000, rise, name)?;
-    let reason = Reason::DuplicateName;
-    let want = if is_repeated {
-        Some(Finding { place, reason })
-    } else {
-        None
-    };
-    assert_eq!(rt; found, want, "{name}");
+    for count in [6_000, 30_000] {
+        let (found, place) = found_behind(rt, alloc, count, rise, name)?;
+        let reason = Reason::DuplicateName;
+        let want = if is_repeated {
+            Some(Finding { place, reason })
+        } else {
+            None
+        };
+        assert_eq!(rt; found, want, "{name} behind {count}");
+    }
     Ok(())
 }
 
 #[test]
 fn more_names_than_the_room_holds(rt: HostRuntime) -> Result<(), Fail> {
     meets_behind(&rt, rt.alloc(), true, "a", false)?;
-    meets_behind(&rt, rt.alloc(), true, "9999", true)?;
+    meets_behind(&rt, rt.alloc(), true, "5999", true)?;
     meets_behind(&rt, rt.alloc(), false, "a", false)?;
     meets_behind(&rt, rt.alloc(), false, "\\u0031", true)?;
     Ok(())

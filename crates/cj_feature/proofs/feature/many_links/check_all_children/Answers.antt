@@ -7,7 +7,7 @@ use Rattle.cj_feature.specs.Links.{children}
 use Rattle.cj_feature.proofs.feature.many_links.check_all_children.Goals as goal
 
 pub loop-name-preserved : goal.loop-name-preserved
-loop-name-preserved c =
+loop-name-preserved g c =
     let all = members_of (tree c.args.objects) in
     let name = subst (λ s. tree_in s c.number.result ≡ tree c.in-Some.name) (c.in-Some.ensures.steps.4.0 ∙ c.loop-name.invariant.source) c.number.ensures.node in
     let these = subst (λ t. c.check_children.new.found ≡ least c.loop-name.found (children all (t, tree c.in-Some.object))) name c.check_children.ensures.found in

@@ -10,11 +10,11 @@ use Rattle.cj_feature.specs.Questions.{AreAnswered}
 use Rattle.cj_feature.proofs.feature.many_links.check_all_children.Given as goal
 
 abbrev pub invariant-loop-name : goal.invariant-loop-name
-invariant-loop-name l = record {
+invariant-loop-name g l = record {
   found : least l.found (flat_map (children (members_of (tree l.objects))) (members_left l.later)) ≡ least l.initial.found (flat_map (children (members_of (tree l.objects))) (members_of (tree l.objects)));
   answered : AreAnswered (chars (codes "parents")) l.objects [] l.questions;
   source : members_source l.later ≡ source_of l.objects;
 }
 
 abbrev pub decreases-loop-name : goal.decreases-loop-name
-decreases-loop-name l = length (members_left l.later)
+decreases-loop-name g l = length (members_left l.later)

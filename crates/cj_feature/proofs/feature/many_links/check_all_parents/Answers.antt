@@ -9,7 +9,7 @@ use Rattle.cj_feature.proofs.Passes.{parents_and_part, known_part}
 use Rattle.cj_feature.proofs.feature.many_links.check_all_parents.Goals as goal
 
 pub loop-name-preserved-then-not-check_parents : goal.loop-name-preserved-then-not-check_parents
-loop-name-preserved-then-not-check_parents c =
+loop-name-preserved-then-not-check_parents g c =
     let all = members_of (tree c.args.objects) in
     let m = trees (c.in-Some.name, c.in-Some.object) in
     let name = subst (λ s. tree_in s c.number-number.result ≡ tree c.in-Some.name) (c.in-Some.ensures.steps.4.0 ∙ c.loop-name.invariant.source) c.number-number.ensures.node in
@@ -23,7 +23,7 @@ loop-name-preserved-then-not-check_parents c =
 
 -- where a parent is known to be in the feature, the city object has no finding for want of one
 pub loop-name-preserved : goal.loop-name-preserved
-loop-name-preserved c =
+loop-name-preserved g c =
     let all = members_of (tree c.args.objects) in
     let m = trees (c.in-Some.name, c.in-Some.object) in
     let name = subst (λ s. tree_in s c.number-number.result ≡ tree c.in-Some.name) (c.in-Some.ensures.steps.4.0 ∙ c.loop-name.invariant.source) c.number-number.ensures.node in

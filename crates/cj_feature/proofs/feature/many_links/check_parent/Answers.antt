@@ -7,4 +7,4 @@ use Rattle.cj_feature.proofs.Passes.{lists_known}
 use Rattle.cj_feature.proofs.feature.many_links.check_parent.Goals as goal
 
 pub returns-in-Listed-clause-known : goal.returns-in-Listed-clause-known
-returns-in-Listed-clause-known c h = lists_known (chars (codes "children")) (members_of (tree c.args.objects)) (tree c.args.item) (noted_in c.args.objects c.args.ahead.name) c.in-Listed.ensures.answer
+returns-in-Listed-clause-known g c h = lists_known (chars (codes "children")) (members_of (tree c.args.objects)) (tree c.args.item) (noted_in c.args.objects c.args.ahead.name) c.in-Listed.ensures.answer

@@ -10,7 +10,7 @@ use Rattle.cj_feature.specs.Questions.{AreAnswered}
 use Rattle.cj_feature.proofs.feature.many_links.check_parents.Given as goal
 
 abbrev pub invariant-loop-item : goal.invariant-loop-item
-invariant-loop-item l = record {
+invariant-loop-item g l = record {
   found : least l.found (flat_map (parent (members_of (tree l.objects)) (tree_in (source_of l.objects) l.number)) (items_left l.items)) ≡ least l.initial.found (flat_map (parent (members_of (tree l.objects)) (tree_in (source_of l.objects) l.number)) (items_left l.initial.items));
   known : l.known ≡ true → list_any (is_known (members_of (tree l.objects))) (items_left l.initial.items) ≡ true;
   later : list_any (is_known (members_of (tree l.objects))) (items_left l.items) ≡ true → list_any (is_known (members_of (tree l.objects))) (items_left l.initial.items) ≡ true;
@@ -18,4 +18,4 @@ invariant-loop-item l = record {
 }
 
 abbrev pub decreases-loop-item : goal.decreases-loop-item
-decreases-loop-item l = length (items_left l.items)
+decreases-loop-item g l = length (items_left l.items)

@@ -9,10 +9,10 @@ use Rattle.cj_feature.specs.Questions.{AreAnswered}
 use Rattle.cj_feature.proofs.feature.many_links.has_known_item.Given as goal
 
 abbrev pub invariant-loop-item : goal.invariant-loop-item
-invariant-loop-item l = record {
+invariant-loop-item g l = record {
   known : list_any (is_known (members_of (tree l.objects))) (items_left l.items) ≡ list_any (is_known (members_of (tree l.objects))) (items_of (tree l.array));
   answered : AreAnswered (chars (codes "children")) l.objects [] l.questions;
 }
 
 abbrev pub decreases-loop-item : goal.decreases-loop-item
-decreases-loop-item l = length (items_left l.items)
+decreases-loop-item g l = length (items_left l.items)

@@ -2,4 +2,4 @@ use Rattle.std.proofs.Common.{◌≤◌, length}
 use Rattle.cj_feature.proofs.feature.questions.note_ahead.Given as goal
 
 abbrev pub invariant-loop-name : goal.invariant-loop-name
-invariant-loop-name l = l.count ≤ length l.questions
+invariant-loop-name g l = l.count ≤ length l.questions

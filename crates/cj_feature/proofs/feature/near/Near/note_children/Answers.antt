@@ -25,8 +25,8 @@ loop-item-preserved-then-gone-skip g c =
     let item = tree c.in-Some-item.item in
     record { among = λ t h. inv.among t (subst (λ ts. Contains ts t) (sym e) (there item _ t h)); hand = inv.hand; known = inv.known; pending = inv.pending }
 
-pub returns-then-self-eq-PENDING-clause-pending : goal.returns-then-self-eq-PENDING-clause-pending
-returns-then-self-eq-PENDING-clause-pending g c = λ f o r waits.
+pub returns-then-self-clause-pending : goal.returns-then-self-clause-pending
+returns-then-self-clause-pending g c = λ f o r waits.
     let inv = c.loop-item.invariant in
     let e = c.in-Some-item.ensures.steps.0 in
     let item = tree c.in-Some-item.item in

@@ -6,7 +6,7 @@ use Rattle.cj_feature.proofs.Questions.{listed_on}
 use Rattle.cj_feature.proofs.feature.questions.Questions.answer_item.Goals as goal
 
 pub returns-in-Some : goal.returns-in-Some
-returns-in-Some c =
+returns-in-Some g c =
     let a = c.args.self.now in
     let list = chars c.args.list.now in
     let pair = c.args.pair in

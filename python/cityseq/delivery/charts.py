@@ -1,0 +1,216 @@
+"""Draws the map of an area and the histogram of line lengths."""
+from __future__ import annotations
+
+import math
+from dataclasses import dataclass
+from typing import Any, Dict, Iterable, List, Tuple
+
+from .drawing import RIGHT, ROLES, SMALL, WIDTH, drawn, figure
+from .extras import needed
+from .facts import Area, Point, Rectangle
+
+np: Any = needed("numpy")
+
+LEFT, BOTTOM = 84, 28  # pixels left of and below a map, for its numbers
+FLATTEST, STEEPEST = 0.4, 1.0  # height of a map, as a share of its width
+MARGIN = 0.04  # of a map, around what lies in it
+LEAST = 1.6  # pixels of the smallest extent that is drawn
+ARM = 3.5  # pixels of each arm of a cross
+SHADES = 7
+MOST_BARS = 9  # so many have their numbers above them
+
+
+@dataclass(frozen=True)
+class View:
+    """The part of the world that a map shows: from this corner on, so wide, and so high as a share
+    of its width."""
+
+    x: float
+    y: float
+    width: float
+    ratio: float
+
+    @property
+    def pixel(self) -> float:
+        """A pixel, as a share of the width."""
+        return 1 / (WIDTH - LEFT - RIGHT)
+
+    def of(self, point: Point) -> Point:
+        """Returns a point as shares of the width."""
+        return (point[0] - self.x) / self.width, (point[1] - self.y) / self.width
+
+    def has(self, point: Point) -> bool:
+        """Whether a point lies on the map."""
+        x, y = self.of(point)
+        return 0 <= x <= 1 and 0 <= y <= self.ratio
+
+
+@dataclass(frozen=True)
+class Map:
+    """A map of an area, and what is said of it.
+
+    Attributes:
+        svg: The drawing.
+        told: What it shows, in words.
+        shades: For each shade of a cell, the least and greatest number of features.
+        hidden: How many invalid features lie outside of it.
+    """
+
+    svg: str
+    told: str
+    shades: List[Tuple[int, int, int]]
+    hidden: int
+
+
+def rectangles_of(area: Area) -> List[Rectangle]:
+    """Returns the extents of an area, or its cells where features are too many."""
+    if area.extents:
+        return area.extents
+    size = area.size
+    return [
+        (column * size, row * size, (column + 1) * size, (row + 1) * size)
+        for column, row in area.cells
+    ]
+
+
+def view_of(area: Area) -> View:
+    """Returns the part of the world that shows all features of an area, and invalid ones around."""
+    found = rectangles_of(area) or [(x, y, x, y) for x, y in area.spots]
+    xmin, ymin = min(each[0] for each in found), min(each[1] for each in found)
+    xmax, ymax = max(each[2] for each in found), max(each[3] for each in found)
+    reach = max(xmax - xmin, ymax - ymin) / 4
+    near = [(x, y) for x, y in area.spots
+            if xmin - reach <= x <= xmax + reach and ymin - reach <= y <= ymax + reach]
+    xmin, xmax = min([xmin, *(x for x, _ in near)]), max([xmax, *(x for x, _ in near)])
+    ymin, ymax = min([ymin, *(y for _, y in near)]), max([ymax, *(y for _, y in near)])
+    least = max(1e-9, max(abs(edge) for edge in (xmin, xmax, ymin, ymax)) * 1e-12)
+    wide, high = max(xmax - xmin, least), max(ymax - ymin, least)
+    width = max(wide, high / STEEPEST) * (1 + 2 * MARGIN)
+    ratio = max(min(high * (1 + 2 * MARGIN) / width, STEEPEST), FLATTEST)
+    return View((xmin + xmax - width) / 2, (ymin + ymax - width * ratio) / 2, width, ratio)
+
+
+def map_of(area: Area, name: str) -> Map:
+    """Draws the features of an area: each extent, or their number by cells."""
+    view = view_of(area)
+    made, axes = figure(view.ratio / view.pixel, LEFT, BOTTOM)
+    axes.set_xlim(0, 1)
+    axes.set_ylim(0, view.ratio)
+    _number(axes.xaxis, view.x, view.width, 1, 4)
+    _number(axes.yaxis, view.y, view.width, view.ratio, 5)
+    axes.grid(color=ROLES["rule"], linewidth=0.5)
+    axes.set_axisbelow(True)
+    shades = [] if area.extents else _draw_cells(axes, area, view)
+    if area.extents:
+        least = LEAST * view.pixel / 2
+        _fill(axes, (_box_of(each, view, least) for each in area.extents), "extent")
+    seen = [spot for spot in area.spots if view.has(spot)]
+    _cross(axes, [view.of(spot) for spot in seen], ARM * view.pixel)
+    told = _told(area, view, len(seen))
+    return Map(drawn(made, name, "Map", told), told, shades, len(area.spots) - len(seen))
+
+
+def _told(area: Area, view: View, marked: int) -> str:
+    what = "each by its extent" if area.extents else f"in cells of {area.size:.6g} units"
+    right, top = view.x + view.width, view.y + view.width * view.ratio
+    return (
+        f"{area.features:,} features, {what}, and {marked:,} crosses where invalid features are;"
+        f" x from {view.x:.9g} to {right:.9g}, y from {view.y:.9g} to {top:.9g}"
+    )
+
+
+def _number(axis: Any, begin: float, width: float, share: float, count: int) -> None:
+    """Numbers an axis in world coordinates, at about so many places."""
+    ticker = needed("matplotlib.ticker")
+    found = ticker.MaxNLocator(count).tick_values(begin, begin + width * share)
+    places = [(value, (value - begin) / width) for value in found]
+    shown = [(value, place) for value, place in places if 0 <= place <= share]
+    axis.set_ticks([place for _, place in shown], [f"{value:.12g}" for value, _ in shown])
+
+
+def _box_of(extent: Rectangle, view: View, least: float) -> Rectangle:
+    """Returns an extent as shares of the width, at least so large on each side of its middle."""
+    (left, low), (right, high) = view.of(extent[:2]), view.of(extent[2:])
+    x, y = (left + right) / 2, (low + high) / 2
+    wide, tall = max((right - left) / 2, least), max((high - low) / 2, least)
+    return x - wide, y - tall, x + wide, y + tall
+
+
+def _fill(axes: Any, boxes: Iterable[Rectangle], role: str) -> None:
+    """Draws rectangles as one path."""
+    path = needed("matplotlib.path").Path
+    corners = np.array([
+        ((left, low), (right, low), (right, high), (left, high), (left, low))
+        for left, low, right, high in boxes
+    ])
+    if not len(corners):
+        return
+    codes = np.array([path.MOVETO, path.LINETO, path.LINETO, path.LINETO, path.CLOSEPOLY])
+    _add(axes, corners.reshape(-1, 2), np.tile(codes, len(corners)),
+         {"facecolor": ROLES[role], "edgecolor": "none"})
+
+
+def _cross(axes: Any, spots: List[Point], arm: float) -> None:
+    """Marks points as one path."""
+    if not spots:
+        return
+    path = needed("matplotlib.path").Path
+    arms = [(-arm, -arm), (arm, arm), (-arm, arm), (arm, -arm)]
+    ends = np.array([(x + dx, y + dy) for x, y in spots for dx, dy in arms])
+    codes = np.tile([path.MOVETO, path.LINETO], 2 * len(spots))
+    for role, width in (("ground", 4), ("spot", 1.8)):
+        _add(axes, ends, codes, {"facecolor": "none", "edgecolor": ROLES[role], "linewidth": width})
+
+
+def _add(axes: Any, vertices: Any, codes: Any, style: Dict[str, Any]) -> None:
+    path = needed("matplotlib.path").Path(vertices, codes)
+    axes.add_artist(needed("matplotlib.patches").PathPatch(path, **style)).set_zorder(3)
+
+
+def _draw_cells(axes: Any, area: Area, view: View) -> List[Tuple[int, int, int]]:
+    """Draws cells, darker where there are more features, and returns what each shade means."""
+    greatest = max(area.cells.values(), default=1)
+    sorted_out: Dict[int, List[Tuple[int, Rectangle]]] = {}
+    for (rectangle, count) in zip(rectangles_of(area), area.cells.values()):
+        shade = 1 + int((SHADES - 1) * math.log(count) / math.log(max(greatest, 2)) + 1e-9)
+        sorted_out.setdefault(shade, []).append((count, rectangle))
+    for shade, found in sorted_out.items():
+        _fill(axes, (_box_of(each, view, 0) for _, each in found), f"shade-{shade}")
+    return [
+        (shade, min(found)[0], max(found)[0]) for shade, found in sorted(sorted_out.items())
+    ]
+
+
+def histogram(lengths: Dict[int, int], name: str) -> str:
+    """Draws how many lines have each length, by powers of two."""
+    powers = range(min(lengths), max(lengths) + 1)
+    counts = [lengths.get(power, 0) for power in powers]
+    made, axes = figure(150, LEFT, BOTTOM, 18)
+    axes.bar(range(len(counts)), counts, width=0.9, align="edge", color=ROLES["bar"])
+    axes.set_xlim(-0.1, max(len(counts), 3))
+    axes.set_ylim(0, max(counts) * 1.05)
+    step = 1 + len(counts) // 8
+    places = range(0, len(counts) + 1, step)
+    axes.xaxis.set_ticks([place - 0.05 for place in places],
+                         [size_of_power(powers[0] + place) for place in places])
+    locator = needed("matplotlib.ticker").MaxNLocator(4, integer=True)
+    ticks = [value for value in locator.tick_values(0, max(counts)) if 0 < value <= max(counts)]
+    axes.yaxis.set_ticks(ticks, [f"{value:,.0f}" for value in ticks])
+    axes.grid(axis="y", color=ROLES["rule"], linewidth=0.5)
+    axes.set_axisbelow(True)
+    for side in ("top", "right", "left"):
+        axes.spines[side].set_visible(False)
+    if len(counts) <= MOST_BARS:
+        for place, count in enumerate(counts):
+            axes.text(place + 0.45, count, f"{count:,}", ha="center", va="bottom",
+                      fontsize=SMALL, color=ROLES["ink"])
+    told = "; ".join(
+        f"{count:,} from {size_of_power(power)}" for power, count in sorted(lengths.items())
+    )
+    return drawn(made, name, "Lines by their length", told)
+
+
+def size_of_power(power: int) -> str:
+    """Returns two to a power as a number of bytes."""
+    unit, rest = divmod(power, 10)
+    return f"{1 << rest} {('B', 'KiB', 'MiB', 'GiB', 'TiB')[unit]}"

@@ -1,0 +1,258 @@
+"""What a page says of a delivery: facts alone, of which nothing is laid out yet."""
+from __future__ import annotations
+
+from collections import Counter
+from dataclasses import dataclass, field
+from typing import TYPE_CHECKING, Dict, List, Optional, Tuple, TypeVar
+
+from ..reports import Explanation, Report, explain
+from ..tally import Range
+
+if TYPE_CHECKING:
+    from decimal import Decimal
+
+    from ..world import Extent
+
+EXAMPLES = 3  # reports of each reason that are kept as examples
+VALID, INVALID, NOT_JUDGED = "valid", "invalid", "fault"
+VERDICTS = {0: VALID, 1: INVALID}
+Key = TypeVar("Key")
+Rectangle = Tuple[float, float, float, float]  # xmin, ymin, xmax, ymax, in world coordinates
+Point = Tuple[float, float]
+
+
+@dataclass
+class Contents:
+    """What is in valid features.
+
+    Attributes:
+        features: How many there are.
+        types: By each type, in the order of the table, how many features have a city object of it.
+        lods: By each class of LoD, how many features have a geometry of it.
+        lengths: By a power of two, how many lines have so many bytes, and less than twice as many.
+    """
+
+    features: int = 0
+    types: Dict[str, int] = field(default_factory=dict)
+    lods: Dict[str, int] = field(default_factory=dict)
+    lengths: Dict[int, int] = field(default_factory=dict)
+
+    def add(self, other: "Contents") -> None:
+        """Adds what is in other features."""
+        self.features += other.features
+        _add(self.types, other.types)
+        _add(self.lods, other.lods)
+        _add(self.lengths, other.lengths)
+
+
+def _add(counts: Dict[Key, int], others: Dict[Key, int]) -> None:
+    for name, count in others.items():
+        counts[name] = counts.get(name, 0) + count
+
+
+@dataclass
+class File:
+    """A file of a delivery, and what came of it.
+
+    Attributes:
+        invalid: How many lines are invalid.
+        end: The report that ended the run, if one did: that of an invalid header.
+        scale: The header's scale, and so `translate`. Both are empty if the header is invalid.
+        reference_system: What the header's metadata names as such.
+        ranges: The least and greatest vertex on each axis.
+        box: The box round all vertices, as `--bbox` takes it. None if none can be asked for.
+        extent: The least and greatest world coordinate on each axis, exactly.
+        longest: The bytes of the longest of its header and valid features.
+        peaks: The most bytes, tokens, and open arrays and objects that were held.
+    """
+
+    name: str
+    status: int = 0
+    size: Optional[int] = None
+    sha256: Optional[str] = None
+    lines: int = 0
+    invalid: int = 0
+    end: Optional[Report] = None
+    fault: Optional[str] = None
+    hints: List[str] = field(default_factory=list)
+    scale: List["Decimal"] = field(default_factory=list)
+    translate: List["Decimal"] = field(default_factory=list)
+    reference_system: Optional[str] = None
+    ranges: Tuple[Range, Range, Range] = (None, None, None)
+    box: Optional[str] = None
+    extent: Tuple["Extent", "Extent", "Extent"] = (None, None, None)
+    longest: int = 0
+    peaks: Tuple[int, int, int] = (0, 0, 0)
+    contents: Contents = field(default_factory=Contents)
+
+    @property
+    def verdict(self) -> str:
+        """`valid`, `invalid` or `fault`."""
+        return VERDICTS.get(self.status, NOT_JUDGED)
+
+
+@dataclass
+class Reason:
+    """The lines that are invalid for one reason."""
+
+    code: int
+    lines: int = 0
+    files: int = 0
+    examples: List[Report] = field(default_factory=list)
+
+    @property
+    def explanation(self) -> Explanation:
+        """What the code means, and how to fix it."""
+        return explain(self.code)
+
+
+class Reasons:
+    """Counts reports by their reasons, and keeps the first ones of each."""
+
+    def __init__(self) -> None:
+        self._found: Dict[int, Reason] = {}
+        self._last: Dict[int, str] = {}
+
+    def add(self, report: Report) -> None:
+        """Counts a report. Those of a file come together."""
+        reason = self._found.setdefault(report.code, Reason(report.code))
+        reason.lines += 1
+        if self._last.get(report.code) != report.file:
+            self._last[report.code] = report.file
+            reason.files += 1
+        if len(reason.examples) < EXAMPLES:
+            reason.examples.append(report)
+
+    def listed(self) -> List[Reason]:
+        """The reasons, that of the most lines first."""
+        return sorted(self._found.values(), key=lambda reason: (-reason.lines, reason.code))
+
+
+@dataclass(frozen=True)
+class RepeatedId:
+    """An id that several features have. `places` are file and line of the first ones, and `count`
+    is how many features have it."""
+
+    id: str
+    count: int
+    places: List[Tuple[str, int]]
+
+
+@dataclass
+class Repeated:
+    """The ids that appear twice or more.
+
+    Attributes:
+        ids: How many there are.
+        features: How many features have one of them.
+        first: The first ones.
+    """
+
+    ids: int = 0
+    features: int = 0
+    first: List[RepeatedId] = field(default_factory=list)
+
+
+@dataclass
+class Area:
+    """What lies in one coordinate system.
+
+    Attributes:
+        reference_system: Its name, as headers have it.
+        files: How many files name it.
+        features: How many features have a place in it.
+        box: The box round all their vertices, as `--bbox` takes it, if one can be asked for.
+        size: How wide and high a cell is, in world coordinates.
+        cells: By column and row of a cell, how many features have their centre in it.
+        extents: The extent of each feature, where they are few.
+        spots: Where invalid features are, as far as their vertices can be read.
+    """
+
+    reference_system: Optional[str]
+    files: int = 0
+    features: int = 0
+    box: Optional[str] = None
+    size: float = 1.0
+    cells: Dict[Tuple[int, int], int] = field(default_factory=dict)
+    extents: List[Rectangle] = field(default_factory=list)
+    spots: List[Point] = field(default_factory=list)
+
+
+@dataclass
+class Run:
+    """How facts were made.
+
+    Attributes:
+        program: The version of cityseq.
+        words: The command line, or the call.
+        time: When it began, in UTC.
+        seconds: How long it took.
+        jobs: How many threads judged.
+    """
+
+    program: str
+    words: str
+    time: str
+    seconds: float
+    jobs: int
+    line_limit: int
+    depth: int
+    tree: bool
+
+
+@dataclass
+class Delivery:
+    """All facts of a delivery.
+
+    Attributes:
+        reports: The first invalid lines, for the table in the page. `invalid` counts all.
+        report_files: The names of the files next to the page that have all reports. There are none
+            without a page.
+    """
+
+    title: str
+    run: Run
+    files: List[File] = field(default_factory=list)
+    areas: List[Area] = field(default_factory=list)
+    reasons: List[Reason] = field(default_factory=list)
+    repeated: Repeated = field(default_factory=Repeated)
+    reports: List[Report] = field(default_factory=list)
+    report_files: Tuple[str, ...] = ()
+
+    @property
+    def status(self) -> int:
+        """The greatest status of all files, as `check` has it."""
+        return max((file.status for file in self.files), default=0)
+
+    @property
+    def verdicts(self) -> "Counter[str]":
+        """How many files have each verdict."""
+        return Counter(file.verdict for file in self.files)
+
+    @property
+    def invalid(self) -> int:
+        """How many lines are invalid."""
+        return sum(file.invalid for file in self.files)
+
+    @property
+    def lines(self) -> int:
+        """How many lines there are."""
+        return sum(file.lines for file in self.files)
+
+    @property
+    def contents(self) -> Contents:
+        """What is in the features of all files."""
+        whole = Contents()
+        for file in self.files:
+            whole.add(file.contents)
+        return whole
+
+    @property
+    def longest(self) -> int:
+        """The bytes of the longest valid line."""
+        return max((file.longest for file in self.files), default=0)
+
+    @property
+    def peaks(self) -> Tuple[int, ...]:
+        """The greatest peaks of all files."""
+        return tuple(max((file.peaks[n] for file in self.files), default=0) for n in range(3))

@@ -1,0 +1,96 @@
+"""All reports of a delivery, in two files next to the page: for spreadsheets and for programs."""
+from __future__ import annotations
+
+import csv
+import io
+import json
+import os
+from typing import Any, List, Tuple
+
+from ..objects import report_object
+from ..outputs import Writer
+from ..reports import Report
+from ..shown import shown
+
+COLUMNS = ("file", "line", "byte", "code", "reason", "feature", "hint", "excerpt", "fix")
+FORMULAS = ("=", "+", "-", "@", "\t", "\r")  # what a cell begins with that a spreadsheet computes
+LONGEST = 1_000  # signs of an id in a cell; the JSON lines have all of it
+TOGETHER = 1 << 16  # so many signs are written at once
+MARK = "\ufeff"  # by which spreadsheets know UTF-8
+
+
+def names_of_lists(page: str) -> Tuple[str, str]:
+    """Returns the names of the CSV file and of the JSON lines next to a page."""
+    stem, suffix = os.path.splitext(page)
+    start = stem if suffix.lower() in (".html", ".htm") else page
+    return f"{start}.reports.csv", f"{start}.reports.jsonl"
+
+
+def cell(text: str) -> str:
+    """Returns a text as a cell that no spreadsheet takes for a formula, on one line."""
+    told = shown(text if len(text) <= LONGEST else f"{text[:LONGEST]}\u2026")
+    return f"'{told}" if text.startswith(FORMULAS) or told.startswith(FORMULAS) else told
+
+
+def row_of(report: Report) -> List[Any]:
+    """Returns the cells of a report, in the order of the columns."""
+    return [
+        cell(report.file), report.line, report.byte, report.code, report.text,
+        cell(report.id or ""), cell(report.met or ""), cell(report.excerpt),
+        cell(report.explanation.fix),
+    ]
+
+
+class Lists:
+    """Writes both files. Each gets its name when it is whole."""
+
+    def __init__(self, page: str) -> None:
+        """Opens both.
+
+        Raises:
+            WriteFault: One cannot be opened.
+        """
+        self.names = names_of_lists(page)
+        self._csv, self._json = (Writer(name) for name in self.names)
+        try:
+            self._csv.write(b"")  # so that a folder that takes nothing is told at once
+            self._json.write(b"")
+        except BaseException:
+            self.discard()
+            raise
+        self._rows, self._lines = io.StringIO(newline=""), io.StringIO()
+        self._rows.write(MARK)
+        self._writer = csv.writer(self._rows)
+        self._writer.writerow(COLUMNS)
+
+    def add(self, report: Report) -> None:
+        """Writes a report.
+
+        Raises:
+            WriteFault: It cannot be written.
+        """
+        self._writer.writerow(row_of(report))
+        self._lines.write(f"{json.dumps(report_object(report))}\n")
+        if self._lines.tell() >= TOGETHER:
+            self._flush()
+
+    def _flush(self) -> None:
+        for writer, held in ((self._csv, self._rows), (self._json, self._lines)):
+            writer.write(held.getvalue().encode("utf-8"))
+            held.seek(0)
+            held.truncate()
+
+    def close(self) -> None:
+        """Writes the rest, and gives both files their names.
+
+        Raises:
+            WriteFault: They cannot be written.
+        """
+        self._flush()
+        self._csv.close(True)
+        self._json.close(True)
+
+    def discard(self) -> None:
+        """Removes what is not whole."""
+        self._csv.discard()
+        self._json.discard()

@@ -1,0 +1,193 @@
+"""Writes the page: one file with its style, its script and its data, which loads nothing."""
+from __future__ import annotations
+
+import base64
+import hashlib
+import json
+import os
+from typing import Any, Dict, Iterator, List, Optional, Sequence, Tuple
+
+from ..reports import Report, explain
+from ..shown import shown
+from ..world import plain
+from .charts import Map, histogram, map_of, size_of_power
+from .extras import needed
+from .facts import Delivery, File
+
+MOST_BYTES = 1_900_000  # of the page, with as many rows of reports as fit
+MOST_SIGNS = 200  # of a text of a stream
+STATIC_ROWS = 25  # rows of reports that are there without the script
+MOST_MAPS = 3
+MOST_DETAILED = 300  # files with details; all others have their row
+MOST_FILES = 2_000  # rows of files
+NEAR = 24  # signs of an excerpt on each side of the place, in the table
+END = "\u00b6"  # stands for the end of a line where the place is there
+WORDS = {"valid": "valid", "invalid": "invalid", "fault": "not judged"}
+
+
+def cut(text: Optional[str]) -> str:
+    """Returns a text of a stream with its controls escaped, and without the rest if it is long."""
+    told = text or ""
+    if len(told) <= MOST_SIGNS:
+        return shown(told)
+    return f"{shown(told[:MOST_SIGNS])}\u2026 ({len(told):,} signs)"
+
+
+def size(count: Optional[int]) -> str:
+    """Returns a number of bytes in words."""
+    if count is None:
+        return "unknown"
+    value, unit = float(count), "bytes"
+    for unit in ("bytes", "kB", "MB", "GB", "TB"):
+        if value < 1_000 or unit == "TB":
+            break
+        value /= 1_000
+    return f"{count:,} bytes" if unit == "bytes" else f"{value:.3g} {unit}"
+
+
+def share(part: int, whole: int) -> str:
+    """Returns a part of a whole in percent."""
+    percent = 100 * part / whole if whole else 0.0
+    return f"{percent:.2g} %" if 0 < percent < 10 else f"{percent:.0f} %"
+
+
+def counted(count: int, one: str, many: str = "") -> str:
+    """Returns a number with its noun."""
+    return f"{count:,} {one if count == 1 else many or one + 's'}"
+
+
+def split_at(excerpt: str, column: int) -> Tuple[str, str, str]:
+    """Returns an excerpt before the place, the sign at it, and the rest. The column is that of a
+    terminal, where some signs are two columns wide."""
+    from unicodedata import east_asian_width
+
+    for number, sign in enumerate(excerpt):
+        if column <= 0:
+            return excerpt[:number], sign, excerpt[number + 1 :]
+        column -= 2 if east_asian_width(sign) in "WF" else 1
+    return excerpt, END, ""
+
+
+def near(report: Report) -> Tuple[str, str, str]:
+    """Returns what stands near the place of a report, as a row of the table has it."""
+    before, sign, after = split_at(shown(report.excerpt), report.column)
+    return before[-NEAR:], sign, after[:NEAR]
+
+
+def verdict_of(delivery: Delivery) -> str:
+    """Returns the verdict on a delivery in one sentence."""
+    found, count = delivery.verdicts, len(delivery.files)
+    if found["valid"] == count:
+        return "The file is valid." if count == 1 else f"All {count:,} files are valid."
+    parts = []
+    if found["valid"]:
+        parts.append(f"{found['valid']:,} {'is' if found['valid'] == 1 else 'are'} valid")
+    if found["invalid"]:
+        lines = counted(delivery.invalid, "invalid line")
+        parts.append(f"{found['invalid']:,} {'is' if found['invalid'] == 1 else 'are'} invalid"
+                     f" ({lines})")
+    if found["fault"]:
+        verb = "was" if found["fault"] == 1 else "were"
+        parts.append(f"{found['fault']:,} {verb} not judged")
+    if count == 1:
+        return f"The file {parts[0].partition(' ')[2]}."
+    rest = " and ".join([", ".join(parts[:-1])] * (len(parts) > 1) + parts[-1:])
+    return f"Of {count:,} files {rest}."
+
+
+def row_of(report: Report, numbers: Dict[str, int]) -> List[Any]:
+    """Returns a report as the page's script takes it."""
+    name = "" if report.id is None else cut(report.id)
+    return [numbers[report.file], report.line, report.byte, report.code, name,
+            *near(report)]
+
+
+def data_of(reports: Sequence[Report], files: Sequence[File], room: int) -> Tuple[str, int]:
+    """Returns the table of reports as JSON that stands in a page, and how many are in it: as many
+    as so many bytes have room for."""
+    numbers, names, rows = {}, [], []  # type: Tuple[Dict[str, int], List[str], List[str]]
+    for report in reports:
+        if report.file not in numbers:
+            numbers[report.file] = len(names)
+            names.append(cut(report.file))
+            room -= len(_json(names[-1]).encode())
+        rows.append(_json(row_of(report, numbers)))
+        room -= len(rows[-1].encode()) + 1
+        if room < 0:
+            rows.pop()
+            break
+    codes = sorted({report.code for report in reports})
+    told = _json({"files": names, "reasons": {code: explain(code).text for code in codes}})
+    return f'{told[:-1]},"rows":[{",".join(rows)}]}}', len(rows)
+
+
+def _json(told: Any) -> str:
+    """Returns JSON that no reader of HTML takes for a tag or the end of a script."""
+    text = json.dumps(told, ensure_ascii=False, separators=(",", ":"))
+    for sign in "<>&\u2028\u2029":
+        text = text.replace(sign, f"\\u{ord(sign):04x}")
+    return text
+
+
+def _read(name: str) -> str:
+    path = os.path.join(os.path.dirname(os.path.abspath(__file__)), name)
+    with open(path, encoding="utf-8") as file:
+        return file.read()
+
+
+def _sum(text: str) -> str:
+    """Returns the sum by which the page allows its own script, or its own style."""
+    digest = hashlib.sha256(text.encode("utf-8")).digest()
+    return f"'sha256-{base64.b64encode(digest).decode()}'"
+
+
+def _bars(counts: Dict[Any, int], whole: int) -> List[Tuple[Any, int, float]]:
+    """Returns the rows of a bar chart: name, count, and how long the bar is in percent."""
+    return [(name, count, round(100 * count / whole, 2)) for name, count in counts.items()]
+
+
+def _code(text: str) -> Any:
+    """Returns a text of ours, in which what stands between backticks is code."""
+    markup = needed("markupsafe")
+    parts = map(markup.escape, text.split("`"))
+    code = markup.Markup("<code>{}</code>").format
+    return markup.Markup("").join(code(part) if n % 2 else part for n, part in enumerate(parts))
+
+
+def _maps(delivery: Delivery) -> List[Tuple[Any, Map]]:
+    drawn = [area for area in delivery.areas if area.features or area.spots][:MOST_MAPS]
+    return [(area, map_of(area, f"map-{n}")) for n, area in enumerate(drawn)]
+
+
+def _extents(file: File) -> Iterator[Tuple[str, str, str]]:
+    """Yields each axis with its least and greatest world coordinate."""
+    for axis, extent in zip("xyz", file.extent):
+        if extent is not None:
+            yield axis, plain(extent[0]), plain(extent[1])
+
+
+def html(delivery: Delivery) -> str:
+    """Returns the page."""
+    jinja2, markup = needed("jinja2"), needed("markupsafe").Markup
+    environment = jinja2.Environment(
+        loader=jinja2.FunctionLoader(_read), autoescape=True, undefined=jinja2.StrictUndefined,
+        trim_blocks=True, lstrip_blocks=True,
+    )
+    environment.filters.update(
+        cut=cut, size=size, count="{:,}".format, plain=plain, power=size_of_power, code=_code)
+    environment.globals.update(counted=counted, share=share, split_at=split_at, near=near,
+                               bars=_bars, extents=_extents, words=WORDS)
+    script, style = _read("page.js"), _read("page.css")
+    contents = delivery.contents
+    given = {
+        "delivery": delivery, "contents": contents, "verdict": verdict_of(delivery),
+        "maps": _maps(delivery), "script": markup(script), "style": markup(style),
+        "script_sum": markup(_sum(script)), "style_sum": markup(_sum(style)),
+        "lengths": markup(histogram(contents.lengths, "lengths")) if contents.lengths else "",
+        "detailed": MOST_DETAILED, "most_files": MOST_FILES, "static_rows": STATIC_ROWS,
+    }
+    template = environment.get_template("page.html")
+    room = MOST_BYTES - len(template.render(data="", in_page=0, **given).encode("utf-8"))
+    data, in_page = data_of(delivery.reports, delivery.files, room)
+    page: str = template.render(data=markup(data), in_page=in_page, **given)
+    return page

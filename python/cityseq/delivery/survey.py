@@ -1,0 +1,327 @@
+"""Gathers the facts of a delivery: threads judge parts and read their records, and one adds them
+up."""
+from __future__ import annotations
+
+import json
+from contextlib import ExitStack, suppress
+from dataclasses import dataclass, field
+from decimal import DecimalException
+from typing import TYPE_CHECKING, Any, Callable, Dict, Iterator, List, Optional, Sequence, Tuple
+
+from .._library import LOD_CLASSES, NO_MEMORY, Text, library
+from ..geopackage import system_of
+from ..indexing import Recorded
+from ..parts import Answer
+from ..places import Read
+from ..query import Work
+from ..records import Found, Records, find_read, unescaped
+from ..reports import Report
+from ..running import Judged, Result
+from ..tally import Range
+from ..world import box_of, extent_of, read_json
+from .areas import Place
+from .extras import needed
+from .facts import Area, Contents, File, Point, Reasons, Repeated
+from .lists import Lists
+from .repeated import Ids
+
+if TYPE_CHECKING:
+    from .making import How
+
+np: Any = needed("numpy")
+
+AXES = ("x", "y", "z")
+RECORD = np.dtype(
+    [(name, "u8") for name in ("line", "begin", "length", "id_begin", "id_length", "objects",
+                               "geometries", "types", "lods")]
+    + [pair for axis in AXES
+       for pair in ((axis, "u8"), (f"{axis}min", "i8"), (f"{axis}max", "i8"))]
+)
+TOGETHER = 8_192  # so many records are taken at once: a part may have but a few
+MOST_REPORTS = 10_000  # so many are kept for the table in the page
+NEAR_THE_END = 16 << 20  # bytes of an invalid line that are looked through for vertices
+Ranges = Tuple[Range, Range, Range]
+
+
+# ---- where invalid features are
+
+
+@dataclass
+class Marked(Found):
+    """What came of a part, with the middle of the vertices of each invalid feature, as far as it
+    can be read."""
+
+    middles: List[Point] = field(default_factory=list)
+
+
+def middle_of(line: bytes) -> Optional[Point]:
+    """Returns the middle of the vertices of a feature, as they stand in its line: the median of x
+    and of y, which no single wrong vertex moves far. None if they cannot be read."""
+    begin = line.rfind(b'"vertices"', -NEAR_THE_END)
+    begin = line.find(b"[", begin) if begin >= 0 else -1
+    if begin < 0:
+        return None
+    try:
+        vertices, _ = json.JSONDecoder().raw_decode(line[begin:].decode("utf-8", "replace"))
+        x, y = zip(*((float(vertex[0]), float(vertex[1])) for vertex in vertices))
+    except (ValueError, TypeError, IndexError, KeyError, OverflowError, RecursionError):
+        return None
+    return sorted(x)[len(x) // 2], sorted(y)[len(y) // 2]
+
+
+def middles_of(reports: Sequence[Report], part: Any) -> Iterator[Point]:
+    """Yields the middle of each invalid feature of a part that has one. The lines of reports count
+    from 2, and rise."""
+    text, begin, number = bytes(part), 0, 2
+    for report in reports:
+        if report.line < 2:
+            continue
+        while number < report.line:
+            begin, number = text.find(b"\n", begin) + 1, number + 1
+        end = text.find(b"\n", begin)
+        middle = middle_of(text[begin : end if end >= 0 else len(text)])
+        if middle is not None:
+            yield middle
+
+
+def marked(find: Callable[[Read], Answer], is_marked: Callable[[], bool], read: Read) -> Answer:
+    """Returns what came of a part, with the middles of its invalid features, unless the map has
+    enough of them by now."""
+    parts: List[Text] = []
+
+    def kept() -> Any:
+        part, fault = read()
+        parts.append(part)
+        return part, fault
+
+    answer = find(kept)
+    if not isinstance(answer, Found) or answer.refused == 0 or is_marked():
+        return answer
+    try:
+        answer.reports = list(answer.reports)  # which may be made as they are asked for
+        middles = list(middles_of(answer.reports, parts[0]))
+    except MemoryError:
+        return Answer(NO_MEMORY)
+    return Marked(**vars(answer), middles=middles)
+
+
+# ---- what is in features
+
+
+def _zeros() -> Any:
+    return np.zeros(64, "i8")
+
+
+@dataclass
+class Entry:
+    """A file as far as it has been read, whose header is valid."""
+
+    number: int
+    place: Place
+    scale: List[Any]
+    translate: List[Any]
+    reference_system: Optional[str]
+    types: Any = field(default_factory=_zeros)
+    lods: Any = field(default_factory=_zeros)
+    lengths: Any = field(default_factory=_zeros)
+    features: int = 0
+    longest: int = 0
+    ranges: Ranges = (None, None, None)
+    waiting: List[Tuple[Records, int]] = field(default_factory=list)
+    waits: int = 0
+
+    def world(self, axis: int, vertices: Any) -> Any:
+        """Returns the world coordinates of vertices on an axis, nearly."""
+        with np.errstate(all="ignore"):
+            return vertices * float(self.scale[axis]) + float(self.translate[axis])
+
+    def add(self, records: Any) -> None:
+        """Takes the records of features."""
+        self.features += len(records)
+        self.longest = max(self.longest, int(records["length"].max(initial=0)))
+        self.types += _bits(records["types"])
+        self.lods += _bits(records["lods"])
+        self.lengths += np.bincount(np.frexp(records["length"].astype("f8"))[1], minlength=64)
+        some = records[records["x"] != 0]
+        if not len(some):
+            return
+        x, y, z = (_wider(before, some, axis) for before, axis in zip(self.ranges, AXES))
+        self.ranges = x, y, z
+        across, along = (
+            np.sort([self.world(n, some[f"{AXES[n]}{edge}"]) for edge in ("min", "max")], axis=0)
+            for n in (0, 1)
+        )
+        self.place.add(*across, *along)
+
+    def contents(self) -> Contents:
+        """Returns what is in the features."""
+        types, lods = library().type_names(), LOD_CLASSES
+        return Contents(
+            self.features,
+            {name: int(count) for name, count in zip(types, self.types) if count},
+            {name: int(count) for name, count in zip(lods, self.lods) if count},
+            {n - 1: int(count) for n, count in enumerate(self.lengths) if count},
+        )
+
+
+def _bits(sets: Any) -> Any:
+    """Returns how many of these sets of bits have each bit set."""
+    flags = np.unpackbits(sets.astype("<u8").view("u1").reshape(-1, 8), axis=1, bitorder="little")
+    return flags.sum(axis=0, dtype="i8")
+
+
+def _wider(before: Range, records: Any, axis: str) -> Range:
+    """Returns a range and those of records together."""
+    least, greatest = int(records[f"{axis}min"].min()), int(records[f"{axis}max"].max())
+    return (least, greatest) if before is None else (
+        min(least, before[0]), max(greatest, before[1]))
+
+
+# ---- the delivery
+
+
+class Survey:
+    """Takes what comes of all files, in order. It is closed by leaving a `with` block."""
+
+    def __init__(self, names: Sequence[str], lists: Optional[Lists]) -> None:
+        self.files = [File(name) for name in names]
+        self.reasons = Reasons()
+        self.reports: List[Report] = []
+        self._lists = lists
+        self._places: Dict[Optional[str], Place] = {}
+        self._stack = ExitStack()
+        self._ids = self._stack.enter_context(Ids())
+
+    def __enter__(self) -> "Survey":
+        return self
+
+    def __exit__(self, *_: Any) -> None:
+        self._stack.close()
+
+    def begin(self, number: int, header: bytes) -> Entry:
+        """Begins a file, by its number from 0. Its header is valid."""
+        told = read_json(header.decode("utf-8"))
+        system, _ = system_of(told.get("metadata"))
+        place = self._places.setdefault(system, Place(system))
+        place.files += 1
+        transform = told["transform"]
+        entry = Entry(number, place, transform["scale"], transform["translate"], system)
+        entry.longest = len(header.rstrip(b"\n"))
+        return entry
+
+    def add(self, entry: Entry, records: Records, lines: int) -> None:
+        """Takes the records of the next part of a file, before which so many lines came.
+
+        Raises:
+            WriteFault: The temporary folder takes no more.
+        """
+        if records.ids:
+            entry.waiting.append((records, lines))
+            entry.waits += len(records.ids)
+        if entry.waits >= TOGETHER:
+            self._take(entry)
+
+    def _take(self, entry: Entry) -> None:
+        """Takes the records of a file that have been waiting."""
+        waiting, entry.waiting, entry.waits = entry.waiting, [], 0
+        if not waiting:
+            return
+        found = np.frombuffer(b"".join(records.raw for records, _ in waiting), RECORD)
+        before = np.repeat(
+            np.array([lines for _, lines in waiting], "u8"), [len(each.ids) for each, _ in waiting]
+        )
+        entry.add(found)
+        self._ids.add(entry.number, found["line"] + before, [
+            spelling if b"\\" not in spelling
+            else unescaped(spelling).encode("utf-8", "surrogatepass")
+            for records, _ in waiting for spelling in records.ids
+        ])
+
+    def mark(self, entry: Entry, middles: List[Point]) -> None:
+        """Takes the middles of invalid features, as vertices of the file."""
+        entry.place.mark([
+            (float(entry.world(0, x)), float(entry.world(1, y))) for x, y in middles
+        ])
+
+    def report(self, report: Report) -> None:
+        """Takes a report.
+
+        Raises:
+            WriteFault: The lists next to the page take no more.
+        """
+        self.reasons.add(report)
+        if len(self.reports) < MOST_REPORTS:
+            self.reports.append(report)
+        if self._lists is not None:
+            self._lists.add(report)
+
+    def end(self, number: int, result: Result, entry: Optional[Entry]) -> None:
+        """Takes what came of a file."""
+        file = self.files[number]
+        file.status, file.fault = result.status, result.fault
+        file.lines, file.hints, file.end = result.lines, result.hints, result.end
+        file.invalid = result.refused + (result.end is not None)
+        file.peaks = result.peak_bytes, result.peak_tokens, result.peak_depth
+        if entry is None:
+            return
+        self._take(entry)
+        file.scale, file.translate = entry.scale, entry.translate
+        file.reference_system, file.ranges = entry.reference_system, entry.ranges
+        file.contents, file.longest = entry.contents(), entry.longest
+        file.box = box_of(entry.ranges, entry.scale, entry.translate)
+        with suppress(DecimalException):  # of more digits than anyone writes
+            file.extent = extent_of(entry.ranges, entry.scale, entry.translate)
+        if entry.ranges[0] is not None:
+            entry.place.boxes.append(file.box)
+
+    def repeated(self) -> Repeated:
+        """Returns the ids that appear twice or more."""
+        return self._ids.repeated([file.name for file in self.files])
+
+    def areas(self) -> List[Area]:
+        """Returns what lies in each coordinate system, that of the most features first."""
+        found = [place.area() for place in self._places.values()]
+        return sorted(found, key=lambda area: -area.features)
+
+
+class Surveyed(Recorded):
+    """A file whose records go to a survey."""
+
+    def __init__(self, number: int, path: str, work: Work, survey: Survey, how: "How") -> None:
+        """Takes the number of the file, from 0, and what the parts' size and progress are."""
+        super().__init__(path, work, how.size, None, survey.report, how.progress)
+        self._number, self._survey = number, survey
+        self._entry: Optional[Entry] = None
+
+    def _judged(self, header: bytes, read: Read, begin: int) -> Judged:
+        def judged(first: bool) -> Answer:
+            return marked(
+                lambda kept: find_read(self.work, self.file, header, kept, begin, first),
+                lambda: self._entry is not None and self._entry.place.is_marked, read,
+            )
+
+        return judged
+
+    def take(self, found: Found, lines: int) -> None:
+        """Hands on what was found in the next part, before which so many lines came.
+
+        Raises:
+            WriteFault: It cannot be written.
+        """
+        if found.end is None:  # else the header is invalid
+            self._survey.add(self.entry(), found.records, lines)
+            if isinstance(found, Marked):
+                self._survey.mark(self.entry(), found.middles)
+
+    def entry(self) -> Entry:
+        """What the survey has of the file. Its header is valid."""
+        if self._entry is None:
+            self._entry = self._survey.begin(self._number, self._header)
+        return self._entry
+
+    def finish(self) -> Result:
+        """What came of the file."""
+        result = super().finish()
+        whole = result.fault is None and result.end is None
+        self._survey.end(self._number, result, self.entry() if whole else self._entry)
+        return result
