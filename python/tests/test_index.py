@@ -529,6 +529,7 @@ class BadInput(InFolder):
                 stderr=subprocess.PIPE,
                 stdout=subprocess.PIPE,
                 env={**os.environ, "PYTHONPATH": f"{ROOT}/python"},
+                preexec_fn=support.heed_interrupts,
             )
             part = self.folder / "it.gpkg.part"
             while child.poll() is None and not (part.exists() and part.stat().st_size > 100_000):
