@@ -156,9 +156,9 @@ def parts_of_records(count, header):
 
 def records(_megabytes, _rounds):
     count, path = int(os.environ.get("RECORDS", 10_000_000)), str(OUT / "records.gpkg")
-    seconds = written(count, path)
-    each = f"{1e6 * seconds / count:.1f} us each, {os.path.getsize(path) / count:.0f} bytes each"
-    print(f"{count} records: {seconds:.0f} s, {each}")
+    seconds, processor = written(count, path)
+    size = os.path.getsize(path) / count
+    print(f"{count} records: {seconds:.0f} s, processor {processor:.0f} s, {size:.0f} bytes each")
     times = sorted(boxes(count, path))
     rows = median(found for _, found in times)
     middle, most = 1e3 * times[len(times) // 2][0], 1e3 * times[-1][0]
@@ -166,25 +166,26 @@ def records(_megabytes, _rounds):
 
 
 def written(count, path):
-    """Writes an index of made-up records, and returns the seconds that this took."""
+    """Writes an index of made-up records, and returns the seconds that this took, by the clock and
+    of the processor."""
     import cityseq
     from cityseq.builder import Builder
     from cityseq.query import asked
     from cityseq.running import Result
 
-    builder, made, begun = Builder(path), 0.0, time.monotonic()
+    builder, made, begun, processor = Builder(path), 0.0, time.monotonic(), time.process_time()
     entry, parts = builder.begin(1, HEADER), parts_of_records(count, HEADER)
     while True:
-        before = time.monotonic()
+        before = time.process_time()
         lines, part = next(parts, (0, None))
-        made += time.monotonic() - before
+        made += time.process_time() - before
         if part is None:
             break
         builder.add(entry, part, lines)
     result = Result("", 0, count + 1, count, 0, 0, 0, 0)
     builder.end(entry, str(OUT / "records.jsonl"), (0, 0), None, result)
     builder.finish(asked("check"), cityseq.__version__)
-    return time.monotonic() - begun - made
+    return time.monotonic() - begun - made, time.process_time() - processor - made
 
 
 def boxes(count, path):

@@ -32,7 +32,16 @@ SCALES = (
     "123456789.123456789",
     "999999999999999999.999999999999999999",
 )
-TYPES, LODS = ("Building", "Road", "Bridge", "WaterBody"), ("0", "1.2", "2.2", "4", "x", "2")
+TYPES, LODS = ("Building", "Road", "Bridge", "WaterBody"), (
+    "0",
+    "1.2",
+    "2.2",
+    "4",
+    "x",
+    "2",
+    "",
+    "\u0664",
+)
 
 
 def filtered(source, **options):
@@ -230,6 +239,14 @@ class Cuts(InFolder):
                     output = io.BytesIO()
                     index.filter(output, jobs=jobs, **query)
                     self.assertEqual(output.getvalue(), wanted[0])
+
+    def test_texts_with_escapes(self):
+        text = HEADER + feature("a", lod="\\u0032.2") + feature("\\u0061", lod="\\u00322")
+        with self.indexed(self.file(text)) as index:
+            for query in ({"lods": "2.2"}, {"lods": "22"}, {"ids": "a"}, {"lods": "2"}):
+                self.assertEqual(cut(index, **query), filtered(text, **query))
+            self.assertEqual(cut(index, ids="a")[3], 2)
+            self.assertEqual([len(each.places) for each in index.repeated_ids()], [2])
 
     def test_invalid_lines_are_left_out(self):
         with self.indexed(DELIVERY, keep_going=True) as index:
