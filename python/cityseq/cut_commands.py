@@ -95,6 +95,7 @@ def _results(wanted: Asked, index: Index, work: Work, outputs: List[str]) -> Ite
     if wanted.output_dir is None:
         yield cut(index, work, outputs[0], wanted.jobs)
         return
+    index.check()  # before anything is made
     make_folder(wanted.output_dir)
     targets = dict(zip((stream.number for stream in index.streams), outputs))
 

@@ -445,6 +445,12 @@ class Command(InFolder):
                 (self.folder / "whole" / name).read_bytes(),
             )
         self.assertEqual(len(os.listdir(self.folder / "cut")), 2)
+        os.utime(packed, ns=(0, 0))
+        folder = self.folder / "none"
+        words = ("filter", "--quiet", "--index", self.index, "--output-dir", str(folder))
+        told = f"{packed}: index is out of date: the stream is older, build it again\n"
+        self.assertEqual(command(*words), (b"", told, 3))
+        self.assertFalse(folder.exists())
         self.assertEqual(command("filter", "--index", self.index)[2], 2)
 
     def test_an_invalid_stream_makes_no_index(self):
