@@ -1,13 +1,13 @@
 #!/usr/bin/env bash
-# Installs the Debian packages that some tests need: distributed, zstandard, mypy, psycopg2, geopandas,
-# Jinja2, matplotlib, jsonschema, aiohttp, pyproj and OWSLib for Python, PostgreSQL, GDAL, nginx, valgrind and a browser. Tests
-# of packages need mandoc, pkg-config and two shells. It prints what it could not install, and its
-# status is 0 in any case. A test without such a package is left out, and says so.
+# Installs the Debian packages that some tests need: for Python, for indexes, pages and servers,
+# PostgreSQL, valgrind and a browser. Tests of packages need mandoc, pkg-config and two shells. It
+# prints what it could not install, and its status is 0 in any case. A test without such a package is
+# left out, and says so.
 set -u
 missing=()
 for package in python3-distributed python3-zstandard python3-mypy python3-psycopg2 python3-geopandas python3-gdal \
-  python3-jinja2 python3-matplotlib python3-jsonschema \
-  python3-aiohttp python3-pyproj python3-owslib curl gdal-bin nginx-light postgresql valgrind mandoc pkg-config zsh fish; do
+  python3-jinja2 python3-matplotlib python3-jsonschema python3-aiohttp python3-pyproj python3-owslib gdal-bin nginx-light \
+  postgresql curl valgrind mandoc pkg-config zsh fish; do
   dpkg -s "$package" > /dev/null 2>&1 || missing+=("$package")
 done
 # The browser takes 330 MB. It is installed by itself, so that the others are there without it.

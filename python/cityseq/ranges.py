@@ -114,9 +114,9 @@ def find_range(
     try:
         header, left, part = _read_range(work, path, begin, end, state)
     except READ_FAULTS as fault:
-        return Answer(lines=int(not first), fault=read_fault(fault, path))
+        return Answer(RawAnswer(lines=int(not first)), fault=read_fault(fault, path))
     if not part and not first:
-        return Answer(lines=1, size=end - begin)
+        return Answer(RawAnswer(lines=1), size=end - begin)
     answer = find_read(work, path, header, partial(given, part), left, first)
     return replace(answer, reports=list(answer.reports))
 

@@ -69,12 +69,20 @@ def id_of(text: str, exact: Optional[bytes]) -> str:
     return text if exact is None else exact.decode("utf-8", "surrogatepass")
 
 
+def unescaped(spelling: bytes) -> str:
+    """Returns the text of a string of JSON, from its spelling without quotes."""
+    if b"\\" not in spelling:
+        return spelling.decode("utf-8")
+    text: str = json.loads(b'"' + spelling + b'"')
+    return text
+
+
 def stored_as_spelled(spelling: bytes) -> Id:
     """Returns an id as two columns have it, by the string of JSON that spells it, without quotes.
     A valid string without escapes has no NUL, and no half of a character."""
     if b"\\" not in spelling and len(spelling) <= LONGEST:
         return spelling.decode("utf-8"), None
-    return stored(json.loads(b'"' + spelling + b'"'))
+    return stored(unescaped(spelling))
 
 
 def _called(
@@ -105,11 +113,7 @@ def find(work: Work, file: str, header: bytes, part: Text, begin: int) -> Found:
         raise CityseqError(f"the library answered {answer.status}, code {answer.code}")
     text = held(part) if answer.refused or answer.status == REFUSED else b""
     return Found(
-        status=answer.status,
-        lines=answer.lines,
-        kept=answer.kept,
-        refused=answer.refused,
-        peaks=(answer.peak_bytes, answer.peak_tokens, answer.peak_depth),
+        told=answer,
         end=next(describe([answer], header, text, file)) if answer.status == REFUSED else None,
         # they are read when they are joined, as there may be very many
         reports=describe(islice(reports, answer.refused), header, text, file)
@@ -129,5 +133,5 @@ def find_read(work: Work, file: str, header: bytes, read: Read, begin: int, _fir
             return find(work, file, header, part, begin)
         found = find(work, file, header, part[: bytes(part).rfind(b"\n") + 1], begin)
     except MemoryError:
-        return Answer(NO_MEMORY)
+        return Answer(RawAnswer(status=NO_MEMORY))
     return replace(found, fault=read_fault(fault, file)) if found.status == COMPLETE else found

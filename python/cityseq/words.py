@@ -12,7 +12,7 @@ from .shown import shown
 
 MOST_JOBS, MOST_BYTES = 4_096, 1 << 40
 MOST_SECONDS = 1_000_000
-# what a server has where nothing is said
+# the usual values of a server
 HOST, PORT = "127.0.0.1", 8080
 REQUESTS, FEATURES, BODY = 100, 100_000, 16 << 30
 SECONDS, IDLE, STOP = 3_600, 30, 10

@@ -8,7 +8,7 @@ from dataclasses import dataclass, field
 from decimal import DecimalException
 from typing import TYPE_CHECKING, Any, Callable, Dict, Iterator, List, Optional, Sequence, Tuple
 
-from .._library import LOD_CLASSES, NO_MEMORY, Text, library
+from .._library import LOD_CLASSES, NO_MEMORY, RawAnswer, Text, library
 from ..geopackage import system_of
 from ..indexing import Recorded
 from ..parts import Answer
@@ -101,7 +101,7 @@ def marked(find: Callable[[Read], Answer], is_marked: Callable[[], bool], read: 
         answer.reports = list(answer.reports)  # which may be made as they are asked for
         middles = list(middles_of(answer.reports, parts[0]))
     except MemoryError:
-        return Answer(NO_MEMORY)
+        return Answer(RawAnswer(status=NO_MEMORY))
     return Marked(**vars(answer), middles=middles)
 
 
