@@ -20,7 +20,8 @@
  * - malloc, realloc and free belong to one allocator, and align a block as the C standard says. A call frees what it took before
  *   it returns. Let n be the line limit, or the length of the longer piece if that is less. Then a call takes at most 14 * n
  *   bytes, 16 bytes for each level of depth, 4 KB, and memory for the texts of the query.
- * - A call takes up to 1 MB of the stack, and with `tree` up to 3 MB. With glibc, a thread has more by default.
+ * - A thread has as much of the stack as cityseq_stack says. With glibc it has more by default. By measurement, a call takes at
+ *   most 64 KB if no feature has more than 256 city objects, 128 KB under a line limit of 65,536, and else 2 MB.
  * - The processor has x86-64-v2: SSE 4.2, SSSE3 and POPCNT.
  */
 #ifndef CITYSEQ_H
@@ -44,7 +45,8 @@ extern "C" {
 /* The interface that this file declares. cityseq_interface returns that of the library.
  *
  * 2: cityseq_tally is now cityseq_info, so that in C++ the struct needs no keyword. New are cityseq_features, the joins,
- *    cityseq_part_end, cityseq_line_begin and cityseq_version. A report has `begin`, and a tally has the transform. There are
+ *    cityseq_part_end, cityseq_line_begin, cityseq_stack and
+ *    cityseq_version. A report has `begin`, and a tally has the transform. There are
  *    constants for the reasons and for the sizes of a tally. NULL is allowed if there are no bytes. After CITYSEQ_NO_MEMORY all
  *    counts are 0. After it and CITYSEQ_BAD_REQUEST a tally is as it was.
  * 1: the first one. */
@@ -249,6 +251,10 @@ size_t cityseq_part_end(const char *part, size_t length, size_t wanted);
 /* Where the line of this number begins in a header and a part, in bytes from the beginning of the header. If there is no such
  * line, it is the end of the part. It is 0 if the header is not one line (CITYSEQ_NO_LINE). */
 uint64_t cityseq_line_begin(const char *header, size_t header_length, const char *part, size_t part_length, uint64_t line);
+
+/* Returns how many bytes of the stack a thread must have left for a call with this request: 131,072 if the line limit is at most
+ * 65,536, else 2,097,152. */
+size_t cityseq_stack(const struct cityseq_request *request) CITYSEQ_NOT_NULL(1);
 
 /* Writes the words of a reason as far as they fit, in ASCII and without a NUL. It returns how many bytes they have, and 0 if no
  * reason has this code. */

@@ -263,7 +263,8 @@ static void try_row(const struct row *row)
             printf(" %s%s %zu", call_names[run.call], tree ? "+tree" : "", bytes);
             fflush(stdout);
             perform_on(&run, stack, row->most);
-            bool held = bytes <= row->most && run.answer.status == row->status[tree];
+            bool held = bytes <= row->most && bytes <= cityseq_stack(&run.request) &&
+                        run.answer.status == row->status[tree];
             passed += held;
             failed += !held;
         }

@@ -12,7 +12,7 @@ import threading
 from queue import SimpleQueue
 from typing import Any, Callable, Generic, List, Optional, TypeVar
 
-STACK = 4 << 20  # bytes: a call of the library takes up to 3 MB, and Python what calls it
+STACK = 4 << 20  # bytes: a call of the library takes up to 2 MB, and Python what calls it
 PATIENCE = 2.0  # seconds that a thread has to begin, and between two looks whether any is left
 
 T = TypeVar("T")

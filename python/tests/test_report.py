@@ -167,6 +167,7 @@ class Command(InFolder):
                 stdout=subprocess.PIPE,
                 stderr=subprocess.PIPE,
                 env={**os.environ, "PYTHONPATH": os.path.join(support.ROOT, "python")},
+                preexec_fn=support.heed_interrupts,
             )
             for _ in range(400):
                 if self.page.with_name("delivery.html.part").exists():

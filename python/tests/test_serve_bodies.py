@@ -71,9 +71,11 @@ class Verdicts(Served):
                 while body:
                     pieces = [body[:size] for size in [chance.randrange(1, 900)]]
                     body = body[len(pieces[0]):]
-                    # parts that are judged late, and none of them in order
-                    answers = [task() for task in reversed(fed.cut(pieces))][::-1]
-                    kept += b"".join(bytes(fed.take(answer)) for answer in answers)
+                    fed.feed(pieces)
+                    while fed.has_more:
+                        # parts that are judged late, and none of them in order
+                        answers = [task() for task in reversed(fed.parts(chance.randrange(1, 4)))][::-1]
+                        kept += b"".join(bytes(fed.take(answer)) for answer in answers)
                 kept += b"".join(bytes(fed.take(task())) for task in fed.end())
             told = fed.result()
             self.assertEqual(kept, result.getvalue(), seed)
@@ -81,6 +83,25 @@ class Verdicts(Served):
                              (wanted.status, wanted.lines, wanted.features, wanted.refused), seed)
             self.assertEqual([(each.line, each.byte, each.code) for each in fed.reports],
                              [(each.line, each.byte, each.code) for each in wanted.reports], seed)
+
+    def test_no_more_is_unpacked_than_is_judged(self):
+        packed = gzip.compress(HEADER + (b" " * 999 + b"\n") * 300_000)
+        fed = Fed(asked("check"), Unpacking(None, 1 << 40), 10, False)
+        fed.feed([packed])
+        self.assertLess(len(packed), 1 << 20)
+        count = 0
+        while fed.has_more:
+            tasks = fed.parts(2)
+            answers = [task() for task in tasks]
+            self.assertLessEqual(len(answers), 2)
+            self.assertLess(sum(answer.size for answer in answers), 4 << 20)
+            count += len(answers)
+            for answer in answers:
+                fed.take(answer)
+        for task in fed.end():
+            fed.take(task())
+        self.assertGreater(count, 100)
+        self.assertEqual(fed.result().lines, 300_001)
 
     def test_filter_writes_what_the_command_writes(self):
         for name, query, words in (("town", "type=Road", ("--type", "Road")), ("sample", "lod=2.2&exclude", ("--lod", "2.2", "--exclude")),

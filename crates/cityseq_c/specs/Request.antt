@@ -1,5 +1,5 @@
 -- What C asks for, and what is wrong with it.
-use Rattle.std.specs.Prelude.{◌≡◌, ◌⊎◌, ℕ, ◌+◌, ◌^◌, ◌<◌, ◌≤◌, List, [], ◌∷◌, ◌++◌, Bool, true, false, if◌then◌else◌, nat_eq, length, max, min, Option, Some, None, Result, Ok, Err, option_map}
+use Rattle.std.specs.Prelude.{◌≡◌, ◌⊎◌, ℕ, ◌+◌, ◌^◌, ◌<◌, ◌≤◌, List, [], ◌∷◌, ◌++◌, Bool, true, false, if◌then◌else◌, nat_eq, nat_le, length, max, min, Option, Some, None, Result, Ok, Err, option_map}
 use Rattle.std.specs.List.{slice_split}
 use Rattle.std.specs.Str.{is_utf8}
 use Rattle.cj_budget.specs.Limits.{InLine, InDepth, LimitPair}
@@ -113,6 +113,10 @@ AreCut header part = ((h : List ℕ) × NoLf h × (header ≡ h ++ newline ∷ [
 -- the limits that are needed for a header and a part: no line is longer than the longer one of these
 abbrev pub needed_limits : LimitPair → List ℕ → List ℕ → LimitPair
 needed_limits asked header part = record { line = min asked.line (max 1 (max (length header) (length part))); depth = asked.depth }
+
+-- the bytes of the stack that a caller has to have for a call under a line limit
+abbrev pub stack_bytes : ℕ → ℕ
+stack_bytes line_limit = if nat_le line_limit 65536 then 131072 else 2097152
 
 -- limits are in their ranges, and a header and a part are cut so and have at most 2^60 bytes
 pub record IsFit (r : Request) (header part : List ℕ) : Type 0 where

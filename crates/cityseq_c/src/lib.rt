@@ -31,7 +31,7 @@ ghost use Rattle.cityseq_c.specs.Called.{Checks, Filters, IsTalliedOf, IsUnjudge
 ghost use Rattle.cityseq_c.specs.Cutting.{part_end};
 ghost use Rattle.cityseq_c.specs.Joined.{IsAnswerOf};
 ghost use Rattle.cityseq_c.specs.Begins.{begin_of};
-ghost use Rattle.cityseq_c.specs.Request.{AreCut};
+ghost use Rattle.cityseq_c.specs.Request.{AreCut, stack_bytes};
 ghost use Rattle.cityseq_c.specs.Words.{reason_words, type_words, IsCopied};
 
 mod answer;
@@ -58,6 +58,15 @@ use request::Request;
 use room::Room;
 use std::alloc::Global;
 use tally::Tally;
+
+/// Lines of at most this length need little of the stack.
+const SHORT_LINE: u64 = 65_536;
+
+/// The bytes of the stack that a call needs under such a line limit, as measured.
+const STACK_OF_SHORT_LINES: usize = 131_072;
+
+/// The same under any other.
+const STACK: usize = 2_097_152;
 
 /// The version of the library.
 const VERSION: &str = "0.2.0";
@@ -205,6 +214,18 @@ pub extern "C" fn cityseq_line_begin(header: &[u8], part: &[u8], line: u64) -> u
         Finder::new(header, part).begin(line)
     } else {
         0
+    }
+}
+
+/// Returns how many bytes of the stack a caller has to have for a call with this request.
+#[unsafe(no_mangle)]
+pub extern "C" fn cityseq_stack(request: &Request<'_>) -> usize
+    ensures { result ≡ stack_bytes request.now.line_limit }
+{
+    if request.line_limit <= SHORT_LINE {
+        STACK_OF_SHORT_LINES
+    } else {
+        STACK
     }
 }
 

@@ -6,7 +6,7 @@ use crate::request::Request;
 use crate::tally::{Number, Range, Tally};
 use crate::{
     Answer, cityseq_answer_then, cityseq_check, cityseq_features, cityseq_filter, cityseq_info,
-    cityseq_interface, cityseq_line_begin, cityseq_part_end, cityseq_reason_text,
+    cityseq_interface, cityseq_line_begin, cityseq_part_end, cityseq_reason_text, cityseq_stack,
     cityseq_tally_then, cityseq_type_name, cityseq_version,
 };
 use std::process::Abort;
@@ -305,6 +305,21 @@ fn words_are_copied(rt: HostRuntime) -> Result<(), Fail> {
     check_text(&rt, &text, b"Building..");
     assert_eq!(rt; cityseq_version(&mut text), 5);
     check_text(&rt, &text, b"0.2.0ing..");
+    Ok(())
+}
+
+#[test]
+fn a_longer_line_needs_more_of_the_stack(rt: HostRuntime) -> Result<(), Fail> {
+    let short = Request {
+        line_limit: 65_536,
+        ..usual()
+    };
+    assert_eq!(rt; cityseq_stack(&short), 131_072);
+    let long = Request {
+        line_limit: 65_537,
+        ..usual()
+    };
+    assert_eq!(rt; cityseq_stack(&long), 2_097_152);
     Ok(())
 }
 

@@ -173,13 +173,15 @@ class Judgement:
 
     async def _tasks(self) -> List[Task]:
         """Returns what judges the next parts, while what follows them is read."""
-        pieces = await (self._next or self._body.pieces())
-        self._next = None
-        if not pieces:
-            self._is_read = True
-            return await self._calls.call(self._fed.end)
-        self._next = asyncio.ensure_future(self._body.pieces())
-        return await self._calls.call(self._fed.cut, pieces)
+        if not self._fed.has_more:
+            pieces = await (self._next or self._body.pieces())
+            self._next = None
+            if not pieces:
+                self._is_read = True
+                return await self._calls.call(self._fed.end)
+            self._next = asyncio.ensure_future(self._body.pieces())
+            self._fed.feed(pieces)
+        return await self._calls.call(self._fed.parts, self._ahead() + 2)
 
     def _ahead(self) -> int:
         """Returns how many parts may wait: few if there are many bodies."""

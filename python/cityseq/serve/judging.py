@@ -4,6 +4,7 @@ from __future__ import annotations
 
 from collections import Counter
 from functools import partial
+from itertools import islice
 from typing import Any, Iterable, Iterator, List, Optional
 
 from .._library import Text
@@ -90,6 +91,7 @@ class Fed(Stream):
     Attributes:
         reports: The first reports, as many as are kept.
         codes: How often each reason came.
+        has_more: Whether there may be more parts in what came.
     """
 
     def __init__(
@@ -104,6 +106,8 @@ class Fed(Stream):
         self._seen = 0  # bytes of the rest that have no LF
         self._line: Optional[bytes] = None  # the first one, once it is whole
         self._is_first = self._is_open = True
+        self._coming: Iterator[Task] = iter(())
+        self.has_more = False
         self._too_long: Optional[bytearray] = None  # the begin of a line whose end is looked for
         self.reports: List[Report] = []
         self.codes: "Counter[int]" = Counter()
@@ -118,19 +122,27 @@ class Fed(Stream):
         """Whether the first line is known to be valid."""
         return self._joined.parts > 0 and not self.ended
 
-    def cut(self, pieces: Iterable[bytes]) -> List[Task]:
-        """Returns what judges the parts that have come with some pieces.
+    def feed(self, pieces: Iterable[bytes]) -> None:
+        """Takes some more of the body, when nothing is left of what came before."""
+        self._coming, self.has_more = self._cut(pieces), True
+
+    def parts(self, most: int) -> List[Task]:
+        """Returns what judges the next parts, at most so many: what is packed in few bytes may be
+        long, and no more of it is unpacked.
 
         Raises:
             Problem: The body is broken, or too long.
         """
-        tasks: List[Task] = []
+        found = list(islice(self._coming, most))
+        self.has_more = len(found) == most
+        return found
+
+    def _cut(self, pieces: Iterable[bytes]) -> Iterator[Task]:
         for piece in pieces:
             for text in self._unpacking.feed(piece):
                 if self._is_open and not self.ended:
                     self._rest += text
-                    tasks += self._parts_of_rest()
-        return tasks
+                    yield from self._parts_of_rest()
 
     def end(self) -> List[Task]:
         """Returns what judges what is left.
