@@ -3,10 +3,12 @@
 
     bench/report.py [MEGABYTES [ROUNDS [CASE..]]]      (1000, 3, and all)
 
-usual    `report` of usual lines with four jobs, of the time of `index` with as many, and the memory of both
+usual    `report` of usual lines with four jobs, of the time of `index` with as many, and the memory
+         of both
 tiny     the same of lines of 300 bytes
 one      `report` of one feature, a process of its own: the seconds
-size     the bytes of a page of 10,000 reports and 10 million made-up features (FEATURES sets how many), and the seconds to write it
+size     the bytes of a page of 10,000 reports and 10 million made-up features (FEATURES sets how
+         many), and the seconds to write it
 
 It needs the library python/cityseq/libcityseq.so, and Jinja2 and matplotlib.
 """
@@ -22,7 +24,11 @@ HERE = Path(__file__).resolve().parent
 OUT = HERE / "out"
 sys.path.insert(0, str(HERE.parent / "python"))
 PYTHON = [sys.executable, "-m", "cityseq"]
-SETTINGS = {**os.environ, "PYTHONPATH": str(HERE.parent / "python"), "PYTHONPYCACHEPREFIX": str(OUT / "compiled")}
+SETTINGS = {
+    **os.environ,
+    "PYTHONPATH": str(HERE.parent / "python"),
+    "PYTHONPYCACHEPREFIX": str(OUT / "compiled"),
+}
 SETTINGS.pop("PYTHONDONTWRITEBYTECODE", None)
 PAGE = str(OUT / "report.html")
 
@@ -32,7 +38,11 @@ def stream_of(shape, megabytes):
     path = OUT / f"parts-{shape}-{megabytes}.jsonl"
     if not path.exists():
         with open(path, "wb") as file:
-            subprocess.run([sys.executable, HERE / "make_stream.py", shape, str(megabytes)], stdout=file, check=True)
+            subprocess.run(
+                [sys.executable, HERE / "make_stream.py", shape, str(megabytes)],
+                stdout=file,
+                check=True,
+            )
     return str(path)
 
 
@@ -53,17 +63,23 @@ def by_index(shape, megabytes, rounds):
     build = [*PYTHON, "index", "--jobs", "4", "--output", index, stream]
     pairs = [(run(page), run(build)) for _ in range(rounds)]
     beyond = median(one[0] - 1.5 * other[0] for one, other in pairs)
-    print(f"{shape}: {min(one[0] for one, _ in pairs):.2f} s, peak {min(one[1] for one, _ in pairs):.0f} MB")
-    print(f"    of index, 4 jobs: {median(one[0] / other[0] for one, other in pairs):.2f}, where the peak is"
-          f" {min(other[1] for _, other in pairs):.0f} MB; {beyond:+.2f} s beyond 1.5 times its time (the goal: at most 3 s)")
+    seconds = min(one[0] for one, _ in pairs)
+    peak, other_peak = min(one[1] for one, _ in pairs), min(other[1] for _, other in pairs)
+    ratio = median(one[0] / other[0] for one, other in pairs)
+    print(f"{shape}: {seconds:.2f} s, peak {peak:.0f} MB")
+    print(f"    of index, 4 jobs: {ratio:.2f}, where the peak is {other_peak:.0f} MB")
+    print(f"    {beyond:+.2f} s beyond 1.5 times its time (the goal: at most 3 s)")
 
 
 def one_feature(_megabytes, rounds):
     stream = OUT / "one.jsonl"
     town = (HERE.parent / "examples" / "town.city.jsonl").read_bytes().splitlines(keepends=True)
     stream.write_bytes(b"".join(town[:2]))
-    times = sorted(run([*PYTHON, "report", "--output", PAGE, str(stream)])[0] for _ in range(max(rounds, 5)))
-    print(f"one feature: {times[0]:.2f} s at best, {median(times):.2f} s in the middle (the goal: below 1.5 s)")
+    times = sorted(
+        run([*PYTHON, "report", "--output", PAGE, str(stream)])[0] for _ in range(max(rounds, 5))
+    )
+    middle = median(times)
+    print(f"one feature: {times[0]:.2f} s, {middle:.2f} s in the middle (the goal: below 1.5 s)")
 
 
 def size(_megabytes, _rounds):
@@ -72,7 +88,12 @@ def size(_megabytes, _rounds):
     from cityseq.delivery.facts import Contents, Delivery, File, Reasons, Run
     from cityseq.delivery.page import html
     from cityseq.reports import Report
-    count, chance, begun = int(os.environ.get("FEATURES", 10_000_000)), random.Random(1), time.monotonic()
+
+    count, chance, begun = (
+        int(os.environ.get("FEATURES", 10_000_000)),
+        random.Random(1),
+        time.monotonic(),
+    )
     place, numbers = Place(None), np.random.default_rng(1)
     for _ in range(0, count, 100_000):
         x, y = numbers.normal(84_000, 9_000, 100_000), numbers.normal(447_000, 9_000, 100_000)
@@ -82,15 +103,37 @@ def size(_megabytes, _rounds):
     reasons, reports = Reasons(), []
     for number in range(10_000):
         code = chance.choice((25, 20, 4, 13))
-        report = Report("region/north-west.city.jsonl.gz", 3 + 7 * number, chance.randrange(9_999), code, cityseq.explain(code).text,
-                        f"NL.IMBAG.Pand.05031000000{number:05}", excerpt, 40, "the index is 4")
+        report = Report(
+            "region/north-west.city.jsonl.gz",
+            3 + 7 * number,
+            chance.randrange(9_999),
+            code,
+            cityseq.explain(code).text,
+            f"NL.IMBAG.Pand.05031000000{number:05}",
+            excerpt,
+            40,
+            "the index is 4",
+        )
         reasons.add(report)
         reports.append(report)
-    made = File(reports[0].file, 1, 1, "0" * 64, count, len(reports), contents=Contents(count, {"Building": count}, {"2": count}, {11: count}))
-    run_told = Run(cityseq.__version__, "bench/report.py", "2026-01-01T00:00:00Z", 1.0, 4, 8_388_608, 64, False)
+    made = File(
+        reports[0].file,
+        1,
+        1,
+        "0" * 64,
+        count,
+        len(reports),
+        contents=Contents(count, {"Building": count}, {"2": count}, {11: count}),
+    )
+    run_told = Run(
+        cityseq.__version__, "bench/report.py", "2026-01-01T00:00:00Z", 1.0, 4, 8_388_608, 64, False
+    )
     begun = time.monotonic()
-    text = html(Delivery("size", run_told, [made], [place.area()], reasons.listed(), reports=reports))
-    print(f"page: {len(text.encode()):,} bytes in {time.monotonic() - begun:.1f} s (the goal: below 2,000,000 bytes)")
+    text = html(
+        Delivery("size", run_told, [made], [place.area()], reasons.listed(), reports=reports)
+    )
+    seconds, count = time.monotonic() - begun, len(text.encode())
+    print(f"page: {count:,} bytes in {seconds:.1f} s (the goal: below 2,000,000 bytes)")
 
 
 CASES = {
@@ -107,7 +150,8 @@ def main():
     if not set(words[2:]) <= set(CASES):
         sys.exit(__doc__)
     OUT.mkdir(exist_ok=True)
-    print(f"{megabytes} MB, {rounds} rounds, {os.cpu_count()} processors, load {os.getloadavg()[0]:.1f}, {sys.executable}")
+    load = f"{os.cpu_count()} processors, load {os.getloadavg()[0]:.1f}"
+    print(f"{megabytes} MB, {rounds} rounds, {load}, {sys.executable}")
     for name in words[2:] or CASES:
         CASES[name](megabytes, rounds)
 

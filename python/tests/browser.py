@@ -1,4 +1,5 @@
-"""A Chromium without a window, by its DevTools protocol over two pipes: what a page does when it is loaded from disk."""
+"""A Chromium without a window, by its DevTools protocol over two pipes: what a page does when it is
+loaded from disk."""
 import base64
 import json
 import os
@@ -8,16 +9,34 @@ import subprocess
 import tempfile
 from contextlib import contextmanager, suppress
 
-CHROMIUM = next(filter(None, map(shutil.which, ("chromium", "chromium-browser", "google-chrome"))), None)
-PATIENCE = 60  # seconds that the browser has for an answer: a page that opens a dialog, say, gives none
-WORDS = ("--headless=new", "--no-sandbox", "--disable-gpu", "--disable-dev-shm-usage", "--no-first-run", "--remote-debugging-pipe",
-         "--disable-background-networking", "--disable-component-update", "--disable-sync", "--hide-scrollbars",
-         "--disable-default-apps", "--disable-extensions", "--mute-audio")
+CHROMIUM = next(
+    filter(None, map(shutil.which, ("chromium", "chromium-browser", "google-chrome"))), None
+)
+PATIENCE = (
+    60  # seconds that the browser has for an answer: a page that opens a dialog, say, gives none
+)
+WORDS = (
+    "--headless=new",
+    "--no-sandbox",
+    "--disable-gpu",
+    "--disable-dev-shm-usage",
+    "--no-first-run",
+    "--remote-debugging-pipe",
+    "--disable-background-networking",
+    "--disable-component-update",
+    "--disable-sync",
+    "--hide-scrollbars",
+    "--disable-default-apps",
+    "--disable-extensions",
+    "--mute-audio",
+)
 
 
 class Browser:
-    """One browser with one page. `requests` are the addresses that the page asked for, and `said` is what it wrote to the console,
-    or was said of it there: errors, warnings, what its policy refused."""
+    """One browser with one page.
+
+    `requests` are the addresses that the page asked for. `said` is what it wrote to the console, or
+    was said of it there: errors, warnings, what its policy refused."""
 
     def __init__(self, folder):
         commands, answers = os.pipe(), os.pipe()
@@ -27,14 +46,19 @@ class Browser:
         words = f'exec "$0" "$@" 3<&{commands[0]} 4>&{answers[1]}'
         self._process = subprocess.Popen(
             ["sh", "-c", words, CHROMIUM, *WORDS, f"--user-data-dir={folder}", "about:blank"],
-            pass_fds=(commands[0], answers[1]), stdout=subprocess.DEVNULL, stderr=subprocess.DEVNULL)
+            pass_fds=(commands[0], answers[1]),
+            stdout=subprocess.DEVNULL,
+            stderr=subprocess.DEVNULL,
+        )
         os.close(commands[0])
         os.close(answers[1])
         self._commands, self._answers = open(commands[1], "wb", 0), open(answers[0], "rb")
         self._number, self._rest, self._session = 0, b"", None
         self.requests, self.said, self._events = [], [], []
         target = self.call("Target.createTarget", url="about:blank")["targetId"]
-        self._session = self.call("Target.attachToTarget", targetId=target, flatten=True)["sessionId"]
+        self._session = self.call("Target.attachToTarget", targetId=target, flatten=True)[
+            "sessionId"
+        ]
         for domain in ("Page", "Runtime", "Network", "Log"):
             self.call(f"{domain}.enable")
 
@@ -69,7 +93,9 @@ class Browser:
         if name == "Network.requestWillBeSent":
             self.requests.append(given["request"]["url"])
         elif name == "Runtime.consoleAPICalled":
-            self.said.append(" ".join(str(each.get("value", each.get("description"))) for each in given["args"]))
+            self.said.append(
+                " ".join(str(each.get("value", each.get("description"))) for each in given["args"])
+            )
         elif name == "Runtime.exceptionThrown":
             self.said.append(json.dumps(given["exceptionDetails"]))
         elif name == "Log.entryAdded":
@@ -92,8 +118,17 @@ class Browser:
 
     def load(self, path, width=1280, dark=False, height=900):
         """Loads a file from disk, as a screen of this width shows it."""
-        self.call("Emulation.setDeviceMetricsOverride", width=width, height=height, deviceScaleFactor=1, mobile=width < 600)
-        self.call("Emulation.setEmulatedMedia", features=[{"name": "prefers-color-scheme", "value": "dark" if dark else "light"}])
+        self.call(
+            "Emulation.setDeviceMetricsOverride",
+            width=width,
+            height=height,
+            deviceScaleFactor=1,
+            mobile=width < 600,
+        )
+        self.call(
+            "Emulation.setEmulatedMedia",
+            features=[{"name": "prefers-color-scheme", "value": "dark" if dark else "light"}],
+        )
         self.requests, self.said, self._events = [], [], []
         self.call("Page.navigate", url=path.as_uri())
         while "Page.loadEventFired" not in self._events:
@@ -101,19 +136,36 @@ class Browser:
 
     def run(self, script):
         """What an expression of JavaScript gives, once it is there."""
-        told = self.call("Runtime.evaluate", expression=script, awaitPromise=True, returnByValue=True, userGesture=True)
+        told = self.call(
+            "Runtime.evaluate",
+            expression=script,
+            awaitPromise=True,
+            returnByValue=True,
+            userGesture=True,
+        )
         if "exceptionDetails" in told:
             raise AssertionError(json.dumps(told["exceptionDetails"]))
         return told["result"].get("value")
 
     def picture(self, whole=True):
         """A picture of the page, as PNG."""
-        return base64.b64decode(self.call("Page.captureScreenshot", captureBeyondViewport=whole, **(
-            {"clip": {**self.call("Page.getLayoutMetrics")["cssContentSize"], "scale": 1}} if whole else {}))["data"])
+        return base64.b64decode(
+            self.call(
+                "Page.captureScreenshot",
+                captureBeyondViewport=whole,
+                **(
+                    {"clip": {**self.call("Page.getLayoutMetrics")["cssContentSize"], "scale": 1}}
+                    if whole
+                    else {}
+                ),
+            )["data"]
+        )
 
     def printed(self):
         """The page on A4, as PDF."""
-        return base64.b64decode(self.call("Page.printToPDF", preferCSSPageSize=True, printBackground=True)["data"])
+        return base64.b64decode(
+            self.call("Page.printToPDF", preferCSSPageSize=True, printBackground=True)["data"]
+        )
 
 
 @contextmanager

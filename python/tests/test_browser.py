@@ -1,4 +1,5 @@
-"""The page in a Chromium without a window: it loads nothing, says nothing, runs no text of a stream, and its buttons work."""
+"""The page in a Chromium without a window: it loads nothing, says nothing and runs no text of a
+stream, and its buttons work."""
 import json
 import pathlib
 import tempfile
@@ -14,16 +15,35 @@ from cityseq.delivery import extras
 try:
     extras.need_all()
     from cityseq.delivery import page
+
     MISSING = None if CHROMIUM else "chromium is not there"
 except extras.PackageMissing as fault:
     MISSING = str(fault)
 
-ROWS = "Array.from(document.querySelectorAll('#rows tr'), (row) => Array.from(row.cells, (cell) => cell.textContent))"
+ROWS = """
+Array.from(document.querySelectorAll('#rows tr'),
+           (row) => Array.from(row.cells, (cell) => cell.textContent))
+"""
+# sets a control of the table to a value, as a user does
+SET = """
+(() => {{
+  const control = document.getElementById('{0}');
+  control.value = '{1}';
+  for (const kind of ['input', 'change']) {{ control.dispatchEvent(new Event(kind)); }}
+}})()
+"""
+OPENED = """
+window.addEventListener('beforeprint', () => {
+  window.opened = document.querySelectorAll('details[open]').length;
+})
+"""
 SHAPES = [(width, dark) for width in (1280, 400) for dark in (False, True)]
-# the texts whose contrast with what is behind them is below that of WCAG 2.1 AA: 4.5, or 3 where letters are large
+# the texts whose contrast with what is behind them is below that of WCAG 2.1 AA: 4.5, or 3 where
+# letters are large
 PALE = """
 (() => {
-  const part = (value) => { value /= 255; return value <= 0.03928 ? value / 12.92 : ((value + 0.055) / 1.055) ** 2.4; };
+  const part = (value) =>
+    value <= 10 ? value / 255 / 12.92 : ((value / 255 + 0.055) / 1.055) ** 2.4;
   const light = (rgb) => 0.2126 * part(rgb[0]) + 0.7152 * part(rgb[1]) + 0.0722 * part(rgb[2]);
   const read = (text) => (text.match(/[\\d.]+/g) || [0, 0, 0, 0]).map(Number);
   const behind = (element) => {
@@ -35,12 +55,15 @@ PALE = """
   };
   const found = [];
   for (const element of document.querySelectorAll('body *')) {
-    const own = Array.from(element.childNodes).some((node) => node.nodeType === 3 && node.data.trim());
+    const own = Array.from(element.childNodes)
+      .some((node) => node.nodeType === 3 && node.data.trim());
     if (!own || !element.getClientRects().length || element.closest('script')) { continue; }
     const style = getComputedStyle(element), inDrawing = element instanceof SVGElement;
     const one = light(read(inDrawing ? style.fill : style.color)), other = light(behind(element));
     const ratio = (Math.max(one, other) + 0.05) / (Math.min(one, other) + 0.05);
-    if (ratio < (parseFloat(style.fontSize) >= 24 ? 3 : 4.5)) { found.push(ratio.toFixed(2) + ' ' + element.textContent.slice(0, 40)); }
+    if (ratio < (parseFloat(style.fontSize) >= 24 ? 3 : 4.5)) {
+      found.push(ratio.toFixed(2) + ' ' + element.textContent.slice(0, 40));
+    }
   }
   return found;
 })()
@@ -79,26 +102,52 @@ class InBrowser(unittest.TestCase):
             self.load(made, width)
             self.assertEqual(self.run_in_page("document.documentElement.scrollWidth"), width)
             self.assertEqual(self.run_in_page("document.querySelectorAll('script').length"), 2)
-            self.assertEqual(self.run_in_page("document.querySelectorAll('img, b:not(.numbers b), base, meta[http-equiv=refresh]').length"), 0)
-            self.assertEqual(self.run_in_page("document.querySelector('h1').textContent"), page.cut(made_up.HOSTILE[0]))
-            self.assertEqual(self.run_in_page("document.title").partition(":")[0], page.cut(made_up.HOSTILE[0]))
+            self.assertEqual(
+                self.run_in_page("document.querySelectorAll('img, base, td b, h1 b, p b').length"),
+                0,
+            )
+            self.assertEqual(
+                self.run_in_page("document.querySelector('h1').textContent"),
+                page.cut(made_up.HOSTILE[0]),
+            )
+            self.assertEqual(
+                self.run_in_page("document.title").partition(":")[0], page.cut(made_up.HOSTILE[0])
+            )
             self.assertEqual(self.run_in_page("document.querySelectorAll('section').length"), 6)
             shown = self.run_in_page(ROWS)
-            self.assertEqual([row[4] for row in shown], [page.cut(each.id) for each in made.reports])
+            self.assertEqual(
+                [row[4] for row in shown], [page.cut(each.id) for each in made.reports]
+            )
             # what an attacker could ask of the page's own functions does nothing either
-            self.run_in_page("document.getElementById('filter').value = '<script>'; document.getElementById('filter')"
-                             ".dispatchEvent(new Event('input'))")
+            self.run_in_page(SET.format("filter", "<script>"))
             self.assertEqual(self.browser.said, [])
 
     def test_a_stream_of_hostile_texts(self):
-        """The same from the bytes of a stream on: ids, coordinate system, excerpts and the name of the file."""
+        """The same from the bytes of a stream on: ids, system, excerpts, the name of the file."""
         texts = [text for text in made_up.HOSTILE if text]
         header = json.loads(HEADER)
         header["metadata"] = {"referenceSystem": texts[0]}
-        lines = [{"type": "CityJSONFeature", "id": text, "CityObjects": {text: {"type": text[:50]}}, "vertices": [[0, 0, 0]]} for text in texts]
-        lines += [{**line, "CityObjects": {line["id"]: {"type": "Building"}}} for line in lines for _ in "ab"]
+        lines = [
+            {
+                "type": "CityJSONFeature",
+                "id": text,
+                "CityObjects": {text: {"type": text[:50]}},
+                "vertices": [[0, 0, 0]],
+            }
+            for text in texts
+        ]
+        lines += [
+            {**line, "CityObjects": {line["id"]: {"type": "Building"}}}
+            for line in lines
+            for _ in "ab"
+        ]
         path = pathlib.Path(self.folder.name, "<img src=x onerror=alert(1)>.jsonl")
-        path.write_bytes(b"".join(json.dumps(line, ensure_ascii=False).encode("utf-8", "backslashreplace") + b"\n" for line in [header, *lines]))
+        path.write_bytes(
+            b"".join(
+                json.dumps(line, ensure_ascii=False).encode("utf-8", "backslashreplace") + b"\n"
+                for line in [header, *lines]
+            )
+        )
         output = pathlib.Path(self.folder.name, "hostile.html")
         try:
             made = cityseq.report(path, output)
@@ -108,37 +157,46 @@ class InBrowser(unittest.TestCase):
         self.browser.load(output)
         self.assertEqual((self.browser.requests, self.browser.said), ([output.as_uri()], []))
         self.assertEqual(self.run_in_page("document.title").partition(":")[0], "hostile")
-        self.assertEqual([row[4] for row in self.run_in_page(ROWS)], [page.cut(text) for text in texts])
+        self.assertEqual(
+            [row[4] for row in self.run_in_page(ROWS)], [page.cut(text) for text in texts]
+        )
         self.assertEqual(self.run_in_page("document.querySelectorAll('img, script').length"), 2)
 
     def test_a_script_that_got_in_would_not_run(self):
         path = pathlib.Path(self.folder.name, "broken.html")
-        body = "<body><script>window.ran = 1</script><p onclick='window.ran = 1' style='color: red'>x</p>"
+        body = "<body><script>window.ran = 1</script><p onclick='window.ran = 1'>x</p>"
         path.write_text(page.html(made_up.usual()).replace("<body>", body), encoding="utf-8")
         self.browser.load(path)
         self.run_in_page("document.querySelector('p').click()")
         self.assertIsNone(self.run_in_page("window.ran"))
-        self.assertTrue(any("Content Security Policy" in said for said in self.browser.said), self.browser.said)
+        self.assertTrue(
+            any("Content Security Policy" in said for said in self.browser.said), self.browser.said
+        )
 
     def test_reports_are_shown_step_by_step(self):
         self.load(made_up.usual(10_000))
         self.assertEqual(len(self.run_in_page(ROWS)), 100)
         self.run_in_page("document.getElementById('more').click()")
         self.assertEqual(len(self.run_in_page(ROWS)), 600)
-        self.assertEqual(self.run_in_page("document.getElementById('count').textContent"), "Showing 600 of 10,000 reports")
+        self.assertEqual(
+            self.run_in_page("document.getElementById('count').textContent"),
+            "Showing 600 of 10,000 reports",
+        )
 
     def test_the_filter_selects(self):
         made = made_up.usual(60)
         self.load(made)
         wanted = [str(each.line) for each in made.reports if each.code == 4]
-        self.run_in_page("(() => { const one = document.getElementById('reason'); one.value = '4'; one.dispatchEvent(new Event('change')); })()")
+        self.run_in_page(SET.format("reason", "4"))
         self.assertEqual([row[1] for row in self.run_in_page(ROWS)], wanted)
         self.assertTrue(0 < len(wanted) < 60)
-        self.run_in_page("(() => { const one = document.getElementById('reason'); one.value = ''; one.dispatchEvent(new Event('change')); })()")
-        self.run_in_page("(() => { const one = document.getElementById('filter'); one.value = 'pand.0503100000000011';"
-                         " one.dispatchEvent(new Event('input')); })()")
+        self.run_in_page(SET.format("reason", ""))
+        self.run_in_page(SET.format("filter", "pand.0503100000000011"))
         self.assertEqual([row[1] for row in self.run_in_page(ROWS)], ["11"])
-        self.assertEqual(self.run_in_page("document.getElementById('count').textContent"), "Showing 1 of 1 reports (of 60)")
+        self.assertEqual(
+            self.run_in_page("document.getElementById('count').textContent"),
+            "Showing 1 of 1 reports (of 60)",
+        )
 
     def test_heads_sort(self):
         made = made_up.usual(60)
@@ -146,13 +204,20 @@ class InBrowser(unittest.TestCase):
         sort = "document.querySelectorAll('#reports thead button')[{0}].click()"
         state = "document.querySelectorAll('#reports thead th')[{0}].getAttribute('aria-sort')"
         lines = [each.line for each in made.reports]
-        for column, key in ((1, lambda each: each.line), (3, lambda each: each.code), (4, lambda each: each.id)):
+        for column, key in (
+            (1, lambda each: each.line),
+            (3, lambda each: each.code),
+            (4, lambda each: each.id),
+        ):
             for way in ("ascending", "descending"):
                 self.run_in_page(sort.format(column))
                 wanted = sorted(made.reports, key=key, reverse=way == "descending")
                 wanted.sort(key=key, reverse=way == "descending")
                 shown = [int(row[1]) for row in self.run_in_page(ROWS)]
-                self.assertEqual([key(made.reports[lines.index(line)]) for line in shown], [key(each) for each in wanted])
+                self.assertEqual(
+                    [key(made.reports[lines.index(line)]) for line in shown],
+                    [key(each) for each in wanted],
+                )
                 self.assertEqual(sorted(shown), lines)
                 self.assertEqual(self.run_in_page(state.format(column)), way)
 
@@ -160,36 +225,73 @@ class InBrowser(unittest.TestCase):
         self.load(made_up.usual(60))
         self.run_in_page("document.querySelectorAll('#reports thead button')[1].focus()")
         for kind in ("keyDown", "keyUp"):
-            self.browser.call("Input.dispatchKeyEvent", type=kind, key="Enter", code="Enter", windowsVirtualKeyCode=13, text="\r")
-        self.assertEqual(self.run_in_page("document.querySelectorAll('#reports thead th')[1].getAttribute('aria-sort')"), "ascending")
+            self.browser.call(
+                "Input.dispatchKeyEvent",
+                type=kind,
+                key="Enter",
+                code="Enter",
+                windowsVirtualKeyCode=13,
+                text="\r",
+            )
+        self.assertEqual(
+            self.run_in_page(
+                "document.querySelectorAll('#reports thead th')[1].getAttribute('aria-sort')"
+            ),
+            "ascending",
+        )
 
     def test_the_box_is_copied(self):
-        self.browser.call("Browser.grantPermissions", permissions=["clipboardReadWrite", "clipboardSanitizedWrite"])
+        self.browser.call(
+            "Browser.grantPermissions",
+            permissions=["clipboardReadWrite", "clipboardSanitizedWrite"],
+        )
         self.load(made_up.usual())
         self.browser.call("Page.bringToFront")
         button = "document.querySelector('[data-of=area-1]')"
         self.assertFalse(self.run_in_page(f"{button}.hidden"))
         self.run_in_page(f"{button}.click()")
         self.run_in_page("new Promise((done) => setTimeout(done, 300))")
-        self.assertEqual(self.run_in_page("document.getElementById('said').textContent"), "Copied to the clipboard")
-        self.assertEqual(self.run_in_page("navigator.clipboard.readText()"), "84616.468,447422.999,85199.1,448101.25")
+        self.assertEqual(
+            self.run_in_page("document.getElementById('said').textContent"),
+            "Copied to the clipboard",
+        )
+        self.assertEqual(
+            self.run_in_page("navigator.clipboard.readText()"),
+            "84616.468,447422.999,85199.1,448101.25",
+        )
 
     def test_texts_stand_out(self):
         for dark in (False, True):
             self.load(made_up.usual(), dark=dark)
-            self.run_in_page("for (const one of document.querySelectorAll('details')) { one.open = true; }")
+            self.run_in_page(
+                "for (const one of document.querySelectorAll('details')) { one.open = true; }"
+            )
             self.assertEqual(self.run_in_page(PALE), [])
 
     def test_what_a_screen_reader_is_told(self):
         self.load(made_up.usual())
         self.browser.call("Accessibility.enable")
         nodes = self.browser.call("Accessibility.getFullAXTree")["nodes"]
-        told = {(node["role"]["value"], node.get("name", {}).get("value")) for node in nodes if not node["ignored"]}
-        for wanted in (("heading", "delivery"), ("heading", "What is invalid"), ("image", "Map"), ("image", "Lines by their length"),
-                       ("button", "Copy 84616.468,447422.999,85199.1,448101.25"), ("columnheader", "Verdict"),
-                       ("rowheader", "north.city.jsonl.gz"), ("searchbox", "Text in file, feature, reason or excerpt"),
-                       ("combobox", "Reason"), ("button", "Excerpt")):
-            self.assertTrue(wanted in told or (wanted[0].replace("image", "img"), wanted[1]) in told, wanted)
+        told = {
+            (node["role"]["value"], node.get("name", {}).get("value"))
+            for node in nodes
+            if not node["ignored"]
+        }
+        for wanted in (
+            ("heading", "delivery"),
+            ("heading", "What is invalid"),
+            ("image", "Map"),
+            ("image", "Lines by their length"),
+            ("button", "Copy 84616.468,447422.999,85199.1,448101.25"),
+            ("columnheader", "Verdict"),
+            ("rowheader", "north.city.jsonl.gz"),
+            ("searchbox", "Text in file, feature, reason or excerpt"),
+            ("combobox", "Reason"),
+            ("button", "Excerpt"),
+        ):
+            self.assertTrue(
+                wanted in told or (wanted[0].replace("image", "img"), wanted[1]) in told, wanted
+            )
 
     def test_without_its_script_the_first_reports_are_there(self):
         self.browser.call("Emulation.setScriptExecutionDisabled", value=True)
@@ -201,7 +303,7 @@ class InBrowser(unittest.TestCase):
 
     def test_on_paper_it_is_a4_and_details_are_open(self):
         self.load(made_up.usual(3))
-        self.run_in_page("window.addEventListener('beforeprint', () => { window.opened = document.querySelectorAll('details[open]').length; })")
+        self.run_in_page(OPENED)
         printed = self.browser.printed()
         self.assertTrue(printed.startswith(b"%PDF-"))
         self.assertRegex(printed, rb"/MediaBox \[0 0 59\d\.\d+ 84\d\.\d+\]")

@@ -1,9 +1,9 @@
-"""The page about a delivery, of facts that no stream was read for: its text, its size, its drawings, and what is next to it."""
+"""The page about a delivery, of facts that no stream was read for: its text, size and drawings, and
+the files next to it."""
 import csv
 import html.parser
 import json
 import os
-import random
 import re
 import unittest
 
@@ -15,7 +15,8 @@ from cityseq.delivery.told import delivery_object
 
 try:
     extras.need_all()
-    from cityseq.delivery import areas, charts, drawing, facts, lists, page
+    from cityseq.delivery import lists, page
+
     MISSING = None
 except extras.PackageMissing as fault:
     MISSING = str(fault)
@@ -51,16 +52,34 @@ class Elements(html.parser.HTMLParser):
 @unittest.skipIf(MISSING, MISSING)
 class Page(unittest.TestCase):
     def test_its_elements_are_closed(self):
-        for made in (made_up.usual(), made_up.usual(0), made_up.usual(cells=True), made_up.hostile()):
+        for made in (
+            made_up.usual(),
+            made_up.usual(0),
+            made_up.usual(cells=True),
+            made_up.hostile(),
+        ):
             self.assertEqual(Elements(page.html(made)).open, [])
 
     def test_nothing_is_loaded_from_elsewhere(self):
         for made in (made_up.usual(), made_up.hostile()):
             found = Elements(page.html(made))
-            self.assertFalse({"img", "link", "iframe", "object", "embed", "base", "form", "audio", "video"} & set(found.tags))
-            self.assertEqual([(tag, value) for tag, name, value in found.attributes if name in ("src", "style", "srcset", "action")], [])
+            self.assertFalse(
+                {"img", "link", "iframe", "object", "embed", "base", "form", "audio", "video"}
+                & set(found.tags)
+            )
+            self.assertEqual(
+                [
+                    (tag, value)
+                    for tag, name, value in found.attributes
+                    if name in ("src", "style", "srcset", "action")
+                ],
+                [],
+            )
             links = {value for _, name, value in found.attributes if name == "href"}
-            self.assertTrue(all(link.startswith(("#reason-", "https://www.cityjson.org/")) for link in links), links)
+            self.assertTrue(
+                all(link.startswith(("#reason-", "https://www.cityjson.org/")) for link in links),
+                links,
+            )
 
     def test_only_its_own_script_may_run(self):
         text = page.html(made_up.hostile())
@@ -75,7 +94,9 @@ class Page(unittest.TestCase):
 
     def test_no_control_and_no_mark_of_direction_gets_in(self):
         text = page.html(made_up.hostile())
-        self.assertEqual([sign for sign in set(text) if not sign.isprintable() and sign != "\n"], [])
+        self.assertEqual(
+            [sign for sign in set(text) if not sign.isprintable() and sign != "\n"], []
+        )
         text.encode("utf-8")
 
     def test_a_long_text_is_cut_and_that_is_said(self):
@@ -106,143 +127,93 @@ class Page(unittest.TestCase):
         self.assertIn("All 200 files are valid.", text)
 
     def test_the_details_of_the_only_file_are_open(self):
-        self.assertEqual(page.html(made_up.delivery([], [made_up.file("a")])).count("<details open>"), 1)
+        self.assertEqual(
+            page.html(made_up.delivery([], [made_up.file("a")])).count("<details open>"), 1
+        )
         self.assertEqual(page.html(made_up.usual()).count("<details open>"), 0)
 
     def test_very_many_files(self):
         files = [made_up.file(f"{number}.city.jsonl.gz") for number in range(5_000)]
         text = page.html(made_up.delivery(made_up.usual(10_000).reports, files))
-        self.assertEqual((text.count('<tr class="row">'), text.count("<summary>Details")), (page.MOST_FILES, page.MOST_DETAILED))
+        self.assertEqual(
+            (text.count('<tr class="row">'), text.count("<summary>Details")),
+            (page.MOST_FILES, page.MOST_DETAILED),
+        )
         self.assertIn("The first 2,000 of 5,000 files are listed", text)
         self.assertLess(len(text.encode()), 2_000_000)
 
     def test_headings_go_down_by_one(self):
-        levels = [int(tag[1]) for tag in Elements(page.html(made_up.usual())).tags if re.fullmatch(r"h\d", tag)]
+        levels = [
+            int(tag[1])
+            for tag in Elements(page.html(made_up.usual())).tags
+            if re.fullmatch(r"h\d", tag)
+        ]
         self.assertEqual((levels[0], levels.count(1)), (1, 1))
         self.assertTrue(all(after - before <= 1 for before, after in zip(levels, levels[1:])))
 
     def test_each_table_has_heads_of_columns(self):
         text = page.html(made_up.usual())
         for head in re.findall(r"<thead>(.*?)</thead>", text, re.DOTALL):
-            self.assertEqual(len(re.findall(r"<th\b", head)), len(re.findall('<th scope="col"', head)))
+            self.assertEqual(
+                len(re.findall(r"<th\b", head)), len(re.findall('<th scope="col"', head))
+            )
 
     def test_ids_are_those_of_one_element(self):
-        ids = [value for _, name, value in Elements(page.html(made_up.usual())).attributes if name == "id"]
+        ids = [
+            value
+            for _, name, value in Elements(page.html(made_up.usual())).attributes
+            if name == "id"
+        ]
         self.assertEqual(len(ids), len(set(ids)))
-        referred = [value.split() for _, name, value in Elements(page.html(made_up.usual())).attributes
-                    if name in ("aria-labelledby", "aria-describedby", "for", "data-of")]
+        referred = [
+            value.split()
+            for _, name, value in Elements(page.html(made_up.usual())).attributes
+            if name in ("aria-labelledby", "aria-describedby", "for", "data-of")
+        ]
         self.assertEqual([each for values in referred for each in values if each not in ids], [])
 
     def test_verdicts(self):
-        for statuses, wanted in (((0,), "The file is valid."), ((0, 0), "All 2 files are valid."), ((3,), "The file was not judged."),
-                                 ((1,), "The file is invalid (1 invalid line)."),
-                                 ((0, 1), "Of 2 files 1 is valid and 1 is invalid (1 invalid line)."),
-                                 ((0, 0, 1, 1, 5), "Of 5 files 2 are valid, 2 are invalid (2 invalid lines) and 1 was not judged.")):
-            files = [made_up.file(str(number), status, int(status == 1)) for number, status in enumerate(statuses)]
+        for statuses, wanted in (
+            ((0,), "The file is valid."),
+            ((0, 0), "All 2 files are valid."),
+            ((3,), "The file was not judged."),
+            ((1,), "The file is invalid (1 invalid line)."),
+            ((0, 1), "Of 2 files 1 is valid and 1 is invalid (1 invalid line)."),
+            (
+                (0, 0, 1, 1, 5),
+                "Of 5 files 2 are valid, 2 are invalid (2 invalid lines) and 1 was not judged.",
+            ),
+        ):
+            files = [
+                made_up.file(str(number), status, int(status == 1))
+                for number, status in enumerate(statuses)
+            ]
             self.assertEqual(page.verdict_of(made_up.delivery([], files)), wanted)
 
     def test_a_place_in_an_excerpt(self):
-        for excerpt, column, wanted in (("abc", 1, ("a", "b", "c")), ("abc", 3, ("abc", page.END, "")),
-                                        ("", 0, ("", page.END, "")), ("築x", 2, ("築", "x", "")), ("é築x", 3, ("é築", "x", ""))):
+        for excerpt, column, wanted in (
+            ("abc", 1, ("a", "b", "c")),
+            ("abc", 3, ("abc", page.END, "")),
+            ("", 0, ("", page.END, "")),
+            ("築x", 2, ("築", "x", "")),
+            ("é築x", 3, ("é築", "x", "")),
+        ):
             self.assertEqual(page.split_at(excerpt, column), wanted)
 
     def test_sizes_and_shares(self):
-        self.assertEqual([page.size(each) for each in (None, 0, 999, 1_000, 123_456_789, 10**13)],
-                         ["unknown", "0 bytes", "999 bytes", "1 kB", "123 MB", "10 TB"])
-        self.assertEqual([page.share(*each) for each in ((0, 9), (1, 1_000), (1, 3), (3, 3), (0, 0))], ["0 %", "0.1 %", "33 %", "100 %", "0 %"])
+        self.assertEqual(
+            [page.size(each) for each in (None, 0, 999, 1_000, 123_456_789, 10**13)],
+            ["unknown", "0 bytes", "999 bytes", "1 kB", "123 MB", "10 TB"],
+        )
+        self.assertEqual(
+            [page.share(*each) for each in ((0, 9), (1, 1_000), (1, 3), (3, 3), (0, 0))],
+            ["0 %", "0.1 %", "33 %", "100 %", "0 %"],
+        )
 
 
 def data_of(text):
     """The data in a page."""
     return json.loads(re.search('<script id="data"[^>]*>(.*?)</script>', text, re.DOTALL).group(1))
-
-
-@unittest.skipIf(MISSING, MISSING)
-class Drawings(unittest.TestCase):
-    def elements(self, svg):
-        found = Elements(svg)
-        self.assertEqual(found.open, [])
-        self.assertEqual([pair for pair in found.attributes if pair[1] in ("style", "href", "clip-path", "onload")], [])
-        return found
-
-    def test_a_map_of_extents_has_one_path(self):
-        made = charts.map_of(made_up.area(), "a")
-        found = self.elements(made.svg)
-        self.assertEqual(("path", "class", "fill-extent") in found.attributes, True)
-        self.assertEqual(made.shades, [])
-        self.assertEqual(made.hidden, 1)
-        self.assertIn("900 features, each by its extent, and 30 crosses", made.told)
-
-    def test_a_map_of_cells_is_small(self):
-        made = charts.map_of(made_up.area(cells=True), "a")
-        self.elements(made.svg)
-        self.assertLess(len(made.svg), 120_000)
-        self.assertEqual([made.shades[0][1], made.shades[-1][2]], [1, max(made_up.area(cells=True).cells.values())])
-
-    def test_any_extent_can_be_drawn(self):
-        chance = random.Random(3)
-        for _ in range(60):
-            x, y = (chance.choice((-1, 1)) * 10.0 ** chance.randrange(-18, 140) for _ in range(2))
-            wide, high = (chance.choice((0, 10.0 ** chance.randrange(-18, 140))) for _ in range(2))
-            made = facts.Area(None, features=1, extents=[(x, y, x + wide, y + high)], spots=[(x, y), (-x, 1e149)])
-            svg = charts.map_of(made, "a").svg
-            self.elements(svg)
-            self.assertNotRegex(svg, "nan|inf")
-
-    def test_invalid_features_alone_make_a_map(self):
-        self.assertIn("0 features", charts.map_of(facts.Area(None, spots=[(1.0, 2.0)]), "a").told)
-
-    def test_a_histogram_of_any_lengths(self):
-        for lengths in ({6: 1}, {6: 1, 30: 10**9}, {n: n for n in range(6, 31)}, made_up.file("x").contents.lengths):
-            self.elements(charts.histogram(lengths, "a"))
-
-    def test_titles_are_text(self):
-        made, _ = drawing.figure(100, 50, 20)
-        svg = drawing.drawn(made, "a", "<script>", "</svg>&")
-        self.assertIn("&lt;script&gt;", svg)
-        self.assertIn("&lt;/svg&gt;&amp;", svg)
-
-
-@unittest.skipIf(MISSING, MISSING)
-class Grids(unittest.TestCase):
-    def test_each_centre_is_counted_in_its_cell(self):
-        chance = random.Random(4)
-        for _ in range(40):
-            grid, centres = areas.Grid(), []
-            for _ in range(chance.randrange(1, 5)):
-                middle, spread = chance.uniform(-1e6, 1e6), 10.0 ** chance.randrange(-3, 7)
-                some = [(chance.gauss(middle, spread), chance.gauss(-middle, spread)) for _ in range(chance.randrange(1, 3_000))]
-                centres += some
-                grid.add(*(areas.np.array(axis) for axis in zip(*some)))
-                if chance.random() < 0.5:
-                    grid.cells()
-            size, cells = grid.cells()
-            wanted = {}
-            for x, y in centres:
-                cell = int(x // size), int(y // size)
-                wanted[cell] = wanted.get(cell, 0) + 1
-            self.assertEqual(cells, wanted)
-            for axis in (0, 1):
-                self.assertLessEqual(max(cell[axis] for cell in cells) - min(cell[axis] for cell in cells), areas.GRID)
-
-    def test_few_features_keep_their_extents(self):
-        place = areas.Place(None)
-        edges = areas.np.arange(10.0)
-        place.add(edges, edges + 1, edges, edges + 2)
-        self.assertEqual(place.area().extents[3], (3.0, 3.0, 4.0, 5.0))
-        many = areas.np.zeros(areas.FEW)
-        place.add(many, many, many, many)
-        self.assertEqual((place.area().extents, place.area().features), ([], areas.FEW + 10))
-
-    def test_what_is_no_place_is_left_out(self):
-        place, edges = areas.Place(None), areas.np.array([0.0, 1e200, areas.np.inf, areas.np.nan, -areas.np.inf])
-        place.add(edges, edges, edges, edges)
-        place.mark([(areas.np.nan, 0.0), (1.0, 2.0), (1e300, 0.0)])
-        self.assertEqual((place.area().features, place.area().spots), (1, [(1.0, 2.0)]))
-
-    def test_a_box_around_boxes(self):
-        self.assertEqual(areas.joined(["0.5,1,2,3", "-1,1.25,2,2.000"]), "-1,1,2,3")
-        self.assertEqual((areas.joined([]), areas.joined(["0,0,1,1", None])), (None, None))
 
 
 @unittest.skipIf(MISSING, MISSING)
@@ -261,8 +232,10 @@ class Beside(InFolder):
         reports = made_up.usual(1_000).reports
         rows, objects = self.written(reports)
         self.assertEqual(tuple(rows[0]), lists.COLUMNS)
-        self.assertEqual([(row[0], int(row[1]), int(row[2]), int(row[3]), row[5]) for row in rows[1:]],
-                         [(each.file, each.line, each.byte, each.code, each.id) for each in reports])
+        self.assertEqual(
+            [(row[0], int(row[1]), int(row[2]), int(row[3]), row[5]) for row in rows[1:]],
+            [(each.file, each.line, each.byte, each.code, each.id) for each in reports],
+        )
         self.assertEqual([each["id"] for each in objects], [each.id for each in reports])
 
     def test_hostile_texts_are_cells_of_text(self):
@@ -273,11 +246,20 @@ class Beside(InFolder):
                 self.assertFalse(cell.startswith(("=", "+", "-", "@", "\t", "\r")), cell[:20])
                 self.assertTrue(cell.isprintable(), cell[:20])
                 self.assertLess(len(cell), 32_767)
-        self.assertEqual([each["id"] for each in objects], [text or "x" for text in made_up.HOSTILE])
+        self.assertEqual(
+            [each["id"] for each in objects], [text or "x" for text in made_up.HOSTILE]
+        )
 
     def test_names(self):
-        for name, wanted in (("a/delivery.html", "a/delivery"), ("x.HTM", "x"), ("x", "x"), ("x.txt", "x.txt")):
-            self.assertEqual(lists.names_of_lists(name), (f"{wanted}.reports.csv", f"{wanted}.reports.jsonl"))
+        for name, wanted in (
+            ("a/delivery.html", "a/delivery"),
+            ("x.HTM", "x"),
+            ("x", "x"),
+            ("x.txt", "x.txt"),
+        ):
+            self.assertEqual(
+                lists.names_of_lists(name), (f"{wanted}.reports.csv", f"{wanted}.reports.jsonl")
+            )
 
     def test_what_is_not_whole_leaves_nothing(self):
         made = lists.Lists(str(self.folder / "page.html"))
@@ -316,10 +298,15 @@ class Object(unittest.TestCase):
 
     def test_counts(self):
         told = delivery_object(made_up.usual())
-        self.assertEqual((told["status"], told["lines"], told["features"], told["invalid"]), (3, 3_603, 3_600, 60))
+        self.assertEqual(
+            (told["status"], told["lines"], told["features"], told["invalid"]),
+            (3, 3_603, 3_600, 60),
+        )
         self.assertEqual(sum(reason["lines"] for reason in told["reasons"]), 60)
         self.assertEqual(told["line_lengths"][0], {"from": 512, "to": 1_023, "features": 9})
-        self.assertEqual(told["files"][0]["bbox"], ["84616.468", "447422.999", "85199.1", 448101.25])
+        self.assertEqual(
+            told["files"][0]["bbox"], ["84616.468", "447422.999", "85199.1", 448101.25]
+        )
 
 
 class Missing(unittest.TestCase):

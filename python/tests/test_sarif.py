@@ -1,4 +1,4 @@
-"""Reports as SARIF 2.1.0: what a log has to have by the standard, and that it is that of the reports."""
+"""Reports as SARIF 2.1.0: what the standard asks of a log, and that it is that of the reports."""
 import json
 import unittest
 from urllib.parse import unquote
@@ -15,20 +15,38 @@ class Log(InFolder):
         told = json.loads(output)
         self.assertEqual((told["version"], len(told["runs"])), ("2.1.0", 1))
         run = told["runs"][0]
-        self.assertEqual((run["tool"]["driver"]["name"], run["tool"]["driver"]["version"]), ("cityseq", cityseq.__version__))
+        self.assertEqual(
+            (run["tool"]["driver"]["name"], run["tool"]["driver"]["version"]),
+            ("cityseq", cityseq.__version__),
+        )
         rules = {rule["id"] for rule in run["tool"]["driver"]["rules"]}
         for result in run["results"]:
             self.assertIn(result["ruleId"], rules)
             self.assertTrue(result["message"]["text"])
-            self.assertGreaterEqual(result["locations"][0]["physicalLocation"]["region"]["startLine"], 1)
+            self.assertGreaterEqual(
+                result["locations"][0]["physicalLocation"]["region"]["startLine"], 1
+            )
         return run
 
     def test_each_report_is_a_result(self):
         paths = [example("delivery"), example("town"), example("broken")]
         run = self.log("--keep-going", *paths, status=1)
-        wanted = [(report.file, report.line, str(report.code)) for path in paths for report in cityseq.check(path, keep_going=True).reports]
-        found = [(result["locations"][0]["physicalLocation"], result["ruleId"]) for result in run["results"]]
-        self.assertEqual([(unquote(place["artifactLocation"]["uri"]), place["region"]["startLine"], code) for place, code in found], wanted)
+        wanted = [
+            (report.file, report.line, str(report.code))
+            for path in paths
+            for report in cityseq.check(path, keep_going=True).reports
+        ]
+        found = [
+            (result["locations"][0]["physicalLocation"], result["ruleId"])
+            for result in run["results"]
+        ]
+        self.assertEqual(
+            [
+                (unquote(place["artifactLocation"]["uri"]), place["region"]["startLine"], code)
+                for place, code in found
+            ],
+            wanted,
+        )
         self.assertEqual(run["invocations"], [{"executionSuccessful": True}])
 
     def test_a_valid_stream_has_none(self):
@@ -40,17 +58,29 @@ class Log(InFolder):
     def test_a_fault_is_told(self):
         run = self.log(self.folder / "none", example("town"), status=3)
         self.assertFalse(run["invocations"][0]["executionSuccessful"])
-        self.assertIn("No such file", run["invocations"][0]["toolExecutionNotifications"][0]["message"]["text"])
+        self.assertIn(
+            "No such file",
+            run["invocations"][0]["toolExecutionNotifications"][0]["message"]["text"],
+        )
 
     def test_hostile_names_and_ids(self):
         path = self.file(HEADER + feature("<b>\\u202e\\ud800", last=9), "a b%ü#?.jsonl")
         (result,) = self.log(path, status=1)["results"]
-        self.assertNotRegex(result["locations"][0]["physicalLocation"]["artifactLocation"]["uri"], "[ #?ü]")
+        self.assertNotRegex(
+            result["locations"][0]["physicalLocation"]["artifactLocation"]["uri"], "[ #?ü]"
+        )
         self.assertIn("\\u202e\\ud800", result["message"]["text"])
 
     def test_requests_that_are_refused(self):
-        for words in (["--json"], ["--quiet"], ["--summary"], ["--record", self.folder / "record", "--resume"]):
-            self.assertEqual(command("check", "--format", "sarif", *words, example("town"))[::2], (b"", 2))
+        for words in (
+            ["--json"],
+            ["--quiet"],
+            ["--summary"],
+            ["--record", self.folder / "record", "--resume"],
+        ):
+            self.assertEqual(
+                command("check", "--format", "sarif", *words, example("town"))[::2], (b"", 2)
+            )
         self.assertEqual(command("check", "--format", "xml", example("town"))[::2], (b"", 2))
 
 
