@@ -102,8 +102,11 @@ def cut(megabytes, rounds):
         stream, index = stream_of(shape, megabytes), str(OUT / f"cut-{shape}.gpkg")
         run([*PYTHON, "index", "--output", index, stream])
         selected = [*PYTHON, "filter", "--index", index, f"--bbox={box}"]
-        found = subprocess.run(selected, stdout=subprocess.PIPE, env=SETTINGS, check=True).stdout
-        print(f"{shape}: {found.count(10) - 1} features, {len(found) / 1e6:.1f} MB")
+        target = str(OUT / "cut.city.jsonl")
+        run([*selected, "--output", target])
+        with open(target, "rb") as file:
+            features = sum(1 for _ in file) - 1
+        print(f"{shape}: {features} features, {os.path.getsize(target) / 1e6:.1f} MB")
         whole = {
             "filter, 4 jobs": ([*PYTHON, "filter", "--jobs", "4", f"--bbox={box}", stream], None)
         }

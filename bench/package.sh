@@ -1,14 +1,15 @@
 #!/usr/bin/env bash
-# Measures two cases of the Python package's command that depend on its own code. Each is a ratio of
-# two runs of one round, once of the time by the clock and once of processor time. It prints the
-# least ratio and the median of all rounds.
+# Measures cases of the Python package's command that depend on its own code. Each is a ratio of two
+# runs of one round, once of the time by the clock and once of processor time. It prints the least
+# ratio and the median of all rounds.
 #
 # - ids: `filter` by a million ids, compared with ten ids, with one job, on 600 MB of a million
 #   features.
+# - mixed: the same ids in no order.
 # - packed: `check` of eight .gz files with four jobs, compared with `xargs -P4` of zcat and the
 #   program.
 #
-#   bench/package.sh [ROUNDS [CASE..]]      (3, and both)
+#   bench/package.sh [ROUNDS [CASE..]]      (3, and all)
 #
 # It needs the library python/cityseq/libcityseq.so, the built program, which PROGRAM may name, and
 # python3, which PYTHON may name. FEATURES sets the number of features and ids (1000000).
@@ -19,10 +20,11 @@ export PYTHONPYCACHEPREFIX=$PWD/out/compiled
 unset PYTHONDONTWRITEBYTECODE
 rounds=${1:-3}
 shift $(($# < 1 ? $# : 1))
-[ $# -gt 0 ] || set -- ids packed
+[ $# -gt 0 ] || set -- ids mixed packed
 PYTHONPATH=../python "${PYTHON:-python3}" - "$(realpath "${PROGRAM:-../crates/cityseq/out/cityseq}")" "${FEATURES:-1000000}" "$rounds" "$@" <<'MEASURE'
 import gzip
 import os
+import random
 import resource
 import subprocess
 import sys
@@ -77,12 +79,20 @@ def compare(name, goal, ours, base):
           f" (goal {goal}); load {os.getloadavg()[0]:.1f}")
 
 
-if "ids" in cases:
+def ids_of(numbers):
+    """What writes the ids of these features, one a line."""
+    return lambda file: file.writelines(b"b%07d\n" % (number * 2) for number in numbers)
+
+
+for case in ("ids", "mixed"):
+    if case not in cases:
+        continue
     stream = made(f"out/ids-{features}.jsonl", write_stream)
-    many = made(f"out/ids-{features}.txt", lambda file: file.writelines(b"b%07d\n" % (number * 2) for number in range(features)))
-    ten = made("out/ids-10.txt", lambda file: file.writelines(b"b%07d\n" % (number * 2) for number in range(10)))
+    numbers = range(features) if case == "ids" else random.Random(1).sample(range(features), features)
+    many = made(f"out/{case}-{features}.txt", ids_of(numbers))
+    ten = made("out/ids-10.txt", ids_of(range(10)))
     filtered = [*python, "filter", "--jobs", "1", "--output", os.devnull, stream, "--ids-from"]
-    compare(f"ids, {os.path.getsize(stream) / 1e6:.0f} MB", 1.5, [*filtered, many], [*filtered, ten])
+    compare(f"{case}, {os.path.getsize(stream) / 1e6:.0f} MB", 1.5, [*filtered, many], [*filtered, ten])
 if "packed" in cases:
     def write_packed(file):
         with gzip.GzipFile("", "wb", 6, file, 0) as packed:

@@ -9,11 +9,11 @@ set -eu
 folder=$(realpath -m -- "${1:-$(dirname "$0")/../out/deb}")
 . "$(dirname "$0")/common.sh"
 need_built crates/cityseq/out/cityseq
-need_library
 need dpkg-buildpackage dpkg-dev
 need dh debhelper
 need dh_python3 dh-python
 need_built out/NOTICES
+need_library
 set_epoch
 /usr/bin/python3 -c 'import setuptools, wheel' 2> "$scratch/why" ||
   stop "setuptools or wheel is missing: 'apt-get install python3-setuptools python3-wheel'"

@@ -399,10 +399,10 @@ def report(
         CityseqError: A package is missing that a page needs.
         LibraryMissing: The library is not there, or it is another version.
     """
-    from .delivery.making import How, report as made  # few runs need it
+    from .delivery.making import How, of_bytes, report as made  # few runs need it
 
     work = asked("check", line_limit=line_limit, depth=depth, keep_going=True, tree=tree)
-    how = How(jobs, _part_size(part_size), title, progress=progress)
+    how = How(jobs, _part_size(part_size), title, progress=progress and of_bytes(progress))
     return made(paths, output, work, how)
 
 

@@ -151,6 +151,18 @@ def _pointed(text: Text, begin: int = 0) -> Any:
     return bytes(text[begin:] if begin else text)
 
 
+def _unset(size: int) -> bytearray:
+    """Returns a bytearray of a size without setting its bytes, which takes long for many. What is
+    not written by a call is cut off before anybody reads it."""
+    try:
+        make = ctypes.pythonapi.PyByteArray_FromStringAndSize
+    except AttributeError:  # another Python than CPython
+        return bytearray(size)
+    make.restype, make.argtypes = ctypes.py_object, [c_char_p, ctypes.c_ssize_t]
+    made: bytearray = make(None, size)
+    return made
+
+
 def _address(text: Union[bytearray, memoryview]) -> int:
     return ctypes.addressof(ctypes.c_char.from_buffer(text))
 
@@ -188,7 +200,7 @@ class Library:
     ) -> Tuple[RawAnswer, RawReports, bytearray]:
         """The same, and what is kept is the third."""
         reports = (RawReport * max(room, 1))()
-        output = bytearray(len(header) + len(part) + 1)
+        output = _unset(len(header) + len(part) + 1)
         given = self._given(header, part, request)
         answer = self._calls.cityseq_filter(*given, _pointed(output), len(output), reports, room)
         del output[answer.written :]

@@ -23,6 +23,16 @@ VALUE = SPACE + b":" + SPACE + rb'("(?:[^"\\\x00-\x1f]|\\.)*")'
 ANYWHERE = re.compile(rb'"id"' + VALUE)
 ESCAPED = re.compile(rb'"(?:i|\\u0069)(?:d|\\u0064)"' + VALUE)
 Text = Union[bytes, bytearray, memoryview]
+FIRST = 10_000  # bytes of ids that show whether all are in order
+
+
+def in_order(ids: bytes) -> bytes:
+    """Returns the ids of a query, one a line, in the order of their bytes if they are many. The
+    library prepares them for each part, which takes several times as long without an order."""
+    first = ids[:FIRST].split(b"\n")[:-1]
+    if len(ids) < MANY or first == sorted(first):
+        return ids
+    return b"\n".join(sorted(ids.split(b"\n")))
 
 
 @lru_cache(maxsize=2)

@@ -211,7 +211,9 @@ class Index:
                 conditions.append(WITH_ID)
             which = f" WHERE {' AND '.join(conditions)}" if conditions else ""
             select = "SELECT fid, stream, line, begin, length FROM features"
-            yield from self._base.execute(f"{select}{which} ORDER BY fid{end}", given)
+            # `yield from` would close the cursor with the generator, which may be after the database
+            for row in self._base.execute(f"{select}{which} ORDER BY fid{end}", given):
+                yield row
 
     def _want(self, ids: bytes) -> None:
         """Notes the ids that are asked for."""

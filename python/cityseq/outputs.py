@@ -114,8 +114,12 @@ class Writer:
         elif self._file is None:
             assert self._path is not None
             part = part_of(self._path)
-            file = open(part or self._path, "wb")
-            self._part = part
+            self._part = part  # before the file is there, since an interrupt may come at once
+            try:
+                file = open(part or self._path, "wb")
+            except OSError:
+                self._part = None
+                raise
             self._file = file if self.packing is None else Packer(file, self.packing)
             if part is not None:
                 hand_mode_on(self._path, part)

@@ -18,7 +18,7 @@ from ._library import (
     library,
 )
 from .faults import RequestError
-from .ids import ids_for
+from .ids import ids_for, in_order
 
 if TYPE_CHECKING:
     from decimal import Decimal
@@ -139,7 +139,7 @@ def asked(
         bool(keep_going),
         bool(tree),
         bool(exclude),
-        _asked_lines(ids, "ids"),
+        None if ids is None else in_order(_asked_lines(ids, "ids") or b""),
         _asked_lines(types, "types"),
         _asked_lines(lods, "LoDs"),
         _box_of(box),

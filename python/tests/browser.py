@@ -9,7 +9,7 @@ import tempfile
 from contextlib import contextmanager, suppress
 
 CHROMIUM = next(filter(None, map(shutil.which, ("chromium", "chromium-browser", "google-chrome"))), None)
-PATIENCE = 30  # seconds that the browser has for an answer: a page that opens a dialog, say, gives none
+PATIENCE = 60  # seconds that the browser has for an answer: a page that opens a dialog, say, gives none
 WORDS = ("--headless=new", "--no-sandbox", "--disable-gpu", "--disable-dev-shm-usage", "--no-first-run", "--remote-debugging-pipe",
          "--disable-background-networking", "--disable-component-update", "--disable-sync", "--hide-scrollbars",
          "--disable-default-apps", "--disable-extensions", "--mute-audio")

@@ -5,6 +5,7 @@ import io
 import os
 import pathlib
 import random
+import signal
 import struct
 import subprocess
 import sys
@@ -164,6 +165,12 @@ class InFolder(unittest.TestCase):
         path = self.folder / name
         path.write_bytes(gzip.compress(text) if name.endswith(".gz") else text)
         return path
+
+
+def heed_interrupts():
+    """Heeds SIGINT in a process that is about to begin. A shell has it ignored by what runs behind
+    `&`, and by all that this starts."""
+    signal.signal(signal.SIGINT, signal.SIG_DFL)
 
 
 def command(*words, given=b"", coding="utf-8", **more):

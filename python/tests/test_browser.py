@@ -1,11 +1,14 @@
 """The page in a Chromium without a window: it loads nothing, says nothing, runs no text of a stream, and its buttons work."""
+import json
 import pathlib
 import tempfile
 import unittest
 
 from . import made_up
 from .browser import CHROMIUM, browser
+from .support import HEADER
 
+import cityseq
 from cityseq.delivery import extras
 
 try:
@@ -86,6 +89,27 @@ class InBrowser(unittest.TestCase):
             self.run_in_page("document.getElementById('filter').value = '<script>'; document.getElementById('filter')"
                              ".dispatchEvent(new Event('input'))")
             self.assertEqual(self.browser.said, [])
+
+    def test_a_stream_of_hostile_texts(self):
+        """The same from the bytes of a stream on: ids, coordinate system, excerpts and the name of the file."""
+        texts = [text for text in made_up.HOSTILE if text]
+        header = json.loads(HEADER)
+        header["metadata"] = {"referenceSystem": texts[0]}
+        lines = [{"type": "CityJSONFeature", "id": text, "CityObjects": {text: {"type": text[:50]}}, "vertices": [[0, 0, 0]]} for text in texts]
+        lines += [{**line, "CityObjects": {line["id"]: {"type": "Building"}}} for line in lines for _ in "ab"]
+        path = pathlib.Path(self.folder.name, "<img src=x onerror=alert(1)>.jsonl")
+        path.write_bytes(b"".join(json.dumps(line, ensure_ascii=False).encode("utf-8", "backslashreplace") + b"\n" for line in [header, *lines]))
+        output = pathlib.Path(self.folder.name, "hostile.html")
+        try:
+            made = cityseq.report(path, output)
+        except cityseq.LibraryMissing as fault:
+            self.skipTest(str(fault))
+        self.assertEqual((made.files[0].invalid, made.repeated.ids), (len(texts), len(texts)))
+        self.browser.load(output)
+        self.assertEqual((self.browser.requests, self.browser.said), ([output.as_uri()], []))
+        self.assertEqual(self.run_in_page("document.title").partition(":")[0], "hostile")
+        self.assertEqual([row[4] for row in self.run_in_page(ROWS)], [page.cut(text) for text in texts])
+        self.assertEqual(self.run_in_page("document.querySelectorAll('img, script').length"), 2)
 
     def test_a_script_that_got_in_would_not_run(self):
         path = pathlib.Path(self.folder.name, "broken.html")

@@ -333,7 +333,8 @@ class Command(InFolder):
         path.write_bytes(HEADER + b"".join(feature(f"f{number}") for number in range(300_000)))
         for number, words in ((signal.SIGINT, "interrupted\n"), (signal.SIGTERM, "stopped by SIGTERM\n")):
             run = subprocess.Popen([sys.executable, "-m", "cityseq", "report", "--output", self.page, path, path], stdout=subprocess.PIPE,
-                                   stderr=subprocess.PIPE, env={**os.environ, "PYTHONPATH": os.path.join(support.ROOT, "python")})
+                                   stderr=subprocess.PIPE, env={**os.environ, "PYTHONPATH": os.path.join(support.ROOT, "python")},
+                                   preexec_fn=support.heed_interrupts)
             for _ in range(400):
                 if self.page.with_name("delivery.html.part").exists():
                     break
@@ -363,7 +364,7 @@ class Command(InFolder):
     def test_quiet_and_progress(self):
         self.assertEqual(command("report", "--quiet", "--output", self.page, self.good), (b"", "", 0))
         _, said, status = command("report", "--progress", "--output", self.page, self.good)
-        self.assertEqual((said.count("100 %"), status), (1, 0))
+        self.assertEqual((said.count("100 %"), said.count(str(self.good)), status), (1, 1, 0))
 
 
 @unittest.skipIf(MISSING, MISSING)

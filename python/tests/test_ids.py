@@ -9,7 +9,8 @@ from .support import HEADER, PLAIN, feature
 
 import cityseq
 from cityseq import ids as ids_of
-from cityseq.ids import MANY, ids_for, part_size_for
+from cityseq.ids import MANY, ids_for, in_order, part_size_for
+from cityseq.query import asked
 
 FEW = [f"other-{number:05}" for number in range(MANY // 8)]  # that are in no stream here
 LINES = (  # each with the text of its id
@@ -66,6 +67,25 @@ class Subsets(unittest.TestCase):
     def test_none_and_the_empty_one(self):
         self.assertEqual(ids_for("\n".join(FEW).encode(), feature("a")), b"")
         self.assertEqual(ids_for(b"\n" + "\n".join(FEW).encode(), LINES[8][0]), b"\n")
+
+
+class Order(unittest.TestCase):
+    """The order in which the library gets ids."""
+
+    def test_many_are_sorted(self):
+        for more in ([], [""], ["", "é", "\U0001f3e0"]):
+            wanted = sorted(FEW * 9 + more, key=str.encode)
+            mixed = random.Random(1).sample(wanted, len(wanted))
+            found = asked("filter", ids=mixed).ids
+            self.assertEqual(found, "\n".join(wanted).encode())
+            self.assertIs(in_order(found), found)
+
+    def test_few_are_left_as_they_are(self):
+        for ids in (b"", b"b\na", b"\n"):
+            self.assertIs(in_order(ids), ids)
+
+    def test_no_ids_are_no_query(self):
+        self.assertEqual((asked("filter").ids, asked("filter", ids=[]).ids), (None, b""))
 
 
 class Filters(unittest.TestCase):

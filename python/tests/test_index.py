@@ -23,6 +23,7 @@ from cityseq.records import id_of
 TOWN, SAMPLE, BROKEN, DELIVERY = (
     f"{ROOT}/examples/{name}.city.jsonl" for name in ("town", "sample", "broken", "delivery")
 )
+NOBODY = 65_534  # a user that may do little
 HOSTILE = [
     '<script>"',
     "\u0000",
@@ -528,6 +529,7 @@ class BadInput(InFolder):
                 stderr=subprocess.PIPE,
                 stdout=subprocess.PIPE,
                 env={**os.environ, "PYTHONPATH": f"{ROOT}/python"},
+                preexec_fn=support.heed_interrupts,
             )
             part = self.folder / "it.gpkg.part"
             while child.poll() is None and not (part.exists() and part.stat().st_size > 100_000):
@@ -583,12 +585,33 @@ class BadInput(InFolder):
                     with index.select() as features:
                         list(features)
 
-    @unittest.skipUnless(os.geteuid() != 0, "the superuser may read all files")
     def test_no_rights(self):
-        cityseq.index(TOWN, self.index)
+        def as_nobody():
+            if os.geteuid() == 0:
+                os.setuid(NOBODY)
+
+        self.folder.chmod(0o755)
+        stream = self.file(HEADER + PLAIN)
+        if command("check", str(stream), preexec_fn=as_nobody)[2] != 0:
+            self.skipTest("nobody may not read this package")
+        cityseq.index(stream, self.index)
+        before = self.index.read_bytes()
         self.index.chmod(0)
-        with self.assertRaises(cityseq.ReadFault):
-            cityseq.Index(self.index)
+        self.folder.chmod(0o555)
+        self.addCleanup(self.folder.chmod, 0o755)
+        for words, status, fault in (
+            (("filter", "--index", str(self.index)), 3, "read fault: Permission denied"),
+            (("index", "--show", str(self.index)), 3, "read fault: Permission denied"),
+            (
+                ("index", "--output", str(self.index), str(stream)),
+                4,
+                "write fault: Permission denied",
+            ),
+        ):
+            found = command(*words, preexec_fn=as_nobody)
+            self.assertEqual(found, (b"", f"{self.index}: {fault}\n", status))
+        self.index.chmod(0o644)
+        self.assertEqual(self.index.read_bytes(), before)
 
 
 if __name__ == "__main__":

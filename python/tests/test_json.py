@@ -7,7 +7,7 @@ import unittest
 from decimal import Decimal
 
 from . import support
-from .support import PLAIN, InFolder, command
+from .support import HEADER, PLAIN, InFolder, command
 from .test_sources import BROKEN, GOOD
 from .test_told import example
 

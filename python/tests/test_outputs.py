@@ -106,8 +106,8 @@ class Wholes(InFolder):
                 stdin=subprocess.PIPE,
                 stderr=subprocess.PIPE,
                 env={**os.environ, "PYTHONPATH": os.path.join(support.ROOT, "python")},
-                preexec_fn=lambda: signal.signal(signal.SIGINT, signal.SIG_DFL),
-            )  # which a shell has ignored behind &
+                preexec_fn=support.heed_interrupts,
+            )
             ran.stdin.write(HEADER + PLAIN * 200_000)
             ran.stdin.flush()
             for _ in range(200):

@@ -3,7 +3,6 @@ from __future__ import annotations
 
 import json
 import shlex
-from functools import partial
 
 from .._library import keep_room
 from ..commands import files_of
@@ -40,7 +39,7 @@ def run(wanted: Asked, program: str) -> int:
 
         delivery = report(files, output, work, How(
             wanted.jobs, wanted.part_size, wanted.title, _words(wanted, program),
-            partial(bar.add, ""), take,
+            bar.add, take,
         ))
     if wanted.json:
         from .told import delivery_object

@@ -46,8 +46,11 @@ class Contents:
 
 
 def _add(counts: Dict[Key, int], others: Dict[Key, int]) -> None:
-    for name, count in others.items():
-        counts[name] = counts.get(name, 0) + count
+    """Adds counts to others, and keeps all in the order of their names."""
+    both = {name: counts.get(name, 0) + count for name, count in others.items()}
+    ordered = sorted({**counts, **both}.items())
+    counts.clear()
+    counts.update(ordered)
 
 
 @dataclass

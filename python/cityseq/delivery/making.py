@@ -40,7 +40,7 @@ class How:
         size: How many bytes a part has. None is 512 KiB.
         title: The heading of the page.
         words: What the page says of how it was made.
-        progress: Is called with the number of bytes that were done since the call before.
+        progress: Is called with a file, and how many bytes of it were done since the call before.
         take: Is called with what came of each file.
     """
 
@@ -48,8 +48,14 @@ class How:
     size: Optional[int] = None
     title: Optional[str] = None
     words: str = "cityseq.report"
-    progress: Optional[Callable[[int], None]] = None
+    progress: Optional[Callable[[str, int], None]] = None
     take: Callable[[Result], None] = _nothing
+
+
+def of_bytes(progress: Callable[[int], None]) -> Callable[[str, int], None]:
+    """Returns what is called with a file and how many bytes of it were done, and tells the bytes
+    alone."""
+    return lambda _, size: progress(size)
 
 
 def checked(paths: Any, output: Any) -> Tuple[List[str], Optional[str]]:

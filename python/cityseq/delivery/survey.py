@@ -6,6 +6,7 @@ import json
 from contextlib import ExitStack, suppress
 from dataclasses import dataclass, field
 from decimal import DecimalException
+from functools import partial
 from typing import TYPE_CHECKING, Any, Callable, Dict, Iterator, List, Optional, Sequence, Tuple
 
 from .._library import LOD_CLASSES, NO_MEMORY, RawAnswer, Text, library
@@ -289,7 +290,8 @@ class Surveyed(Recorded):
 
     def __init__(self, number: int, path: str, work: Work, survey: Survey, how: "How") -> None:
         """Takes the number of the file, from 0, and what the parts' size and progress are."""
-        super().__init__(path, work, how.size, None, survey.report, how.progress)
+        progress = None if how.progress is None else partial(how.progress, path)
+        super().__init__(path, work, how.size, None, survey.report, progress)
         self._number, self._survey = number, survey
         self._entry: Optional[Entry] = None
 
