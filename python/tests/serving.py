@@ -39,9 +39,10 @@ class Answer:
 class Serving:
     """The command `serve`, over some indexes."""
 
-    def __init__(self, *words):
+    def __init__(self, *words, first_path=""):
+        """Starts it with these words. A folder that is given is where Python looks first for modules."""
         port = () if "--port" in words else ("--port", "0")
-        environment = {**os.environ, "PYTHONPATH": os.path.join(ROOT, "python")}
+        environment = {**os.environ, "PYTHONPATH": os.pathsep.join(filter(None, (str(first_path), os.path.join(ROOT, "python"))))}
         self.process = subprocess.Popen(
             [sys.executable, "-W", "ignore", "-m", "cityseq", "serve", *port, *map(str, words)],
             stdout=subprocess.PIPE, stderr=subprocess.PIPE, env=environment)

@@ -159,7 +159,7 @@ class Documents(Served):
                      "/collections/town/items/house-1"):
             page = self.server.ask(path, Accept="text/html").body.decode()
             for found in re.findall(r'<(?:script|img|link|iframe)[^>]*(?:src|href)="([^"]*)"', page):
-                self.assertTrue(found.startswith(self.server.url), found)
+                self.assertRegex(found, r"\A(?:/static/|" + re.escape(self.server.url) + ")", found)
             self.assertNotRegex(page, r"<script>|\son[a-z]+=|style=")
 
 
