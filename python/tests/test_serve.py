@@ -335,7 +335,8 @@ class Others(Served):
         self.assertEqual(ran.returncode, 0, said)
         for text in ("Layer name: sample", "Feature Count: 120", "Layer name: town", "Feature Count: 4", "types: String"):
             self.assertIn(text, said)
-        ran = subprocess.run(["ogrinfo", "-ro", "-q", "-oo", "PAGE_SIZE=7", f"OAPIF:{self.server.url}", "equal"], stdout=subprocess.PIPE, timeout=60)
+        words = ["ogrinfo", "-ro", "-q", "-oo", "PAGE_SIZE=7", f"OAPIF:{self.server.url}", "equal"]
+        ran = subprocess.run(words, stdout=subprocess.PIPE, timeout=60)
         self.assertEqual(ran.stdout.decode().count("OGRFeature"), 57)
 
     @unittest.skipIf(Features is None, "owslib is not there")
@@ -356,6 +357,7 @@ class Others(Served):
         ran = subprocess.run(["curl", "-sS", "--data-binary", f"@{path}", f"{self.server.url}check"], stdout=subprocess.PIPE, timeout=30)
         report, result = map(json.loads, ran.stdout.splitlines())
         self.assertEqual((report["line"], report["byte"], report["code"], result["verdict"]), (3, 144, 25, "invalid"))
-        ran = subprocess.run(["curl", "-sS", "-T", "-", f"{self.server.url}filter?type=Road", "-X", "POST"], stdout=subprocess.PIPE, timeout=30,
+        words = ["curl", "-sS", "-T", "-", f"{self.server.url}filter?type=Road", "-X", "POST"]
+        ran = subprocess.run(words, stdout=subprocess.PIPE, timeout=30,
                              input=(EXAMPLES / "town.city.jsonl").read_bytes())
         self.assertEqual(ran.stdout, self.filtered("town", "--type", "Road"))

@@ -79,7 +79,8 @@ class Safety(Served):
         packed = self.folder / "packed.city.jsonl.gz"
         packed.write_bytes(gzip.compress(HEADER + feature("a")))
         command("index", "--output", str(self.folder / "packed.gpkg"), str(packed))
-        for words in (("--base", "http://127.0.0.1:9/", str(self.folder / "packed.gpkg")), ("--url", "ftp://x"), ("--url", "https://x/?a=b"), ("--cors", "https://x/y"), ("--cors", "x"),
+        for words in (("--base", "http://127.0.0.1:9/", str(self.folder / "packed.gpkg")), ("--url", "ftp://x"),
+                      ("--url", "https://x/?a=b"), ("--cors", "https://x/y"), ("--cors", "x"),
                       ("--port", "65536"), ("--max-requests", "0"), ("--base", "x", str(self.folder / "all.gpkg"))):
             _, said, status = command("serve", *words)
             self.assertEqual(status, 2, (words, said))
@@ -265,7 +266,8 @@ class Parts(Served):
 
     def test_a_feature_as_cityjson_keeps_each_number(self):
         header = HEADER.replace(b"0.001", b"1.0e-3")
-        line = feature("b").replace(b"[0,0,0]", b"[0 , 0,-0]").replace(b'"type":"CityJSONFeature",', b'"type":"CityJSONFeature","x":1e400,"appearance" : {"a":1.10},')
+        line = feature("b").replace(b"[0,0,0]", b"[0 , 0,-0]").replace(
+            b'"type":"CityJSONFeature",', b'"type":"CityJSONFeature","x":1e400,"appearance" : {"a":1.10},')
         text = whole(header, line)
         for piece in (b'"scale":[1.0e-3,1.0e-3,1.0e-3]', b"[0 , 0,-0]", b'"appearance":{"a":1.10}'):
             self.assertIn(piece, text)
