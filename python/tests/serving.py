@@ -69,7 +69,7 @@ class Serving:
         self.stop()
 
     def connect(self):
-        return http.client.HTTPConnection(self.host, self.port, timeout=30)
+        return http.client.HTTPConnection(self.host, self.port, timeout=120)
 
     def ask(self, path, method="GET", body=None, **headers):
         """The answer to a request."""
@@ -85,7 +85,7 @@ class Serving:
         """Ends the server, and returns its status."""
         if self.process.poll() is None:
             self.process.send_signal(number)
-        status = self.process.wait(30)
+        status = self.process.wait(60)
         for reader in self._readers:
             reader.join(5)
         self.process.stdout.close()
