@@ -155,7 +155,7 @@ def raw(request, *wanted):
 LONG = "x" * (1 << 20)
 ITEMS = "/collections/sample/items"
 NOT_HTTP = {
-    "a hello of TLS": (b"\x16\x03\x01\x02\x00\x01\x00\x01\xfc\x03\x03" + bytes(64) + b"\r\n\r\n", 400),
+    "a hello of TLS": (b"\x16\x03\x01\x02\0\x01\0\x01\xfc\x03\x03" + bytes(64) + b"\r\n\r\n", 400),
     "no HTTP": (b"hello\r\n\r\n", 400),
     "zeros": (bytes(4096), 400),
     "a version that there is not": (GOOD.replace(b"1.1", b"9.9"), 400, 505),
@@ -231,6 +231,9 @@ BODIES = {
 }
 
 
+IN_CHUNKS = post("/check", "Transfer-Encoding: chunked")
+
+
 def chunked(text, size=1 << 16):
     for begin in range(0, len(text), size):
         piece = text[begin : begin + size]
@@ -239,12 +242,12 @@ def chunked(text, size=1 << 16):
 
 def too_long_in_chunks(server):
     text = HEADER + FEATURE * 350_000
-    return mistake(exchange(server, post("/check", "Transfer-Encoding: chunked"), *chunked(text)), 413)
+    return mistake(exchange(server, IN_CHUNKS, *chunked(text)), 413)
 
 
 def no_chunk_in_the_middle(server):
-    pieces = post("/check", "Transfer-Encoding: chunked"), *chunked(HEADER + FEATURE * 30_000), b"zz\r\n"
-    return mistake(exchange(server, *pieces), 400)
+    pieces = chunked(HEADER + FEATURE * 30_000)
+    return mistake(exchange(server, IN_CHUNKS, *pieces, b"zz\r\n"), 400)
 
 
 def head_that_stops(server):

@@ -21,7 +21,8 @@ ROOT = pathlib.Path(__file__).resolve().parent.parent
 EXAMPLES = ROOT / "examples"
 WIDTHS = (1280, 400)
 PAGES = {
-    "landing": "?f=html", "collections": "collections?f=html", "collection": "collections/sample?f=html",
+    "landing": "?f=html", "collections": "collections?f=html",
+    "collection": "collections/sample?f=html",
     "items": "collections/sample/items?f=html&limit=50", "api": "api?f=html",
     "item": "collections/town/items/house-1?f=html", "conformance": "conformance?f=html",
 }
@@ -151,9 +152,11 @@ def try_page(browser, url, folder, megabytes, check):
     driver.get(url + "?f=html")
     drop(browser, EXAMPLES / "delivery.city.jsonl")
     said = wait(browser, verdict)
-    check("an invalid file", said and said.startswith("Not valid") and "5 invalid lines" in said, said)
+    is_right = said and said.startswith("Not valid") and "5 invalid lines" in said
+    check("an invalid file", is_right, said)
     report = driver.find_element(By.ID, "report").text
-    check("its reports", all(text in report for text in ("vertex index out of range", "p2", "Fix:", "^")), report)
+    wanted = ("vertex index out of range", "p2", "Fix:", "^")
+    check("its reports", all(text in report for text in wanted), report)
     driver.get(url + "?f=html")
     hostile = folder / "hostile.city.jsonl"
     name = "<img src=x onerror=document.title='bad'><script>document.title='bad'</script>"
@@ -168,7 +171,8 @@ def try_page(browser, url, folder, megabytes, check):
     driver.find_element(By.ID, "start").send_keys(Keys.ENTER)
     said = wait(browser, verdict)
     check("by keyboard", said and said.startswith("Not valid"), said)
-    check("the verdict has the focus", driver.switch_to.active_element.get_attribute("id") == "verdict")
+    focused = driver.switch_to.active_element.get_attribute("id")
+    check("the verdict has the focus", focused == "verdict", focused)
 
 
 def look(browser, url, pictures, check):
@@ -181,7 +185,8 @@ def look(browser, url, pictures, check):
             check(f"{name} at {width} pixels", wide <= width, f"{wide} pixels wide")
             check(f"{name} has a title", browser.driver.find_elements(By.TAG_NAME, "h1"))
             if pictures is not None:
-                height = browser.driver.execute_script("return document.documentElement.scrollHeight")
+                height = browser.driver.execute_script(
+                    "return document.documentElement.scrollHeight")
                 browser.resize(width, min(max(height, 300), 4_000))
                 browser.driver.save_screenshot(str(pictures / f"{name}-{width}.png"))
 
@@ -192,7 +197,8 @@ def serve(python, folder):
     words = [python, "-m", "cityseq"]
     streams = [str(EXAMPLES / f"{name}.city.jsonl") for name in ("sample", "town")]
     index = str(folder / "all.gpkg")
-    subprocess.run([*words, "index", "--quiet", "--output", index, *streams], env=settings, check=True)
+    subprocess.run([*words, "index", "--quiet", "--output", index, *streams], env=settings,
+                   check=True)
     server = subprocess.Popen([*words, "serve", "--port", "0", "--quiet", index], env=settings,
                               stderr=subprocess.PIPE)
     return server, server.stderr.readline().decode().split(" ")[0]

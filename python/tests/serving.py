@@ -39,9 +39,10 @@ class Answer:
 class Serving:
     """The command `serve`, over some indexes."""
 
-    def __init__(self, *words):
+    def __init__(self, *words, first_path=""):
+        """Starts it with these words. A folder that is given is where Python looks first for modules."""
         port = () if "--port" in words else ("--port", "0")
-        environment = {**os.environ, "PYTHONPATH": os.path.join(ROOT, "python")}
+        environment = {**os.environ, "PYTHONPATH": os.pathsep.join(filter(None, (str(first_path), os.path.join(ROOT, "python"))))}
         self.process = subprocess.Popen(
             [sys.executable, "-W", "ignore", "-m", "cityseq", "serve", *port, *map(str, words)],
             stdout=subprocess.PIPE, stderr=subprocess.PIPE, env=environment)
@@ -68,7 +69,7 @@ class Serving:
         self.stop()
 
     def connect(self):
-        return http.client.HTTPConnection(self.host, self.port, timeout=30)
+        return http.client.HTTPConnection(self.host, self.port, timeout=120)
 
     def ask(self, path, method="GET", body=None, **headers):
         """The answer to a request."""
@@ -84,7 +85,7 @@ class Serving:
         """Ends the server, and returns its status."""
         if self.process.poll() is None:
             self.process.send_signal(number)
-        status = self.process.wait(30)
+        status = self.process.wait(60)
         for reader in self._readers:
             reader.join(5)
         self.process.stdout.close()

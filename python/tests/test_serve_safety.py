@@ -1,5 +1,6 @@
 """The server: what it refuses, how it ends, and its parts one by one."""
 import asyncio
+import gzip
 import json
 import os
 import pathlib
@@ -75,7 +76,11 @@ class Safety(Served):
                 self.assertTrue(link["href"].startswith("https://city.example.org/cities/collections"), link)
 
     def test_settings_are_checked(self):
-        for words in (("--url", "ftp://x"), ("--url", "https://x/?a=b"), ("--cors", "https://x/y"), ("--cors", "x"),
+        packed = self.folder / "packed.city.jsonl.gz"
+        packed.write_bytes(gzip.compress(HEADER + feature("a")))
+        command("index", "--output", str(self.folder / "packed.gpkg"), str(packed))
+        for words in (("--base", "http://127.0.0.1:9/", str(self.folder / "packed.gpkg")), ("--url", "ftp://x"),
+                      ("--url", "https://x/?a=b"), ("--cors", "https://x/y"), ("--cors", "x"),
                       ("--port", "65536"), ("--max-requests", "0"), ("--base", "x", str(self.folder / "all.gpkg"))):
             _, said, status = command("serve", *words)
             self.assertEqual(status, 2, (words, said))
@@ -261,7 +266,8 @@ class Parts(Served):
 
     def test_a_feature_as_cityjson_keeps_each_number(self):
         header = HEADER.replace(b"0.001", b"1.0e-3")
-        line = feature("b").replace(b"[0,0,0]", b"[0 , 0,-0]").replace(b'"type":"CityJSONFeature",', b'"type":"CityJSONFeature","x":1e400,"appearance" : {"a":1.10},')
+        line = feature("b").replace(b"[0,0,0]", b"[0 , 0,-0]").replace(
+            b'"type":"CityJSONFeature",', b'"type":"CityJSONFeature","x":1e400,"appearance" : {"a":1.10},')
         text = whole(header, line)
         for piece in (b'"scale":[1.0e-3,1.0e-3,1.0e-3]', b"[0 , 0,-0]", b'"appearance":{"a":1.10}'):
             self.assertIn(piece, text)
@@ -269,12 +275,25 @@ class Parts(Served):
         self.assertEqual(json.loads(text)["type"], "CityJSON")
 
     def test_without_pyproj(self):
-        with mock.patch("cityseq.serve.systems.find_spec", return_value=None):
+        with mock.patch("cityseq.serve.systems.can_change", return_value=False):
             system = System("https://www.opengis.net/def/crs/EPSG/0/7415")
             self.assertEqual(system.listed(), [RD])
             self.assertEqual(system.asked(RD, "crs"), RD)
             with self.assertRaisesRegex(Problem, "for want of pyproj"):
                 system.asked(None, "crs")
+        other = self.folder / "without"
+        other.mkdir()
+        (other / "pyproj.py").write_text("raise ImportError('none')")
+        path = "/collections/sample/items"
+        with Serving(self.folder / "all.gpkg", first_path=other) as without:
+            for query in ("", "?bbox=4,52,5,53", f"?crs={RD}&bbox=4,52,5,53"):
+                answer = without.ask(path + query)
+                self.assertEqual(answer.status, 400)
+                self.assertIn("for want of pyproj", answer.json()["detail"])
+            for query in (f"?crs={RD}", f"?crs={RD}&bbox-crs={RD}&bbox=84700,447450,84800,447550", "?f=city-json-seq", "?f=html"):
+                self.assertEqual(without.ask(path + query).status, 200, query)
+            self.assertEqual(without.ask("/collections/town/items").status, 200)
+            self.assertEqual(without.ask("/collections/sample").json()["crs"], [RD])
 
     def test_an_application_for_another_server(self):
         async def run():

@@ -11,6 +11,7 @@ from queue import Empty, LifoQueue
 from typing import Any, Dict, Iterator, List, Optional, Tuple
 
 from ..extents import World
+from ..faults import RequestError
 from ..fetching import IndexedStream
 from ..lookup import Index
 from .problems import Problem
@@ -120,7 +121,7 @@ class Catalogue:
 
         Raises:
             ReadFault: One cannot be read, or is no index.
-            RequestError: The base is no URL.
+            RequestError: The base is no URL, or a stream that is below it is packed.
         """
         self._collections: Dict[str, Collection] = {}
         self._pools: List[Pool] = []
@@ -132,6 +133,8 @@ class Catalogue:
                     self._add(pool, stream, settings.base)
 
     def _add(self, pool: Pool, stream: IndexedStream, base: Optional[str]) -> None:
+        if base is not None and stream.packing is not None:
+            raise RequestError(f"{stream.path}: a packed stream has no ranges: serve it unpacked")
         name = first = name_of(stream.told_path)
         number = 1
         while name in self._collections:

@@ -79,6 +79,10 @@ class Links:
                          safe=",:/")
         return f"{self.base}{path}" + (f"?{text}" if text else "")
 
+    def local(self, path: str) -> str:
+        """Returns the URL of a path without a host, for what a page loads from where it came."""
+        return f"{urlsplit(self.base).path}{path}"
+
     def to(self, path: str, rel: str, title: str, media_type: Optional[str] = None,
            **parameters: Any) -> Link:
         """Returns a link to a path."""

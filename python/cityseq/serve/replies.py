@@ -57,10 +57,12 @@ class Replies:
         self._drop(request)
         self._replies[request] = reply
         self._size += len(request) + len(reply.text)
-        for each, old in list(self._replies.items()):
-            if reply.time - old.time < SECONDS and self._size <= MOST_BYTES:
+        while self._replies:
+            oldest = next(iter(self._replies))
+            is_fresh = reply.time - self._replies[oldest].time < SECONDS
+            if is_fresh and self._size <= MOST_BYTES:
                 break
-            self._drop(each)
+            self._drop(oldest)
 
     def _drop(self, request: bytes) -> None:
         reply: Any = self._replies.pop(request, None)

@@ -3,7 +3,7 @@ from __future__ import annotations
 
 import re
 from functools import lru_cache
-from importlib.util import find_spec
+from importlib import import_module
 from typing import Any, List, Optional, Sequence, Tuple
 
 from ..geopackage import SYSTEM
@@ -26,9 +26,14 @@ def uri_of(name: Optional[str]) -> Optional[str]:
     return EPSG.format(int(found.group(1))) if found else None
 
 
+@lru_cache(maxsize=1)
 def can_change() -> bool:
     """Returns whether pyproj is there."""
-    return find_spec("pyproj") is not None
+    try:
+        import_module("pyproj")
+    except ImportError:
+        return False
+    return True
 
 
 @lru_cache(maxsize=256)
