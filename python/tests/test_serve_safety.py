@@ -233,12 +233,6 @@ class Safety(Served):
             web.terminate()
             web.wait(10)
 
-    def test_bad_requests(self):
-        """The script of the repository, with few idle connections."""
-        ran = subprocess.run([sys.executable, os.path.join(ROOT, "tests", "serve_attack.py"), "--connections", "500", sys.executable],
-                             stdout=subprocess.PIPE, timeout=120)
-        self.assertEqual(ran.returncode, 0, ran.stdout.decode())
-
     def test_what_is_missing_is_said(self):
         (self.folder / "aiohttp.py").write_text("raise ImportError('none')")
         code = f"import sys; sys.path.insert(0, {str(self.folder)!r}); from cityseq.commands import main; sys.exit(main(['serve']))"
