@@ -22,7 +22,7 @@ NO_SIGN_OF_A_NAME = re.compile(r"[^A-Za-z0-9._-]+")
 
 
 def _state_of(path: str) -> Any:
-    """Returns what a file is now; None if it is not there."""
+    """Returns the identity, size and time of change of a file. None if it does not exist."""
     try:
         told = os.stat(path)
         return told.st_dev, told.st_ino, told.st_size, told.st_mtime_ns
@@ -31,7 +31,7 @@ def _state_of(path: str) -> Any:
 
 
 class Pool:
-    """An index that many threads use: each call has one to itself."""
+    """An index that many threads use. Each call has its own open index."""
 
     def __init__(self, path: str, base: Optional[str]) -> None:
         self._path, self._base = path, base
@@ -40,7 +40,7 @@ class Pool:
 
     @property
     def is_changed(self) -> bool:
-        """Whether the file of the index is another one now."""
+        """Whether the file of the index has changed."""
         return bool(_state_of(self._path) != self._state)
 
     @contextmanager
@@ -48,7 +48,7 @@ class Pool:
         """Gives the index, in a `with` block.
 
         Raises:
-            Problem: Another index has taken its place.
+            Problem: Another index has replaced it.
             ReadFault: It cannot be read.
         """
         try:
@@ -65,19 +65,19 @@ class Pool:
             self._free.put(index)
 
     def close(self) -> None:
-        """Closes those that no call has."""
+        """Closes the indexes that no call uses."""
         while not self._free.empty():
             self._free.get_nowait().close()
 
 
 @dataclass(frozen=True)
 class Collection:
-    """A stream, as it is served.
+    """A stream that is served.
 
     Attributes:
         id: Its name in URLs.
         pool: The index that it is in.
-        stream: What the index has of it.
+        stream: Its row in the index.
         base: The URL that it is below. None if it is a file.
         system: Its coordinate reference systems.
         world: The map from its vertices to world coordinates.
@@ -119,8 +119,8 @@ class Catalogue:
         """Opens the indexes.
 
         Raises:
-            ReadFault: One cannot be read, or is no index.
-            RequestError: The base is no URL.
+            ReadFault: One cannot be read, or is not an index.
+            RequestError: The base is not a URL.
         """
         self._collections: Dict[str, Collection] = {}
         self._pools: List[Pool] = []
@@ -148,7 +148,7 @@ class Catalogue:
         """Returns a collection by its name.
 
         Raises:
-            Problem: There is none.
+            Problem: There is none with this name.
         """
         try:
             return self._collections[name]
@@ -156,7 +156,7 @@ class Catalogue:
             raise Problem(404, f"there is no collection {name}") from None
 
     def is_changed(self) -> bool:
-        """Returns whether the file of an index is another one now."""
+        """Returns whether the file of an index has changed."""
         return any(pool.is_changed for pool in self._pools)
 
     def close(self) -> None:
