@@ -207,8 +207,8 @@ class TextTeller(Teller):
 
 
 class JsonTeller(Teller):
-    """Writes JSON objects, one a line, to standard output. If that has the kept lines, they go to
-    standard error."""
+    """Writes JSON objects, one a line, to standard output. If the kept lines are there, the objects
+    go to standard error."""
 
     def __init__(self, asked: Asked, bar: Bar, to_output: bool) -> None:
         super().__init__(asked, bar)

@@ -40,7 +40,7 @@ class Relay:
 
     def progress(self, size: int) -> None:
         """Takes how many more bytes are done. All reports of these bytes were taken before. It
-        does not wait while the queue has entries."""
+        never waits: it passes them on only if the queue is empty."""
         self._size += size
         if self.is_given_up:
             raise GivenUp
