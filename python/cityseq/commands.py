@@ -50,7 +50,7 @@ def end_by_signals() -> None:
             signal.signal(number, _stop)
 
 
-# ---- what is asked for
+# ---- the request
 
 
 def _listed(path: str, what: str) -> bytes:
@@ -162,7 +162,7 @@ def make_folder(path: str) -> None:
         raise write_fault(fault, path) from fault
 
 
-# ---- what is done
+# ---- the run
 
 
 class Run:
@@ -322,7 +322,7 @@ def _by_command(wanted: Asked) -> int:
     return _run(wanted)
 
 
-# ---- how it ends
+# ---- the end
 
 
 def _program() -> str:

@@ -44,7 +44,7 @@ _room = Room()
 
 
 class Placed:
-    """A regular file that is read at any place. It stays open while something holds it."""
+    """A regular file that is read at any place. It stays open as long as this object exists."""
 
     def __init__(self, descriptor: int) -> None:
         self._descriptor = -1

@@ -69,7 +69,7 @@ class Result:
         end: The report that ended the run, if one did.
         reports: The reports in order: the first, or with `keep_going` all.
         fault: The fault that ended the run, in words, if one did.
-        hints: What the file may be, if it is no stream.
+        hints: What the file may be, if it is not a stream.
         fault_file: The file of the fault, if it is not the stream's.
         raises: The fault as an exception.
     """

@@ -1,4 +1,4 @@
-"""What is in a stream: counts, the ranges of its vertices, and the texts of its LoDs."""
+"""The contents of a stream: counts, the ranges of its vertices, and the texts of its LoDs."""
 from __future__ import annotations
 
 from dataclasses import dataclass
@@ -13,7 +13,7 @@ MOST_UNASKED = 1_000  # after more than this many texts, none are added
 
 @dataclass
 class Tally:
-    """What is in the features of a stream, or of a header and a part.
+    """The contents of the features of a stream, or of a header and a part.
 
     Attributes:
         told: What the library returned, or joined.

@@ -1,4 +1,4 @@
-"""What the command writes about files: each invalid line, and the result of each file, as text or
+"""Output of the command about files: each invalid line, and the result of each file, as text or
 as JSON."""
 from __future__ import annotations
 

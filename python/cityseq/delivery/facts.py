@@ -23,7 +23,7 @@ Point = Tuple[float, float]
 
 @dataclass
 class Contents:
-    """What is in valid features.
+    """The contents of valid features.
 
     Attributes:
         features: How many there are.
@@ -39,7 +39,7 @@ class Contents:
     lengths: Dict[int, int] = field(default_factory=dict)
 
     def add(self, other: "Contents") -> None:
-        """Adds what is in other features."""
+        """Adds the contents of other features."""
         self.features += other.features
         _add(self.types, other.types)
         _add(self.lods, other.lods)
@@ -246,7 +246,7 @@ class Delivery:
 
     @property
     def contents(self) -> Contents:
-        """What is in the features of all files."""
+        """The contents of the features of all files."""
         whole = Contents()
         for file in self.files:
             whole.add(file.contents)

@@ -18,10 +18,11 @@ np: Any = needed("numpy")
 RECORD = np.dtype([("high", "u8"), ("low", "u8"), ("line", "u8"), ("at", "u8"), ("file", "u4"),
                    ("length", "u4")])
 DIGEST = 16  # bytes
-AT_ONCE = 1 << 19  # records that are sorted or read at once
+AT_ONCE = 1 << 19  # records of one sort or read
 LONGEST = 256  # bytes of an id that are kept
-MOST_IDS = 100  # the most ids that are listed
-MOST_PLACES = 10  # the most places of each id
+MOST_IDS = 100  # ids that are listed
+MOST_PLACES = 10  # places of each id
+
 Places = List[Tuple[int, int]]  # number of the file, and line
 Group = Tuple[int, Any]  # how many features have the id, and the records of the first ones
 

@@ -155,7 +155,7 @@ class Entry:
         self.place.add(*across, *along)
 
     def contents(self) -> Contents:
-        """Returns what is in the features."""
+        """Returns the contents of the features."""
         types, lods = library().type_names(), LOD_CLASSES
         return Contents(
             self.features,
