@@ -1,4 +1,4 @@
-"""Checks, filters and summarises files on a cluster of `distributed`.
+"""Checks, filters, summarises and indexes files on a cluster of `distributed`.
 
     from distributed import Client
     import cityseq.dask

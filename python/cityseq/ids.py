@@ -2,7 +2,7 @@
 takes longer than judging a part.
 
 If lines are short, parts become as long as the query needs. Otherwise each part is judged with only
-the ids that may be in it. Python finds these: it may find some that are no ids of features, but it
+the ids that may be in it. Python finds these: it may find some that are not ids of features, but it
 misses none. The library then decides which feature has which id."""
 from __future__ import annotations
 

@@ -172,8 +172,8 @@ def checked(paths: Any, output: Any) -> List[str]:
     """Returns the paths of the streams.
 
     Raises:
-        RequestError: There is no path, or one is not a path. Two are one file, or the output is
-            one of them.
+        RequestError: No path is given. One is not a path, or is that of a device or a pipe. Two
+            are one file, or the output is one of them.
     """
     listed = [paths] if isinstance(paths, (str, bytes, os.PathLike)) else list(paths)
     for path in listed:

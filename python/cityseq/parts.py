@@ -44,8 +44,8 @@ def whole_lines(text: Text) -> int:
 
 
 class Cutter:
-    """Cuts the lines after the header into parts of whole lines. A part has the size that was asked
-    for, or it is one longer line."""
+    """Cuts the lines after the header into parts of whole lines. A part has at most the given size,
+    or it is one longer line."""
 
     def __init__(
         self, reader: Reader, rest: bytearray, size: int, line_limit: int, keep_going: bool

@@ -2,7 +2,7 @@
 unpacks a file of its own.
 
 The thread passes reports and progress to the thread that asks for the result, in order. Few of them
-wait, so memory is bounded. A thread that is ahead waits until the reader reaches its file."""
+wait, so memory is bounded. A thread that is ahead waits until its file is next."""
 from __future__ import annotations
 
 import queue

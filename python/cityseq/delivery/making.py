@@ -61,7 +61,7 @@ def checked(paths: Any, output: Any) -> Tuple[List[str], Optional[str]]:
     """Returns the paths of the files and of the page.
 
     Raises:
-        RequestError: No file is given. Or a path is not one, or is that of a device or a pipe.
+        RequestError: No path is given. One is not a path, or is that of a device or a pipe.
     """
     listed = [paths] if isinstance(paths, (str, bytes, os.PathLike)) else list(paths)
     for path in listed:

@@ -270,7 +270,7 @@ class Survey:
         file.reference_system, file.ranges = entry.reference_system, entry.ranges
         file.contents, file.longest = entry.contents(), entry.longest
         file.box = box_of(entry.ranges, entry.scale, entry.translate)
-        with suppress(DecimalException):  # with more digits than anyone writes
+        with suppress(DecimalException):  # it may have more than 200 digits
             file.extent = extent_of(entry.ranges, entry.scale, entry.translate)
         if entry.ranges[0] is not None:
             entry.place.boxes.append(file.box)

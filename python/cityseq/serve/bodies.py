@@ -90,7 +90,7 @@ def _is_packed(request: web.Request, limits: Limits) -> Optional[bool]:
 
 
 async def expected(_: web.Request) -> None:
-    """Does nothing. A client that waits may send its body only when the body is read."""
+    """Does nothing. A client that waits gets `100 Continue` when its body is read."""
 
 
 async def _go_on(request: web.Request) -> None:
