@@ -142,8 +142,8 @@ def is_packed(source: Any) -> bool:
 
 
 def state_of(descriptor: int) -> State:
-    """Returns the size of an open file, and its time of change in nanoseconds. A change of the
-    file changes at least one of them."""
+    """Returns the size of an open file, and its time of change in nanoseconds. If one of them
+    differs later, the file has changed."""
     told = os.fstat(descriptor)
     return told.st_size, told.st_mtime_ns
 
